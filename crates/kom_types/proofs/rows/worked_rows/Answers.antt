@@ -1,0 +1,21 @@
+-- Each row is computed.
+use Rattle.std.proofs.Common.{refl}
+use Rattle.std.specs.Fmt.{digits}
+use Rattle.kom_types.proofs.rows.worked_rows.Goals as goal
+
+pub returns : goal.returns
+unfolding digits
+returns c = record {
+  greeting_and_line = refl;
+  sign_in_a_number = refl;
+  no_greeting = refl;
+  five_digits = refl;
+  name_too_long = refl;
+  one_token = refl;
+  brace_behind_a_token = refl;
+  string_too_long = refl;
+  seventeen_digits = refl;
+  string_to_come = refl;
+  any_tokens = refl;
+  printed = refl;
+}

@@ -1,0 +1,85 @@
+use Rattle.std.specs.Prelude.{ℕ, ◌+◌, ◌^◌, Bool, true, false, nat_lt, List, [], ◌∷◌, ◌++◌, length, Option, Some, None}
+use Rattle.kom_types.specs.Token.{Token}
+use Rattle.kom_types.specs.Grammar.{Form, Front, Whole, Unfit, line_form, greeting_form}
+
+-- a line's tokens, of which there is at least one, and the place of its line feed in the stream
+pub record Line : Type 0 where
+  pub tokens : List Token
+  pub end : ℕ
+
+-- the first fault of a stream, with the place of the byte that departs
+pub data Fault : Type 0 where
+  Malformed : ℕ → Fault
+  LineTooLong : ℕ → Fault
+
+-- What a stream is: its greeting if it is complete, its lines that are not blank, the bytes of the unit that
+-- has begun, and the first fault.
+pub record Split : Type 0 where
+  pub greeting : Option (List ℕ)
+  pub lines : List Line
+  pub rest : List ℕ
+  pub fault : Option Fault
+
+-- how many bytes a line has at most, its line feed counted
+abbrev pub longest_line : ℕ
+longest_line = 2097152
+
+-- how many bytes a stream has at most
+abbrev pub longest_stream : ℕ
+longest_stream = 2 ^ 62
+
+-- what the last byte of a front makes of the unit that it belongs to
+pub data Verdict (X : Type 0) : Type 0 where
+  GoesOn : Verdict X
+  Ends : X → Verdict X
+  Fails : Fault → Verdict X
+
+-- The byte at this place is the last of a front of this form. A byte that fits nowhere goes before one too many.
+abbrev pub verdict : {X : Type 0} → ℕ → Bool → Form X → Verdict X
+verdict place too_long Unfit = Fails (Malformed place)
+verdict place too_long Front = elim (nat_lt place longest_stream) [
+  | true ↦ elim too_long [ true ↦ Fails (LineTooLong place) | false ↦ GoesOn ]
+  | false ↦ Fails (Malformed place)
+]
+verdict place too_long (Whole unit) = elim (nat_lt place longest_stream) [
+  | true ↦ elim too_long [ true ↦ Fails (LineTooLong place) | false ↦ Ends unit ]
+  | false ↦ Fails (Malformed place)
+]
+
+abbrev pub line_verdict : ℕ → List ℕ → Verdict (List Token)
+line_verdict place front = verdict place (nat_lt longest_line (length front)) (line_form front)
+
+abbrev pub greeting_verdict : ℕ → List ℕ → Verdict (List ℕ)
+greeting_verdict place front = verdict place false (greeting_form front)
+
+-- a line before the others; a blank one is skipped
+abbrev pub with_line : List Token → ℕ → Split → Split
+with_line [] end split = split
+with_line (token ∷ tokens) end split = record split { lines = record { tokens = token ∷ tokens; end = end } ∷ split.lines }
+
+-- a stream that has come to its end, or to its first fault, within this unit
+abbrev pub stopped_in : List ℕ → Option Fault → Split
+stopped_in text fault = record { greeting = None; lines = []; rest = text; fault = fault }
+
+-- The lines of a stream, from the byte at `place` on: each is the shortest front of what is left that is whole.
+-- `text` is the front that has been looked at. The first byte that makes a front unfit or too long is the fault.
+abbrev pub lines_from : ℕ → List ℕ → List ℕ → Split
+lines_from place text [] = stopped_in text None
+lines_from place text (byte ∷ bytes) = elim (line_verdict place (text ++ byte ∷ [])) [
+  | GoesOn ↦ lines_from (place + 1) (text ++ byte ∷ []) bytes
+  | Ends tokens ↦ with_line tokens place (lines_from (place + 1) [] bytes)
+  | Fails fault ↦ stopped_in text (Some fault)
+]
+
+-- the same of the greeting, which is the shortest front of the stream that is whole, and of the lines behind it
+abbrev pub greeting_from : ℕ → List ℕ → List ℕ → Split
+greeting_from place text [] = stopped_in text None
+greeting_from place text (byte ∷ bytes) = elim (greeting_verdict place (text ++ byte ∷ [])) [
+  | GoesOn ↦ greeting_from (place + 1) (text ++ byte ∷ []) bytes
+  | Ends name ↦ record (lines_from (place + 1) [] bytes) { greeting = Some name }
+  | Fails fault ↦ stopped_in text (Some fault)
+]
+
+-- A client's stream, whole: a greeting followed by lines.
+abbrev pub stream_of : List ℕ → Split
+stream_of bytes = greeting_from 0 [] bytes

@@ -1,0 +1,12 @@
+use crate::calls::Reply;
+
+/// What a session is sent.
+#[derive(Clone, Copy, Debug, PartialEq, Eq)]
+pub enum Item {
+    /// The greeting's answer.
+    Hello,
+    /// The reply to the call that had this reference.
+    Reply { reference: u32, body: Reply },
+    /// The client's stream is at fault.
+    Fault,
+}
