@@ -1,0 +1,49 @@
+-- What gates, clocks, sinks and worlds say of their calls.
+use Rattle.std.specs.Prelude.{◌≡◌, ℕ, Bool, true, false, List, [], ◌∷◌, ◌++◌, Option, Some, None, Result, Ok, Err}
+use Rattle.kom_links.specs.declared.gate.Next.{Next}
+use Rattle.kom_links.specs.declared.gate.Next.TheVariants as next
+use Rattle.kom_links.specs.declared.world.WorldFault.{WorldFault}
+use Rattle.kom_links.specs.declared.world.WorldFault.TheVariants as world
+use Rattle.kom_links.specs.Outside.{Rose, grown}
+
+-- a fact of the link that a gate gives, if it gives one
+abbrev pub IfLink : {L : Type 0} → Next L → (L → Type 0) → Type 0
+IfLink (next.Link link) P = P link
+IfLink next.NotYet P = Unit {0}
+IfLink next.Ended P = Unit {0}
+IfLink next.Failed P = Unit {0}
+
+-- a gate that answers Failed has counted it
+abbrev pub MayNext : {L : Type 0} → ℕ → ℕ → Next L → Type 0
+MayNext before after (next.Link link) = Unit {0}
+MayNext before after next.NotYet = Unit {0}
+MayNext before after next.Ended = Unit {0}
+MayNext before after next.Failed = Rose before after
+
+abbrev pub is_ended : {L : Type 0} → Next L → Bool
+is_ended (next.Link link) = false
+is_ended next.NotYet = false
+is_ended next.Ended = true
+is_ended next.Failed = false
+
+-- how many links an answer gives
+abbrev pub links_in : {L : Type 0} → Next L → ℕ
+links_in (next.Link link) = 1
+links_in next.NotYet = 0
+links_in next.Ended = 0
+links_in next.Failed = 0
+
+-- A reading of a clock: where it is told after it which moments the clock gave, they are those before it and this one.
+abbrev pub Reads : Option (List ℕ) → ℕ → Option (List ℕ) → Type 0
+Reads before moment None = Unit {0}
+Reads before moment (Some after) = (earlier : List ℕ) × (before ≡ Some earlier) × (after ≡ earlier ++ moment ∷ [])
+
+-- A write to a sink: at Ok all bytes were added, else some of the first of them, and the fault was counted.
+abbrev pub Adds : List ℕ → Option (List ℕ) → Option (List ℕ) → Type 0
+Adds bytes before after = after ≡ grown bytes before
+
+-- a world answers Failed where it has counted that
+abbrev pub MayRefuse : {X : Type 0} → ℕ → ℕ → Result X WorldFault → Type 0
+MayRefuse before after (Ok value) = Unit {0}
+MayRefuse before after (Err world.Failed) = Rose before after
+MayRefuse before after (Err world.Memory) = Unit {0}

@@ -1,0 +1,5 @@
+pub mod Outside
+pub mod Doors
+pub mod Records
+pub mod DeskCalls
+pub mod Talk
