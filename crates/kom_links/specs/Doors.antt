@@ -4,7 +4,7 @@ use Rattle.kom_links.specs.declared.gate.Next.{Next}
 use Rattle.kom_links.specs.declared.gate.Next.TheVariants as next
 use Rattle.kom_links.specs.declared.world.WorldFault.{WorldFault}
 use Rattle.kom_links.specs.declared.world.WorldFault.TheVariants as world
-use Rattle.kom_links.specs.Outside.{Rose, grown}
+use Rattle.kom_links.specs.Outside.{Rose}
 
 -- a fact of the link that a gate gives, if it gives one
 abbrev pub IfLink : {L : Type 0} → Next L → (L → Type 0) → Type 0
@@ -33,14 +33,10 @@ links_in next.NotYet = 0
 links_in next.Ended = 0
 links_in next.Failed = 0
 
--- A reading of a clock: where it is told after it which moments the clock gave, they are those before it and this one.
-abbrev pub Reads : Option (List ℕ) → ℕ → Option (List ℕ) → Type 0
-Reads before moment None = Unit {0}
-Reads before moment (Some after) = (earlier : List ℕ) × (before ≡ Some earlier) × (after ≡ earlier ++ moment ∷ [])
-
--- A write to a sink: at Ok all bytes were added, else some of the first of them, and the fault was counted.
-abbrev pub Adds : List ℕ → Option (List ℕ) → Option (List ℕ) → Type 0
-Adds bytes before after = after ≡ grown bytes before
+-- Where a list is told after a call, it is what was told before it, and this one more at its end.
+abbrev pub Gains : {X : Type 0} → Option (List X) → X → Option (List X) → Type 0
+Gains {X} before one None = Unit {0}
+Gains {X} before one (Some after) = (earlier : List X) × (before ≡ Some earlier) × (after ≡ earlier ++ one ∷ [])
 
 -- a world answers Failed where it has counted that
 abbrev pub MayRefuse : {X : Type 0} → ℕ → ℕ → Result X WorldFault → Type 0

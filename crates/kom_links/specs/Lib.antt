@@ -3,3 +3,4 @@ pub mod Doors
 pub mod Records
 pub mod DeskCalls
 pub mod Talk
+pub mod Script

@@ -1,5 +1,5 @@
 ghost use Rattle.std.specs.Prelude.{ℕ, List, Option};
-ghost use Rattle.kom_links.specs.Doors.{Reads};
+ghost use Rattle.kom_links.specs.Doors.{Gains};
 
 use kom_types::Moment;
 
@@ -9,5 +9,5 @@ pub trait Clock {
     ghost gave: { Self → Option (List ℕ) };
 
     fn now(&mut self) -> Moment
-        ensures { Reads (gave self.old) result (gave self.new) };
+        ensures { Gains (gave self.old) result (gave self.new) };
 }

@@ -1,7 +1,7 @@
-ghost use Rattle.std.specs.Prelude.{◌≡◌, ◌≤◌, ◌+◌, ◌||◌, ℕ, Bool, List, [], ◌∷◌, ◌++◌, Option, option_map, false};
+ghost use Rattle.std.specs.Prelude.{◌≡◌, ◌≤◌, ◌+◌, ◌||◌, ℕ, Bool, List, Option, option_map, false};
 ghost use Rattle.kom_links.specs.declared.served.Served.{Served as Outcome};
 ghost use Rattle.kom_links.specs.Outside.{IsNothing};
-ghost use Rattle.kom_links.specs.Doors.{IfLink, MayNext, is_ended, links_in};
+ghost use Rattle.kom_links.specs.Doors.{Gains, IfLink, MayNext, is_ended, links_in};
 
 use crate::link::Link;
 use crate::served::Served;
@@ -54,7 +54,7 @@ pub trait Gate {
     /// Takes a link back, with how it was served.
     fn give_back(&mut self, link: Self::Link, served: Served)
         ensures given { given self.new ≡ given self.old }
-        ensures returned { returned self.new ≡ option_map (λ links. links ++ (link, served) ∷ []) (returned self.old) }
+        ensures returned { Gains (returned self.old) (link, served) (returned self.new) }
         ensures ended { gate_ended self.new ≡ gate_ended self.old }
         ensures faults { gate_faults self.old ≤ gate_faults self.new };
 }

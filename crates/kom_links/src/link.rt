@@ -1,5 +1,5 @@
-ghost use Rattle.std.specs.Prelude.{◌≡◌, ◌<◌, ◌≤◌, ◌||◌, ℕ, Bool, List, length, Option};
-ghost use Rattle.kom_links.specs.Outside.{MayRead, MayWrite, read_bytes, written_bytes, is_end, grown, Shrinks};
+ghost use Rattle.std.specs.Prelude.{◌≡◌, ◌<◌, ◌≤◌, ◌||◌, ℕ, Bool, IsTrue, List, length, Option};
+ghost use Rattle.kom_links.specs.Outside.{MayRead, MayWrite, read_bytes, written_bytes, is_end, grown, Shrinks, IsNothing};
 
 /// What a read of a link answers.
 #[derive(Clone, Copy, Debug, PartialEq, Eq)]
@@ -58,6 +58,7 @@ pub trait Link {
         ensures answer { MayRead (length into.new) (fault_count self.old) (fault_count self.new) result }
         ensures taken { taken self.new ≡ grown (read_bytes result into.new) (taken self.old) }
         ensures left { Shrinks (left self.old) (read_bytes result into.new) (left self.new) }
+        ensures all { IsTrue (is_end result) → IsNothing (left self.new) }
         ensures put { put self.new ≡ put self.old }
         ensures ended { ended self.new ≡ (ended self.old || is_end result) }
         ensures host { host_of self.new ≡ host_of self.old }

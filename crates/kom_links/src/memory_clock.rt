@@ -1,0 +1,45 @@
+ghost use Rattle.std.specs.Prelude.{◌≡◌, ◌<◌, ℕ, [], Some, None, IfSome, length, vec_len, if◌then◌else◌, ◌==◌, ◌^◌, ◌-◌};
+ghost use Rattle.kom_links.specs.Script.{readings};
+
+use crate::clock::Clock;
+use kom_types::Moment;
+
+/// A clock that gives the moments of a script, whose last one it goes on giving.
+#[derive(Debug, Drop)]
+pub struct MemoryClock {
+    script: Vec<Moment>,
+    made: u64,
+    ghost some: { 0 < vec_len script },
+}
+
+impl MemoryClock {
+    /// A clock with this script.
+    pub fn new(script: Vec<Moment>) -> MemoryClock
+        requires { 0 < vec_len script }
+        ensures { ⟦<MemoryClock as Clock>⟧.gave result ≡ Some [] }
+    {
+        MemoryClock { script, made: 0 }
+    }
+
+    /// How many moments the clock gave; the count stands still at 2^64 - 1.
+    pub fn made(&self) -> u64
+        ensures { IfSome (⟦<MemoryClock as Clock>⟧.gave self.now) (λ moments. result ≡ length moments) }
+    {
+        self.made
+    }
+}
+
+impl Clock for MemoryClock {
+    ghost gave = { λ clock. if clock.made == 2 ^ 64 - 1 then None else Some (readings clock.script.items clock.made) };
+
+    fn now(&mut self) -> Moment {
+        let last = self.script.len() - 1;
+        let place = if self.made < last as u64 {
+            self.made as usize
+        } else {
+            last
+        };
+        self.made = self.made.saturating_add(1);
+        self.script[place]
+    }
+}

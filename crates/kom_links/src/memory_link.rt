@@ -1,0 +1,180 @@
+ghost use Rattle.std.specs.Prelude.{◌≡◌, ◌<◌, ◌≤◌, ◌+◌, ◌||◌, ◌↔◌, ℕ, false, [], Some, take, drop, length, vec_len, codes};
+
+use crate::link::{Got, Link, Took};
+use std::alloc::Global;
+
+/// Which calls of an object in memory are not served, by their numbers, counted from 1.
+#[derive(Debug, Drop)]
+pub struct Script {
+    /// The calls that answer `NotYet`.
+    pub waits: Vec<u64>,
+    /// The calls that fail.
+    pub fails: Vec<u64>,
+}
+
+impl Script {
+    /// All calls are served.
+    pub fn new(alloc: Global) -> Script {
+        Script {
+            waits: Vec::new(alloc),
+            fails: Vec::new(alloc),
+        }
+    }
+}
+
+/// How a link in memory gives and takes its bytes.
+#[derive(Debug, Drop)]
+pub struct LinkPlan {
+    /// Places of the input at which a read stops.
+    pub cuts: Vec<usize>,
+    /// How many bytes a read gives at most; 0 sets no limit.
+    pub most_read: usize,
+    /// How many bytes a write takes at most; 0 sets no limit.
+    pub most_written: usize,
+    pub reads: Script,
+    pub writes: Script,
+}
+
+impl LinkPlan {
+    /// Each read gives all that there is room for, and each write takes all that it is handed.
+    pub fn new(alloc: Global) -> LinkPlan {
+        LinkPlan {
+            cuts: Vec::new(alloc),
+            most_read: 0,
+            most_written: 0,
+            reads: Script::new(alloc),
+            writes: Script::new(alloc),
+        }
+    }
+}
+
+/// A link whose client's bytes are known beforehand, and which keeps what is put to it.
+#[derive(Debug, Drop)]
+pub struct MemoryLink {
+    input: Vec<u8>,
+    taken: usize,
+    output: Vec<u8>,
+    plan: LinkPlan,
+    reads: u64,
+    writes: u64,
+    has_ended: bool,
+    faults: u64,
+    ghost within: { taken ≤ vec_len input },
+}
+
+impl MemoryLink {
+    /// A link whose client sends these bytes and then ends its stream.
+    pub fn new(alloc: Global, input: Vec<u8>, plan: LinkPlan) -> MemoryLink
+        ensures nothing_taken { ⟦<MemoryLink as Link>⟧.taken result ≡ Some [] }
+        ensures left { ⟦<MemoryLink as Link>⟧.left result ≡ Some input.items }
+        ensures nothing_put { ⟦<MemoryLink as Link>⟧.put result ≡ Some [] }
+        ensures not_ended { ⟦<MemoryLink as Link>⟧.ended result ≡ false }
+        ensures no_fault { ⟦<MemoryLink as Link>⟧.fault_count result ≡ 0 }
+    {
+        MemoryLink {
+            input,
+            taken: 0,
+            output: Vec::new(alloc),
+            plan,
+            reads: 0,
+            writes: 0,
+            has_ended: false,
+            faults: 0,
+        }
+    }
+
+    /// What was put so far.
+    pub fn output(&self) -> &[u8]
+        ensures { ⟦<MemoryLink as Link>⟧.put self.now ≡ Some result.now }
+    {
+        self.output.as_slice()
+    }
+
+    /// How many bytes a read gives into so much room.
+    fn ready(&self, room: usize) -> usize
+        requires { 0 < room }
+        ensures fits { result ≤ room }
+        ensures there { self.now.taken + result ≤ vec_len self.now.input }
+        ensures none { (result ≡ 0) ↔ (self.now.taken ≡ vec_len self.now.input) }
+    {
+        let mut count = room.min(self.input.len() - self.taken);
+        if 0 < self.plan.most_read {
+            count = count.min(self.plan.most_read);
+        }
+        for cut in &self.plan.cuts {
+            if self.taken < *cut {
+                count = count.min(*cut - self.taken);
+            }
+        }
+        count
+    }
+}
+
+/// Copies bytes to the front of a buffer.
+fn copy_front(into: &mut [u8], from: &[u8])
+    requires { length from.now ≤ length into.old }
+    ensures { take (length from.now) into.new ≡ from.now }
+{
+    into[..from.len()].copy_from_slice(from);
+}
+
+impl Link for MemoryLink {
+    ghost host_of = { λ link. codes "memory" };
+
+    ghost taken = { λ link. Some (take link.taken link.input.items) };
+
+    ghost left = { λ link. Some (drop link.taken link.input.items) };
+
+    ghost put = { λ link. Some link.output.items };
+
+    ghost ended = { λ link. link.has_ended };
+
+    ghost fault_count = { λ link. link.faults };
+
+    fn host(&self) -> &[u8] {
+        b"memory"
+    }
+
+    fn faults(&self) -> u64 {
+        self.faults
+    }
+
+    fn read(&mut self, into: &mut [u8]) -> Got {
+        self.reads = self.reads.saturating_add(1);
+        if self.plan.reads.fails.contains(&self.reads) {
+            self.faults = self.faults.saturating_add(1);
+            return Got::Failed;
+        }
+        if self.plan.reads.waits.contains(&self.reads) {
+            return Got::NotYet;
+        }
+        let count = self.ready(into.len());
+        if count == 0 {
+            self.has_ended = true;
+            return Got::End;
+        }
+        copy_front(into, &self.input[self.taken..][..count]);
+        self.taken += count;
+        Got::Some(count)
+    }
+
+    fn write(&mut self, from: &[u8]) -> Took {
+        self.writes = self.writes.saturating_add(1);
+        if self.plan.writes.fails.contains(&self.writes) {
+            self.faults = self.faults.saturating_add(1);
+            return Took::Failed;
+        }
+        if self.plan.writes.waits.contains(&self.writes) {
+            return Took::NotYet;
+        }
+        let mut count = from.len();
+        if 0 < self.plan.most_written {
+            count = count.min(self.plan.most_written);
+        }
+        if self.output.extend_from_slice(&from[..count]).is_err() {
+            self.faults = self.faults.saturating_add(1);
+            return Took::Failed;
+        }
+        Took::Some(count)
+    }
+}

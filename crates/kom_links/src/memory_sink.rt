@@ -1,0 +1,54 @@
+ghost use Rattle.std.specs.Prelude.{◌≡◌, [], Some};
+
+use crate::sink::{Failed, Sink};
+use std::alloc::Global;
+
+/// A sink that keeps what is put to it. Of a write that fails it keeps nothing.
+#[derive(Debug, Drop)]
+pub struct MemorySink {
+    output: Vec<u8>,
+    fails: Vec<u64>,
+    writes: u64,
+    faults: u64,
+}
+
+impl MemorySink {
+    /// A sink whose writes of these numbers, counted from 1, fail.
+    pub fn new(alloc: Global, fails: Vec<u64>) -> MemorySink
+        ensures nothing_put { ⟦<MemorySink as Sink>⟧.put result ≡ Some [] }
+        ensures no_fault { ⟦<MemorySink as Sink>⟧.sink_faults result ≡ 0 }
+    {
+        MemorySink {
+            output: Vec::new(alloc),
+            fails,
+            writes: 0,
+            faults: 0,
+        }
+    }
+
+    /// What was put so far.
+    pub fn output(&self) -> &[u8]
+        ensures { ⟦<MemorySink as Sink>⟧.put self.now ≡ Some result.now }
+    {
+        self.output.as_slice()
+    }
+}
+
+impl Sink for MemorySink {
+    ghost put = { λ sink. Some sink.output.items };
+
+    ghost sink_faults = { λ sink. sink.faults };
+
+    fn faults(&self) -> u64 {
+        self.faults
+    }
+
+    fn write(&mut self, from: &[u8]) -> Result<(), Failed> {
+        self.writes = self.writes.saturating_add(1);
+        if self.fails.contains(&self.writes) || self.output.extend_from_slice(from).is_err() {
+            self.faults = self.faults.saturating_add(1);
+            return Err(Failed);
+        }
+        Ok(())
+    }
+}

@@ -1,0 +1,44 @@
+use crate::std_gate::StdGate;
+use crate::std_sink::StdSink;
+use crate::system_clock::SystemClock;
+use crate::world::{World, WorldFault};
+use kom_types::Memory;
+use std::io::Input;
+use std::rt::Clock as Time;
+
+/// The process's own outside: its standard input and output, and the system's clock.
+pub struct StdWorld<'a, R: Input + Print + Time> {
+    rt: &'a R,
+}
+
+impl<'a, R: Input + Print + Time> StdWorld<'a, R> {
+    pub fn new(rt: &'a R) -> StdWorld<'a, R> {
+        StdWorld { rt }
+    }
+}
+
+impl<'a, R: Input + Print + Time> World for StdWorld<'a, R> {
+    type Gate = StdGate<&'a R>;
+
+    type Clock = SystemClock<&'a R>;
+
+    type Sink = StdSink<&'a R>;
+
+    ghost world_faults = { λ _. 0 };
+
+    fn faults(&self) -> u64 {
+        0
+    }
+
+    fn std_gate(&mut self) -> Result<StdGate<&'a R>, WorldFault> {
+        Ok(StdGate::new(self.rt))
+    }
+
+    fn clock(&mut self) -> Result<SystemClock<&'a R>, Memory> {
+        Ok(SystemClock::new(self.rt))
+    }
+
+    fn out(&mut self) -> StdSink<&'a R> {
+        StdSink::new(self.rt)
+    }
+}
