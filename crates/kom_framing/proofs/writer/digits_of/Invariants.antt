@@ -1,0 +1,10 @@
+use Rattle.std.proofs.Common.{◌≡◌, ◌-◌, ◌++◌, length, take}
+use Rattle.kom_framing.specs.Writing.{bit_string}
+use Rattle.kom_framing.proofs.writer.digits_of.Given as goal
+
+-- the digits so far and those to come are the number's
+abbrev pub invariant-loop-place : goal.invariant-loop-place
+invariant-loop-place l = record {
+  room : length l.digits ≡ 16;
+  told : take l.place l.digits ++ bit_string l.bits (l.width - l.place) ≡ bit_string l.bits l.width;
+}

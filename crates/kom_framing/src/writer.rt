@@ -1,0 +1,191 @@
+ghost use Rattle.std.specs.Prelude.{◌≡◌, ℕ, ◌-◌, ◌≤◌, if◌then◌else◌, true, List, [], ◌∷◌, ◌++◌, length, take, OnOk, OnErr};
+ghost use Rattle.std.specs.Fmt.{decimal};
+ghost use Rattle.kom_framing.specs.Writing.{put, put_word, is_sign, bit_string, hollerith, end_line};
+
+use itoa::Buffer;
+use kom_types::Memory;
+use std::alloc::Global;
+use std::marker::Model;
+
+/// The lines of replies, written word by word into a buffer that is kept and used again.
+#[derive(Debug, Drop)]
+pub struct Writer {
+    out: Vec<u8>,
+    joined: bool,
+}
+
+impl Model for Writer {
+    ghost use Rattle.kom_framing.specs.Writing.{Written};
+
+    ghost Value = { Written };
+
+    ghost view = { λ w. record { bytes = w.out.items; joined = w.joined } };
+}
+
+impl Writer {
+    /// A writer that has written nothing.
+    pub fn new(alloc: Global) -> Writer
+        ensures { result ≡ record { bytes = []; joined = true } }
+    {
+        Writer {
+            out: Vec::new(alloc),
+            joined: true,
+        }
+    }
+
+    /// Writes an integer, without leading zeros.
+    pub fn number(&mut self, n: u32) -> Result<(), Memory>
+        ensures ok { OnOk result (self.new ≡ put_word (decimal n) self.old) }
+        ensures err { OnErr result (self.new ≡ self.old) }
+    {
+        self.word(Buffer::new().format(n).as_bytes())
+    }
+
+    /// Writes the last `width` bits of a number, the highest first.
+    pub fn bits(&mut self, bits: u16, width: u8) -> Result<(), Memory>
+        requires some { 1 ≤ width }
+        requires within { width ≤ 16 }
+        ensures ok { OnOk result (self.new ≡ put_word (bit_string bits width) self.old) }
+        ensures err { OnErr result (self.new ≡ self.old) }
+    {
+        let digits = digits_of(bits, width);
+        self.word(&digits[..width as usize])
+    }
+
+    /// Writes a string with its length before it.
+    pub fn text(&mut self, text: &[u8]) -> Result<(), Memory>
+        ensures ok { OnOk result (self.new ≡ put_word (hollerith text.now) self.old) }
+        ensures err { OnErr result (self.new ≡ self.old) }
+    {
+        let mut buffer = Buffer::new();
+        let length = buffer.format(text.len()).as_bytes();
+        append_string(&mut self.out, space_before(self.joined), length, text)?;
+        self.joined = false;
+        Ok(())
+    }
+
+    /// Writes a byte that is a word of its own, as a brace, or a sign before a reference, as `=`.
+    pub fn mark(&mut self, byte: u8) -> Result<(), Memory>
+        ensures ok { OnOk result (self.new ≡ put (byte ∷ []) (is_sign byte) self.old) }
+        ensures err { OnErr result (self.new ≡ self.old) }
+    {
+        append(&mut self.out, space_before(self.joined), &[byte])?;
+        self.joined = byte == b'=' || byte == b'%' || byte == b':';
+        Ok(())
+    }
+
+    /// Writes a word as it stands.
+    pub fn word(&mut self, word: &[u8]) -> Result<(), Memory>
+        ensures ok { OnOk result (self.new ≡ put_word word.now self.old) }
+        ensures err { OnErr result (self.new ≡ self.old) }
+    {
+        append(&mut self.out, space_before(self.joined), word)?;
+        self.joined = false;
+        Ok(())
+    }
+
+    /// Ends the line.
+    pub fn end_line(&mut self) -> Result<(), Memory>
+        ensures ok { OnOk result (self.new ≡ end_line self.old) }
+        ensures err { OnErr result (self.new ≡ self.old) }
+    {
+        self.out.push(b'\n')?;
+        self.joined = true;
+        Ok(())
+    }
+
+    /// What was written since the last `clear`.
+    pub fn bytes(&self) -> &[u8]
+        ensures { result.now ≡ self.now.bytes }
+    {
+        self.out.as_slice()
+    }
+
+    /// Forgets what was written, and keeps the memory for what comes.
+    pub fn clear(&mut self)
+        ensures { self.new ≡ record { bytes = []; joined = true } }
+    {
+        self.out.clear();
+        self.joined = true;
+    }
+}
+
+// What stands before a word.
+fn space_before(joined: bool) -> &'static [u8]
+    ensures { result.now ≡ (if joined then [] else 32 ∷ []) }
+{
+    if joined { b"" } else { b" " }
+}
+
+// The last `width` bits of a number as digits, and anything behind them.
+fn digits_of(bits: u16, width: u8) -> [u8; 16]
+    requires { width ≤ 16 }
+    ensures { take width result ≡ bit_string bits width }
+{
+    let mut digits = [b'0'; 16];
+    for place in 0..width {
+        let bit = (bits >> (width - 1 - place)) % 2;
+        digits[place as usize] = b'0' + bit as u8;
+    }
+    digits
+}
+
+// Adds both parts at the end, or nothing.
+fn append(out: &mut Vec<u8>, front: &[u8], back: &[u8]) -> Result<(), Memory>
+    ensures ok { OnOk result (out.new.items ≡ out.old.items ++ front.now ++ back.now) }
+    ensures err { OnErr result (out.new.items ≡ out.old.items) }
+{
+    let start = out.len();
+    out.extend_from_slice(front)?;
+    if out.extend_from_slice(back).is_err() {
+        out.truncate(start);
+        return Err(Memory);
+    }
+    Ok(())
+}
+
+// Adds what stands before a string, its length, an `H` and its bytes at the end, or nothing.
+fn append_string(out: &mut Vec<u8>, space: &[u8], length: &[u8], text: &[u8]) -> Result<(), Memory>
+    ensures ok { OnOk result (out.new.items ≡ out.old.items ++ space.now ++ (length.now ++ 72 ∷ text.now)) }
+    ensures err { OnErr result (out.new.items ≡ out.old.items) }
+{
+    let start = out.len();
+    append(out, space, length)?;
+    if append(out, b"H", text).is_err() {
+        out.truncate(start);
+        return Err(Memory);
+    }
+    Ok(())
+}
+
+#[cfg(test)]
+mod tests {
+    use super::*;
+    use std::test::Fail;
+
+    #[test]
+    fn words_are_spelled_and_separated(rt: HostRuntime) -> Result<(), Fail> {
+        let mut writer = Writer::new(rt.alloc());
+        writer.word(b"LysKOM")?;
+        writer.end_line()?;
+        assert_eq!(rt; writer.bytes(), b"LysKOM\n".as_slice());
+        writer.clear();
+        writer.mark(b'=')?;
+        writer.number(1)?;
+        writer.number(4294967295)?;
+        writer.bits(0x1a, 4)?;
+        writer.bits(0x8001, 16)?;
+        writer.text(b"a\n b")?;
+        writer.text(b"")?;
+        writer.mark(b'{')?;
+        writer.mark(b'}')?;
+        writer.number(0)?;
+        writer.mark(b'*')?;
+        writer.end_line()?;
+        writer.mark(b'%')?;
+        writer.number(7)?;
+        let expected = b"=1 4294967295 1010 1000000000000001 4Ha\n b 0H { } 0 *\n%7".as_slice();
+        assert_eq!(rt; writer.bytes(), expected);
+        Ok(())
+    }
+}
