@@ -7,6 +7,13 @@ use kom_types::Memory;
 use std::alloc::Global;
 use std::marker::Model;
 
+/// Where a writer stood: how much it had written, and whether the next word was to follow without a space.
+#[derive(Clone, Copy, Debug)]
+pub struct Place {
+    pub length: usize,
+    pub joined: bool,
+}
+
 /// The lines of replies, written word by word into a buffer that is kept and used again.
 #[derive(Debug, Drop)]
 pub struct Writer {
@@ -92,6 +99,32 @@ impl Writer {
         self.out.push(b'\n')?;
         self.joined = true;
         Ok(())
+    }
+
+    /// Begins a line: what follows is written without a space before it.
+    pub fn begin_line(&mut self)
+        ensures { self.new ≡ record self.old { joined = true } }
+    {
+        self.joined = true;
+    }
+
+    /// Where the writer stands, for `cut_back`.
+    pub fn mark_place(&self) -> Place
+        ensures length { result.length ≡ length self.now.bytes }
+        ensures joined { result.joined ≡ self.now.joined }
+    {
+        Place {
+            length: self.out.len(),
+            joined: self.joined,
+        }
+    }
+
+    /// Forgets what was written since the writer stood there.
+    pub fn cut_back(&mut self, place: Place)
+        ensures { self.new ≡ record { bytes = take place.length self.old.bytes; joined = place.joined } }
+    {
+        self.out.truncate(place.length);
+        self.joined = place.joined;
     }
 
     /// What was written since the last `clear`.
