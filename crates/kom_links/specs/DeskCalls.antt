@@ -1,5 +1,5 @@
 -- What the calls of a desk say.
-use Rattle.std.specs.Prelude.{◌≡◌, ℕ, ◌⊎◌, Bool, true, false, List, [], ◌∷◌, ◌++◌, Option, Some, None, Result, Ok, Err}
+use Rattle.std.specs.Prelude.{◌≡◌, ℕ, ◌^◌, ◌⊎◌, nat_le, Bool, true, false, List, [], ◌∷◌, ◌++◌, Option, Some, None, Result, Ok, Err}
 use Rattle.kom_types.specs.declared.acts.Act.{Act}
 use Rattle.kom_types.specs.declared.acts.Act.TheVariants as act
 use Rattle.kom_types.specs.declared.acts.Record.{Record}
@@ -28,6 +28,22 @@ abbrev pub first_fault : {X : Type 0} → Option DeskFault → Result X DeskFaul
 first_fault (Some first) answer = Some first
 first_fault None (Ok value) = None
 first_fault None (Err fault) = Some fault
+
+-- a session that is not there: no desk answers so
+abbrev pub IsNotAbsent : DeskFault → Type 0
+IsNotAbsent (fault.Gone why.Absent) = ⊥
+IsNotAbsent (fault.Gone why.Dropped) = Unit {0}
+IsNotAbsent (fault.Gone why.Overrun) = Unit {0}
+IsNotAbsent (fault.Gone why.Stopped) = Unit {0}
+IsNotAbsent (fault.Full number) = Unit {0}
+IsNotAbsent fault.Memory = Unit {0}
+
+-- an answer says that no turn of the server's lock is left
+abbrev pub is_lock_full : {X : Type 0} → Result X DeskFault → Bool
+is_lock_full (Ok value) = false
+is_lock_full (Err (fault.Gone why)) = false
+is_lock_full (Err (fault.Full number)) = nat_le (2 ^ 62) number
+is_lock_full (Err fault.Memory) = false
 
 -- that the desk is stopped counts as a fault
 abbrev pub first_stop : Option DeskFault → Result Bool DeskFault → Option DeskFault

@@ -30,6 +30,10 @@ has_connect session records = list_any (λ made. is_connect made.entry.act && ma
 abbrev pub has_close : ℕ → List Record → Bool
 has_close session records = list_any (λ made. is_close made.entry.act && made.session == session) records
 
+-- one of these records is of the session
+abbrev pub has_session : ℕ → List Record → Bool
+has_session session records = list_any (λ made. made.session == session) records
+
 -- the session was connected by these records and not closed
 abbrev pub IsOpen : ℕ → List Record → Type 0
 IsOpen session records = IsTrue (has_connect session records && not (has_close session records))

@@ -1,10 +1,10 @@
-ghost use Rattle.std.specs.Prelude.{◌≡◌, ◌≢◌, ◌≤◌, ◌++◌, ◌∷◌, [], ℕ, Bool, false, List, Option, None, length, IfOk, OnOk, OnErr};
+ghost use Rattle.std.specs.Prelude.{◌≡◌, ◌≢◌, ◌≤◌, ◌||◌, ◌++◌, ◌∷◌, [], ℕ, Bool, true, false, List, Option, None, length, IfOk, IfErr, OnOk, OnErr};
 ghost use Rattle.kom_types.specs.declared.acts.Act.TheVariants as act;
 ghost use Rattle.kom_types.specs.declared.acts.Record.{Record};
 ghost use Rattle.kom_types.specs.declared.items.Item.{Item as WaitingItem};
 ghost use Rattle.kom_links.specs.declared.desk.DeskFault.{DeskFault as Fault};
-ghost use Rattle.kom_links.specs.Records.{has_connect, IsOpen};
-ghost use Rattle.kom_links.specs.DeskCalls.{Adds, AddsCall, AddsNoneOrShort, first_fault, first_stop};
+ghost use Rattle.kom_links.specs.Records.{has_session, IsOpen};
+ghost use Rattle.kom_links.specs.DeskCalls.{Adds, AddsCall, AddsNoneOrShort, IsNotAbsent, is_lock_full, first_fault, first_stop};
 
 use arrayvec::ArrayVec;
 use kom_types::{Call, Item, Moment, Why};
@@ -34,15 +34,20 @@ pub trait Desk {
     /// The first fault that it answered since then; that it is stopped counts as one.
     ghost fault: { Self → Option Fault };
 
+    /// Whether it answered that no turn of the server's lock is left.
+    ghost lock_full: { Self → Bool };
+
     /// Begins a session for the user of a greeting, and answers its number.
     fn connect(&mut self, moment: Moment, user: &[u8], host: &[u8]) -> Result<u32, DeskFault>
         requires { length user.now ≤ 1024 }
         ensures added { IfOk result (λ session. Adds (mine self.old) (mine self.new) (pass_of self.old) moment (act.Connect user.now host.now) session) }
-        ensures new_number { IfOk result (λ session. (session ≢ 0) × (has_connect session (mine self.old) ≡ false)) }
+        ensures new_number { IfOk result (λ session. (session ≢ 0) × (has_session session (mine self.old) ≡ false)) }
         ensures given { OnOk result (given_items self.new ≡ []) }
         ensures fault { OnOk result (fault self.new ≡ None) }
         ensures err { OnErr result ((mine self.new ≡ mine self.old) × (given_items self.new ≡ given_items self.old)) }
         ensures refused { OnErr result (fault self.new ≡ first_fault (fault self.old) result) }
+        ensures lock_full { lock_full self.new ≡ (lock_full self.old || is_lock_full result) }
+        ensures present { IfErr result IsNotAbsent }
         ensures pass { pass_of self.new ≡ pass_of self.old };
 
     /// Makes a call for a session.
@@ -58,6 +63,8 @@ pub trait Desk {
         ensures err { OnErr result (mine self.new ≡ mine self.old) }
         ensures given { given_items self.new ≡ given_items self.old }
         ensures fault { fault self.new ≡ first_fault (fault self.old) result }
+        ensures lock_full { lock_full self.new ≡ (lock_full self.old || is_lock_full result) }
+        ensures present { IfErr result IsNotAbsent }
         ensures pass { pass_of self.new ≡ pass_of self.old };
 
     /// Says that a session's stream is at fault.
@@ -67,6 +74,8 @@ pub trait Desk {
         ensures err { OnErr result (mine self.new ≡ mine self.old) }
         ensures given { given_items self.new ≡ given_items self.old }
         ensures fault { fault self.new ≡ first_fault (fault self.old) result }
+        ensures lock_full { lock_full self.new ≡ (lock_full self.old || is_lock_full result) }
+        ensures present { IfErr result IsNotAbsent }
         ensures pass { pass_of self.new ≡ pass_of self.old };
 
     /// Takes items that wait for a session, 64 at most.
@@ -76,6 +85,8 @@ pub trait Desk {
         ensures given { IfOk result (λ items. given_items self.new ≡ given_items self.old ++ items.items ∷ []) }
         ensures err { OnErr result ((mine self.new ≡ mine self.old) × (given_items self.new ≡ given_items self.old)) }
         ensures fault { fault self.new ≡ first_fault (fault self.old) result }
+        ensures lock_full { lock_full self.new ≡ (lock_full self.old || is_lock_full result) }
+        ensures present { IfErr result IsNotAbsent }
         ensures pass { pass_of self.new ≡ pass_of self.old };
 
     /// Makes stable what was done so far.
@@ -84,6 +95,8 @@ pub trait Desk {
         ensures err { OnErr result (AddsNoneOrShort (mine self.old) (mine self.new) (pass_of self.old) moment) }
         ensures given { given_items self.new ≡ given_items self.old }
         ensures fault { fault self.new ≡ first_fault (fault self.old) result }
+        ensures lock_full { lock_full self.new ≡ (lock_full self.old || is_lock_full result) }
+        ensures present { IfErr result IsNotAbsent }
         ensures pass { pass_of self.new ≡ pass_of self.old };
 
     /// Ends a session.
@@ -93,6 +106,8 @@ pub trait Desk {
         ensures err { OnErr result (mine self.new ≡ mine self.old) }
         ensures given { given_items self.new ≡ given_items self.old }
         ensures fault { fault self.new ≡ first_fault (fault self.old) result }
+        ensures lock_full { lock_full self.new ≡ (lock_full self.old || is_lock_full result) }
+        ensures full_alone { OnErr result (lock_full self.new ≡ true) }
         ensures pass { pass_of self.new ≡ pass_of self.old };
 
     /// Whether the server was shut down or its store refused a flush. It makes no act.
@@ -100,5 +115,7 @@ pub trait Desk {
         ensures mine { mine self.new ≡ mine self.old }
         ensures given { given_items self.new ≡ given_items self.old }
         ensures fault { fault self.new ≡ first_stop (fault self.old) result }
+        ensures lock_full { lock_full self.new ≡ (lock_full self.old || is_lock_full result) }
+        ensures present { IfErr result IsNotAbsent }
         ensures pass { pass_of self.new ≡ pass_of self.old };
 }
