@@ -38,6 +38,15 @@ IsNotAbsent (fault.Gone why.Stopped) = Unit {0}
 IsNotAbsent (fault.Full number) = Unit {0}
 IsNotAbsent fault.Memory = Unit {0}
 
+-- why a connect may be refused: the server was shut down or its store refused a flush, the numbers are used up, or memory is
+abbrev pub IsConnectFault : DeskFault → Type 0
+IsConnectFault (fault.Gone why.Absent) = ⊥
+IsConnectFault (fault.Gone why.Dropped) = ⊥
+IsConnectFault (fault.Gone why.Overrun) = ⊥
+IsConnectFault (fault.Gone why.Stopped) = Unit {0}
+IsConnectFault (fault.Full number) = Unit {0}
+IsConnectFault fault.Memory = Unit {0}
+
 -- an answer says that no turn of the server's lock is left
 abbrev pub is_lock_full : {X : Type 0} → Result X DeskFault → Bool
 is_lock_full (Ok value) = false

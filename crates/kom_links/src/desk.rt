@@ -4,7 +4,7 @@ ghost use Rattle.kom_types.specs.declared.acts.Record.{Record};
 ghost use Rattle.kom_types.specs.declared.items.Item.{Item as WaitingItem};
 ghost use Rattle.kom_links.specs.declared.desk.DeskFault.{DeskFault as Fault};
 ghost use Rattle.kom_links.specs.Records.{has_session, IsOpen};
-ghost use Rattle.kom_links.specs.DeskCalls.{Adds, AddsCall, AddsNoneOrShort, IsNotAbsent, is_lock_full, first_fault, first_stop};
+ghost use Rattle.kom_links.specs.DeskCalls.{Adds, AddsCall, AddsNoneOrShort, IsConnectFault, IsNotAbsent, is_lock_full, first_fault, first_stop};
 
 use arrayvec::ArrayVec;
 use kom_types::{Call, Item, Moment, Why};
@@ -47,7 +47,7 @@ pub trait Desk {
         ensures err { OnErr result ((mine self.new ≡ mine self.old) × (given_items self.new ≡ given_items self.old)) }
         ensures refused { OnErr result (fault self.new ≡ first_fault (fault self.old) result) }
         ensures lock_full { lock_full self.new ≡ (lock_full self.old || is_lock_full result) }
-        ensures present { IfErr result IsNotAbsent }
+        ensures why { IfErr result IsConnectFault }
         ensures pass { pass_of self.new ≡ pass_of self.old };
 
     /// Makes a call for a session.
