@@ -20,7 +20,7 @@ pub enum Next<L> {
 }
 
 /// Where clients come in.
-pub trait Gate {
+pub trait Gate: Drop {
     type Link: Link;
 
     /// How many links the gate gave so far, where it tells that.

@@ -26,7 +26,7 @@ pub enum Took {
 }
 
 /// A connection to a client.
-pub trait Link {
+pub trait Link: Drop {
     /// Where the link's peer is.
     ghost host_of: { Self → List ℕ };
 

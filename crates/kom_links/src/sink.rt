@@ -6,7 +6,7 @@ ghost use Rattle.kom_links.specs.Outside.{Rose, grown};
 pub struct Failed;
 
 /// Where a program's report goes.
-pub trait Sink {
+pub trait Sink: Drop {
     /// The bytes that were written so far, where the sink tells them.
     ghost put: { Self → Option (List ℕ) };
 

@@ -7,6 +7,7 @@ use std::io::Input;
 use std::rt::Clock as Time;
 
 /// The process's own outside: its standard input and output, and the system's clock.
+#[derive(Drop)]
 pub struct StdWorld<'a, R: Input + Print + Time> {
     rt: &'a R,
 }
