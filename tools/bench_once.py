@@ -1,0 +1,106 @@
+#!/usr/bin/env python3
+"""Benchmarks `komd once` against small C programs, and prints ratios taken in one run.
+
+usage: tools/bench_once.py [KOMD]      (KOMD: the built program, crates/komd/out/komd if left out)
+
+lines    one million lines `1 56` behind a greeting; the C program reads in the same pieces of 65,536 bytes and
+         makes one write for each reply
+strings  200 unknown calls, each with a string of one mebibyte; the C program reads in the same pieces and copies
+         the bytes once into a buffer that it uses again for each mebibyte
+
+Each program reads a file and writes to /dev/null. The two take turns, five times, and the medians are compared.
+"""
+import os
+import statistics
+import subprocess
+import sys
+import tempfile
+import time
+
+LINES_C = r"""
+#include <string.h>
+#include <unistd.h>
+static char piece[65536];
+int main(void) {
+    ssize_t count;
+    int greeted = 0;
+    while ((count = read(0, piece, sizeof piece)) > 0) {
+        char *at = piece, *end = piece + count, *feed;
+        while ((feed = memchr(at, '\n', end - at)) != 0) {
+            const char *reply = greeted ? "=1 1\n" : "LysKOM\n";
+            if (write(1, reply, strlen(reply)) < 0) return 1;
+            greeted = 1;
+            at = feed + 1;
+        }
+    }
+    return 0;
+}
+"""
+
+STRINGS_C = r"""
+#include <string.h>
+#include <unistd.h>
+static char piece[65536];
+static char kept[1 << 20];
+int main(void) {
+    ssize_t count;
+    size_t at = 0;
+    while ((count = read(0, piece, sizeof piece)) > 0) {
+        size_t part = (size_t) count < sizeof kept - at ? (size_t) count : sizeof kept - at;
+        memcpy(kept + at, piece, part);
+        memcpy(kept, piece + part, count - part);
+        at = at + count < sizeof kept ? at + count : count - part;
+    }
+    return kept[at / 2] == 1;
+}
+"""
+
+
+def write_lines(path):
+    with open(path, "wb") as out:
+        out.write(b"A5Hceder\n" + b"1 56\n" * 1_000_000)
+
+
+def write_strings(path):
+    line = b"1 999 1048576H" + b"x" * 1_048_576 + b"\n"
+    with open(path, "wb") as out:
+        out.write(b"A5Hceder\n")
+        for _ in range(200):
+            out.write(line)
+
+
+def seconds(command, path):
+    with open(path, "rb") as source, open(os.devnull, "wb") as sink:
+        begin = time.perf_counter()
+        subprocess.run(command, stdin=source, stdout=sink, check=False)
+        return time.perf_counter() - begin
+
+
+def compare(name, komd, code, write_input, folder):
+    path = os.path.join(folder, name + ".in")
+    program = os.path.join(folder, name)
+    source = program + ".c"
+    with open(source, "w", encoding="ascii") as out:
+        out.write(code)
+    subprocess.run(["gcc", "-O2", "-o", program, source], check=True)
+    write_input(path)
+    seconds([program], path)
+    ours, theirs = [], []
+    for _ in range(5):
+        theirs.append(seconds([program], path))
+        ours.append(seconds([komd, "once"], path))
+    mine, other = statistics.median(ours), statistics.median(theirs)
+    print(f"{name}: komd {mine:.3f} s, C {other:.3f} s, ratio {mine / other:.2f}")
+    os.remove(path)
+
+
+def main():
+    here = os.path.dirname(os.path.abspath(__file__))
+    komd = sys.argv[1] if len(sys.argv) > 1 else os.path.join(here, "..", "crates", "komd", "out", "komd")
+    with tempfile.TemporaryDirectory() as folder:
+        compare("lines", komd, LINES_C, write_lines, folder)
+        compare("strings", komd, STRINGS_C, write_strings, folder)
+
+
+if __name__ == "__main__":
+    main()
