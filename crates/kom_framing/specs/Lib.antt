@@ -1,1 +1,12 @@
+pub mod Advancing
+pub mod BegunGreetings
+pub mod BegunLines
+pub mod Hearing
+pub mod Lexing
+pub mod Refusing
+pub mod Room
+pub mod Scanning
+pub mod Spans
+pub mod Splitting
+pub mod WholeLines
 pub mod Writing

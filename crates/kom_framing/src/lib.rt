@@ -1,6 +1,21 @@
 //! The splitter of a client's stream into its greeting and its lines, and the writer of replies.
 #![tactic(auto)]
 
+mod begun;
+mod fault;
+mod greeting;
+mod lexer;
+mod line;
+mod lines;
+mod splitter;
+#[cfg(test)]
+mod tests;
+mod token;
+mod units;
 mod writer;
 
+pub use line::Line;
+pub use splitter::{FeedRefusal, Splitter};
+pub use token::Token;
+pub use units::Unit;
 pub use writer::{Place, Writer};

@@ -1,9 +1,10 @@
 use crate::calls::Reply;
 
 /// What a session is sent.
-#[derive(Clone, Copy, Debug, PartialEq, Eq)]
+#[derive(Clone, Copy, Debug, Default, PartialEq, Eq)]
 pub enum Item {
     /// The greeting's answer.
+    #[default]
     Hello,
     /// The reply to the call that had this reference.
     Reply { reference: u32, body: Reply },

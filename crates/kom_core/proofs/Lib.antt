@@ -1,0 +1,5 @@
+pub mod Taking
+pub mod Places
+pub mod Searching
+pub mod Soundness
+pub mod Making

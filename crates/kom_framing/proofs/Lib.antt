@@ -1,0 +1,12 @@
+pub mod Looks
+pub mod Lists
+pub mod LexingLaws
+pub mod HearingLaws
+pub mod StreamLaws
+pub mod StepLaws
+pub mod SpanLaws
+pub mod LineLaws
+pub mod WholeLinesLaws
+pub mod GreetingLaws
+pub mod FedLaws
+pub mod FeedLaws

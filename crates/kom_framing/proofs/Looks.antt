@@ -1,0 +1,66 @@
+-- Each byte is of one kind, which decides the tests on it.
+use Rattle.std.proofs.Common.{◌≡◌, ℕ, Bool, true, false, List, ◌∷◌, eqb, ◌||◌, refl, ap, ◌∙◌, inl, inr, arith}
+use Rattle.std.proofs.lemmas.Bool.{cases_Bool}
+use Rattle.std.proofs.lemmas.Bool.Decides.{nat_tests}
+use Rattle.kom_types.specs.declared.byte_kind.ByteKind.{ByteKind}
+use Rattle.kom_types.specs.declared.byte_kind.ByteKind.TheVariants as kind
+use Rattle.kom_types.specs.ByteKind.{is_blank, is_digit, kind_of}
+use Rattle.kom_types.specs.Grammar.{may_follow}
+
+-- what the tests say of a byte
+pub record Looks (byte : ℕ) (sort : ByteKind) (blank feed digit hollerith : Bool) : Type 0 where
+  pub kind_is : kind_of byte ≡ sort
+  pub blank_is : is_blank byte ≡ blank
+  pub feed_is : eqb byte 10 ≡ feed
+  pub digit_is : is_digit byte ≡ digit
+  pub hollerith_is : eqb byte 72 ≡ hollerith
+
+pub data Look (byte : ℕ) : Type 0 where
+  blank : Looks byte kind.Blank true false false false → Look byte
+  feed : Looks byte kind.LineFeed false true false false → Look byte
+  digit : Looks byte kind.Digit false false true false → Look byte
+  hollerith : Looks byte kind.Hollerith false false false true → Look byte
+  open_brace : Looks byte kind.Open false false false false → Look byte
+  close_brace : Looks byte kind.Close false false false false → Look byte
+  star : Looks byte kind.Star false false false false → Look byte
+  other : Looks byte kind.Other false false false false → Look byte
+
+blank_alone : (byte : ℕ) → is_blank byte ≡ true → (eqb byte 10 ≡ false) × ((is_digit byte ≡ false) × (eqb byte 72 ≡ false))
+blank_alone byte e = grind (arith, nat_tests)
+
+feed_alone : (byte : ℕ) → eqb byte 10 ≡ true → (is_digit byte ≡ false) × (eqb byte 72 ≡ false)
+feed_alone byte e = grind (arith, nat_tests)
+
+digit_alone : (byte : ℕ) → is_digit byte ≡ true → eqb byte 72 ≡ false
+digit_alone byte e = grind (arith, nat_tests)
+
+look_on : (byte : ℕ) → is_blank byte ≡ false → eqb byte 10 ≡ false → is_digit byte ≡ false → Look byte
+look_on byte b f d = elim (cases_Bool (eqb byte 72)) [
+  | inl h ↦ hollerith (record { kind_is = rw (b, f, d, h) refl; blank_is = b; feed_is = f; digit_is = d; hollerith_is = h })
+  | inr h ↦ elim (cases_Bool (eqb byte 123)) [
+    | inl o ↦ open_brace (record { kind_is = rw (b, f, d, h, o) refl; blank_is = b; feed_is = f; digit_is = d; hollerith_is = h })
+    | inr o ↦ elim (cases_Bool (eqb byte 125)) [
+      | inl c ↦ close_brace (record { kind_is = rw (b, f, d, h, o, c) refl; blank_is = b; feed_is = f; digit_is = d; hollerith_is = h })
+      | inr c ↦ elim (cases_Bool (eqb byte 42)) [
+        | inl s ↦ star (record { kind_is = rw (b, f, d, h, o, c, s) refl; blank_is = b; feed_is = f; digit_is = d; hollerith_is = h })
+        | inr s ↦ other (record { kind_is = rw (b, f, d, h, o, c, s) refl; blank_is = b; feed_is = f; digit_is = d; hollerith_is = h })
+      ]
+    ]
+  ]
+]
+
+pub look : (byte : ℕ) → Look byte
+look byte = elim (cases_Bool (is_blank byte)) [
+  | inl b ↦ let others = blank_alone byte b in blank (record { kind_is = rw b refl; blank_is = b; feed_is = others.0; digit_is = others.1.0; hollerith_is = others.1.1 })
+  | inr b ↦ elim (cases_Bool (eqb byte 10)) [
+    | inl f ↦ let others = feed_alone byte f in feed (record { kind_is = rw (b, f) refl; blank_is = b; feed_is = f; digit_is = others.0; hollerith_is = others.1 })
+    | inr f ↦ elim (cases_Bool (is_digit byte)) [
+      | inl d ↦ digit (record { kind_is = rw (b, f, d) refl; blank_is = b; feed_is = f; digit_is = d; hollerith_is = digit_alone byte d })
+      | inr d ↦ look_on byte b f d
+    ]
+  ]
+]
+
+-- whether a byte may follow a token
+pub follows : (byte : ℕ) (bytes : List ℕ) (b f : Bool) → is_blank byte ≡ b → eqb byte 10 ≡ f → may_follow (byte ∷ bytes) ≡ (b || f)
+follows byte bytes b f blank_is feed_is = ap (λ (x : Bool). x || eqb byte 10) blank_is ∙ ap (λ (x : Bool). b || x) feed_is

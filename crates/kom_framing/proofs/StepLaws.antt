@@ -1,0 +1,145 @@
+-- The lexer's steps.
+use Rattle.std.proofs.Common.{◌≡◌, ℕ, zero, suc, ◌+◌, ◌*◌, ◌-◌, ◌^◌, ◌<◌, ◌≤◌, Bool, true, false, ltb, List, [], ◌∷◌, ◌++◌, length, get_or, take, drop, Some, None, refl, sym, ap, subst, ◌∙◌, arith, append_assoc}
+use Rattle.std.specs.Prelude.{slice_range}
+use Rattle.std.proofs.Math.Nat.{pow-le-pow_right, pow-succ'}
+use Rattle.std.proofs.lemmas.Bool.{lt-ltb}
+use Rattle.std.proofs.lemmas.Bool.Decides.{nat_tests}
+use Rattle.std.proofs.lemmas.List.{append-nil, length-append, length-drop, length-take-le, drop-append-le, take_all, drop_more}
+use Rattle.std.proofs.lemmas.List.Sums.{fold_push}
+use Rattle.kom_types.specs.declared.byte_kind.ByteKind.TheVariants as kind
+use Rattle.kom_types.specs.ByteKind.{is_digit, kind_of}
+use Rattle.kom_types.specs.Token.{Token, Text, number_of}
+use Rattle.kom_framing.specs.declared.lexer.Span.TheVariants as span
+use Rattle.kom_framing.specs.declared.lexer.Lexer.{Lexer}
+use Rattle.kom_framing.specs.declared.lexer.Lexer.TheVariants as lexer
+use Rattle.kom_framing.specs.declared.lexer.Step.{Step}
+use Rattle.kom_framing.specs.declared.lexer.Step.TheVariants as step
+use Rattle.kom_framing.specs.Lexing.{Run, Inside, Behind, Goes, Unfits, move, move_in_run, Going, reached, onward}
+use Rattle.kom_framing.specs.Scanning.{IsRun, IsMove, LeadsOn, Does}
+use Rattle.kom_framing.proofs.Looks.{look, blank, feed, digit, hollerith, open_brace, close_brace, star, other}
+
+-- ---- digits
+
+in_digits : (byte : ℕ) → is_digit byte ≡ true → (48 ≤ byte) × (byte ≤ 57)
+in_digits byte e = grind (arith, nat_tests)
+
+pub digit_bounds : (byte : ℕ) → kind_of byte ≡ kind.Digit → (48 ≤ byte) × (byte ≤ 57)
+digit_bounds byte e = elim (look byte) [
+  | blank l ↦ let k = l.kind_is in absurd cc
+  | feed l ↦ let k = l.kind_is in absurd cc
+  | digit l ↦ in_digits byte l.digit_is
+  | hollerith l ↦ let k = l.kind_is in absurd cc
+  | open_brace l ↦ let k = l.kind_is in absurd cc
+  | close_brace l ↦ let k = l.kind_is in absurd cc
+  | star l ↦ let k = l.kind_is in absurd cc
+  | other l ↦ let k = l.kind_is in absurd cc
+]
+
+-- fifteen digits and one more fit
+pub number_fits : (number start place : ℕ) → number < 10 ^ (place - start) → place - start < 16 → 10 * number + 9 < 2 ^ 64
+number_fits number start place small short =
+    let bound : 10 ^ (place - start) ≤ 10 ^ 15 = pow-le-pow_right {n = 10} (omega arith) {i = place - start} {j = 15} (omega arith) in
+    omega arith
+
+one_digit_more : (start number : ℕ) (bytes : List ℕ) (byte : ℕ) → byte ≤ 57 → length bytes - start < 16 → IsRun start number bytes → IsRun start (10 * number + (byte - 48)) (bytes ++ byte ∷ [])
+one_digit_more start number bytes byte below short run =
+    let begun = run.begun in
+    let grown : drop start (bytes ++ byte ∷ []) ≡ drop start bytes ++ byte ∷ [] = drop-append-le start bytes (byte ∷ []) (omega arith) in
+    let power : 10 ^ (length (bytes ++ byte ∷ []) - start) ≡ 10 * 10 ^ (length bytes - start) =
+    ap (λ (k : ℕ). 10 ^ k) (omega (arith, length-append bytes (byte ∷ []))) ∙ pow-succ' 10 (length bytes - start) in
+    let small = run.small in
+    record {
+      begun = omega (arith, length-append bytes (byte ∷ []));
+      short = omega (arith, length-append bytes (byte ∷ []));
+      spells = ap number_of grown ∙ fold_push (λ number digit. 10 * number + (digit - 48)) 0 (drop start bytes) byte ∙ ap (λ (n : ℕ). 10 * n + (byte - 48)) run.spells;
+      small = omega arith;
+    }
+
+pub digit_move : (start number d : ℕ) (bytes : List ℕ) (byte : ℕ) → kind_of byte ≡ kind.Digit → d ≡ byte - 48 → length bytes - start < 16 → IsRun start number bytes → IsMove (step.Goes 1 None (lexer.Run start (10 * number + d))) (lexer.Run start number) bytes byte
+digit_move start number d bytes byte e spelled short run =
+    let begun = run.begun in
+    let bounds = digit_bounds byte e in
+    let grown : drop start (bytes ++ byte ∷ []) ≡ drop start bytes ++ byte ∷ [] = drop-append-le start bytes (byte ∷ []) (omega arith) in
+    let fewer : ltb (length (drop start bytes)) 16 ≡ true = lt-ltb (length (drop start bytes)) 16 (omega (arith, length-drop start bytes)) in
+    let moved : move (Run (drop start bytes)) byte ≡ Goes [] (Run (drop start (bytes ++ byte ∷ []))) =
+    ap (move_in_run (drop start bytes) byte) e
+    ∙ ap (λ (b : Bool). elim b [ true ↦ Goes [] (Run (drop start bytes ++ byte ∷ [])) | false ↦ Unfits ]) fewer
+    ∙ ap (λ (ds : List ℕ). Goes [] (Run ds)) (sym grown) in
+    (refl, moved, subst (λ (n : ℕ). IsRun start (10 * number + n) (bytes ++ byte ∷ [])) (sym spelled) (one_digit_more start number bytes byte bounds.1 short run), tt)
+
+-- ---- one byte
+
+pub does_move : (s : Step) (before : Lexer) (bytes : List ℕ) (byte : ℕ) (rest : List ℕ) → IsMove s before bytes byte → Does s before bytes (byte ∷ rest)
+does_move (step.Goes count ended after) before bytes byte rest moved =
+    subst (λ (n : ℕ). Does (step.Goes n ended after) before bytes (byte ∷ rest)) (sym moved.0) (record {
+      some = omega arith;
+      within = omega arith;
+      onward_is = λ tokens. ap (reached tokens) moved.1;
+      sound = moved.2;
+      spans = moved.3;
+    })
+does_move (step.Ends ended) before bytes byte rest moved = record { onward_is = λ tokens. ap (reached tokens) moved.0; spans = moved.1 }
+does_move step.Unfit before bytes byte rest moved = λ tokens. ap (reached tokens) moved
+
+-- ---- many bytes of a string
+
+inside_goes : (lacking : ℕ) (tokens : List Token) (text front : List ℕ) → length front ≤ lacking → onward (Going tokens (Inside lacking text)) front ≡ Going tokens (Inside (lacking - length front) (text ++ front))
+inside_goes lacking tokens text [] short =
+    let none : lacking ≡ lacking - 0 = omega arith in
+    ap (λ (n : ℕ). Going tokens (Inside n text)) none ∙ ap (λ (t : List ℕ). Going tokens (Inside (lacking - 0) t)) (sym (append-nil text))
+inside_goes zero tokens text (byte ∷ front) short = absurd (omega arith)
+inside_goes (suc lacking) tokens text (byte ∷ front) short =
+    let fewer : lacking - length front ≡ suc lacking - length (byte ∷ front) = omega arith in
+    ap (λ (t : List Token). onward (Going t (Inside lacking (text ++ byte ∷ []))) front) (append-nil tokens)
+    ∙ inside_goes lacking tokens (text ++ byte ∷ []) front (omega arith)
+    ∙ ap (λ (n : ℕ). Going tokens (Inside n ((text ++ byte ∷ []) ++ front))) fewer
+    ∙ ap (λ (t : List ℕ). Going tokens (Inside (suc lacking - length (byte ∷ front)) t)) (append_assoc text (byte ∷ []) front)
+
+inside_ends : (lacking : ℕ) (tokens : List Token) (text front : List ℕ) → length front ≡ lacking + 1 → onward (Going tokens (Inside lacking text)) front ≡ Going (tokens ++ Text (text ++ front) ∷ []) Behind
+inside_ends lacking tokens text [] whole = absurd (omega arith)
+inside_ends zero tokens text (byte ∷ []) whole = refl
+inside_ends zero tokens text (byte ∷ second ∷ front) whole = absurd (omega arith)
+inside_ends (suc lacking) tokens text (byte ∷ front) whole =
+    ap (λ (t : List Token). onward (Going t (Inside lacking (text ++ byte ∷ []))) front) (append-nil tokens)
+    ∙ inside_ends lacking tokens (text ++ byte ∷ []) front (omega arith)
+    ∙ ap (λ (t : List ℕ). Going (tokens ++ Text t ∷ []) Behind) (append_assoc text (byte ∷ []) front)
+
+pub string_ends : (start lacking place : ℕ) (bytes behind : List ℕ) → 1 ≤ lacking → lacking ≤ length behind → length bytes ≡ place → start ≤ place → LeadsOn lacking (Some (span.Text start (place + lacking))) lexer.Behind (lexer.Inside start lacking) bytes behind
+string_ends start lacking place bytes behind lacks within at begun =
+    let front : List ℕ = take lacking behind in
+    let count : length front ≡ lacking = length-take-le lacking behind within in
+    let grown : drop start (bytes ++ front) ≡ drop start bytes ++ front = drop-append-le start bytes front (omega arith) in
+    let ended : slice_range (bytes ++ front) start (place + lacking) ≡ drop start bytes ++ front =
+    ap (take (place + lacking - start)) grown ∙ take_all (place + lacking - start) (drop start bytes ++ front) (omega (arith, length-append (drop start bytes) front, length-drop start bytes)) in
+    record {
+      some = lacks;
+      within = within;
+      onward_is = λ tokens. inside_ends (lacking - 1) tokens (drop start bytes) front (omega arith) ∙ ap (λ (t : List ℕ). Going (tokens ++ Text t ∷ []) Behind) (sym ended);
+      sound = tt;
+      spans = ((omega arith, omega arith), tt);
+    }
+
+pub string_goes : (start lacking left place : ℕ) (bytes behind : List ℕ) → 1 ≤ left → left < lacking → length behind ≡ left → length bytes ≡ place → start ≤ place → LeadsOn left None (lexer.Inside start (lacking - left)) (lexer.Inside start lacking) bytes behind
+string_goes start lacking left place bytes behind some fewer whole at begun =
+    let all : take left behind ≡ behind = take_all left behind (omega arith) in
+    let count : length (take left behind) ≡ left = length-take-le left behind (omega arith) in
+    let grown : drop start bytes ++ take left behind ≡ drop start (bytes ++ take left behind) = sym (drop-append-le start bytes (take left behind) (omega arith)) in
+    let less : lacking - 1 - length (take left behind) ≡ lacking - left - 1 = omega arith in
+    record {
+      some = some;
+      within = omega arith;
+      onward_is = λ tokens. inside_goes (lacking - 1) tokens (drop start bytes) (take left behind) (omega arith)
+          ∙ ap (λ (n : ℕ). Going tokens (Inside n (drop start bytes ++ take left behind))) less
+          ∙ ap (λ (t : List ℕ). Going tokens (Inside (lacking - left - 1) t)) grown
+          ∙ sym (ap (λ (t : List Token). Going t (Inside (lacking - left - 1) (drop start (bytes ++ take left behind)))) (append-nil tokens));
+      sound = record { begun = omega (arith, length-append bytes (take left behind)); lacks = omega arith };
+      spans = tt;
+    }
+
+-- the same with the next byte of a window
+pub does_window_move : (s : Step) (before : Lexer) (bytes window : List ℕ) (at : ℕ) → at < length window → IsMove s before bytes (get_or window at 0) → Does s before bytes (drop at window)
+does_window_move s before bytes window at within moved =
+    subst (Does s before bytes) (sym (drop_more window at 0 within)) (does_move s before bytes (get_or window at 0) (drop (at + 1) window) moved)
+
+pub length_seen : (text window : List ℕ) (at : ℕ) → at < length window → length (text ++ take at window) ≡ length text + at
+length_seen text window at within = omega (arith, length-append text (take at window), length-take-le at window (omega arith))

@@ -1,0 +1,196 @@
+-- A stream that goes on, and the verdict on its next byte.
+use Rattle.std.proofs.Common.{◌≡◌, ℕ, ◌+◌, ◌<◌, ◌≤◌, Bool, true, false, ltb, List, [], ◌∷◌, ◌++◌, length, Option, Some, None, refl, ap, ◌∙◌, arith}
+use Rattle.std.proofs.lemmas.Bool.{lt-ltb, le-ltb}
+use Rattle.kom_types.specs.Token.{Token}
+use Rattle.kom_types.specs.Grammar.{Form, Front, Whole, Unfit, line_form, greeting_form}
+use Rattle.kom_types.specs.Stream.{Fault, Malformed, LineTooLong, Split, longest_line, longest_stream, Verdict, GoesOn, Ends, Fails, verdict, line_verdict, greeting_verdict, with_line, stopped_in, lines_from, greeting_from}
+
+-- ---- what a verdict makes of a stream
+
+abbrev after_byte : ℕ → List ℕ → ℕ → List ℕ → Verdict (List Token) → Split
+after_byte place text byte bytes GoesOn = lines_from (place + 1) (text ++ byte ∷ []) bytes
+after_byte place text byte bytes (Ends tokens) = with_line tokens place (lines_from (place + 1) [] bytes)
+after_byte place text byte bytes (Fails fault) = stopped_in text (Some fault)
+
+lines-cons : (place : ℕ) (text : List ℕ) (byte : ℕ) (bytes : List ℕ) (judged : Verdict (List Token)) → line_verdict place (text ++ byte ∷ []) ≡ judged → lines_from place text (byte ∷ bytes) ≡ after_byte place text byte bytes judged
+lines-cons place text byte bytes judged e = ap (after_byte place text byte bytes) e
+
+abbrev pub after_letter : ℕ → List ℕ → ℕ → List ℕ → Verdict (List ℕ) → Split
+after_letter place text byte bytes GoesOn = greeting_from (place + 1) (text ++ byte ∷ []) bytes
+after_letter place text byte bytes (Ends name) = record (lines_from (place + 1) [] bytes) { greeting = Some name }
+after_letter place text byte bytes (Fails fault) = stopped_in text (Some fault)
+
+pub greeting-cons : (place : ℕ) (text : List ℕ) (byte : ℕ) (bytes : List ℕ) (judged : Verdict (List ℕ)) → greeting_verdict place (text ++ byte ∷ []) ≡ judged → greeting_from place text (byte ∷ bytes) ≡ after_letter place text byte bytes judged
+greeting-cons place text byte bytes judged e = ap (after_letter place text byte bytes) e
+
+-- ---- the verdict on a byte
+
+abbrev choice : {X : Type 0} → Bool → X → X → X
+choice b x y = elim b [ true ↦ x | false ↦ y ]
+
+front_goes_on : {X : Type 0} (place : ℕ) (form : Form X) → place < longest_stream → form ≡ Front → verdict place false form ≡ GoesOn
+front_goes_on place form early e =
+    ap (verdict place false) e ∙ ap (λ (b : Bool). choice b GoesOn (Fails (Malformed place))) (lt-ltb place longest_stream early)
+
+whole_ends : {X : Type 0} (place : ℕ) (form : Form X) (x : X) → place < longest_stream → form ≡ Whole x → verdict place false form ≡ Ends x
+whole_ends place form x early e =
+    ap (verdict place false) e ∙ ap (λ (b : Bool). choice b (Ends x) (Fails (Malformed place))) (lt-ltb place longest_stream early)
+
+pub unfit_fails : {X : Type 0} (place : ℕ) (long : Bool) (form : Form X) → form ≡ Unfit → verdict place long form ≡ Fails (Malformed place)
+unfit_fails place long form e = ap (verdict place long) e
+
+late_fails : {X : Type 0} (place : ℕ) (long : Bool) (form : Form X) → longest_stream ≤ place → verdict place long form ≡ Fails (Malformed place)
+late_fails place long Front late = ap (λ (b : Bool). choice b (choice long (Fails (LineTooLong place)) GoesOn) (Fails (Malformed place))) (le-ltb place longest_stream late)
+late_fails place long (Whole x) late = ap (λ (b : Bool). choice b (choice long (Fails (LineTooLong place)) (Ends x)) (Fails (Malformed place))) (le-ltb place longest_stream late)
+late_fails place long Unfit late = refl
+
+-- no rule makes these bytes unfit
+abbrev pub Fits : {X : Type 0} → Form X → Type 0
+Fits Front = Unit {0}
+Fits (Whole x) = Unit {0}
+Fits Unfit = ⊥
+
+long_fails : {X : Type 0} (place : ℕ) (form : Form X) → place < longest_stream → Fits form → verdict place true form ≡ Fails (LineTooLong place)
+long_fails place Front early fits = ap (λ (b : Bool). choice b (Fails (LineTooLong place)) (Fails (Malformed place))) (lt-ltb place longest_stream early)
+long_fails place (Whole x) early fits = ap (λ (b : Bool). choice b (Fails (LineTooLong place)) (Fails (Malformed place))) (lt-ltb place longest_stream early)
+long_fails place Unfit early fits = absurd fits
+
+short_line : (place : ℕ) (front : List ℕ) → length front ≤ longest_line → line_verdict place front ≡ verdict place false (line_form front)
+short_line place front short = ap (λ (b : Bool). verdict place b (line_form front)) (le-ltb longest_line (length front) short)
+
+long_line : (place : ℕ) (front : List ℕ) → longest_line < length front → line_verdict place front ≡ verdict place true (line_form front)
+long_line place front long = ap (λ (b : Bool). verdict place b (line_form front)) (lt-ltb longest_line (length front) long)
+
+-- ---- one byte of a line
+
+pub line_goes_on : (place : ℕ) (text : List ℕ) (byte : ℕ) (bytes : List ℕ) → place < longest_stream → length (text ++ byte ∷ []) ≤ longest_line → line_form (text ++ byte ∷ []) ≡ Front → lines_from place text (byte ∷ bytes) ≡ lines_from (place + 1) (text ++ byte ∷ []) bytes
+line_goes_on place text byte bytes early short e =
+    lines-cons place text byte bytes GoesOn (short_line place (text ++ byte ∷ []) short ∙ front_goes_on place (line_form (text ++ byte ∷ [])) early e)
+
+pub line_ends : (place : ℕ) (text : List ℕ) (byte : ℕ) (bytes : List ℕ) (tokens : List Token) → place < longest_stream → length (text ++ byte ∷ []) ≤ longest_line → line_form (text ++ byte ∷ []) ≡ Whole tokens → lines_from place text (byte ∷ bytes) ≡ with_line tokens place (lines_from (place + 1) [] bytes)
+line_ends place text byte bytes tokens early short e =
+    lines-cons place text byte bytes (Ends tokens) (short_line place (text ++ byte ∷ []) short ∙ whole_ends place (line_form (text ++ byte ∷ [])) tokens early e)
+
+pub line_unfit : (place : ℕ) (text : List ℕ) (byte : ℕ) (bytes : List ℕ) → line_form (text ++ byte ∷ []) ≡ Unfit → lines_from place text (byte ∷ bytes) ≡ stopped_in text (Some (Malformed place))
+line_unfit place text byte bytes e = lines-cons place text byte bytes (Fails (Malformed place)) (unfit_fails place (ltb longest_line (length (text ++ byte ∷ []))) (line_form (text ++ byte ∷ [])) e)
+
+pub line_late : (place : ℕ) (text : List ℕ) (byte : ℕ) (bytes : List ℕ) → longest_stream ≤ place → lines_from place text (byte ∷ bytes) ≡ stopped_in text (Some (Malformed place))
+line_late place text byte bytes late = lines-cons place text byte bytes (Fails (Malformed place)) (late_fails place (ltb longest_line (length (text ++ byte ∷ []))) (line_form (text ++ byte ∷ [])) late)
+
+pub line_too_long : (place : ℕ) (text : List ℕ) (byte : ℕ) (bytes : List ℕ) → place < longest_stream → longest_line < length (text ++ byte ∷ []) → Fits (line_form (text ++ byte ∷ [])) → lines_from place text (byte ∷ bytes) ≡ stopped_in text (Some (LineTooLong place))
+line_too_long place text byte bytes early long fits =
+    lines-cons place text byte bytes (Fails (LineTooLong place)) (long_line place (text ++ byte ∷ []) long ∙ long_fails place (line_form (text ++ byte ∷ [])) early fits)
+
+-- ---- one byte of a greeting
+
+pub greeting_goes_on : (place : ℕ) (text : List ℕ) (byte : ℕ) (bytes : List ℕ) → place < longest_stream → greeting_form (text ++ byte ∷ []) ≡ Front → greeting_from place text (byte ∷ bytes) ≡ greeting_from (place + 1) (text ++ byte ∷ []) bytes
+greeting_goes_on place text byte bytes early e = greeting-cons place text byte bytes GoesOn (front_goes_on place (greeting_form (text ++ byte ∷ [])) early e)
+
+pub greeting_ends : (place : ℕ) (text : List ℕ) (byte : ℕ) (bytes name : List ℕ) → place < longest_stream → greeting_form (text ++ byte ∷ []) ≡ Whole name → greeting_from place text (byte ∷ bytes) ≡ record (lines_from (place + 1) [] bytes) { greeting = Some name }
+greeting_ends place text byte bytes name early e = greeting-cons place text byte bytes (Ends name) (whole_ends place (greeting_form (text ++ byte ∷ [])) name early e)
+
+pub greeting_unfit : (place : ℕ) (text : List ℕ) (byte : ℕ) (bytes : List ℕ) → greeting_form (text ++ byte ∷ []) ≡ Unfit → greeting_from place text (byte ∷ bytes) ≡ stopped_in text (Some (Malformed place))
+greeting_unfit place text byte bytes e = greeting-cons place text byte bytes (Fails (Malformed place)) (unfit_fails place false (greeting_form (text ++ byte ∷ [])) e)
+
+pub greeting_late : (place : ℕ) (text : List ℕ) (byte : ℕ) (bytes : List ℕ) → longest_stream ≤ place → greeting_from place text (byte ∷ bytes) ≡ stopped_in text (Some (Malformed place))
+greeting_late place text byte bytes late = greeting-cons place text byte bytes (Fails (Malformed place)) (late_fails place false (greeting_form (text ++ byte ∷ [])) late)
+
+-- ---- a stream that goes on
+
+-- what was split, and the lines behind it from its rest on, if it is not at fault
+abbrev extended_by : Option Fault → Split → ℕ → List ℕ → Split
+extended_by None split place bytes = let more = lines_from place split.rest bytes in record { greeting = split.greeting; lines = split.lines ++ more.lines; rest = more.rest; fault = more.fault }
+extended_by (Some fault) split place bytes = split
+
+abbrev pub extended : Split → ℕ → List ℕ → Split
+extended split place bytes = extended_by split.fault split place bytes
+
+greeting-with_line : (tokens : List Token) (end : ℕ) (split : Split) → (with_line tokens end split).greeting ≡ split.greeting
+greeting-with_line [] end split = refl
+greeting-with_line (token ∷ tokens) end split = refl
+
+no_greeting : (place : ℕ) (text bytes : List ℕ) → (lines_from place text bytes).greeting ≡ None
+no_greeting place text [] = refl
+no_greeting place text (byte ∷ bytes) = elim (line_verdict place (text ++ byte ∷ [])) as (λ v. (after_byte place text byte bytes v).greeting ≡ None) [
+  | GoesOn ↦ no_greeting (place + 1) (text ++ byte ∷ []) bytes
+  | Ends tokens ↦ greeting-with_line tokens place (lines_from (place + 1) [] bytes) ∙ no_greeting (place + 1) [] bytes
+  | Fails fault ↦ refl
+]
+
+with_line-extended : (tokens : List Token) (end : ℕ) (split : Split) (place : ℕ) (bytes : List ℕ) → with_line tokens end (extended split place bytes) ≡ extended (with_line tokens end split) place bytes
+with_line-extended [] end split place bytes = refl
+with_line-extended (token ∷ tokens) end split place bytes = elim (split.fault) as (λ f. with_line (token ∷ tokens) end (extended_by f split place bytes) ≡ extended_by f (with_line (token ∷ tokens) end split) place bytes) [
+  | None ↦ refl
+  | Some fault ↦ refl
+]
+
+-- the lines of a stream that goes on
+pub lines-append : (place : ℕ) (text front bytes : List ℕ) → lines_from place text (front ++ bytes) ≡ extended (lines_from place text front) (place + length front) bytes
+lines-append place text [] bytes =
+    let same : place ≡ place + 0 = omega arith in
+    ap (λ (p : ℕ). lines_from p text bytes) same
+    ∙ ap (λ (g : Option (List ℕ)). let more = lines_from (place + 0) text bytes in record { greeting = g; lines = more.lines; rest = more.rest; fault = more.fault }) (no_greeting (place + 0) text bytes)
+lines-append place text (byte ∷ front) bytes =
+    let next : place + 1 + length front ≡ place + length (byte ∷ front) = omega arith in
+    elim (line_verdict place (text ++ byte ∷ [])) as (λ v. after_byte place text byte (front ++ bytes) v ≡ extended (after_byte place text byte front v) (place + length (byte ∷ front)) bytes) [
+      | GoesOn ↦ lines-append (place + 1) (text ++ byte ∷ []) front bytes ∙ ap (λ (p : ℕ). extended (lines_from (place + 1) (text ++ byte ∷ []) front) p bytes) next
+      | Ends tokens ↦ ap (with_line tokens place) (lines-append (place + 1) [] front bytes ∙ ap (λ (p : ℕ). extended (lines_from (place + 1) [] front) p bytes) next)
+          ∙ with_line-extended tokens place (lines_from (place + 1) [] front) (place + length (byte ∷ front)) bytes
+      | Fails fault ↦ refl
+    ]
+
+abbrev greeted_by : Option Fault → Option (List ℕ) → Split → ℕ → List ℕ → Split
+greeted_by (Some fault) greeting split place bytes = split
+greeted_by None (Some name) split place bytes = extended_by None split place bytes
+greeted_by None None split place bytes = greeting_from place split.rest bytes
+
+abbrev pub greeted : Split → ℕ → List ℕ → Split
+greeted split place bytes = greeted_by split.fault split.greeting split place bytes
+
+name_extended : (name : List ℕ) (split : Split) (place : ℕ) (bytes : List ℕ) → record (extended split place bytes) { greeting = Some name } ≡ greeted (record split { greeting = Some name }) place bytes
+name_extended name split place bytes = elim (split.fault) as (λ f. record (extended_by f split place bytes) { greeting = Some name } ≡ greeted_by f (Some name) (record split { greeting = Some name }) place bytes) [
+  | None ↦ refl
+  | Some fault ↦ refl
+]
+
+-- a stream that goes on
+pub greeting-append : (place : ℕ) (text front bytes : List ℕ) → greeting_from place text (front ++ bytes) ≡ greeted (greeting_from place text front) (place + length front) bytes
+greeting-append place text [] bytes =
+    let same : place ≡ place + 0 = omega arith in
+    ap (λ (p : ℕ). greeting_from p text bytes) same
+greeting-append place text (byte ∷ front) bytes =
+    let next : place + 1 + length front ≡ place + length (byte ∷ front) = omega arith in
+    elim (greeting_verdict place (text ++ byte ∷ [])) as (λ v. after_letter place text byte (front ++ bytes) v ≡ greeted (after_letter place text byte front v) (place + length (byte ∷ front)) bytes) [
+      | GoesOn ↦ greeting-append (place + 1) (text ++ byte ∷ []) front bytes ∙ ap (λ (p : ℕ). greeted (greeting_from (place + 1) (text ++ byte ∷ []) front) p bytes) next
+      | Ends name ↦ ap (λ (s : Split). record s { greeting = Some name }) (lines-append (place + 1) [] front bytes ∙ ap (λ (p : ℕ). extended (lines_from (place + 1) [] front) p bytes) next)
+          ∙ name_extended name (lines_from (place + 1) [] front) (place + length (byte ∷ front)) bytes
+      | Fails fault ↦ refl
+    ]
+
+-- ---- what is left of a greeting
+
+no_front_chosen : {X : Type 0} (place : ℕ) (x : X) (early long : Bool) → choice early (choice long (Fails (LineTooLong place)) (Ends x)) (Fails (Malformed place)) ≡ GoesOn → ⊥
+no_front_chosen place x true true e = cc
+no_front_chosen place x true false e = cc
+no_front_chosen place x false long e = cc
+
+whole_is_no_front : {X : Type 0} (place : ℕ) (long : Bool) (x : X) → verdict place long (Whole x) ≡ GoesOn → ⊥
+whole_is_no_front place long x e = no_front_chosen place x (ltb place longest_stream) long e
+
+goes_on_front : {X : Type 0} (place : ℕ) (long : Bool) (form : Form X) → verdict place long form ≡ GoesOn → form ≡ Front
+goes_on_front place long Front e = refl
+goes_on_front place long (Whole x) e = absurd (whole_is_no_front place long x e)
+goes_on_front place long Unfit e = absurd cc
+
+abbrev LeavesFront : Split → Type 0
+LeavesFront split = split.greeting ≡ None → split.fault ≡ None → greeting_form split.rest ≡ Front
+
+leaves_at : (place : ℕ) (text : List ℕ) (byte : ℕ) (bytes : List ℕ) (judged : Verdict (List ℕ)) → greeting_verdict place (text ++ byte ∷ []) ≡ judged → (greeting_form (text ++ byte ∷ []) ≡ Front → LeavesFront (greeting_from (place + 1) (text ++ byte ∷ []) bytes)) → LeavesFront (after_letter place text byte bytes judged)
+leaves_at place text byte bytes GoesOn e later = later (goes_on_front place false (greeting_form (text ++ byte ∷ [])) e)
+leaves_at place text byte bytes (Ends name) e later = λ none sound. absurd cc
+leaves_at place text byte bytes (Fails fault) e later = λ none sound. absurd cc
+
+pub leaves_front : (place : ℕ) (text bytes : List ℕ) → greeting_form text ≡ Front → LeavesFront (greeting_from place text bytes)
+leaves_front place text [] front = λ none sound. front
+leaves_front place text (byte ∷ bytes) front =
+    leaves_at place text byte bytes (greeting_verdict place (text ++ byte ∷ [])) refl (λ f. leaves_front (place + 1) (text ++ byte ∷ []) bytes f)

@@ -1,0 +1,24 @@
+use Rattle.std.proofs.Common.{◌+◌, ℕ, List, subst}
+use Rattle.std.proofs.lemmas.Result.{err_from_is_err_and}
+use Rattle.kom_framing.specs.WholeLines.{AreLines}
+use Rattle.kom_framing.proofs.WholeLinesLaws.{piece_left}
+use Rattle.kom_framing.proofs.FedLaws.{line_goes_on, line_goes_wrong, line_goes_past, same_unit}
+use Rattle.kom_framing.proofs.begun.advance_line.Goals as goal
+
+pub returns-in_err-scan-clause-advances : goal.returns-in_err-scan-clause-advances
+returns-in_err-scan-clause-advances c =
+    let p = err_from_is_err_and c.from_residual.result c.from_residual.ensures.1 in
+    rw p.1 (same_unit c.args.line.now c.scan.new.self c.in_err-scan.ensures c.requires.kept)
+
+pub returns-in-Goes-clause-advances : goal.returns-in-Goes-clause-advances
+returns-in-Goes-clause-advances c =
+    line_goes_on c.args.units.now.items c.args.place c.args.line.now c.scan.new.self c.args.piece.now (rw c.in-Goes.is at c.in_ok-scan.ensures)
+
+pub returns-in-Fails-clause-advances : goal.returns-in-Fails-clause-advances
+returns-in-Fails-clause-advances c =
+    line_goes_wrong c.args.units.now.items c.args.place c.args.line.now c.scan.new.self c.args.piece.now c.in-Fails.found (rw c.in-Fails.is at c.in_ok-scan.ensures)
+
+pub returns-in-Ok-clause-advances : goal.returns-in-Ok-clause-advances
+returns-in-Ok-clause-advances c =
+    line_goes_past c.args.units.now.items c.args.place c.in-Ends.count c.args.line.now c.scan.new.self c.args.piece.now c.in-Ok.lines (rw c.in-Ends.is at c.in_ok-scan.ensures)
+    (subst (λ (rest : List ℕ). AreLines c.in-Ok.lines (c.args.place + c.in-Ends.count) rest) (piece_left c.args.piece.now c.in-Ends.count) c.in-Ok.ensures.lines)

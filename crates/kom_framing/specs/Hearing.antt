@@ -1,0 +1,59 @@
+-- How a greeting goes on byte by byte.
+use Rattle.std.specs.Prelude.{ℕ, ◌+◌, ◌*◌, ◌-◌, true, false, nat_le, nat_lt, ◌==◌, List, [], ◌∷◌, ◌++◌, length, fold}
+use Rattle.kom_types.specs.declared.byte_kind.ByteKind.{ByteKind}
+use Rattle.kom_types.specs.declared.byte_kind.ByteKind.TheVariants as kind
+use Rattle.kom_types.specs.ByteKind.{kind_of}
+use Rattle.kom_framing.specs.Splitting.{Opening, Nothing, Letter, Length, Name}
+
+-- a greeting's bytes so far: they go on, they are a greeting, or no greeting begins so
+pub data Greets : Type 0 where
+  Going : Opening → Greets
+  Ended : List ℕ → Greets
+  Stuck : Greets
+
+-- a name of so many bytes, of which these have come
+abbrev pub name_from : ℕ → List ℕ → Greets
+name_from count name = elim (nat_lt (length name) count) [
+  | true ↦ Going (Name count name)
+  | false ↦ elim (length name == count) [ true ↦ Ended name | false ↦ Stuck ]
+]
+
+-- a byte behind the letter
+abbrev pub hear_behind_letter : ℕ → ByteKind → Greets
+hear_behind_letter byte kind.Blank = Going Letter
+hear_behind_letter byte kind.Digit = Going (Length 1 (byte - 48))
+hear_behind_letter byte kind.LineFeed = Stuck
+hear_behind_letter byte kind.Hollerith = Stuck
+hear_behind_letter byte kind.Open = Stuck
+hear_behind_letter byte kind.Close = Stuck
+hear_behind_letter byte kind.Star = Stuck
+hear_behind_letter byte kind.Other = Stuck
+
+-- a byte behind so many digits, at least one, that spell this number
+abbrev pub hear_in_length : ℕ → ℕ → ℕ → ByteKind → Greets
+hear_in_length count number byte kind.Digit = elim (nat_lt count 4) [ true ↦ Going (Length (count + 1) (10 * number + (byte - 48))) | false ↦ Stuck ]
+hear_in_length count number byte kind.Hollerith = elim (nat_le number 1024) [ true ↦ name_from number [] | false ↦ Stuck ]
+hear_in_length count number byte kind.Blank = Stuck
+hear_in_length count number byte kind.LineFeed = Stuck
+hear_in_length count number byte kind.Open = Stuck
+hear_in_length count number byte kind.Close = Stuck
+hear_in_length count number byte kind.Star = Stuck
+hear_in_length count number byte kind.Other = Stuck
+
+abbrev pub hear : Opening → ℕ → Greets
+hear Nothing byte = elim (byte == 65) [ true ↦ Going Letter | false ↦ Stuck ]
+hear Letter byte = hear_behind_letter byte (kind_of byte)
+hear (Length count number) byte = hear_in_length count number byte (kind_of byte)
+hear (Name count name) byte = name_from count (name ++ byte ∷ [])
+
+abbrev pub next : Greets → ℕ → Greets
+next (Going opening) byte = hear opening byte
+next (Ended name) byte = Stuck
+next Stuck byte = Stuck
+
+abbrev pub onward : Greets → List ℕ → Greets
+onward state bytes = fold next state bytes
+
+-- these bytes of a greeting
+abbrev pub heard : List ℕ → Greets
+heard bytes = onward (Going Nothing) bytes

@@ -1,0 +1,84 @@
+-- What is kept of a line that has begun, and what its next bytes do to it.
+use Rattle.std.specs.Prelude.{◌≡◌, ℕ, ◌+◌, ◌-◌, ◌^◌, ◌<◌, ◌≤◌, List, [], ◌∷◌, ◌++◌, length, take, drop, Option, option_to_list}
+use Rattle.kom_types.specs.declared.byte_kind.ByteKind.{ByteKind}
+use Rattle.kom_types.specs.declared.byte_kind.ByteKind.TheVariants as kind
+use Rattle.kom_types.specs.Token.{Token, number_of}
+use Rattle.kom_framing.specs.declared.lexer.Span.{Span}
+use Rattle.kom_framing.specs.declared.lexer.Lexer.{Lexer}
+use Rattle.kom_framing.specs.declared.lexer.Lexer.TheVariants as lexer
+use Rattle.kom_framing.specs.declared.lexer.Step.{Step}
+use Rattle.kom_framing.specs.declared.lexer.Step.TheVariants as step
+use Rattle.kom_framing.specs.Spans.{tokens_of, AreWithin}
+use Rattle.kom_framing.specs.Lexing.{Mode, Between, Run, Inside, Behind, Goes, Ends, Unfits, move, Going, Ended, Stuck, onward, walk}
+
+-- how far a line of these bytes has come, by what the lexer knows
+abbrev pub mode_of : Lexer → List ℕ → Mode
+mode_of lexer.Between bytes = Between
+mode_of (lexer.Run start number) bytes = Run (drop start bytes)
+mode_of (lexer.Inside start lacking) bytes = Inside (lacking - 1) (drop start bytes)
+mode_of lexer.Behind bytes = Behind
+
+-- the lexer's numbers are those of a run of digits at the end of these bytes
+pub record IsRun (start number : ℕ) (bytes : List ℕ) : Type 0 where
+  pub begun : start < length bytes
+  pub short : length bytes ≤ start + 16
+  pub spells : number_of (drop start bytes) ≡ number
+  pub small : number < 10 ^ (length bytes - start)
+
+-- the lexer's numbers are those of a string that lacks bytes behind these
+pub record IsInside (start lacking : ℕ) (bytes : List ℕ) : Type 0 where
+  pub begun : start ≤ length bytes
+  pub lacks : 1 ≤ lacking
+
+abbrev pub IsLexer : Lexer → List ℕ → Type 0
+IsLexer lexer.Between bytes = Unit {0}
+IsLexer (lexer.Run start number) bytes = IsRun start number bytes
+IsLexer (lexer.Inside start lacking) bytes = IsInside start lacking bytes
+IsLexer lexer.Behind bytes = Unit {0}
+
+-- the tokens that end with a step
+abbrev pub tokens_ended : List ℕ → Option Span → List Token
+tokens_ended bytes span = tokens_of bytes (option_to_list span)
+
+-- the step over a byte of this kind behind a token, or behind digits that it makes a token
+abbrev pub step_by : Option Span → ByteKind → Step
+step_by span kind.Blank = step.Goes 1 span lexer.Between
+step_by span kind.LineFeed = step.Ends span
+step_by span kind.Digit = step.Unfit
+step_by span kind.Hollerith = step.Unfit
+step_by span kind.Open = step.Unfit
+step_by span kind.Close = step.Unfit
+step_by span kind.Star = step.Unfit
+step_by span kind.Other = step.Unfit
+
+-- a step over one byte is what the byte does to the line
+abbrev pub IsMove : Step → Lexer → List ℕ → ℕ → Type 0
+IsMove (step.Goes count span after) before bytes byte = (count ≡ 1) × (move (mode_of before bytes) byte ≡ Goes (tokens_ended (bytes ++ byte ∷ []) span) (mode_of after (bytes ++ byte ∷ [])))
+    × IsLexer after (bytes ++ byte ∷ []) × AreWithin (length bytes + 1) (option_to_list span)
+IsMove (step.Ends span) before bytes byte = (move (mode_of before bytes) byte ≡ Ends (tokens_ended (bytes ++ byte ∷ []) span)) × AreWithin (length bytes + 1) (option_to_list span)
+IsMove step.Unfit before bytes byte = move (mode_of before bytes) byte ≡ Unfits
+
+-- so many bytes of those behind lead on, with these tokens
+pub record LeadsOn (count : ℕ) (span : Option Span) (after before : Lexer) (bytes behind : List ℕ) : Type 0 where
+  pub some : 1 ≤ count
+  pub within : count ≤ length behind
+  pub onward_is : (tokens : List Token) → onward (Going tokens (mode_of before bytes)) (take count behind) ≡ Going (tokens ++ tokens_ended (bytes ++ take count behind) span) (mode_of after (bytes ++ take count behind))
+  pub sound : IsLexer after (bytes ++ take count behind)
+  pub spans : AreWithin (length bytes + count) (option_to_list span)
+
+-- the line ends with the next byte, and with these tokens
+pub record EndsLine (span : Option Span) (before : Lexer) (bytes behind : List ℕ) : Type 0 where
+  pub onward_is : (tokens : List Token) → onward (Going tokens (mode_of before bytes)) (take 1 behind) ≡ Ended (tokens ++ tokens_ended (bytes ++ take 1 behind) span)
+  pub spans : AreWithin (length bytes + 1) (option_to_list span)
+
+-- a step is what the bytes behind these do to the line
+abbrev pub Does : Step → Lexer → List ℕ → List ℕ → Type 0
+Does (step.Goes count span after) before bytes behind = LeadsOn count span after before bytes behind
+Does (step.Ends span) before bytes behind = EndsLine span before bytes behind
+Does step.Unfit before bytes behind = (tokens : List Token) → onward (Going tokens (mode_of before bytes)) (take 1 behind) ≡ Stuck
+
+-- what is kept of the bytes of a line that goes on
+pub record IsBegun (bytes : List ℕ) (spans : List Span) (lexer : Lexer) : Type 0 where
+  pub walked : walk bytes ≡ Going (tokens_of bytes spans) (mode_of lexer bytes)
+  pub within : AreWithin (length bytes) spans
+  pub sound : IsLexer lexer bytes

@@ -1,0 +1,156 @@
+ghost use Rattle.std.specs.Prelude.{◌≡◌, ℕ, ◌+◌, ◌-◌, ◌^◌, ◌<◌, ◌≤◌, List, ◌++◌, length, take, drop};
+ghost use Rattle.kom_types.specs.ByteKind.{kind_of};
+ghost use Rattle.kom_framing.specs.Scanning.{IsLexer, IsRun, IsMove, Does, step_by};
+
+use kom_types::{ByteKind, kind_of_byte};
+
+/// A token, by the bytes of its line that it has: the first, and the first behind it.
+#[derive(Clone, Copy, Debug)]
+pub enum Span {
+    Digits(usize, usize),
+    Text(usize, usize),
+    Open,
+    Close,
+    Star,
+}
+
+/// How far a line has come.
+#[derive(Clone, Copy, Debug)]
+pub enum Lexer {
+    /// Before a token, or before the line's end.
+    Between,
+    /// In a run of digits from `start` on that spells `number` so far.
+    Run { start: usize, number: u64 },
+    /// In a string from `start` on that lacks so many bytes.
+    Inside { start: usize, lacking: usize },
+    /// Directly behind a token.
+    Behind,
+}
+
+/// What the next bytes are to a line.
+#[derive(Clone, Copy, Debug)]
+pub enum Step {
+    /// So many bytes were taken, and with them perhaps a token ended.
+    Goes(usize, Option<Span>, Lexer),
+    /// The line ends with the next byte, and perhaps a token before it.
+    Ends(Option<Span>),
+    /// The next byte fits nowhere.
+    Unfit,
+}
+
+impl Lexer {
+    /// Looks at the bytes of a window from `at` on, behind the bytes of the line that came before the window.
+    pub fn step(self, text: &[u8], window: &[u8], at: usize) -> Step
+        requires lexer { IsLexer self (text.now ++ take at window.now) }
+        requires some { at < length window.now }
+        requires room { length text.now + length window.now < 2 ^ 64 }
+        ensures { Does result self (text.now ++ take at window.now) (drop at window.now) }
+    {
+        let place = text.len() + at;
+        match self {
+            Lexer::Between => step_between(place, window[at]),
+            Lexer::Run { start, number } => step_in_run(start, number, place, window[at]),
+            Lexer::Inside { start, lacking } => {
+                step_inside(start, lacking, place, window.len() - at)
+            }
+            Lexer::Behind => step_behind(None, window[at]),
+        }
+    }
+}
+
+// A byte behind a token, or behind the digits that it ends.
+fn step_behind(span: Option<Span>, byte: u8) -> Step
+    ensures { result ≡ step_by span (kind_of byte) }
+{
+    match kind_of_byte(byte) {
+        ByteKind::Blank => Step::Goes(1, span, Lexer::Between),
+        ByteKind::LineFeed => Step::Ends(span),
+        _ => Step::Unfit,
+    }
+}
+
+// A byte where a token may begin, behind so many bytes.
+fn step_between(place: usize, byte: u8) -> Step
+    ensures { (bytes : List ℕ) → length bytes ≡ place → IsMove result Lexer.Between bytes byte }
+{
+    match kind_of_byte(byte) {
+        ByteKind::Blank => Step::Goes(1, None, Lexer::Between),
+        ByteKind::LineFeed => Step::Ends(None),
+        ByteKind::Digit => {
+            let number = digit_of(byte);
+            let start = place;
+            Step::Goes(1, None, Lexer::Run { start, number })
+        }
+        ByteKind::Open => Step::Goes(1, Some(Span::Open), Lexer::Behind),
+        ByteKind::Close => Step::Goes(1, Some(Span::Close), Lexer::Behind),
+        ByteKind::Star => Step::Goes(1, Some(Span::Star), Lexer::Behind),
+        ByteKind::Hollerith | ByteKind::Other => Step::Unfit,
+    }
+}
+
+// A byte behind digits, behind so many bytes.
+fn step_in_run(start: usize, number: u64, place: usize, byte: u8) -> Step
+    requires begun { start < place }
+    requires short { place ≤ start + 16 }
+    requires small { number < 10 ^ (place - start) }
+    requires room { place + 1 < 2 ^ 64 }
+    ensures { (bytes : List ℕ) → length bytes ≡ place → IsRun start number bytes → IsMove result (Lexer.Run start number) bytes byte }
+{
+    match kind_of_byte(byte) {
+        ByteKind::Digit => {
+            if place - start < 16 {
+                let number = 10 * number + digit_of(byte);
+                Step::Goes(1, None, Lexer::Run { start, number })
+            } else {
+                Step::Unfit
+            }
+        }
+        ByteKind::Hollerith => {
+            if place - start <= 10 && number < 4_294_967_296 {
+                step_into(place + 1, number as usize)
+            } else {
+                Step::Unfit
+            }
+        }
+        _ => step_behind(Some(Span::Digits(start, place)), byte),
+    }
+}
+
+// The `H` before a string of that many bytes.
+fn step_into(start: usize, lacking: usize) -> Step
+    ensures none { lacking ≡ 0 → result ≡ Step.Goes 1 (Some (Span.Text start start)) Lexer.Behind }
+    ensures some { 0 < lacking → result ≡ Step.Goes 1 None (Lexer.Inside start lacking) }
+{
+    if lacking == 0 {
+        Step::Goes(1, Some(Span::Text(start, start)), Lexer::Behind)
+    } else {
+        Step::Goes(1, None, Lexer::Inside { start, lacking })
+    }
+}
+
+// The bytes of a string, of which so many are left in the window.
+fn step_inside(start: usize, lacking: usize, place: usize, left: usize) -> Step
+    requires lacks { 1 ≤ lacking }
+    requires some { 1 ≤ left }
+    requires room { place + left < 2 ^ 64 }
+    ensures { (bytes behind : List ℕ) → length bytes ≡ place → length behind ≡ left → start ≤ place → Does result (Lexer.Inside start lacking) bytes behind }
+{
+    if lacking <= left {
+        Step::Goes(
+            lacking,
+            Some(Span::Text(start, place + lacking)),
+            Lexer::Behind,
+        )
+    } else {
+        let lacking = lacking - left;
+        Step::Goes(left, None, Lexer::Inside { start, lacking })
+    }
+}
+
+// The number that a digit spells.
+fn digit_of(byte: u8) -> u64
+    requires { 48 ≤ byte }
+    ensures { result ≡ byte - 48 }
+{
+    (byte - b'0') as u64
+}

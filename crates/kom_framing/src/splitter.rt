@@ -1,0 +1,117 @@
+ghost use Rattle.std.specs.Prelude.{◌≡◌, ◌↔◌, ℕ, List, [], ◌∷◌, ◌++◌, Err, IsNone, IfNone, IfSome, MatchOption};
+ghost use Rattle.kom_framing.specs.declared.units.Unit.{Unit as StreamUnit};
+ghost use Rattle.kom_framing.specs.Splitting.{IsAt, Answers};
+ghost use Rattle.kom_framing.specs.Refusing.{refused_by};
+
+use crate::begun::{BegunUnit, follow};
+use crate::fault::Fault;
+use crate::greeting::Greeting;
+use crate::units::Unit;
+use kom_types::Memory;
+use std::alloc::Global;
+use std::collections::VecDeque;
+use std::error::Error;
+use std::fmt;
+use std::marker::Model;
+
+/// Why a piece of the stream was not taken whole.
+#[derive(Clone, Copy, Debug, PartialEq, Eq)]
+pub enum FeedRefusal {
+    /// The byte at this place can continue no token.
+    Malformed(u64),
+    /// The byte at this place is one too many for its line.
+    LineTooLong(u64),
+    /// Memory was wanted and could not be had.
+    Memory,
+}
+
+impl fmt::Display for FeedRefusal {
+    fn fmt<W: fmt::Write>(&self, f: &mut fmt::Formatter<W>) -> fmt::Result {
+        match self {
+            FeedRefusal::Malformed(place) => write!(f, "the byte at {place} fits nowhere"),
+            FeedRefusal::LineTooLong(place) => write!(f, "the line is too long at {place}"),
+            FeedRefusal::Memory => write!(f, "out of memory"),
+        }
+    }
+}
+
+impl Error for FeedRefusal {}
+
+/// Splits a client's stream, which comes in any pieces, into its greeting and its lines.
+#[derive(Debug, Drop)]
+pub struct Splitter {
+    units: VecDeque<Unit>,
+    begun: BegunUnit,
+    place: u64,
+    fault: Option<Fault>,
+}
+
+impl Model for Splitter {
+    ghost use Rattle.std.specs.Prelude.{◌≤◌, option_map};
+    ghost use Rattle.kom_types.specs.Stream as stream;
+    ghost use Rattle.kom_framing.specs.Splitting.{Splitting};
+    ghost use Rattle.kom_framing.specs.BegunLines.{fault_seen};
+    ghost use Rattle.kom_framing.specs.Advancing.{begun_seen, IsBegunUnit};
+
+    ghost Value = { Splitting };
+
+    ghost view = { λ s. record { held = s.units.items; begun = begun_seen s.begun; place = s.place; fault = option_map fault_seen s.fault } };
+
+    ghost invariant = { λ s. IsBegunUnit s.begun × (s.place ≤ stream.longest_stream) };
+}
+
+impl Splitter {
+    /// A splitter to which nothing was fed.
+    pub fn new(alloc: Global) -> Splitter
+        ensures { IsAt result [] [] }
+    {
+        Splitter {
+            units: VecDeque::new(alloc),
+            begun: BegunUnit::Greeting(Greeting::new(alloc)),
+            place: 0,
+            fault: None,
+        }
+    }
+
+    /// Takes the next piece of the stream. After a fault each later feed answers the same.
+    pub fn feed(&mut self, piece: &[u8]) -> Result<(), FeedRefusal>
+        ensures fed { (fed : List ℕ) (taken : List StreamUnit) → IsAt self.old fed taken → Answers result (fed ++ piece.now) self.new taken }
+        ensures unchanged { result ≡ Err FeedRefusal.Memory → self.new ≡ self.old }
+    {
+        match self.fault {
+            Some(found) => Err(refusal_of(found)),
+            None => match follow(&mut self.units, &mut self.begun, self.place, piece) {
+                Ok(None) => {
+                    self.place += piece.len() as u64;
+                    Ok(())
+                }
+                Ok(Some(found)) => {
+                    self.fault = Some(found);
+                    Err(refusal_of(found))
+                }
+                Err(Memory) => Err(FeedRefusal::Memory),
+            },
+        }
+    }
+
+    /// The next unit that is complete.
+    pub fn next_unit(&mut self) -> Option<Unit>
+        ensures none { IsNone result ↔ (self.old.held ≡ []) }
+        ensures unchanged { IfNone result (self.new ≡ self.old) }
+        ensures some { IfSome result (λ unit. self.old ≡ record self.new { held = unit ∷ self.new.held }) }
+        ensures at { (fed : List ℕ) (taken : List StreamUnit) → IsAt self.old fed taken
+            → MatchOption result (IsAt self.new fed taken) (λ unit. IsAt self.new fed (taken ++ unit ∷ [])) }
+    {
+        self.units.pop_front()
+    }
+}
+
+// The fault as a refusal.
+fn refusal_of(found: Fault) -> FeedRefusal
+    ensures { result ≡ refused_by found }
+{
+    match found {
+        Fault::Malformed(place) => FeedRefusal::Malformed(place),
+        Fault::LineTooLong(place) => FeedRefusal::LineTooLong(place),
+    }
+}

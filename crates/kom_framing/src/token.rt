@@ -1,0 +1,14 @@
+/// A token of a line.
+#[derive(Clone, Copy, Debug, PartialEq, Eq)]
+pub enum Token<'a> {
+    /// A run of digits.
+    Digits(&'a [u8]),
+    /// The bytes of a string.
+    Text(&'a [u8]),
+    /// The brace before the elements of an array.
+    Open,
+    /// The brace behind the elements of an array.
+    Close,
+    /// The star in place of an array's elements.
+    Star,
+}

@@ -1,0 +1,11 @@
+use crate::line::Line;
+use kom_types::Bytes;
+
+/// A unit of a client's stream.
+#[derive(Debug, Drop)]
+pub enum Unit {
+    /// The greeting, with the user name.
+    Hello(Bytes),
+    /// A line that is not blank.
+    Line(Line),
+}

@@ -1,0 +1,6 @@
+pub mod Finding
+pub mod Numbers
+pub mod Draining
+pub mod Sending
+pub mod Over
+pub mod Fronts

@@ -1,0 +1,8 @@
+//! What the server is: its rows, the step of each act, its legal histories, and what its sessions are sent.
+#![tactic(auto)]
+
+mod laws;
+mod rows;
+
+pub use laws::drains_give_fronts;
+pub use rows::worked_histories;
