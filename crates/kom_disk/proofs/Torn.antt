@@ -1,0 +1,40 @@
+-- What torn writes and cuts may leave.
+use Rattle.std.proofs.Common.{◌≡◌, ◌≤◌, ◌+◌, ℕ, List, ◌++◌, length, take, drop, max, zero, suc, [], ◌∷◌, refl, ◌∙◌, ap, arith, append_assoc, length-append}
+use Rattle.std.proofs.lemmas.List.{take_all, take_at, drop_at, length-take, length-take-le, length-drop}
+use Rattle.kom_disk.specs.Disk.{overwritten, Torn, Shortened}
+
+-- nothing of a write is there
+pub torn_away : (at n : ℕ) (bytes : List ℕ) → Torn at n bytes bytes
+torn_away at n bytes = record { front = refl; back = refl; no_shorter = omega arith; no_longer = omega arith }
+
+-- nothing of a cut is there
+pub cut_away : (n : ℕ) (bytes : List ℕ) → Shortened n bytes bytes
+cut_away n bytes = record { front = take_all (length bytes) bytes (omega arith); no_shorter = omega arith }
+
+pub length-overwritten : (bytes : List ℕ) (at : ℕ) (from : List ℕ) → at ≤ length bytes → length (overwritten bytes at from) ≡ max (length bytes) (at + length from)
+length-overwritten bytes at from within =
+    omega (arith, length-append (take at bytes ++ from) (drop (at + length from) bytes), length-append (take at bytes) from, length-take-le at bytes within, length-drop (at + length from) bytes)
+
+-- all of a write is there
+pub torn_whole : (at : ℕ) (from bytes : List ℕ) → at ≤ length bytes → Torn at (length from) bytes (overwritten bytes at from)
+torn_whole at from bytes within = record {
+  front = ap (take at) (append_assoc (take at bytes) from (drop (at + length from) bytes)) ∙ take_at (take at bytes) (from ++ drop (at + length from) bytes) at front_length;
+  back = drop_at (take at bytes ++ from) (drop (at + length from) bytes) (at + length from) range_length;
+  no_shorter = omega (arith, length-overwritten bytes at from within);
+  no_longer = omega (arith, length-overwritten bytes at from within);
+}
+  where
+    front_length : length (take at bytes) ≡ at
+    front_length = length-take-le at bytes within
+
+    range_length : length (take at bytes ++ from) ≡ at + length from
+    range_length = omega (arith, length-append (take at bytes) from, front_length)
+
+cut_front : (n : ℕ) (bytes : List ℕ) → take (length (take n bytes)) bytes ≡ take n bytes
+cut_front zero bytes = refl
+cut_front (suc n) [] = refl
+cut_front (suc n) (b ∷ bytes) = ap (λ (l : List ℕ). b ∷ l) (cut_front n bytes)
+
+-- all of a cut is there
+pub cut_whole : (n : ℕ) (bytes : List ℕ) → Shortened n bytes (take n bytes)
+cut_whole n bytes = record { front = cut_front n bytes; no_shorter = omega (arith, length-take n bytes) }

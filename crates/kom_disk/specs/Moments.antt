@@ -1,0 +1,16 @@
+-- What a stop leaves over a stretch of a disk's clock.
+use Rattle.std.specs.Prelude.{◌≤◌, ◌↔◌, ℕ, List}
+
+module _ {D : Type 0} (moment : D → ℕ) (images_at : D → ℕ → List ℕ → Type 0) where
+  -- some moment from this one up to now could have left the image
+  pub record LeftSince (disk : D) (first : ℕ) (image : List ℕ) : Type 0 where
+    pub at : ℕ
+    pub from : first ≤ at
+    pub to : at ≤ moment disk
+    pub left : images_at disk at image
+
+  -- From the old disk to the new one each moment leaves only what has P, and the earlier moments stay as they were.
+  pub record LeavesOnly (old new : D) (P : List ℕ → Type 0) : Type 0 where
+    pub forward : moment old ≤ moment new
+    pub each : (at : ℕ) (image : List ℕ) → moment old ≤ at → at ≤ moment new → images_at new at image → P image
+    pub kept : (at : ℕ) (image : List ℕ) → at ≤ moment old → (images_at new at image ↔ images_at old at image)
