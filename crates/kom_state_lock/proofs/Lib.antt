@@ -1,0 +1,9 @@
+pub mod Begins
+pub mod Places
+pub mod Moves
+pub mod Turns
+pub mod PassFacts
+pub mod Seats
+pub mod Dealt
+pub mod Gathered
+pub mod Ready

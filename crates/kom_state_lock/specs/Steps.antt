@@ -1,0 +1,58 @@
+-- What each step tells the pass that makes it.
+use Rattle.std.specs.Prelude.{◌≡◌, ◌≢◌, ℕ, ◌<◌, ◌≤◌, ◌^◌, List, [], ◌∷◌, length, Option, Some, None}
+use mathlib.Core.List.{IsPrefix}
+use Rattle.atomic_table.specs.declared.shared.Seat.{Seat}
+use Rattle.atomic_table.specs.Seated.{TableId}
+use Rattle.atomic_table.specs.Table.{Me, rest}
+use Rattle.kom_state_lock.specs.declared.views.Turn.TheVariants.{Waiting}
+use Rattle.kom_state_lock.specs.declared.views.View.{View}
+use Rattle.kom_state_lock.specs.Views.{drawing, taking, logging, resting}
+
+abbrev Seated : Type 0 → Type 0 → Type 0
+Seated B E = Me (Option B) (View B E)
+
+-- the same seat of the same table
+abbrev pub IsSameSeat : {S V : Type 0} → Seat S V → Seat S V → Type 0
+IsSameSeat old new = (new.table_id ≡ old.table_id) × (new.id ≡ old.id)
+
+-- the table of a hall has three words and one slot
+abbrev pub IsHallTable : TableId → Type 0
+IsHallTable table = (table.words ≡ 3) × (table.slots ≡ 1)
+
+abbrev pub IsSeatOf : {S V : Type 0} → TableId → Seat S V → Type 0
+IsSeatOf table seat = IsHallTable table × (seat.table_id ≡ table)
+
+module _ {B E : Type 0} where
+  -- a draw gives the ticket that was next, which is above all that the seat knew of
+  abbrev pub Draws : Seated B E → ℕ → Seated B E → Type 0
+  Draws m found n = (n ≡ (drawing found m.0, m.1)) × (m.0.drawn ≤ found)
+
+  -- the slot comes with the value, and a history leads to it that goes on from what the seat has seen
+  abbrev pub Takes : (B → List E → B → Type 0) → B → ℕ → Seated B E → Seated B E → Type 0
+  Takes led opening ticket m n =
+      (value : B) × (history : List E)
+      × (n ≡ (taking ticket value history m.0, (0, Some value) ∷ m.1))
+      × led opening history value × IsPrefix m.0.seen history × (length history ≤ ticket)
+
+  -- a look at the ticket that is served: another one changes nothing, the seat's own is its turn
+  abbrev pub Looks : (B → List E → B → Type 0) → Option B → Seated B E → ℕ → Seated B E → Type 0
+  Looks led told m found n =
+      (ticket : ℕ) (opening : B) → m.0.turn ≡ Waiting ticket → told ≡ Some opening
+      → (found ≢ ticket → n ≡ m) × (found ≡ ticket → Takes led opening ticket m n)
+
+  -- the entry and the value that are told are logged
+  abbrev pub Logs : Option E → Option B → Seated B E → Seated B E → Type 0
+  Logs told value m n =
+      (entry : E) (left : B) → told ≡ Some entry → value ≡ Some left → n ≡ (logging entry left m.0, m.1)
+
+  -- the slot goes back
+  abbrev pub HandsOn : Seated B E → Seated B E → Type 0
+  HandsOn m n = n ≡ (resting m.0, rest m.1)
+
+  -- a draw and a take together: the value has left the slot
+  abbrev pub TakesAll : (B → List E → B → Type 0) → B → View B E → B → Seated B E → Type 0
+  TakesAll led opening v value n =
+      (ticket : ℕ) × (history : List E)
+      × (n ≡ (taking ticket value history (drawing ticket v), (0, None) ∷ []))
+      × (v.drawn ≤ ticket) × (ticket < 2 ^ 62)
+      × led opening history value × IsPrefix v.seen history × (length history < 2 ^ 62)

@@ -1,0 +1,29 @@
+//! A value that threads change in turns, and one history of its changes.
+//!
+//! A `Hall` keeps the value. The holder of a `Pass` waits for its turn with `take`, works on the value that it holds,
+//! tells by `log` which entry led from the value that it took to the one that it has, and gives it back with `put`.
+//! Turns are served in the order in which their tickets were drawn. The history exists for the proofs alone: each
+//! entry stands in it once, at the turn in which it was logged, and leads from the value before to the value after.
+//! What an entry means is the caller's, by `Booked`.
+//!
+//! With nobody waiting, a turn is two atomic additions (three where it is logged) and two atomic loads, and takes no
+//! memory. It moves the value out of its slot and back, `size_of::<Option<B>>()` bytes each time. Keep what grows
+//! behind a `Box` or in a `Vec`, and a turn costs as much for a large state as for a small one.
+#![tactic(auto)]
+
+mod booked;
+mod closing;
+mod dealing;
+mod hall;
+mod held;
+mod pass;
+mod plays;
+mod steps;
+#[cfg(test)]
+mod tests;
+mod views;
+
+pub use booked::Booked;
+pub use hall::{Full, Hall, Memory};
+pub use held::Held;
+pub use pass::Pass;
