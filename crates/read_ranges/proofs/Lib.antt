@@ -1,0 +1,5 @@
+pub mod Edits
+pub mod Found
+pub mod Lists
+pub mod Rises
+pub mod Sets

@@ -1,0 +1,5 @@
+pub mod Kept
+pub mod ListFault
+pub mod Merged
+pub mod Numbers
+pub mod Places

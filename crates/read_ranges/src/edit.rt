@@ -1,0 +1,84 @@
+//! One number more or less in ranges.
+ghost use Rattle.std.specs.Prelude.{◌≡◌, ◌≢◌, ◌≤◌, ◌<◌, length, OnOk, OnErr};
+ghost use Rattle.std.specs.FinSet as set;
+ghost use Rattle.read_ranges.specs.Numbers.{AreRanges, union_of, ranges_of};
+ghost use Rattle.read_ranges.specs.Places.{EndsJustBelow, Marks};
+
+use crate::Memory;
+use crate::kept::Kept;
+use crate::search::place_of;
+
+/// Adds a number: alone, at an end of a range, or between two ranges that become one.
+pub fn mark(kept: &mut Kept, n: u32) -> Result<(), Memory>
+    requires ranges { AreRanges kept.old.items }
+    requires number { n ≢ 0 }
+    ensures ranges { AreRanges kept.new.items }
+    ensures ok { OnOk result (union_of kept.new.items ≡ set.insert (union_of kept.old.items) n) }
+    ensures err { OnErr result (kept.new.items ≡ kept.old.items) }
+    ensures spare { kept.old.spare ≤ kept.new.spare }
+    ensures full { OnErr result (kept.old.spare < length (ranges_of (set.insert (union_of kept.old.items) n))) }
+{
+    let ranges = kept.as_slice();
+    let at = place_of(ranges, n - 1);
+    let Some(&(first, last)) = ranges.get(at) else {
+        return kept.insert(at, (n, n));
+    };
+    if first.saturating_sub(n) > 1 {
+        return kept.insert(at, (n, n));
+    }
+    if n < first {
+        kept.write(at, (n, last));
+    } else if last < n {
+        extend(kept, at, n);
+    }
+    Ok(())
+}
+
+/// Lengthens a range by the number after its end, and joins it with the next one where it then touches that.
+fn extend(kept: &mut Kept, at: usize, n: u32)
+    requires ranges { AreRanges kept.old.items }
+    requires end { EndsJustBelow kept.old.items at n }
+    ensures marked { Marks kept.old.items kept.new.items n }
+    ensures spare { kept.old.spare ≤ kept.new.spare }
+{
+    let ranges = kept.as_slice();
+    let first = ranges[at].0;
+    match ranges.get(at + 1) {
+        Some(&(next, end)) if next - 1 == n => {
+            kept.write(at, (first, end));
+            kept.remove(at + 1);
+        }
+        _ => kept.write(at, (first, n)),
+    }
+}
+
+/// Takes a number away: a range with it alone goes, one that it ends is shorter, and any other one becomes two.
+pub fn unmark(kept: &mut Kept, n: u32) -> Result<(), Memory>
+    requires ranges { AreRanges kept.old.items }
+    requires number { n ≢ 0 }
+    ensures ranges { AreRanges kept.new.items }
+    ensures ok { OnOk result (union_of kept.new.items ≡ set.remove (union_of kept.old.items) n) }
+    ensures err { OnErr result (kept.new.items ≡ kept.old.items) }
+    ensures spare { kept.old.spare ≤ kept.new.spare }
+    ensures full { OnErr result (kept.old.spare < length (ranges_of (set.remove (union_of kept.old.items) n))) }
+{
+    let ranges = kept.as_slice();
+    let at = place_of(ranges, n);
+    match ranges.get(at) {
+        Some(&(first, last)) if first <= n => {
+            if first == last {
+                kept.remove(at);
+            } else if first == n {
+                kept.write(at, (n + 1, last));
+            } else if last == n {
+                kept.write(at, (first, n - 1));
+            } else {
+                let (below, above) = ((first, n - 1), (n + 1, last));
+                kept.insert(at + 1, above)?;
+                kept.write(at, below);
+            }
+            Ok(())
+        }
+        _ => Ok(()),
+    }
+}

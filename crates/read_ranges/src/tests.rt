@@ -1,0 +1,149 @@
+use super::*;
+use std::test::Fail;
+
+const LAST: u32 = 4294967295;
+
+/// The set of a list that is known to be right.
+fn of_list(alloc: Global, list: &[ReadRange]) -> Result<Ranges, RangeFault> {
+    let mut read = Ranges::new(alloc);
+    read.set(list)?;
+    Ok(read)
+}
+
+#[test]
+fn a_mark_between_two_ranges_joins_them(rt: HostRuntime) -> Result<(), Fail> {
+    let mut read = of_list(rt.alloc(), &[(1, 4), (6, 9)])?;
+    assert_eq!(rt; read.count(), 2);
+    assert_eq!(rt; read.next_unread(1), Some(5));
+    read.mark(5)?;
+    assert_eq!(rt; read.ranges(), [(1, 9)].as_slice());
+    read.unmark(1)?;
+    assert_eq!(rt; read.ranges(), [(2, 9)].as_slice());
+    read.unmark(5)?;
+    assert_eq!(rt; read.ranges(), [(2, 4), (6, 9)].as_slice());
+    assert_eq!(rt; read.next_unread(6), Some(10));
+    Ok(())
+}
+
+#[test]
+fn lists_are_taken_or_refused(rt: HostRuntime) -> Result<(), Fail> {
+    let cases: [(&[ReadRange], Result<(), RangeFault>, &[ReadRange]); 9] = [
+        (&[(1, 3), (4, 6)], Ok(()), &[(1, 6)]),
+        (&[(1, 5), (5, 7)], Err(RangeFault::Order(1)), &[(2, 9)]),
+        (&[(5, 4)], Err(RangeFault::Invalid(0)), &[(2, 9)]),
+        (&[], Ok(()), &[]),
+        (&[(0, 3)], Err(RangeFault::Invalid(0)), &[(2, 9)]),
+        (&[(3, 4), (0, 2)], Err(RangeFault::Invalid(1)), &[(2, 9)]),
+        (&[(3, 4), (1, 2)], Err(RangeFault::Order(1)), &[(2, 9)]),
+        (&[(7, 7), (9, 9), (10, 12)], Ok(()), &[(7, 7), (9, 12)]),
+        (&[(1, LAST)], Ok(()), &[(1, LAST)]),
+    ];
+    for (list, answer, left) in cases {
+        let mut read = of_list(rt.alloc(), &[(2, 9)])?;
+        assert_eq!(rt; read.set(list), answer);
+        assert_eq!(rt; read.ranges(), left);
+    }
+    Ok(())
+}
+
+#[test]
+fn the_first_and_the_last_number(rt: HostRuntime) -> Result<(), Fail> {
+    let mut read = Ranges::new(rt.alloc());
+    assert_eq!(rt; read.next_unread(LAST), Some(LAST));
+    read.mark(1)?;
+    read.mark(LAST)?;
+    assert_eq!(rt; read.ranges(), [(1, 1), (LAST, LAST)].as_slice());
+    assert_eq!(rt;
+        (
+            read.holds(0),
+            read.holds(1),
+            read.holds(2),
+            read.holds(LAST)
+        ),
+        (false, true, false, true)
+    );
+    assert_eq!(rt; read.next_unread(LAST), None);
+    read.mark(LAST - 1)?;
+    read.mark(2)?;
+    assert_eq!(rt; read.ranges(), [(1, 2), (LAST - 1, LAST)].as_slice());
+    read.unmark(LAST)?;
+    read.unmark(1)?;
+    assert_eq!(rt; read.ranges(), [(2, 2), (LAST - 1, LAST - 1)].as_slice());
+    Ok(())
+}
+
+#[test]
+fn a_cut_leaves_one_range_or_none(rt: HostRuntime) -> Result<(), Fail> {
+    let mut read = of_list(rt.alloc(), &[(2, 4), (6, 9), (20, 30)])?;
+    read.cut_to(7);
+    assert_eq!(rt; read.ranges(), [(1, 7)].as_slice());
+    read.cut_to(0);
+    assert_eq!(rt; read.count(), 0);
+    read.cut_to(LAST);
+    assert_eq!(rt; read.next_unread(1), None);
+    Ok(())
+}
+
+/// A value that goes from one thread to another.
+fn handed_over<T: Send>(value: T) -> T {
+    value
+}
+
+#[test]
+fn there_is_room_after_a_reserve(rt: HostRuntime) -> Result<(), Fail> {
+    let mut read = handed_over(Ranges::new(rt.alloc()));
+    read.mark(3)?;
+    read.reserve(4)?;
+    assert_eq!(rt; read.ranges(), [(3, 3)].as_slice());
+    read.set(&[(1, 1), (3, 3), (5, 5), (7, 7)])?;
+    assert_eq!(rt; read.count(), 4);
+    Ok(())
+}
+
+#[test]
+fn marks_and_unmarks_do_as_flags_do(rt: HostRuntime) -> Result<(), Fail> {
+    let steps = [
+        (5, true),
+        (3, true),
+        (7, true),
+        (4, true),
+        (6, true),
+        (6, true),
+        (1, true),
+        (5, false),
+        (5, false),
+        (9, true),
+        (8, true),
+        (2, false),
+        (3, false),
+        (9, false),
+        (2, true),
+        (1, false),
+        (5, true),
+        (11, true),
+        (7, false),
+        (10, true),
+    ];
+    let mut read = Ranges::new(rt.alloc());
+    let mut flags = vec![in rt.alloc(); false; 13]?;
+    for (n, on) in steps {
+        assert!(rt; n != 0);
+        if on {
+            read.mark(n)?;
+        } else {
+            read.unmark(n)?;
+        }
+        if let Some(flag) = flags.get_mut(n as usize) {
+            *flag = on;
+        }
+        for at in 0..13 {
+            let flag = flags.get(at as usize).copied().unwrap_or(false);
+            assert_eq!(rt; read.holds(at), flag);
+        }
+    }
+    assert_eq!(rt;
+        read.ranges(),
+        [(2, 2), (4, 6), (8, 8), (10, 11)].as_slice()
+    );
+    Ok(())
+}
