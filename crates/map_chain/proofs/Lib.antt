@@ -1,0 +1,10 @@
+mod Crosses
+mod Filters
+mod Growing
+mod Linking
+mod Lists
+mod Seeking
+mod Sharing
+mod Steps
+mod Values
+mod Walking

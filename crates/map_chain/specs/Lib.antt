@@ -1,0 +1,9 @@
+pub mod Blocks
+pub mod Chain
+pub mod Edit
+pub mod Lends
+pub mod Links
+pub mod Nodes
+pub mod Ownership
+pub mod Pairs
+pub mod Walks
