@@ -6,5 +6,4 @@ mod Lists
 mod Seeking
 mod Sharing
 mod Steps
-mod Values
 mod Walking

@@ -1,5 +1,6 @@
 -- What the walks over the nodes share. Assumes `Logic`.
 --     node_of                      the node that lies at a place
+--     Way, boxed                   a node on its way in or out, and the box that it was or will be
 --     held_end, held_out, held_in  a node at the end;  the i-th taken from the others, and put back or changed
 --     lent_of                      what is lent of the i-th
 --     two_needs                    two facts of a `requires` are learned
@@ -26,7 +27,9 @@ use Rattle.std.specs.Prelude.{slice_get, slice_set, remove, Some}
 use Rattle.core.proofs.alloc.Calls.{token}
 use Rattle.std_alloc.specs.Box.Ownership.{box_owns}
 use Rattle.std_alloc.proofs.RcSteps.{word}
+use Rattle.std_alloc.proofs.BoxSteps.Form as Form
 use Rattle.std_alloc.proofs.BoxSteps.Form.{Bx, X, R, P}
+use Rattle.map_chain.specs.contracts.loose.Loose as L
 use Rattle.map_chain.specs.Nodes.{IsAt}
 use Rattle.map_chain.specs.Ownership.{nodes_own, nodes_lent}
 use Rattle.map_chain.specs.declared.nodes.Nodes.{Nodes}
@@ -46,6 +49,13 @@ module _ (E : Bx) where
 
   abbrev pub Nr : RattleType
   Nr = N.the_row (R E) (P E) E.al.g
+
+  -- a node on its way, which has what a box has
+  abbrev pub Way : RattleType
+  Way = L.the_row (R E) (P E) E.al.g
+
+  abbrev pub boxed : Way.Denot → Form.D E
+  boxed w = record { ptr = w.at; alloc = w.alloc; value = w.value }
 
   -- the owner's own field, which takes no bytes
   abbrev pub Mark : RattleType

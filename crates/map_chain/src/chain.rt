@@ -77,6 +77,7 @@ fn take_pair(used: &mut Blocks, spare: &mut Blocks, at: Place, i: usize, k: usiz
 fn stock(spare: &mut Blocks, blocks: usize, alloc: Global) -> Result<(), Memory>
     requires { blocks ≤ 2 ^ 59 }
     ensures ok { OnOk result (blocks ≤ length spare.new) }
+    ensures err { OnErr result (length spare.old < blocks) }
     ensures kept { length spare.old ≤ length spare.new }
     ensures few { length spare.new ≤ max (length spare.old) blocks }
 {
@@ -159,6 +160,7 @@ impl Chain {
     pub fn reserve(&mut self, n: usize) -> Result<(), Memory>
         ensures pairs { self.new.pairs ≡ self.old.pairs }
         ensures ok { OnOk result (n ≤ self.new.spare) }
+        ensures err { OnErr result (self.old.spare < n) }
         ensures spare { self.old.spare ≤ self.new.spare }
     {
         let blocks = n.saturating_sub(self.used.room()).div_ceil(ROOM);

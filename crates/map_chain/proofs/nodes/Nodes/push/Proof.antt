@@ -22,7 +22,6 @@ use denote.Exit.{yes, no}
 use denote.RattleType.{RattleType, owns}
 use denote.Memory.{mem}
 use denote.Param.{layout}
-use denote.Param.Laws.{param_laws}
 use denote.RawPtr.{Ptr, block_ptr}
 use denote.Ref.{MutBor, MutRef}
 use denote.Builtin.{RefMutOf}
@@ -39,11 +38,12 @@ use Rattle.core.proofs.alloc.Calls.{Fits, Goes-blank}
 use Rattle.core.proofs.mem.Facts.{says_two}
 use Rattle.std_alloc.proofs.RcSteps.{word, word-Good}
 use Rattle.std_alloc.proofs.Pairs.{pair_val, pair_Typed, pair_of}
-use Rattle.std_alloc.proofs.BoxSteps.Form.{Bx, args, R, P}
+use Rattle.std_alloc.proofs.BoxSteps.Form.{Bx, args, R, P, box_typed}
+use Rattle.std_alloc.proofs.BoxSteps.Form as box
+use Rattle.std_alloc.proofs.BoxSteps.Steps.{box_out}
 use Rattle.map_chain.specs.declared.nodes.Place.{Place}
 use Rattle.map_chain.specs.contracts.nodes.Place as Pl
-use Rattle.map_chain.proofs.Steps.{Hd, D, Nr, Held, One, held_end, place_made}
-use Rattle.map_chain.proofs.Values.{both, Loose, loose_good, loose_out}
+use Rattle.map_chain.proofs.Steps.{Hd, D, Nr, Held, One, Way, boxed, held_end, place_made}
 use Rattle.map_chain.specs.contracts.nodes.Nodes.push.Key.{name as #self}
 use Rattle.map_chain.proofs.nodes.Nodes.push.Statement as stated
 use Rattle.map_chain.proofs.nodes.Nodes.push.Code as code
@@ -53,7 +53,7 @@ module _ (E : Bx) where
   function = inst_fn (args E) code.function
 
   abbrev Node : RattleType
-  Node = Loose (R E) (P E) (param_laws 1 E.al.row E.al.laws) E.al.g
+  Node = Way E
 
   abbrev Out : RattleType
   Out = Tuple (Pl.the_row ∷ P E ∷ [])
@@ -96,15 +96,15 @@ module _ (E : Bx) {M : Type 1} {𝓤 : Ura M} (𝓛 : Logic 𝓤) (C : Calls �
   Had p hv = ‵ (fobs γ ((Nr E).coded.code d)) ∷ ‵ (fbor κ (Borrowed (mem (Nr E)) rb ro γ)) ∷ ‵ (flft κ q) ∷ ‵ (One E node.alloc p node.value) ∷ ‵ ((P E).own_val node.alloc (hv ∷ [])) ∷ []
 
   walk : ps ≡ vptr rb ro ∷ [] → node.alloc ≡ d.alloc → (b o : ℕ) (hv : Val) → Fits E.al hv
-      → ent 𝓤 (⋆ 𝓛 (Had (block_ptr b o) hv)) (WpFn 𝓤 H C Λ (function E) (vptr rb ro ∷ both (vptr b o) hv ∷ []) Post)
+      → ent 𝓤 (⋆ 𝓛 (Had (block_ptr b o) hv)) (WpFn 𝓤 H C Λ (function E) (vptr rb ro ∷ box.word E hv b o ∷ []) Post)
   walk passed asked b o hv fa =
       let p : Ptr = block_ptr b o in
       let place : Place = record { ptr = p } in
       let new : D E = record { mark = d.mark; alloc = d.alloc; nodes = d.nodes ++ (p, node.value) ∷ [] } in
-      let typed = loose_good (R E) (P E) (param_laws 1 E.al.row E.al.laws) E.al.g b o hv fa in
+      let typed = box_typed E hv b o fa in
       let good = word-Good Pl.the_type.name p in
       let out = pair_Typed (layout Pl.the_row) (layout (P E)) (word p) hv good fa in
-      qed 𝓛 (Had p hv) ∵ enter ! C Λ (function E) (vptr rb ro ∷ both (vptr b o) hv ∷ []) _ $ alloc_all ! (λ l. pass_all ! refl ((tt, tt), (typed, tt)) $
+      qed 𝓛 (Had p hv) ∵ enter ! C Λ (function E) (vptr rb ro ∷ box.word E hv b o ∷ []) _ $ alloc_all ! (λ l. pass_all ! refl ((tt, tt), (typed, tt)) $
       sets ! (of_opd ! (get_in ! (fld ! refl (stop !)) (sub ! 0 refl (whole !)))) refl (tt, tt) $ sets ! (of_opd ! (get_in ! (fld ! refl (stop !)) (sub ! 1 refl (whole !)))) refl fa $
       sets ! (of_opd ! (get ! refl)) refl (tt, tt) $ sets ! (agg ! (and_then ! (get ! refl) (no_more !))) refl good $ sets ! (of_opd ! (get ! refl)) refl fa $
       sets ! (agg ! (and_then ! (get ! refl) (and_then ! (get ! refl) (no_more !)))) refl out $
@@ -118,7 +118,7 @@ module _ (E : Bx) {M : Type 1} {𝓤 : Ura M} (𝓛 : Logic 𝓤) (C : Calls �
   entry : node.alloc ≡ d.alloc → ent 𝓤 (on_entry 𝓛 (ended E).signature (κ, tt) (q, tt) (self, (node, tt)) (ps, (us, tt))) (WpFn 𝓤 H C Λ (function E) (ps ++ (us ++ [])) Post)
   entry asked =
       qed 𝓛 ((‵ (flft κ q) ⊛ ‵ ftrue) ∷ ‵ (owns (MutRef (named 0) κ (Nr E) ∷ Node E ∷ []) (self, (node, tt)) (ps, (us, tt))) ∷ []) ∵ split ! $ move ! (2 ∷ []) $ fsplit ! $ fsplit3 ! $ feq_l ! (λ e.
-      move ! (2 ∷ []) $ fsplit ! $ loose_out (R E) (P E) (param_laws 1 E.al.row E.al.laws) E.al.g ! node us (λ b o hv at f fa. keep ! (3 ∷ 4 ∷ 5 ∷ 0 ∷ 1 ∷ []) $
+      move ! (2 ∷ []) $ fsplit ! $ box_out E ! (boxed E node) us (λ b o hv at f fa. fjoin ! $ keep ! (3 ∷ 4 ∷ 5 ∷ 0 ∷ 1 ∷ []) $
       by ! (subst (λ (ws : List Val × List Val). ent 𝓤 (⋆ 𝓛 (Had (block_ptr b o) hv)) (WpFn 𝓤 H C Λ (function E) (ws.0 ++ (ws.1 ++ [])) Post)) (λ j. (sym e j, sym f j)) (walk e asked b o hv fa))))
 
 meets : (E : Bx) {M : Type 1} {𝓤 : Ura M} (𝓛 : Logic 𝓤) (𝓣 : Tables 𝓤 𝓛.H)

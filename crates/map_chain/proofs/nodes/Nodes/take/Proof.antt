@@ -21,7 +21,6 @@ use types.SemTy.{Body as Borrowed}
 use denote.Exit.{yes, no}
 use denote.RattleType.{RattleType, owns}
 use denote.Memory.{mem, lone}
-use denote.Param.Laws.{param_laws}
 use denote.RawPtr.{block_ptr, null_ptr, ptr_val, in_a_block}
 use denote.Ref.{MutBor, MutRef}
 use denote.Builtin.{RefMutOf, usize}
@@ -39,11 +38,12 @@ use Rattle.std.specs.Prelude.{slice_get, remove, Some}
 use mir.Raw.{raw as bare}
 use Rattle.map_chain.specs.Nodes.{IsAt}
 use Rattle.std_alloc.proofs.RcSteps.{word, word-Good}
-use Rattle.std_alloc.proofs.BoxSteps.Form.{Bx, args, X, R, P}
+use Rattle.std_alloc.proofs.BoxSteps.Form.{Bx, args, X, R, P, box_typed}
+use Rattle.std_alloc.proofs.BoxSteps.Form as box
+use Rattle.std_alloc.proofs.BoxSteps.Steps.{box_in}
 use Rattle.map_chain.specs.declared.nodes.Place.{Place}
 use Rattle.map_chain.specs.contracts.nodes.Place as Pl
-use Rattle.map_chain.proofs.Steps.{Hd, D, Nr, Held, One, node_of, held_out, place_had, two_needs}
-use Rattle.map_chain.proofs.Values.{both, Loose, loose_good, loose_in}
+use Rattle.map_chain.proofs.Steps.{Hd, D, Nr, Held, One, node_of, held_out, place_had, two_needs, Way, boxed}
 use Rattle.map_chain.specs.contracts.nodes.Nodes.take.Key.{name as #self}
 use Rattle.map_chain.proofs.nodes.Nodes.take.Statement as stated
 use Rattle.map_chain.proofs.nodes.Nodes.take.Code as code
@@ -53,7 +53,7 @@ module _ (E : Bx) where
   function = inst_fn (args E) code.function
 
   abbrev Node : RattleType
-  Node = Loose (R E) (P E) (param_laws 1 E.al.row E.al.laws) E.al.g
+  Node = Way E
 
   abbrev ended : Ended
   ended = record { signature = record { lifetimes = 1; outlives = []; params = RefMutOf (0 ∷ []) tt (plain (λ _. Nr E)) (λ _. tt) ∷ plain (λ _. Pl.the_row) ∷ plain (λ _. usize) ∷ plain (λ _. P E) ∷ []; result = plain (λ _. Node) }; kept = (yes, (no, (no, (no, tt)))) }
@@ -113,14 +113,14 @@ module _ (E : Bx) {M : Type 1} {𝓤 : Ura M} (𝓛 : Logic 𝓤) (C : Calls �
       use1 𝓛 (‵ (One E d.alloc at.ptr x) ⊛ ‵ (Held E d.alloc new.nodes)) (held_out E 𝓛 d.alloc d.nodes i at.ptr x found.1) $ split ! $
       rewrite ! 0 (λ (k : Hd E). ‵ (One E k at.ptr x)) (sym same) refl $
       in_a_block ! at.ptr (λ p. One E h p x) (fst∗ 𝓤 (never 𝓤) (sem 𝓛 (token E.al h (bare (lone (R E).mir)) null_ptr))) (λ b o e.
-      let typed = loose_good (R E) (P E) (param_laws 1 E.al.row E.al.laws) E.al.g b o hv fa in
+      let typed = box_typed E hv b o fa in
       let out : (Node E).Denot = record { at = block_ptr b o; alloc = h; value = x } in
       sets ! (is ! (of_opd ! (get_in ! (fld ! refl (stop !)) (sub ! 0 refl (whole !)))) (ap ptr_val e)) refl (tt, tt) $ sets ! (of_opd ! (get ! refl)) refl fa $
       sets ! (agg ! (and_then ! (get ! refl) (and_then ! (get ! refl) (no_more !)))) refl typed $
-      move ! (0 ∷ 7 ∷ []) $ loose_in (R E) (P E) (param_laws 1 E.al.row E.al.laws) E.al.g ! b o hv h x $
+      fsplit ! $ move ! (0 ∷ 1 ∷ 8 ∷ []) $ box_in E ! (boxed E out) b o x refl refl $
       -- [the node; the other nodes; the field; ..]
       move ! (2 ∷ 1 ∷ []) $ fjoin ! $ move ! (2 ∷ 0 ∷ 3 ∷ 4 ∷ 5 ∷ []) $ closes ! tt (Nr E) new ws rb ro $
-      returns ! (look_at ! 0 refl) $ free_all ! refl $ keep ! (0 ∷ 1 ∷ 2 ∷ 3 ∷ []) $ by ! (exits passed out (both (vptr b o) hv) new found.1 refl (refl, refl)))))
+      returns ! (look_at ! 0 refl) $ free_all ! refl $ keep ! (0 ∷ 1 ∷ 2 ∷ 3 ∷ []) $ by ! (exits passed out (box.word E hv b o) new found.1 refl (refl, refl)))))
 
   entry : (IsAt d.nodes i at.ptr) × (h ≡ d.alloc)
       → ent 𝓤 (on_entry 𝓛 (ended E).signature (κ, tt) (q, tt) (self, (at, (i, (h, tt)))) (ps, (us, (xs, (vs, tt))))) (WpFn 𝓤 H C Λ (function E) (ps ++ (us ++ (xs ++ (vs ++ [])))) Post)
