@@ -18,6 +18,8 @@ mod std_link;
 mod std_sink;
 mod std_world;
 mod system_clock;
+#[cfg(test)]
+mod tests;
 mod world;
 
 pub use clock::Clock;
