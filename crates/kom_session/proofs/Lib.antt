@@ -1,0 +1,12 @@
+pub mod Writings
+pub mod SettlingLaws
+pub mod Steps
+pub mod CourseLaws
+pub mod TimeLaws
+pub mod StreamLaws
+pub mod TalkLaws
+pub mod SessionLaws
+pub mod FlushLaws
+pub mod UnitLaws
+pub mod ServingLaws
+pub mod EndLaws

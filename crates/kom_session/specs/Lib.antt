@@ -1,0 +1,4 @@
+pub mod Course
+pub mod Parts
+pub mod Ends
+pub mod Serving

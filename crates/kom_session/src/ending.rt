@@ -1,0 +1,45 @@
+ghost use Rattle.std.specs.Prelude.{◌≡◌, true, false};
+ghost use Rattle.kom_links.specs.Outside.{Rose};
+ghost use Rattle.kom_session.specs.Ends.{end_at, ending};
+
+use kom_links::{DeskFault, SessionEnd};
+use kom_types::Why;
+
+/// Whether faults rose from one count to another, which stands still at its type's end.
+pub(crate) fn has_risen(before: u64, after: u64) -> bool
+    ensures risen { result ≡ true → Rose before after }
+    ensures still { result ≡ false → Rose before after → ⊥ }
+{
+    before < after || after == u64::MAX
+}
+
+/// The end of a service that was to end so: a fault of the link goes before all, and the desk's first fault before
+/// all but want of memory.
+pub(crate) fn end_of(risen: bool, planned: SessionEnd, cause: Option<DeskFault>) -> SessionEnd
+    ensures { result ≡ ending risen planned cause }
+{
+    if risen {
+        return SessionEnd::LinkFault;
+    }
+    match cause {
+        None => planned,
+        Some(fault) => match planned {
+            SessionEnd::Memory => SessionEnd::Memory,
+            _ => end_at(fault),
+        },
+    }
+}
+
+/// The end of a service in which the desk answered this fault first.
+fn end_at(fault: DeskFault) -> SessionEnd
+    ensures { result ≡ end_at fault }
+{
+    match fault {
+        DeskFault::Gone(Why::Dropped) => SessionEnd::Dropped,
+        DeskFault::Gone(Why::Overrun) => SessionEnd::Overrun,
+        DeskFault::Gone(Why::Stopped) => SessionEnd::Stopped,
+        DeskFault::Gone(Why::Absent) => SessionEnd::Memory,
+        DeskFault::Full(number) => SessionEnd::Full(number),
+        DeskFault::Memory => SessionEnd::Memory,
+    }
+}
