@@ -1,0 +1,4 @@
+pub mod Histories
+pub mod DeskLaws
+pub mod Within
+pub mod ServedLaws
