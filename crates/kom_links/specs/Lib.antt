@@ -4,3 +4,4 @@ pub mod Records
 pub mod DeskCalls
 pub mod Talk
 pub mod Script
+pub mod Memories

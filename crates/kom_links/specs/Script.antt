@@ -1,5 +1,23 @@
--- The moments of a clock in memory.
-use Rattle.std.specs.Prelude.{ℕ, zero, suc, ◌-◌, min, List, [], ◌∷◌, ◌++◌, length, slice_index}
+-- What the objects in memory do by their scripts.
+use Rattle.std.specs.Prelude.{ℕ, zero, suc, ◌+◌, ◌-◌, ◌^◌, ◌==◌, min, Bool, IsTrue, ◌&&◌, not, List, [], ◌∷◌, ◌++◌, length, slice_index}
+use Rattle.std.specs.List.{list_any}
+use Rattle.kom_links.specs.declared.memory_link.Script.{Script}
+
+-- the number of the call that follows this many calls; the count stands still at 2^64 - 1
+abbrev pub next_call : ℕ → ℕ
+next_call made = min (made + 1) (2 ^ 64 - 1)
+
+-- whether the number of the next call stands in this list
+abbrev pub is_next_in : List ℕ → ℕ → Bool
+is_next_in numbers made = list_any (λ number. number == next_call made) numbers
+
+-- the next call is one of those that are to fail
+abbrev pub Fails : List ℕ → ℕ → Type 0
+Fails fails made = IsTrue (is_next_in fails made)
+
+-- the next call is one of those that are to wait, and none of those that are to fail
+abbrev pub Waits : Script → ℕ → Type 0
+Waits script made = IsTrue (is_next_in script.waits.items made && not (is_next_in script.fails.items made))
 
 -- the moment that a script has for a reading, counted from 0; its last one serves all that come later
 abbrev pub moment_at : List ℕ → ℕ → ℕ

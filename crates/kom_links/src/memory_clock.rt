@@ -13,10 +13,14 @@ pub struct MemoryClock {
 }
 
 impl MemoryClock {
+    ghost use Rattle.kom_links.specs.Memories.{moments_of, readings_of};
+
     /// A clock with this script.
     pub fn new(script: Vec<Moment>) -> MemoryClock
         requires { 0 < vec_len script }
-        ensures { ⟦<MemoryClock as Clock>⟧.gave result ≡ Some [] }
+        ensures none_given { ⟦<MemoryClock as Clock>⟧.gave result ≡ Some [] }
+        ensures script { moments_of result ≡ script.items }
+        ensures no_reading { readings_of result ≡ 0 }
     {
         MemoryClock { script, made: 0 }
     }

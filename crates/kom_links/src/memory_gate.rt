@@ -1,7 +1,11 @@
 ghost use Rattle.std.specs.VecDeque.{deque_len};
-ghost use Rattle.std.specs.Prelude.{◌≡◌, ◌+◌, ◌-◌, ◌≤◌, ◌<◌, ℕ, false, [], Some, None, length, vec_len, IfOk, IfSome, if◌then◌else◌};
+ghost use Rattle.std.specs.Prelude.{◌≡◌, ◌+◌, ◌-◌, ◌≤◌, ◌<◌, ◌↔◌, ◌||◌, ℕ, false, [], Some, None, length, option_map, vec_len, IfOk, IfSome, if◌then◌else◌};
+ghost use Rattle.kom_links.specs.Outside.{IsNothing};
+ghost use Rattle.kom_links.specs.Doors.{Gains, IfLink, MayNext, is_ended, links_in};
+ghost use Rattle.kom_links.specs.Script.{next_call, Fails, Waits};
 
 use crate::gate::{Gate, Next};
+use crate::link::Link;
 use crate::memory_link::{LinkPlan, MemoryLink, Script};
 use crate::served::Served;
 use kom_types::Memory;
@@ -32,6 +36,8 @@ pub struct MemoryGate {
 }
 
 impl MemoryGate {
+    ghost use Rattle.kom_links.specs.Memories.{clients_of, script_of, calls_of};
+
     /// A gate that gives the links of these clients, in order, and then ends. The room for all that will be given back is taken now.
     pub fn make(
         alloc: Global,
@@ -42,6 +48,9 @@ impl MemoryGate {
         ensures none_back { IfOk result (λ gate. ⟦<MemoryGate as Gate>⟧.returned gate ≡ Some []) }
         ensures not_ended { IfOk result (λ gate. ⟦<MemoryGate as Gate>⟧.gate_ended gate ≡ false) }
         ensures no_fault { IfOk result (λ gate. ⟦<MemoryGate as Gate>⟧.gate_faults gate ≡ 0) }
+        ensures clients { IfOk result (λ gate. clients_of gate ≡ clients.items) }
+        ensures script { IfOk result (λ gate. script_of gate ≡ plan) }
+        ensures no_call { IfOk result (λ gate. calls_of gate ≡ 0) }
     {
         let total = clients.len();
         Ok(MemoryGate {
@@ -66,6 +75,8 @@ impl MemoryGate {
 }
 
 impl Gate for MemoryGate {
+    ghost use Rattle.kom_links.specs.Memories.{clients_of, script_of, calls_of, IsLinkOfFirst, StaysWithNoLink};
+
     type Link = MemoryLink;
 
     ghost given = { λ gate. Some (gate.total - deque_len gate.clients) };
@@ -80,7 +91,28 @@ impl Gate for MemoryGate {
         self.faults
     }
 
-    fn next(&mut self) -> Next<MemoryLink> {
+    fn next(&mut self) -> Next<MemoryLink>
+        ensures answer { MayNext (⟦<MemoryGate as Gate>⟧.gate_faults self.old) (⟦<MemoryGate as Gate>⟧.gate_faults self.new) result }
+        ensures fresh { IfLink result (λ link. ⟦<MemoryLink as Link>⟧.fault_count link ≡ 0) }
+        ensures nothing_taken { IfLink result (λ link. IsNothing (⟦<MemoryLink as Link>⟧.taken link)) }
+        ensures nothing_put { IfLink result (λ link. IsNothing (⟦<MemoryLink as Link>⟧.put link)) }
+        ensures not_ended { IfLink result (λ link. ⟦<MemoryLink as Link>⟧.ended link ≡ false) }
+        ensures given { ⟦<MemoryGate as Gate>⟧.given self.new ≡ option_map (λ n. n + links_in result) (⟦<MemoryGate as Gate>⟧.given self.old) }
+        ensures returned { ⟦<MemoryGate as Gate>⟧.returned self.new ≡ ⟦<MemoryGate as Gate>⟧.returned self.old }
+        ensures ended { ⟦<MemoryGate as Gate>⟧.gate_ended self.new ≡ (⟦<MemoryGate as Gate>⟧.gate_ended self.old || is_ended result) }
+        ensures faults { ⟦<MemoryGate as Gate>⟧.gate_faults self.old ≤ ⟦<MemoryGate as Gate>⟧.gate_faults self.new }
+
+        // what the script says of this call
+        ensures failed { (result ≡ Next.Failed) ↔ Fails (script_of self.old).fails.items (calls_of self.old) }
+        ensures not_yet { (result ≡ Next.NotYet) ↔ Waits (script_of self.old) (calls_of self.old) }
+        ensures counted { calls_of self.new ≡ next_call (calls_of self.old) }
+        ensures script { script_of self.new ≡ script_of self.old }
+
+        // whose link is given
+        ensures first { IfLink result (λ link. IsLinkOfFirst (⟦<MemoryLink as Link>⟧.left link) link (clients_of self.old) (clients_of self.new)) }
+        ensures clients { StaysWithNoLink result (clients_of self.old) (clients_of self.new) }
+        ensures none_left { (result ≡ Next.Ended) → clients_of self.old ≡ [] }
+    {
         self.calls = self.calls.saturating_add(1);
         if self.plan.fails.contains(&self.calls) {
             self.faults = self.faults.saturating_add(1);
@@ -98,7 +130,17 @@ impl Gate for MemoryGate {
         }
     }
 
-    fn give_back(&mut self, link: MemoryLink, served: Served) {
+    fn give_back(&mut self, link: MemoryLink, served: Served)
+        ensures given { ⟦<MemoryGate as Gate>⟧.given self.new ≡ ⟦<MemoryGate as Gate>⟧.given self.old }
+        ensures returned { Gains (⟦<MemoryGate as Gate>⟧.returned self.old) (link, served) (⟦<MemoryGate as Gate>⟧.returned self.new) }
+        ensures ended { ⟦<MemoryGate as Gate>⟧.gate_ended self.new ≡ ⟦<MemoryGate as Gate>⟧.gate_ended self.old }
+        ensures faults { ⟦<MemoryGate as Gate>⟧.gate_faults self.old ≤ ⟦<MemoryGate as Gate>⟧.gate_faults self.new }
+
+        // the calls for a link go on as before
+        ensures clients { clients_of self.new ≡ clients_of self.old }
+        ensures script { script_of self.new ≡ script_of self.old }
+        ensures calls { calls_of self.new ≡ calls_of self.old }
+    {
         if self.returned.push((link, served)).is_err() {
             self.lost = true;
         }

@@ -1,4 +1,6 @@
-ghost use Rattle.std.specs.Prelude.{◌≡◌, ◌<◌, ◌≤◌, ◌+◌, ◌||◌, ◌↔◌, ℕ, false, [], Some, take, drop, length, vec_len, codes};
+ghost use Rattle.std.specs.Prelude.{◌≡◌, ◌<◌, ◌≤◌, ◌+◌, ◌||◌, ◌↔◌, ℕ, false, [], Some, IsTrue, take, drop, length, vec_len, codes};
+ghost use Rattle.kom_links.specs.Outside.{MayRead, MayWrite, read_bytes, written_bytes, is_end, grown, Shrinks, IsNothing};
+ghost use Rattle.kom_links.specs.Script.{next_call, Fails, Waits};
 
 use crate::link::{Got, Link, Took};
 use std::alloc::Global;
@@ -14,7 +16,10 @@ pub struct Script {
 
 impl Script {
     /// All calls are served.
-    pub fn new(alloc: Global) -> Script {
+    pub fn new(alloc: Global) -> Script
+        ensures no_waits { result.waits.items ≡ [] }
+        ensures no_fails { result.fails.items ≡ [] }
+    {
         Script {
             waits: Vec::new(alloc),
             fails: Vec::new(alloc),
@@ -37,7 +42,13 @@ pub struct LinkPlan {
 
 impl LinkPlan {
     /// Each read gives all that there is room for, and each write takes all that it is handed.
-    pub fn new(alloc: Global) -> LinkPlan {
+    pub fn new(alloc: Global) -> LinkPlan
+        ensures no_cuts { result.cuts.items ≡ [] }
+        ensures no_most_read { result.most_read ≡ 0 }
+        ensures no_most_written { result.most_written ≡ 0 }
+        ensures reads_served { (result.reads.waits.items ≡ []) × (result.reads.fails.items ≡ []) }
+        ensures writes_served { (result.writes.waits.items ≡ []) × (result.writes.fails.items ≡ []) }
+    {
         LinkPlan {
             cuts: Vec::new(alloc),
             most_read: 0,
@@ -63,6 +74,8 @@ pub struct MemoryLink {
 }
 
 impl MemoryLink {
+    ghost use Rattle.kom_links.specs.Memories.{plan_of, reads_of, writes_of};
+
     /// A link whose client sends these bytes and then ends its stream.
     pub fn new(alloc: Global, input: Vec<u8>, plan: LinkPlan) -> MemoryLink
         ensures nothing_taken { ⟦<MemoryLink as Link>⟧.taken result ≡ Some [] }
@@ -70,6 +83,9 @@ impl MemoryLink {
         ensures nothing_put { ⟦<MemoryLink as Link>⟧.put result ≡ Some [] }
         ensures not_ended { ⟦<MemoryLink as Link>⟧.ended result ≡ false }
         ensures no_fault { ⟦<MemoryLink as Link>⟧.fault_count result ≡ 0 }
+        ensures plan { plan_of result ≡ plan }
+        ensures no_read { reads_of result ≡ 0 }
+        ensures no_write { writes_of result ≡ 0 }
     {
         MemoryLink {
             input,
@@ -119,6 +135,8 @@ fn copy_front(into: &mut [u8], from: &[u8])
 }
 
 impl Link for MemoryLink {
+    ghost use Rattle.kom_links.specs.Memories.{plan_of, reads_of, writes_of};
+
     ghost host_of = { λ link. codes "memory" };
 
     ghost taken = { λ link. Some (take link.taken link.input.items) };
@@ -139,7 +157,24 @@ impl Link for MemoryLink {
         self.faults
     }
 
-    fn read(&mut self, into: &mut [u8]) -> Got {
+    fn read(&mut self, into: &mut [u8]) -> Got
+        requires { 0 < length into.old }
+        ensures answer { MayRead (length into.new) (⟦<MemoryLink as Link>⟧.fault_count self.old) (⟦<MemoryLink as Link>⟧.fault_count self.new) result }
+        ensures taken { ⟦<MemoryLink as Link>⟧.taken self.new ≡ grown (read_bytes result into.new) (⟦<MemoryLink as Link>⟧.taken self.old) }
+        ensures left { Shrinks (⟦<MemoryLink as Link>⟧.left self.old) (read_bytes result into.new) (⟦<MemoryLink as Link>⟧.left self.new) }
+        ensures all { IsTrue (is_end result) → IsNothing (⟦<MemoryLink as Link>⟧.left self.new) }
+        ensures put { ⟦<MemoryLink as Link>⟧.put self.new ≡ ⟦<MemoryLink as Link>⟧.put self.old }
+        ensures ended { ⟦<MemoryLink as Link>⟧.ended self.new ≡ (⟦<MemoryLink as Link>⟧.ended self.old || is_end result) }
+        ensures host { ⟦<MemoryLink as Link>⟧.host_of self.new ≡ ⟦<MemoryLink as Link>⟧.host_of self.old }
+        ensures faults { ⟦<MemoryLink as Link>⟧.fault_count self.old ≤ ⟦<MemoryLink as Link>⟧.fault_count self.new }
+
+        // what the plan says of this read
+        ensures failed { (result ≡ Got.Failed) ↔ Fails (plan_of self.old).reads.fails.items (reads_of self.old) }
+        ensures not_yet { (result ≡ Got.NotYet) ↔ Waits (plan_of self.old).reads (reads_of self.old) }
+        ensures counted { reads_of self.new ≡ next_call (reads_of self.old) }
+        ensures writes { writes_of self.new ≡ writes_of self.old }
+        ensures plan { plan_of self.new ≡ plan_of self.old }
+    {
         self.reads = self.reads.saturating_add(1);
         if self.plan.reads.fails.contains(&self.reads) {
             self.faults = self.faults.saturating_add(1);
@@ -158,7 +193,23 @@ impl Link for MemoryLink {
         Got::Some(count)
     }
 
-    fn write(&mut self, from: &[u8]) -> Took {
+    fn write(&mut self, from: &[u8]) -> Took
+        requires { 0 < length from.now }
+        ensures answer { MayWrite (length from.now) (⟦<MemoryLink as Link>⟧.fault_count self.old) (⟦<MemoryLink as Link>⟧.fault_count self.new) result }
+        ensures put { ⟦<MemoryLink as Link>⟧.put self.new ≡ grown (written_bytes result from.now) (⟦<MemoryLink as Link>⟧.put self.old) }
+        ensures taken { ⟦<MemoryLink as Link>⟧.taken self.new ≡ ⟦<MemoryLink as Link>⟧.taken self.old }
+        ensures left { ⟦<MemoryLink as Link>⟧.left self.new ≡ ⟦<MemoryLink as Link>⟧.left self.old }
+        ensures ended { ⟦<MemoryLink as Link>⟧.ended self.new ≡ ⟦<MemoryLink as Link>⟧.ended self.old }
+        ensures host { ⟦<MemoryLink as Link>⟧.host_of self.new ≡ ⟦<MemoryLink as Link>⟧.host_of self.old }
+        ensures faults { ⟦<MemoryLink as Link>⟧.fault_count self.old ≤ ⟦<MemoryLink as Link>⟧.fault_count self.new }
+
+        // What the plan says of this write. One that finds no room fails too.
+        ensures failed { Fails (plan_of self.old).writes.fails.items (writes_of self.old) → result ≡ Took.Failed }
+        ensures not_yet { (result ≡ Took.NotYet) ↔ Waits (plan_of self.old).writes (writes_of self.old) }
+        ensures counted { writes_of self.new ≡ next_call (writes_of self.old) }
+        ensures reads { reads_of self.new ≡ reads_of self.old }
+        ensures plan { plan_of self.new ≡ plan_of self.old }
+    {
         self.writes = self.writes.saturating_add(1);
         if self.plan.writes.fails.contains(&self.writes) {
             self.faults = self.faults.saturating_add(1);

@@ -1,4 +1,7 @@
-ghost use Rattle.std.specs.Prelude.{◌≡◌, [], Some};
+ghost use Rattle.std.specs.Prelude.{◌≡◌, ◌≤◌, ℕ, [], Some, IsErr, OnOk, OnErr, length, take};
+ghost use Rattle.kom_links.specs.Outside.{Rose, grown};
+ghost use Rattle.kom_links.specs.Script.{next_call, Fails};
+ghost use Rattle.kom_links.specs.Memories.{fails_of, sink_writes_of};
 
 use crate::sink::{Failed, Sink};
 use std::alloc::Global;
@@ -17,6 +20,8 @@ impl MemorySink {
     pub fn new(alloc: Global, fails: Vec<u64>) -> MemorySink
         ensures nothing_put { ⟦<MemorySink as Sink>⟧.put result ≡ Some [] }
         ensures no_fault { ⟦<MemorySink as Sink>⟧.sink_faults result ≡ 0 }
+        ensures fails { fails_of result ≡ fails.items }
+        ensures no_write { sink_writes_of result ≡ 0 }
     {
         MemorySink {
             output: Vec::new(alloc),
@@ -43,7 +48,17 @@ impl Sink for MemorySink {
         self.faults
     }
 
-    fn write(&mut self, from: &[u8]) -> Result<(), Failed> {
+    fn write(&mut self, from: &[u8]) -> Result<(), Failed>
+        ensures ok { OnOk result (⟦<MemorySink as Sink>⟧.put self.new ≡ grown from.now (⟦<MemorySink as Sink>⟧.put self.old)) }
+        ensures err { OnErr result ((n : ℕ) × (n ≤ length from.now) × (⟦<MemorySink as Sink>⟧.put self.new ≡ grown (take n from.now) (⟦<MemorySink as Sink>⟧.put self.old))) }
+        ensures failed { OnErr result (Rose (⟦<MemorySink as Sink>⟧.sink_faults self.old) (⟦<MemorySink as Sink>⟧.sink_faults self.new)) }
+        ensures faults { ⟦<MemorySink as Sink>⟧.sink_faults self.old ≤ ⟦<MemorySink as Sink>⟧.sink_faults self.new }
+
+        // what its numbers say of this write
+        ensures scripted { Fails (fails_of self.old) (sink_writes_of self.old) → IsErr result }
+        ensures counted { sink_writes_of self.new ≡ next_call (sink_writes_of self.old) }
+        ensures fails { fails_of self.new ≡ fails_of self.old }
+    {
         self.writes = self.writes.saturating_add(1);
         if self.fails.contains(&self.writes) || self.output.extend_from_slice(from).is_err() {
             self.faults = self.faults.saturating_add(1);

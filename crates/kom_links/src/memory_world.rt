@@ -1,9 +1,14 @@
-ghost use Rattle.std.specs.Prelude.{◌≡◌, ◌<◌, vec_len};
+ghost use Rattle.std.specs.Prelude.{◌≡◌, ◌<◌, ◌≤◌, ◌↔◌, false, [], None, IfOk, IfSome, vec_len};
+ghost use Rattle.kom_links.specs.Outside.{IsNothing};
+ghost use Rattle.kom_links.specs.Doors.{MayRefuse};
 
+use crate::clock::Clock;
+use crate::gate::Gate;
 use crate::memory_clock::MemoryClock;
 use crate::memory_gate::{Client, MemoryGate};
 use crate::memory_link::Script;
 use crate::memory_sink::MemorySink;
+use crate::sink::Sink;
 use crate::world::{World, WorldFault};
 use kom_types::{Memory, Moment};
 use std::alloc::Global;
@@ -29,6 +34,8 @@ pub struct MemoryWorld {
 }
 
 impl MemoryWorld {
+    ghost use Rattle.kom_links.specs.Memories.{gate_plan_of, world_moments_of, sink_fails_of};
+
     /// A world whose gate has this plan or is refused, whose clocks give these moments, and whose sink fails at
     /// the writes of these numbers, counted from 1.
     pub fn new(
@@ -38,7 +45,10 @@ impl MemoryWorld {
         sink_fails: Vec<u64>,
     ) -> MemoryWorld
         requires { 0 < vec_len moments }
-        ensures { ⟦<MemoryWorld as World>⟧.world_faults result ≡ 0 }
+        ensures no_fault { ⟦<MemoryWorld as World>⟧.world_faults result ≡ 0 }
+        ensures gate { gate_plan_of result ≡ gate }
+        ensures moments { world_moments_of result ≡ moments.items }
+        ensures sink_fails { sink_fails_of result ≡ sink_fails.items }
     {
         MemoryWorld {
             alloc,
@@ -51,6 +61,8 @@ impl MemoryWorld {
 }
 
 impl World for MemoryWorld {
+    ghost use Rattle.kom_links.specs.Memories.{clients_of, script_of, calls_of, moments_of, readings_of, fails_of, sink_writes_of, gate_plan_of, world_moments_of, sink_fails_of};
+
     type Gate = MemoryGate;
 
     type Clock = MemoryClock;
@@ -63,7 +75,25 @@ impl World for MemoryWorld {
         self.faults
     }
 
-    fn std_gate(&mut self) -> Result<MemoryGate, WorldFault> {
+    fn std_gate(&mut self) -> Result<MemoryGate, WorldFault>
+        ensures answer { MayRefuse (⟦<MemoryWorld as World>⟧.world_faults self.old) (⟦<MemoryWorld as World>⟧.world_faults self.new) result }
+        ensures fresh { IfOk result (λ gate. ⟦<MemoryGate as Gate>⟧.gate_faults gate ≡ 0) }
+        ensures none_given { IfOk result (λ gate. IfSome (⟦<MemoryGate as Gate>⟧.given gate) (λ n. n ≡ 0)) }
+        ensures none_back { IfOk result (λ gate. IfSome (⟦<MemoryGate as Gate>⟧.returned gate) (λ links. links ≡ [])) }
+        ensures not_ended { IfOk result (λ gate. ⟦<MemoryGate as Gate>⟧.gate_ended gate ≡ false) }
+        ensures faults { ⟦<MemoryWorld as World>⟧.world_faults self.old ≤ ⟦<MemoryWorld as World>⟧.world_faults self.new }
+
+        // which gate is given
+        ensures failed { (result ≡ Err WorldFault.Failed) ↔ (gate_plan_of self.old ≡ None) }
+        ensures clients { IfOk result (λ gate. IfSome (gate_plan_of self.old) (λ plan. clients_of gate ≡ plan.clients.items)) }
+        ensures script { IfOk result (λ gate. IfSome (gate_plan_of self.old) (λ plan. script_of gate ≡ plan.script)) }
+        ensures no_call { IfOk result (λ gate. calls_of gate ≡ 0) }
+
+        // what is left
+        ensures gate { gate_plan_of self.new ≡ None }
+        ensures moments { world_moments_of self.new ≡ world_moments_of self.old }
+        ensures sink_fails { sink_fails_of self.new ≡ sink_fails_of self.old }
+    {
         match self.gate.take() {
             Some(plan) => match MemoryGate::make(self.alloc, plan.clients, plan.script) {
                 Ok(gate) => Ok(gate),
@@ -76,11 +106,36 @@ impl World for MemoryWorld {
         }
     }
 
-    fn clock(&mut self) -> Result<MemoryClock, Memory> {
+    fn clock(&mut self) -> Result<MemoryClock, Memory>
+        ensures fresh { IfOk result (λ clock. IsNothing (⟦<MemoryClock as Clock>⟧.gave clock)) }
+        ensures faults { ⟦<MemoryWorld as World>⟧.world_faults self.old ≤ ⟦<MemoryWorld as World>⟧.world_faults self.new }
+
+        // which clock is given
+        ensures script { IfOk result (λ clock. moments_of clock ≡ world_moments_of self.old) }
+        ensures no_reading { IfOk result (λ clock. readings_of clock ≡ 0) }
+
+        // what is left
+        ensures gate { gate_plan_of self.new ≡ gate_plan_of self.old }
+        ensures moments { world_moments_of self.new ≡ world_moments_of self.old }
+        ensures sink_fails { sink_fails_of self.new ≡ sink_fails_of self.old }
+    {
         Ok(MemoryClock::new(Vec::from_slice(self.alloc, self.moments.as_slice())?))
     }
 
-    fn out(&mut self) -> MemorySink {
+    fn out(&mut self) -> MemorySink
+        ensures fresh { ⟦<MemorySink as Sink>⟧.sink_faults result ≡ 0 }
+        ensures nothing_put { IsNothing (⟦<MemorySink as Sink>⟧.put result) }
+        ensures faults { ⟦<MemoryWorld as World>⟧.world_faults self.old ≤ ⟦<MemoryWorld as World>⟧.world_faults self.new }
+
+        // which sink is given
+        ensures fails { fails_of result ≡ sink_fails_of self.old }
+        ensures no_write { sink_writes_of result ≡ 0 }
+
+        // what is left
+        ensures gate { gate_plan_of self.new ≡ gate_plan_of self.old }
+        ensures moments { world_moments_of self.new ≡ world_moments_of self.old }
+        ensures sink_fails { sink_fails_of self.new ≡ [] }
+    {
         MemorySink::new(
             self.alloc,
             mem::replace(&mut self.sink_fails, Vec::new(self.alloc)),
