@@ -1,11 +1,10 @@
 -- What a change of the rows is to the act that makes it.
 use Rattle.std.proofs.Common.{◌≡◌, ℕ, true, false, not, is_some, List, [], map, Option, Some, None, refl, sym, ap, ◌∙◌, subst}
 use Rattle.std.specs.List.{find, filter}
-use Rattle.arrayvec.specs.ArrayVec.{ArrayVec}
 use Rattle.kom_types.specs.declared.acts.Act.{Act}
 use Rattle.kom_types.specs.declared.acts.Act.TheVariants as act
 use Rattle.kom_types.specs.declared.acts.Entry.{Entry}
-use Rattle.kom_types.specs.declared.answers.Answer.TheVariants as answer
+use Rattle.kom_core.specs.declared.answer_kind.AnswerKind.TheVariants as kind
 use Rattle.kom_types.specs.declared.answers.Why.TheVariants as why
 use Rattle.kom_types.specs.declared.calls.Call.{Call}
 use Rattle.kom_types.specs.declared.calls.Reply.{Reply}
@@ -13,7 +12,7 @@ use Rattle.kom_types.specs.declared.items.Item.{Item}
 use Rattle.kom_types.specs.declared.items.Item.TheVariants as item
 use Rattle.kom_model.specs.State.{Session, State, is_session, session_of}
 use Rattle.kom_model.specs.Decide.{decision_of}
-use Rattle.kom_model.specs.After.{queue, queued, drained, given_from}
+use Rattle.kom_model.specs.After.{queue, queued, drained}
 use Rattle.kom_model.proofs.Finding.{changed_row}
 use Rattle.kom_core.specs.Acts.{absent}
 use Rattle.kom_core.specs.Rows.{at_entry, stable_at}
@@ -35,7 +34,7 @@ none_from (Some one) absent = cc
 pub absent-there : (session : ℕ) (state : State) → true ≡ is_some (session_of session state) → absent session state ≡ None
 absent-there session state there = rw (← there, absent) refl
 
-pub absent-gone : (session : ℕ) (state : State) → false ≡ is_some (session_of session state) → absent session state ≡ Some (answer.Gone why.Absent)
+pub absent-gone : (session : ℕ) (state : State) → false ≡ is_some (session_of session state) → absent session state ≡ Some (kind.Gone why.Absent)
 absent-gone session state gone = rw (← gone, absent) refl
 
 -- a change of the row of a session that is not there
@@ -51,31 +50,31 @@ abbrev pub with_rows : State → List Session → State
 with_rows state rows = record state { sessions = rows }
 
 -- a session that is there was drained
-pub drain-there : (old : State) (session : ℕ) (rows : List Session) (items : ArrayVec Item) (came : Step) → came ≡ step.Made session (answer.Items items) → true ≡ is_some (session_of session old) →
-    items.items ≡ given_from session (stable_at old.sessions old.stable) → rows ≡ map (changed_row session (drained (stable_at [] old.stable))) old.sessions → ChangesBy old (act.Drain session) (with_rows old rows) came
-drain-there old session rows items came is there given rest pass moment = rw is (absent-there session old there, refl, (items, refl, given), ap (with_rows old) rest)
+pub drain-there : (old : State) (session : ℕ) (rows : List Session) (came : Step) → came ≡ step.Made session kind.Items → true ≡ is_some (session_of session old) →
+    rows ≡ map (changed_row session (drained (stable_at [] old.stable))) old.sessions → ChangesBy old (act.Drain session) (with_rows old rows) came
+drain-there old session rows came is there rest pass moment = rw is (absent-there session old there, refl, refl, ap (with_rows old) rest)
 
-pub drain-gone : (old : State) (session : ℕ) (rows : List Session) (came : Step) → came ≡ step.Refused (answer.Gone why.Absent) → false ≡ is_some (session_of session old) →
+pub drain-gone : (old : State) (session : ℕ) (rows : List Session) (came : Step) → came ≡ step.Refused (kind.Gone why.Absent) → false ≡ is_some (session_of session old) →
     rows ≡ map (changed_row session (drained (stable_at [] old.stable))) old.sessions → ChangesBy old (act.Drain session) (with_rows old rows) came
 drain-gone old session rows came is gone rest pass moment =
     rw is (absent-gone session old gone, ap (with_rows old) (rest ∙ map-gone session (drained (stable_at [] old.stable)) old.sessions gone))
 
 -- a session that is there was closed
-pub close-there : (old : State) (session : ℕ) (rows : List Session) (came : Step) → came ≡ step.Made session answer.Taken → true ≡ is_some (session_of session old) →
+pub close-there : (old : State) (session : ℕ) (rows : List Session) (came : Step) → came ≡ step.Made session kind.Taken → true ≡ is_some (session_of session old) →
     rows ≡ filter (λ row. not (is_session session row)) old.sessions → ChangesBy old (act.Close session) (with_rows old rows) came
 close-there old session rows came is there removed pass moment = rw is (absent-there session old there, refl, refl, ap (with_rows old) removed)
 
-pub close-gone : (old : State) (session : ℕ) (rows : List Session) (came : Step) → came ≡ step.Refused (answer.Gone why.Absent) → false ≡ is_some (session_of session old) →
+pub close-gone : (old : State) (session : ℕ) (rows : List Session) (came : Step) → came ≡ step.Refused (kind.Gone why.Absent) → false ≡ is_some (session_of session old) →
     rows ≡ filter (λ row. not (is_session session row)) old.sessions → ChangesBy old (act.Close session) (with_rows old rows) came
 close-gone old session rows came is gone removed pass moment = rw is (absent-gone session old gone, ap (with_rows old) (removed ∙ filter-gone session old.sessions gone))
 
 -- an item was queued for a session that is there
 pub queue-there : (old : State) (session : ℕ) (one : Item) (rows : List Session) → true ≡ is_some (session_of session old) →
-    rows ≡ map (changed_row session (queued one (at_entry old.entries))) old.sessions → Queues session one old (with_rows old rows) (step.Made session answer.Taken)
+    rows ≡ map (changed_row session (queued one (at_entry old.entries))) old.sessions → Queues session one old (with_rows old rows) (step.Made session kind.Taken)
 queue-there old session one rows there ok = (absent-there session old there, refl, refl, ap (with_rows old) ok)
 
 pub queue-gone : (old : State) (session : ℕ) (one : Item) (rows : List Session) → false ≡ is_some (session_of session old) →
-    rows ≡ map (changed_row session (queued one (at_entry old.entries))) old.sessions → Queues session one old (with_rows old rows) (step.Refused (answer.Gone why.Absent))
+    rows ≡ map (changed_row session (queued one (at_entry old.entries))) old.sessions → Queues session one old (with_rows old rows) (step.Refused (kind.Gone why.Absent))
 queue-gone old session one rows gone ok =
     (absent-gone session old gone, ap (with_rows old) (ok ∙ map-gone session (queued one (at_entry old.entries)) old.sessions gone))
 

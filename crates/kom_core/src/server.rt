@@ -1,6 +1,6 @@
-ghost use Rattle.std.specs.Prelude.{◌≡◌, ◌+◌, ◌^◌, ◌<◌, max, IfOk, OnErr, IsOk, IsSome};
+ghost use Rattle.std.specs.Prelude.{◌≡◌, ◌+◌, ◌^◌, ◌<◌, [], max, IfOk, OnErr, IsOk, IsSome};
 ghost use Rattle.kom_model.specs.State.{IsSound, empty as empty_state};
-ghost use Rattle.kom_core.specs.Acts.{refusal_of, TakesNone};
+ghost use Rattle.kom_core.specs.Acts.{refusal_of, items_of, TakesNone};
 ghost use Rattle.kom_core.specs.Steps.{Changes, Steps};
 
 mod calls;
@@ -9,6 +9,7 @@ mod drain;
 
 use crate::sessions::Sessions;
 use crate::step::Step;
+use arrayvec::ArrayVec;
 use kom_types::{Act, Entry, Item, Memory, Moment};
 use std::alloc::Global;
 use std::marker::Model;
@@ -48,16 +49,18 @@ impl Server {
         }
     }
 
-    /// Makes the act of an entry, or refuses it.
-    pub fn make(&mut self, entry: &Entry) -> Result<Step, Memory>
+    /// Makes the act of an entry, or refuses it. A drain moves its items into an array.
+    pub fn make(&mut self, entry: &Entry, items: &mut ArrayVec<Item, 64>) -> Result<Step, Memory>
         requires sound { IsSound self.old }
         requires room { self.old.entries < 2 ^ 62 }
+        requires none { items.old.items ≡ [] }
         ensures step { IfOk result (Steps self.old entry.now self.new) }
         ensures err { OnErr result (self.new ≡ self.old) }
         ensures refused { IsSome (refusal_of self.old entry.now.act) → IsOk result }
         ensures none_taken { TakesNone entry.now.act → IsOk result }
+        ensures given { items.new.items ≡ items_of self.old entry.now.act }
     {
-        let step = self.change(entry)?;
+        let step = self.change(entry, items)?;
         if let Step::Made { .. } = &step {
             self.advance(entry.moment);
         }
@@ -65,12 +68,14 @@ impl Server {
     }
 
     /// Makes the act of an entry, or refuses it, but for the count of entries and the moment.
-    fn change(&mut self, entry: &Entry) -> Result<Step, Memory>
-        requires { IsSound self.old }
+    fn change(&mut self, entry: &Entry, items: &mut ArrayVec<Item, 64>) -> Result<Step, Memory>
+        requires sound { IsSound self.old }
+        requires none { items.old.items ≡ [] }
         ensures step { IfOk result (Changes self.old entry.now self.new) }
         ensures err { OnErr result (self.new ≡ self.old) }
         ensures refused { IsSome (refusal_of self.old entry.now.act) → IsOk result }
         ensures none_taken { TakesNone entry.now.act → IsOk result }
+        ensures given { items.new.items ≡ items_of self.old entry.now.act }
     {
         match &entry.act {
             Act::Connect { user, host } => self.connect(entry.pass, entry.moment, user, host),
@@ -80,7 +85,7 @@ impl Server {
                 call,
             } => self.call(*session, *reference, *call),
             Act::Broken { session } => self.queue(*session, Item::Fault),
-            Act::Drain { session } => Ok(self.drain(*session)),
+            Act::Drain { session } => Ok(self.drain(*session, items)),
             Act::Flush => Ok(self.flush()),
             Act::Close { session } => Ok(self.close(*session)),
         }

@@ -1,12 +1,14 @@
-ghost use Rattle.std.specs.Prelude.{◌≡◌, ◌+◌, ◌^◌, ◌<◌, ◌≤◌, IfOk, OnErr, IsOk};
+ghost use Rattle.std.specs.Prelude.{◌≡◌, ◌+◌, ◌^◌, ◌<◌, ◌≤◌, [], IfOk, OnErr, IsOk};
 ghost use Rattle.kom_types.specs.declared.acts.Record.{Record as ActRecord};
-ghost use Rattle.kom_types.specs.declared.answers.Answer.{Answer as ActAnswer};
+ghost use Rattle.kom_core.specs.declared.answer_kind.AnswerKind.{AnswerKind as Kind};
 ghost use Rattle.kom_model.specs.State.{IsSound, empty};
-ghost use Rattle.kom_core.specs.Acts.{refusal_of, IsMade, IsUnchanged, TakesNone};
+ghost use Rattle.kom_core.specs.Acts.{refusal_of, kind_of, items_of, IsAnswer, IsMade, IsUnchanged, TakesNone};
 
+use crate::answer_kind::AnswerKind;
 use crate::server::Server;
 use crate::step::Step;
-use kom_types::{Answer, Entry, Memory, Record};
+use arrayvec::ArrayVec;
+use kom_types::{Answer, Entry, Item, Memory, Record};
 use std::alloc::Global;
 use std::marker::Model;
 
@@ -43,8 +45,30 @@ impl Core {
     /// Makes the act of an entry, whose record `last` then hands out, or answers why it is not made.
     pub fn act(&mut self, entry: Entry) -> Result<Answer, Memory>
         requires { self.old.state.entries < 2 ^ 62 }
-        ensures made { refusal_of self.old.state entry.act ≡ None → IfOk result (λ given. (made : ActRecord) × IsMade self.old.state entry given self.new made) }
-        ensures refused { (why : ActAnswer) → refusal_of self.old.state entry.act ≡ Some why → (result ≡ Ok why) × IsUnchanged self.old.state self.new }
+        ensures made { refusal_of self.old.state entry.act ≡ None → IfOk result (λ given. IsAnswer (kind_of self.old.state entry.act) (items_of self.old.state entry.act) given × ((made : ActRecord) × IsMade self.old.state entry self.new made)) }
+        ensures refused { (why : Kind) → refusal_of self.old.state entry.act ≡ Some why → IsOk result × IfOk result (IsAnswer why []) × IsUnchanged self.old.state self.new }
+        ensures memory { OnErr result (IsUnchanged self.old.state self.new) }
+        ensures none_taken { TakesNone entry.act → IsOk result }
+        ensures counted { self.new.state.entries ≤ self.old.state.entries + 1 }
+        ensures was_sound { IsSound self.old.state }
+        ensures sound { IsSound self.new.state }
+    {
+        let mut items = ArrayVec::new();
+        let kind = self.make(entry, &mut items)?;
+        Ok(kind.with_items(items))
+    }
+
+    /// The same, but the items that a drain takes stand afterwards in an array of the caller's, in place of what
+    /// stood there; at any other act it is empty. No answer with room for 64 items is moved.
+    pub fn make(
+        &mut self,
+        entry: Entry,
+        items: &mut ArrayVec<Item, 64>,
+    ) -> Result<AnswerKind, Memory>
+        requires { self.old.state.entries < 2 ^ 62 }
+        ensures made { refusal_of self.old.state entry.act ≡ None → IfOk result (λ kind. (kind ≡ kind_of self.old.state entry.act) × ((made : ActRecord) × IsMade self.old.state entry self.new made)) }
+        ensures refused { (why : Kind) → refusal_of self.old.state entry.act ≡ Some why → (result ≡ Ok why) × IsUnchanged self.old.state self.new }
+        ensures given { items.new.items ≡ items_of self.old.state entry.act }
         ensures memory { OnErr result (IsUnchanged self.old.state self.new) }
         ensures none_taken { TakesNone entry.act → IsOk result }
         ensures counted { self.new.state.entries ≤ self.old.state.entries + 1 }
@@ -52,7 +76,8 @@ impl Core {
         ensures sound { IsSound self.new.state }
     {
         self.last = None;
-        match self.server.make(&entry)? {
+        items.clear();
+        match self.server.make(&entry, items)? {
             Step::Made { session, answer } => {
                 self.last = Some(Record {
                     entry,

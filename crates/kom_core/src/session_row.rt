@@ -65,28 +65,28 @@ impl SessionRow {
         Ok(())
     }
 
-    /// Takes the first items, 64 at most, of entries below the stable number.
-    pub fn drain(&mut self, stable: u64) -> ArrayVec<Item, 64>
-        ensures given { result.items ≡ map (λ one. one.item) (take (drained_count (stable_at [] stable) self.old.waiting) self.old.waiting) }
+    /// Moves the first items, 64 at most, of entries below the stable number into an array.
+    pub fn drain(&mut self, stable: u64, items: &mut ArrayVec<Item, 64>)
+        requires { items.old.items ≡ [] }
+        ensures given { items.new.items ≡ map (λ one. one.item) (take (drained_count (stable_at [] stable) self.old.waiting) self.old.waiting) }
         ensures rest { self.new ≡ drained (stable_at [] stable) self.old }
     {
-        take_below(&mut self.waiting, stable)
+        take_below(&mut self.waiting, stable, items);
     }
 }
 
-/// Takes the first items, 64 at most, of entries below this one.
-fn take_below(waiting: &mut VecDeque<Queued>, stable: u64) -> ArrayVec<Item, 64>
-    ensures given { result.items ≡ map (λ one. one.item) (take (drained_count (stable_at [] stable) waiting.old.items) waiting.old.items) }
+/// Moves the first items, 64 at most, of entries below this one into an array.
+fn take_below(waiting: &mut VecDeque<Queued>, stable: u64, items: &mut ArrayVec<Item, 64>)
+    requires { items.old.items ≡ [] }
+    ensures given { items.new.items ≡ map (λ one. one.item) (take (drained_count (stable_at [] stable) waiting.old.items) waiting.old.items) }
     ensures rest { waiting.new.items ≡ drop (drained_count (stable_at [] stable) waiting.old.items) waiting.old.items }
 {
-    let mut given = ArrayVec::new();
-    while !given.is_full() {
+    while !items.is_full() {
         let Some(item) = next_below(waiting, stable) else {
-            break;
+            return;
         };
-        given.push(item);
+        items.push(item);
     }
-    given
 }
 
 /// Takes the first item, where its entry is below this one.

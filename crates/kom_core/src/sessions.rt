@@ -1,4 +1,4 @@
-ghost use Rattle.std.specs.Prelude.{◌≡◌, ◌++◌, ◌∷◌, [], Bool, not, None, Some, is_some, map, filter, find, length, IfOk, IfSome, OnOk, OnErr, IsOk, IsSome, MatchOption, if◌then◌else◌};
+ghost use Rattle.std.specs.Prelude.{◌≡◌, ◌++◌, ◌∷◌, [], Bool, not, None, Some, is_some, map, filter, find, length, IfOk, OnOk, OnErr, IsOk, IsSome, MatchOption, if◌then◌else◌};
 ghost use Rattle.kom_model.specs.State.{Session, is_session};
 ghost use Rattle.kom_model.specs.After.{queued, drained, given_from};
 ghost use Rattle.kom_core.specs.Rows.{IsAt, AllBelow, at_entry, stable_at};
@@ -62,14 +62,21 @@ impl Sessions {
         }
     }
 
-    /// Takes what waits for a session, where it is there: 64 items at most, of entries below the stable number.
-    pub fn drain(&mut self, number: u32, stable: u64) -> Option<ArrayVec<Item, 64>>
-        ensures there { is_some result ≡ is_some (find (is_session number) self.old) }
-        ensures given { IfSome result (λ items. items.items ≡ given_from number (stable_at self.old stable)) }
+    /// Moves what waits for a session into an array, 64 items at most, of entries below the stable number, and says
+    /// whether the session is there.
+    pub fn drain(&mut self, number: u32, stable: u64, items: &mut ArrayVec<Item, 64>) -> bool
+        requires { items.old.items ≡ [] }
+        ensures there { result ≡ is_some (find (is_session number) self.old) }
+        ensures given { items.new.items ≡ given_from number (stable_at self.old stable) }
         ensures rest { self.new ≡ map (λ row. if is_session number row then drained (stable_at [] stable) row else row) self.old }
     {
-        let place = self.search(number)?;
-        Some(self.rows[place].drain(stable))
+        match self.search(number) {
+            Some(place) => {
+                self.rows[place].drain(stable, items);
+                true
+            }
+            None => false,
+        }
     }
 
     /// Drops the row of a session, and says whether it was there.

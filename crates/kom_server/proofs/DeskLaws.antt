@@ -10,10 +10,11 @@ use Rattle.kom_types.specs.declared.acts.Act.{Act}
 use Rattle.kom_types.specs.declared.acts.Act.TheVariants as act
 use Rattle.kom_types.specs.declared.acts.Entry.{Entry}
 use Rattle.kom_types.specs.declared.acts.Record.{Record}
-use Rattle.kom_types.specs.declared.answers.Answer.{Answer}
-use Rattle.kom_types.specs.declared.answers.Answer.TheVariants as answer
+use Rattle.kom_core.specs.declared.answer_kind.AnswerKind.{AnswerKind}
+use Rattle.kom_core.specs.declared.answer_kind.AnswerKind.TheVariants as kind
 use Rattle.kom_types.specs.declared.answers.Why.{Why}
 use Rattle.kom_types.specs.declared.answers.Why.TheVariants as why
+use Rattle.kom_types.specs.declared.items.Item.{Item}
 use Rattle.kom_types.specs.declared.refusal.Memory.{Memory}
 use Rattle.kom_links.specs.declared.desk.DeskFault.{DeskFault}
 use Rattle.kom_links.specs.declared.desk.DeskFault.TheVariants as fault
@@ -22,7 +23,7 @@ use Rattle.kom_links.specs.Records.{has_session, IsOpen}
 use Rattle.kom_model.specs.State.{Session, State, empty, is_session, session_of}
 use Rattle.kom_model.specs.After.{MayFollow, after, most_sessions}
 use Rattle.kom_model.specs.Legal.{IsLegal, state_after}
-use Rattle.kom_core.specs.Acts.{refusal_of, absent, IsAnswered}
+use Rattle.kom_core.specs.Acts.{refusal_of, absent, kind_of}
 use Rattle.kom_core.specs.Steps.{made_of}
 use Rattle.kom_core.proofs.Soundness.{IsSound-empty}
 use Rattle.kom_server.specs.Passes.{Seen, connects_in}
@@ -32,21 +33,21 @@ use Rattle.kom_server.proofs.Histories.{legal-append, state_after-append, entrie
 -- ---- why an act may be refused
 
 pub absent_none : (session : ℕ) (state : State) → IsSome (session_of session state) → absent session state ≡ None
-absent_none session state stands = subst (λ (there : Bool). elim there [ true ↦ None | false ↦ Some (answer.Gone why.Absent) ] ≡ None) (sym stands) refl
+absent_none session state stands = subst (λ (there : Bool). elim there [ true ↦ None | false ↦ Some (kind.Gone why.Absent) ] ≡ None) (sym stands) refl
 
 -- an act is refused only where all numbers of sessions are used up
 pub refusals : (seen : List Record) (state : State) (what : Act) → IsLegal empty seen → state ≡ state_after empty seen → IsOfOpen seen what →
-    (refusal_of state what ≡ None) ⊎ ((refusal_of state what ≡ Some (answer.Full most_sessions)) × (connects_in seen ≡ most_sessions))
+    (refusal_of state what ≡ None) ⊎ ((refusal_of state what ≡ Some (kind.Full most_sessions)) × (connects_in seen ≡ most_sessions))
 refusals seen state (act.Connect user host) legal led asked =
     elim (cases_Bool (ltb state.connects most_sessions)) [
-      | inl less ↦ inl (subst (λ (less : Bool). elim less [ true ↦ None | false ↦ Some (answer.Full state.connects) ] ≡ None) (sym less) refl)
+      | inl less ↦ inl (subst (λ (less : Bool). elim less [ true ↦ None | false ↦ Some (kind.Full state.connects) ] ≡ None) (sym less) refl)
       | inr more ↦
           let above : most_sessions ≤ state.connects = ltb-false _ _ more in
           let within : (state_after empty seen).connects ≤ most_sessions = connects_within empty seen legal (omega arith) in
           let same : state.connects ≡ (state_after empty seen).connects = ap (λ (state : State). state.connects) led in
           let all : state.connects ≡ most_sessions = omega arith in
           let counted : (state_after empty seen).connects ≡ 0 + connects_in seen = connects-state_after empty seen in
-          inr (subst (λ (less : Bool). elim less [ true ↦ None | false ↦ Some (answer.Full state.connects) ] ≡ Some (answer.Full most_sessions)) (sym more) (ap (λ n. Some (answer.Full n)) all), omega arith)
+          inr (subst (λ (less : Bool). elim less [ true ↦ None | false ↦ Some (kind.Full state.connects) ] ≡ Some (kind.Full most_sessions)) (sym more) (ap (λ n. Some (kind.Full n)) all), omega arith)
     ]
 refusals seen state (act.Call session reference call) legal led asked = inl (absent_none session state (subst (λ (state : State). IsSome (session_of session state)) (sym led) (open_stands session seen legal asked)))
 refusals seen state (act.Broken session) legal led asked = inl (absent_none session state (subst (λ (state : State). IsSome (session_of session state)) (sym led) (open_stands session seen legal asked)))
@@ -97,10 +98,10 @@ grows_step state pass moment act.Flush session short = omega arith
 grows_step state pass moment (act.Close number) session short = omega (arith, filter_shorter (λ row. not (is_session number row)) state.sessions)
 
 -- an act that connects nobody
-abbrev pub IsOther : Answer → Type 0
-IsOther given = (number : ℕ) → given ≡ answer.Connected number → ⊥
+abbrev pub IsOther : AnswerKind → Type 0
+IsOther given = (number : ℕ) → given ≡ kind.Connected number → ⊥
 
-stays_step : (state : State) (pass moment : ℕ) (what : Act) (session : ℕ) (short : Bool) (given : Answer) → IsAnswered state what given → IsOther given →
+stays_step : (state : State) (pass moment : ℕ) (what : Act) (session : ℕ) (short : Bool) (given : AnswerKind) → given ≡ kind_of state what → IsOther given →
     length (after state (record_of pass moment what session short)).sessions ≤ length state.sessions
 stays_step state pass moment (act.Connect user host) session short given answered other = absurd (other _ answered)
 stays_step state pass moment (act.Call number reference call) session short given answered other = mapped _ state.sessions
@@ -116,7 +117,7 @@ all_push P [] x all one = (one, tt)
 all_push P (y ∷ xs) x all one = (all.0, all_push P xs x all.1 one)
 
 -- after an act that was made and logged
-pub stands_logged : (old new : State) (pass before behind : Seen) (sessions sessions' : ℕ) (fault fault' : Option DeskFault) (entry : Entry) (given : Answer) →
+pub stands_logged : (old new : State) (pass before behind : Seen) (sessions sessions' : ℕ) (fault fault' : Option DeskFault) (entry : Entry) (given : AnswerKind) →
     Stands old pass sessions fault → before.seen ≡ pass.seen → before.number ≡ pass.number → length before.seen + before.room ≤ 2 ^ 62 → entry.pass ≡ pass.number →
     Logs old new before behind entry given → length new.sessions ≤ sessions' → sessions' ≤ behind.room → (fault' ≡ None) ⊎ (fault' ≡ fault) → Stands new behind sessions' fault'
 stands_logged old new pass before behind sessions sessions' fault fault' entry given stands seen number bound entered logs counted room faults =
@@ -143,7 +144,7 @@ stands_logged old new pass before behind sessions sessions' fault fault' entry g
     }
 
 -- The desk asked its core for an act, behind taking room for it.
-pub record Acted (old new : State) (pass before behind : Seen) (sessions : ℕ) (fault : Option DeskFault) (entry : Entry) (given : Answer) : Type 0 where
+pub record Acted (old new : State) (pass before behind : Seen) (sessions : ℕ) (fault : Option DeskFault) (entry : Entry) (given : AnswerKind) : Type 0 where
   pub stands : Stands old pass sessions fault
   pub asked : IsOfOpen pass.seen entry.act
   pub seen : before.seen ≡ pass.seen
@@ -152,27 +153,27 @@ pub record Acted (old new : State) (pass before behind : Seen) (sessions : ℕ) 
   pub room : sessions + 2 ≤ before.room
   pub entered : entry.pass ≡ pass.number
   pub made : refusal_of old entry.act ≡ None → Logs old new before behind entry given
-  pub refused : (why : Answer) → refusal_of old entry.act ≡ Some why → (let one : Result Answer Memory = Ok given in one ≡ Ok why) × (new ≡ old) × (behind ≡ before)
+  pub refused : (why : AnswerKind) → refusal_of old entry.act ≡ Some why → (let one : Result AnswerKind Memory = Ok given in one ≡ Ok why) × (new ≡ old) × (behind ≡ before)
 
-ok_same : (one two : Answer) → (let r : Result Answer Memory = Ok one in r ≡ Ok two) → one ≡ two
+ok_same : (one two : AnswerKind) → (let r : Result AnswerKind Memory = Ok one in r ≡ Ok two) → one ≡ two
 ok_same one two e = cc
 
 -- an act was made, or all numbers of sessions are used up
-pub acted : {old new : State} {pass before behind : Seen} {sessions : ℕ} {fault : Option DeskFault} {entry : Entry} {given : Answer} → Acted old new pass before behind sessions fault entry given →
-    (Logs old new before behind entry given) ⊎ ((given ≡ answer.Full most_sessions) × (connects_in pass.seen ≡ most_sessions) × (new ≡ old) × (behind ≡ before))
+pub acted : {old new : State} {pass before behind : Seen} {sessions : ℕ} {fault : Option DeskFault} {entry : Entry} {given : AnswerKind} → Acted old new pass before behind sessions fault entry given →
+    (Logs old new before behind entry given) ⊎ ((given ≡ kind.Full most_sessions) × (connects_in pass.seen ≡ most_sessions) × (new ≡ old) × (behind ≡ before))
 acted {old} {new} {pass} {before} {behind} {sessions} {fault} {entry} {given} a =
     elim (refusals pass.seen old entry.act a.stands.legal a.stands.led a.asked) [
       | inl none ↦ inl (a.made none)
-      | inr full ↦ let told = a.refused (answer.Full most_sessions) full.0 in inr (ok_same given _ told.0, full.1, told.1, told.2)
+      | inr full ↦ let told = a.refused (kind.Full most_sessions) full.0 in inr (ok_same given _ told.0, full.1, told.1, told.2)
     ]
 
 -- it was made where the answer is not that they are used up
-pub acted_made : {old new : State} {pass before behind : Seen} {sessions : ℕ} {fault : Option DeskFault} {entry : Entry} {given : Answer} → Acted old new pass before behind sessions fault entry given →
-    (given ≡ answer.Full most_sessions → ⊥) → Logs old new before behind entry given
+pub acted_made : {old new : State} {pass before behind : Seen} {sessions : ℕ} {fault : Option DeskFault} {entry : Entry} {given : AnswerKind} → Acted old new pass before behind sessions fault entry given →
+    (given ≡ kind.Full most_sessions → ⊥) → Logs old new before behind entry given
 acted_made a other = elim (acted a) [ inl logs ↦ logs | inr full ↦ absurd (other full.0) ]
 
-pub stands_connected : {old new : State} {pass before behind : Seen} {sessions : ℕ} {fault : Option DeskFault} {entry : Entry} {given : Answer} → Acted old new pass before behind sessions fault entry given →
-    (given ≡ answer.Full most_sessions → ⊥) → Stands new behind (sessions + 1) None
+pub stands_connected : {old new : State} {pass before behind : Seen} {sessions : ℕ} {fault : Option DeskFault} {entry : Entry} {given : AnswerKind} → Acted old new pass before behind sessions fault entry given →
+    (given ≡ kind.Full most_sessions → ⊥) → Stands new behind (sessions + 1) None
 stands_connected {old} {new} {pass} {before} {behind} {sessions} {fault} {entry} {given} a other =
     let logs : Logs old new before behind entry given = acted_made a other in
     let grown : length (after old (made_of old entry)).sessions ≤ length old.sessions + 1 = grows_step old entry.pass entry.moment entry.act (made_of old entry).session false in
@@ -181,8 +182,8 @@ stands_connected {old} {new} {pass} {before} {behind} {sessions} {fault} {entry}
     let left : behind.room + 1 ≡ before.room = logs.room in
     stands_logged old new pass before behind sessions (sessions + 1) fault None entry given a.stands a.seen a.number a.bound a.entered logs (omega arith) (omega (arith, a.room)) (inl refl)
 
-pub stands_kept : {old new : State} {pass before behind : Seen} {sessions : ℕ} {fault : Option DeskFault} {entry : Entry} {given : Answer} → Acted old new pass before behind sessions fault entry given →
-    (given ≡ answer.Full most_sessions → ⊥) → IsOther given → Stands new behind sessions fault
+pub stands_kept : {old new : State} {pass before behind : Seen} {sessions : ℕ} {fault : Option DeskFault} {entry : Entry} {given : AnswerKind} → Acted old new pass before behind sessions fault entry given →
+    (given ≡ kind.Full most_sessions → ⊥) → IsOther given → Stands new behind sessions fault
 stands_kept {old} {new} {pass} {before} {behind} {sessions} {fault} {entry} {given} a other no_connect =
     let logs : Logs old new before behind entry given = acted_made a other in
     let stays : length (after old (made_of old entry)).sessions ≤ length old.sessions = stays_step old entry.pass entry.moment entry.act (made_of old entry).session false given logs.answered no_connect in
@@ -206,36 +207,36 @@ stands_still old new pass before behind sessions fault stands seen number bound 
       known = subst (λ (records : List Record). IsDeskFault records fault) (sym seen) stands.known;
     }))
 
-gone_step : (state : State) (what : Act) (why : Why) → IsAnswered state what (answer.Gone why) → ⊥
+gone_step : (state : State) (what : Act) (why : Why) → kind.Gone why ≡ kind_of state what → ⊥
 gone_step state (act.Connect user host) why answered = cc
 gone_step state (act.Call session reference call) why answered = cc
 gone_step state (act.Broken session) why answered = cc
-gone_step state (act.Drain session) why answered = let e : answer.Gone why ≡ answer.Items answered.0 = answered.1 in cc
+gone_step state (act.Drain session) why answered = cc
 gone_step state act.Flush why answered = cc
 gone_step state (act.Close session) why answered = cc
 
-full_step : (state : State) (what : Act) (number : ℕ) → IsAnswered state what (answer.Full number) → ⊥
+full_step : (state : State) (what : Act) (number : ℕ) → kind.Full number ≡ kind_of state what → ⊥
 full_step state (act.Connect user host) number answered = cc
 full_step state (act.Call session reference call) number answered = cc
 full_step state (act.Broken session) number answered = cc
-full_step state (act.Drain session) number answered = let e : answer.Full number ≡ answer.Items answered.0 = answered.1 in cc
+full_step state (act.Drain session) number answered = cc
 full_step state act.Flush number answered = cc
 full_step state (act.Close session) number answered = cc
 
 -- no act is answered that its session is gone
-pub never_gone : {old new : State} {pass before behind : Seen} {sessions : ℕ} {fault : Option DeskFault} {entry : Entry} {given : Answer} → Acted old new pass before behind sessions fault entry given →
-    (why : Why) → given ≡ answer.Gone why → ⊥
+pub never_gone : {old new : State} {pass before behind : Seen} {sessions : ℕ} {fault : Option DeskFault} {entry : Entry} {given : AnswerKind} → Acted old new pass before behind sessions fault entry given →
+    (why : Why) → given ≡ kind.Gone why → ⊥
 never_gone {old} {new} {pass} {before} {behind} {sessions} {fault} {entry} {given} a why gone = elim (acted a) [
-  | inl logs ↦ gone_step old entry.act why (subst (λ (given : Answer). IsAnswered old entry.act given) gone logs.answered)
-  | inr full ↦ let e : given ≡ answer.Full most_sessions = full.0 in cc
+  | inl logs ↦ gone_step old entry.act why (sym gone ∙ logs.answered)
+  | inr full ↦ let e : given ≡ kind.Full most_sessions = full.0 in cc
 ]
 
 -- an act that is answered Full was not made
-pub full_only : {old new : State} {pass before behind : Seen} {sessions : ℕ} {fault : Option DeskFault} {entry : Entry} {given : Answer} → Acted old new pass before behind sessions fault entry given →
-    (number : ℕ) → given ≡ answer.Full number → (number ≡ most_sessions) × (connects_in pass.seen ≡ most_sessions) × (new ≡ old) × (behind ≡ before)
+pub full_only : {old new : State} {pass before behind : Seen} {sessions : ℕ} {fault : Option DeskFault} {entry : Entry} {given : AnswerKind} → Acted old new pass before behind sessions fault entry given →
+    (number : ℕ) → given ≡ kind.Full number → (number ≡ most_sessions) × (connects_in pass.seen ≡ most_sessions) × (new ≡ old) × (behind ≡ before)
 full_only {old} {new} {pass} {before} {behind} {sessions} {fault} {entry} {given} a number is = elim (acted a) [
-  | inl logs ↦ absurd (full_step old entry.act number (subst (λ (given : Answer). IsAnswered old entry.act given) is logs.answered))
-  | inr full ↦ (let e : given ≡ answer.Full most_sessions = full.0 in cc, full.1, full.2, full.3)
+  | inl logs ↦ absurd (full_step old entry.act number (sym is ∙ logs.answered))
+  | inr full ↦ (let e : given ≡ kind.Full most_sessions = full.0 in cc, full.1, full.2, full.3)
 ]
 
 -- there are fewer entries than the core takes, while there is room in the pass
@@ -255,7 +256,7 @@ close_room old pass sessions fault session stands open' =
     let counted : length old.sessions ≤ sessions = stands.counted in
     (there, omega arith, omega (arith, stands.has_room))
 
-pub stands_closed : (old new : State) (pass behind : Seen) (sessions : ℕ) (fault : Option DeskFault) (entry : Entry) (session : ℕ) (given : Answer) → Stands old pass sessions fault → IsOpen session pass.seen →
+pub stands_closed : (old new : State) (pass behind : Seen) (sessions : ℕ) (fault : Option DeskFault) (entry : Entry) (session : ℕ) (given : AnswerKind) → Stands old pass sessions fault → IsOpen session pass.seen →
     entry.pass ≡ pass.number → entry.act ≡ act.Close session → Logs old new pass behind entry given → Stands new behind (sessions - 1) fault
 stands_closed old new pass behind sessions fault entry session given stands open' entered closes logs =
     let room : (IsSome (session_of session old)) × (0 < sessions) × (0 < pass.room) = close_room old pass sessions fault session stands open' in
@@ -281,9 +282,9 @@ fresh_number seen legal = undrawn_absent _ empty seen IsSound-empty legal (omega
 -- ---- refusals
 
 -- what a desk says that refused for this reason
-pub refused_of : (old new : Kept) (pass behind : Seen) (fault : Option DeskFault) (why given : DeskFault) → (let kept : Kept = record { pass = pass; fault = fault } in kept ≡ old) →
+pub refused_of : (old new : Kept) (pass behind : Seen) (fault : Option DeskFault) (items : List Item) (why given : DeskFault) → (let kept : Kept = record { pass = pass; fault = fault; items = items } in kept ≡ old) →
     new.pass ≡ behind → behind.seen ≡ pass.seen → behind.number ≡ pass.number → given ≡ why → new.fault ≡ first_fault {X = ⊤} fault (Err why) → IsDeskFault pass.seen (Some why) → Refuses old new given
-refused_of old new pass behind fault why given view is seen number same first known = record {
+refused_of old new pass behind fault items why given view is seen number same first known = record {
   seen = ap (λ (pass : Seen). pass.seen) is ∙ seen ∙ ap (λ (kept : Kept). kept.pass.seen) view;
   number = ap (λ (pass : Seen). pass.number) is ∙ number ∙ ap (λ (kept : Kept). kept.pass.number) view;
   fault = first ∙ ap (λ (why : DeskFault). first_fault {X = ⊤} fault (Err why)) (sym same) ∙ ap (λ (kept : Kept). first_fault {X = ⊤} kept.fault (Err given)) view;

@@ -5,7 +5,7 @@ use Rattle.kom_types.specs.declared.acts.Act.{Act}
 use Rattle.kom_types.specs.declared.acts.Act.TheVariants as act
 use Rattle.kom_types.specs.declared.acts.Entry.{Entry}
 use Rattle.kom_types.specs.declared.acts.Record.{Record}
-use Rattle.kom_types.specs.declared.answers.Answer.{Answer}
+use Rattle.kom_core.specs.declared.answer_kind.AnswerKind.{AnswerKind}
 use Rattle.kom_types.specs.declared.items.Item.{Item}
 use Rattle.kom_links.specs.declared.desk.DeskFault.{DeskFault}
 use Rattle.kom_links.specs.declared.desk.DeskFault.TheVariants as fault
@@ -14,14 +14,15 @@ use Rattle.kom_links.specs.Records.{IsOpen}
 use Rattle.kom_model.specs.State.{State, empty}
 use Rattle.kom_model.specs.After.{MayFollow, after, given_from, most_sessions}
 use Rattle.kom_model.specs.Legal.{IsLegal, state_after}
-use Rattle.kom_core.specs.Acts.{IsAnswered}
+use Rattle.kom_core.specs.Acts.{kind_of, items_of}
 use Rattle.kom_core.specs.Steps.{made_of}
 use Rattle.kom_server.specs.Passes.{Seen, connects_in}
 
--- the desk's pass, and the first fault that it answered since its last connect
+-- the desk's pass, the first fault that it answered since its last connect, and what its last drain took
 pub record Kept : Type 0 where
   pub pass : Seen
   pub fault : Option DeskFault
+  pub items : List Item
 
 -- the lists that drains gave, behind one record more: none yet at a Connect, one more at a Drain
 abbrev pub given_with : State → Record → List (List Item) → List (List Item)
@@ -70,9 +71,9 @@ IsOfOpen seen act.Flush = Unit {0}
 IsOfOpen seen (act.Close session) = IsOpen session seen
 
 -- the act of an entry was made on the core, and its record logged in the room that there was for it
-pub record Logs (old new : State) (before behind : Seen) (entry : Entry) (answer : Answer) : Type 0 where
+pub record Logs (old new : State) (before behind : Seen) (entry : Entry) (answer : AnswerKind) : Type 0 where
   pub follows : MayFollow old (made_of old entry)
-  pub answered : IsAnswered old entry.act answer
+  pub answered : answer ≡ kind_of old entry.act
   pub state : new ≡ after old (made_of old entry)
   pub logged : behind.seen ≡ before.seen ++ made_of old entry ∷ []
   pub number : behind.number ≡ before.number
@@ -83,10 +84,11 @@ abbrev pub record_now : Seen → ℕ → Act → Record
 record_now pass moment what = made_of (state_after empty pass.seen) (record { pass = pass.number; moment = moment; act = what })
 
 -- The desk made this act; at a Connect its fault is forgotten.
-pub record Makes (old new : Kept) (moment : ℕ) (what : Act) (answer : Answer) : Type 0 where
+pub record Makes (old new : Kept) (moment : ℕ) (what : Act) (answer : AnswerKind) : Type 0 where
   pub logged : new.pass.seen ≡ old.pass.seen ++ record_now old.pass moment what ∷ []
   pub number : new.pass.number ≡ old.pass.number
-  pub answered : IsAnswered (state_after empty old.pass.seen) what answer
+  pub answered : answer ≡ kind_of (state_after empty old.pass.seen) what
+  pub items : new.items ≡ items_of (state_after empty old.pass.seen) what
   pub fault : new.fault ≡ elim what [
     | act.Connect user host ↦ None
     | act.Call session reference call ↦ old.fault

@@ -1,7 +1,7 @@
 ghost use Rattle.std.specs.Prelude.{◌≡◌, ◌+◌, ◌^◌, ◌<◌, [], Ok, Err, None, Some, ⊤, false, IfOk, IfErr, IsOk, OnErr};
 ghost use Rattle.kom_types.specs.declared.acts.Act.TheVariants as act;
-ghost use Rattle.kom_types.specs.declared.answers.Answer.{Answer as ActAnswer};
-ghost use Rattle.kom_core.specs.Acts.{refusal_of, TakesNone};
+ghost use Rattle.kom_core.specs.declared.answer_kind.AnswerKind.{AnswerKind as Kind};
+ghost use Rattle.kom_core.specs.Acts.{refusal_of, items_of, TakesNone};
 ghost use Rattle.kom_links.specs.DeskCalls.{first_fault};
 ghost use Rattle.kom_model.specs.State.{empty};
 ghost use Rattle.kom_model.specs.Legal.{IsLegal};
@@ -10,9 +10,9 @@ ghost use Rattle.std.specs.List.{AllByRecursion};
 
 use crate::passes::Pass;
 use arrayvec::ArrayVec;
-use kom_core::Core;
+use kom_core::{AnswerKind, Core};
 use kom_links::{Desk, DeskFault};
-use kom_types::{Act, Answer, Bytes, Call, Entry, Item, Memory, Moment};
+use kom_types::{Act, Bytes, Call, Entry, Item, Memory, Moment};
 use std::alloc::Global;
 use std::marker::Model;
 
@@ -25,6 +25,8 @@ pub(crate) struct CoreDesk {
     // How many sessions stand, each of which has room for its Close.
     sessions: usize,
     fault: Option<DeskFault>,
+    // What the last act took, if that was a drain.
+    items: ArrayVec<Item, 64>,
 }
 
 impl Model for CoreDesk {
@@ -32,7 +34,7 @@ impl Model for CoreDesk {
 
     ghost Value = { Kept };
 
-    ghost view = { λ desk. record { pass = desk.pass; fault = desk.fault } };
+    ghost view = { λ desk. record { pass = desk.pass; fault = desk.fault; items = desk.items.items } };
 
     ghost invariant = { λ desk. Stands desk.core.state desk.pass desk.sessions desk.fault };
 }
@@ -49,6 +51,7 @@ impl CoreDesk {
             pass: Pass::new(alloc, 0),
             sessions: 0,
             fault: None,
+            items: ArrayVec::new(),
         }
     }
 
@@ -84,7 +87,7 @@ impl CoreDesk {
     }
 
     /// Makes an act and logs its record, with room for the Close of each session that stands then.
-    fn make(&mut self, moment: Moment, act: Act) -> Result<Answer, DeskFault>
+    fn make(&mut self, moment: Moment, act: Act) -> Result<AnswerKind, DeskFault>
         requires { IsOfOpen self.old.pass.seen act }
         ensures made { IfOk result (λ answer. Makes self.old self.new moment act answer) }
         ensures refused { IfErr result (λ why. Refuses self.old self.new why) }
@@ -97,31 +100,37 @@ impl CoreDesk {
             moment,
             act,
         };
-        match act_and_log(&mut self.core, &mut self.pass, entry) {
-            Ok(Answer::Connected(number)) => {
+        match act_and_log(&mut self.core, &mut self.pass, entry, &mut self.items) {
+            Ok(AnswerKind::Connected(number)) => {
                 self.sessions += 1;
                 self.fault = None;
-                Ok(Answer::Connected(number))
+                Ok(AnswerKind::Connected(number))
             }
-            Ok(Answer::Taken) => Ok(Answer::Taken),
-            Ok(Answer::Items(items)) => Ok(Answer::Items(items)),
-            Ok(Answer::Gone(_)) => unreachable!(),
-            Ok(Answer::Full(number)) => Err(self.fail(DeskFault::Full(number))),
+            Ok(AnswerKind::Taken) => Ok(AnswerKind::Taken),
+            Ok(AnswerKind::Items) => Ok(AnswerKind::Items),
+            Ok(AnswerKind::Gone(_)) => unreachable!(),
+            Ok(AnswerKind::Full(number)) => Err(self.fail(DeskFault::Full(number))),
             Err(Memory) => Err(self.fail(DeskFault::Memory)),
         }
     }
 }
 
-/// Makes the act of an entry, for whose record there is room, and logs it.
-fn act_and_log(core: &mut Core, pass: &mut Pass, entry: Entry) -> Result<Answer, Memory>
+/// Makes the act of an entry, for whose record there is room, and logs it. What a drain takes is put into an array.
+fn act_and_log(
+    core: &mut Core,
+    pass: &mut Pass,
+    entry: Entry,
+    items: &mut ArrayVec<Item, 64>,
+) -> Result<AnswerKind, Memory>
     requires room { 0 < pass.old.room }
     requires bound { core.old.state.entries < 2 ^ 62 }
     ensures made { refusal_of core.old.state entry.act ≡ None → IfOk result (λ answer. Logs core.old.state core.new.state pass.old pass.new entry answer) }
-    ensures refused { (why : ActAnswer) → refusal_of core.old.state entry.act ≡ Some why → (result ≡ Ok why) × (core.new.state ≡ core.old.state) × (pass.new ≡ pass.old) }
+    ensures refused { (why : Kind) → refusal_of core.old.state entry.act ≡ Some why → (result ≡ Ok why) × (core.new.state ≡ core.old.state) × (pass.new ≡ pass.old) }
     ensures memory { OnErr result ((core.new.state ≡ core.old.state) × (pass.new ≡ pass.old)) }
     ensures none_taken { TakesNone entry.act → IsOk result }
+    ensures given { items.new.items ≡ items_of core.old.state entry.act }
 {
-    let answer = core.act(entry)?;
+    let answer = core.make(entry, items)?;
     if let Some(record) = core.last() {
         pass.log(record);
     }
@@ -155,7 +164,7 @@ impl Desk for CoreDesk {
             Err(Memory) => return Err(self.fail(DeskFault::Memory)),
         };
         match self.make(moment, act)? {
-            Answer::Connected(number) => Ok(number),
+            AnswerKind::Connected(number) => Ok(number),
             _ => unreachable!(),
         }
     }
@@ -182,9 +191,11 @@ impl Desk for CoreDesk {
     }
 
     fn drain(&mut self, moment: Moment, session: u32) -> Result<ArrayVec<Item, 64>, DeskFault> {
-        match self.make(moment, Act::Drain { session })? {
-            Answer::Items(items) => Ok(items),
-            _ => unreachable!(),
+        self.make(moment, Act::Drain { session })?;
+        let mut items = ArrayVec::new();
+        match items.try_extend_from_slice(self.items.as_slice()) {
+            Ok(()) => Ok(items),
+            Err(_) => unreachable!(),
         }
     }
 
@@ -199,8 +210,8 @@ impl Desk for CoreDesk {
             moment,
             act: Act::Close { session },
         };
-        match act_and_log(&mut self.core, &mut self.pass, entry) {
-            Ok(Answer::Taken) => {
+        match act_and_log(&mut self.core, &mut self.pass, entry, &mut self.items) {
+            Ok(AnswerKind::Taken) => {
                 self.sessions -= 1;
                 Ok(())
             }

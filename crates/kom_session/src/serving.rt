@@ -21,7 +21,7 @@ use std::alloc::Global;
 use std::sync::Wait;
 
 /// How many bytes are read at a time, at most.
-const PIECE: usize = 65_536;
+const PIECE: usize = 8_192;
 
 /// Serves a client's link from its greeting to its end.
 pub fn serve_link<R: Wait, K: Desk, L: Link, C: Clock>(

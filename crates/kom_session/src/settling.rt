@@ -41,23 +41,24 @@ pub(crate) fn drain_all<R: Wait, K: Desk, L: Link, C: Clock>(
 {
     let faulty = cause.is_some();
     for _ in rt.forever() {
-        let items = match desk.drain(clock.now(), session) {
-            Ok(items) => items,
+        match desk.drain(clock.now(), session) {
+            Ok(items) => {
+                if items.is_empty() {
+                    return Flow::Open;
+                }
+                match write_items(rt, desk, link, cause, writer, items.as_slice()) {
+                    Flow::Open => {}
+                    Flow::Lost => return Flow::Lost,
+                    Flow::NoMemory => return Flow::NoMemory,
+                }
+                if !faulty && cause.is_some() {
+                    return Flow::Open;
+                }
+            }
             Err(fault) => {
                 note(cause, fault);
                 return Flow::Open;
             }
-        };
-        if items.is_empty() {
-            return Flow::Open;
-        }
-        match write_items(rt, desk, link, cause, writer, items.as_slice()) {
-            Flow::Open => {}
-            Flow::Lost => return Flow::Lost,
-            Flow::NoMemory => return Flow::NoMemory,
-        }
-        if !faulty && cause.is_some() {
-            return Flow::Open;
         }
     }
     unreachable!()

@@ -4,9 +4,10 @@ ghost use Rattle.kom_core.specs.Acts.{absent};
 ghost use Rattle.kom_core.specs.Steps.{ChangesBy, Queues};
 
 use super::Server;
+use crate::answer_kind::AnswerKind;
 use crate::decide::decide;
 use crate::step::Step;
-use kom_types::{Answer, Call, Item, Memory, Why};
+use kom_types::{Call, Item, Memory, Why};
 
 impl Server {
     /// Makes a session's call, and queues its reply.
@@ -28,10 +29,10 @@ impl Server {
         if self.sessions.queue(session, item, self.entries)? {
             Ok(Step::Made {
                 session,
-                answer: Answer::Taken,
+                answer: AnswerKind::Taken,
             })
         } else {
-            Ok(Step::Refused(Answer::Gone(Why::Absent)))
+            Ok(Step::Refused(AnswerKind::Gone(Why::Absent)))
         }
     }
 }

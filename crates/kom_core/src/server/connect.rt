@@ -5,9 +5,10 @@ ghost use Rattle.kom_core.specs.Acts.{refusal_of};
 ghost use Rattle.kom_core.specs.Steps.{Changes, ChangesBy};
 
 use super::{Server, later};
+use crate::answer_kind::AnswerKind;
 use crate::session_row::SessionRow;
 use crate::step::Step;
-use kom_types::{Answer, Bytes, Item, Memory, Moment, Why};
+use kom_types::{Bytes, Item, Memory, Moment, Why};
 
 impl Server {
     /// Begins a session, for which the greeting's answer waits.
@@ -24,7 +25,7 @@ impl Server {
         ensures refused { IsSome (refusal_of self.old (act.Connect user.now host.now)) → IsOk result }
     {
         if self.connects == u32::MAX {
-            return Ok(Step::Refused(Answer::Full(u64::from(self.connects))));
+            return Ok(Step::Refused(AnswerKind::Full(u64::from(self.connects))));
         }
         let number = self.connects + 1;
         let connected = later(self.moment, moment);
@@ -34,7 +35,7 @@ impl Server {
         self.connects = number;
         Ok(Step::Made {
             session: number,
-            answer: Answer::Connected(number),
+            answer: AnswerKind::Connected(number),
         })
     }
 
@@ -45,10 +46,10 @@ impl Server {
         if self.sessions.remove(session) {
             Step::Made {
                 session,
-                answer: Answer::Taken,
+                answer: AnswerKind::Taken,
             }
         } else {
-            Step::Refused(Answer::Gone(Why::Absent))
+            Step::Refused(AnswerKind::Gone(Why::Absent))
         }
     }
 }

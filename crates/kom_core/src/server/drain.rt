@@ -1,21 +1,28 @@
+ghost use Rattle.std.specs.Prelude.{◌≡◌, []};
 ghost use Rattle.kom_types.specs.declared.acts.Act.TheVariants as act;
+ghost use Rattle.kom_model.specs.After.{given_from};
 ghost use Rattle.kom_core.specs.Steps.{ChangesBy};
 
 use super::Server;
+use crate::answer_kind::AnswerKind;
 use crate::step::Step;
-use kom_types::{Answer, Why};
+use arrayvec::ArrayVec;
+use kom_types::{Item, Why};
 
 impl Server {
-    /// Takes the first items that wait for a session, 64 at most, of entries below the stable number.
-    pub fn drain(&mut self, session: u32) -> Step
-        ensures { ChangesBy self.old (act.Drain session) self.new result }
+    /// Moves the first items that wait for a session, 64 at most, of entries below the stable number, into an array.
+    pub fn drain(&mut self, session: u32, items: &mut ArrayVec<Item, 64>) -> Step
+        requires { items.old.items ≡ [] }
+        ensures step { ChangesBy self.old (act.Drain session) self.new result }
+        ensures given { items.new.items ≡ given_from session self.old }
     {
-        match self.sessions.drain(session, self.stable) {
-            Some(items) => Step::Made {
+        if self.sessions.drain(session, self.stable, items) {
+            Step::Made {
                 session,
-                answer: Answer::Items(items),
-            },
-            None => Step::Refused(Answer::Gone(Why::Absent)),
+                answer: AnswerKind::Items,
+            }
+        } else {
+            Step::Refused(AnswerKind::Gone(Why::Absent))
         }
     }
 
@@ -26,7 +33,7 @@ impl Server {
         self.stable = self.entries;
         Step::Made {
             session: 0,
-            answer: Answer::Taken,
+            answer: AnswerKind::Taken,
         }
     }
 }

@@ -8,14 +8,14 @@ use Rattle.kom_core.proofs.session_row.take_below.Goals as goal
 pub loop-waiting-preserved : goal.loop-waiting-preserved
 loop-waiting-preserved c =
     let took = c.in-Some.ensures in
-    let room : length c.loop-waiting.given.items < 64 = grind (arith, nat_tests, c.loop-waiting-test.ensures.fits, c.loop-waiting-test.ensures.value) in
+    let room : length c.loop-waiting.items.items < 64 = grind (arith, nat_tests, c.loop-waiting-test.ensures.fits, c.loop-waiting-test.ensures.value) in
     rw c.push.ensures.items
-    (taken_more c.args.stable _ (record { item = c.in-Some.item; entry = took.0 }) _ c.loop-waiting.given.items (rw took.1 at c.loop-waiting.invariant) room took.2)
+    (taken_more c.args.stable _ (record { item = c.in-Some.item; entry = took.0 }) _ c.loop-waiting.items.items (rw took.1 at c.loop-waiting.invariant) room took.2)
 
 -- no more are given
-pub returns-after-loop-waiting-clause-given : goal.returns-after-loop-waiting-clause-given
-returns-after-loop-waiting-clause-given c =
-    let full : length c.loop-waiting.given.items ≡ 64 = eqb-true _ _ (sym c.loop-waiting-test.ensures.value) in
+pub returns-clause-given : goal.returns-clause-given
+returns-clause-given c =
+    let full : length c.loop-waiting.items.items ≡ 64 = eqb-true _ _ (sym c.loop-waiting-test.ensures.value) in
     (taken_all c.args.stable _ _ _ c.loop-waiting.invariant (inl full)).0
 
 -- nothing more waits below

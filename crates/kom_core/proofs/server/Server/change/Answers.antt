@@ -6,7 +6,7 @@ pub returns-in-Call-clause-step : goal.returns-in-Call-clause-step
 returns-in-Call-clause-step c = IfOk-weaker c.call.result _ _ (λ step by. Changes-by _ _ c.args.entry.now _ step c.in-Call.is by) c.call.ensures.step
 
 pub returns-in-Drain-clause-step : goal.returns-in-Drain-clause-step
-returns-in-Drain-clause-step c = Changes-by _ _ c.args.entry.now _ _ c.in-Drain.is c.drain.ensures
+returns-in-Drain-clause-step c = Changes-by _ _ c.args.entry.now _ _ c.in-Drain.is c.drain.ensures.step
 
 pub returns-in-Flush-clause-step : goal.returns-in-Flush-clause-step
 returns-in-Flush-clause-step c = Changes-by _ _ c.args.entry.now _ _ c.in-Flush.is c.flush.ensures

@@ -134,6 +134,6 @@ returns-in-Ok-Full-clause-refused c =
       refused = c.in-Ok-Full.ensures.refused;
     } in
     let same = full_only a c.in-Ok-Full.number c.in-Ok-Full.field-0-is in
-    refused_of _ _ c.self.inside.pass c.act_and_log.new.pass c.self.inside.fault (fault.Full c.in-Ok-Full.number) _ c.self.view_is c.fail-in-Ok-Full.ensures.pass
+    refused_of _ _ c.self.inside.pass c.act_and_log.new.pass c.self.inside.fault c.self.inside.items.items (fault.Full c.in-Ok-Full.number) _ c.self.view_is c.fail-in-Ok-Full.ensures.pass
     (ap (λ (pass : Seen). pass.seen) same.3 ∙ c.reserve.ensures.seen) (ap (λ (pass : Seen). pass.number) same.3 ∙ c.reserve.ensures.number)
     c.fail-in-Ok-Full.ensures.result c.fail-in-Ok-Full.ensures.fault (same.0, same.1)

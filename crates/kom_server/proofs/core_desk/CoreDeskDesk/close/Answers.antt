@@ -1,6 +1,6 @@
 use Rattle.std.proofs.Common.{◌≡◌, ℕ, Ok, Err, Result, refl, sym, ap, subst, ◌∙◌, rules}
-use Rattle.kom_types.specs.declared.answers.Answer.{Answer}
-use Rattle.kom_types.specs.declared.answers.Answer.TheVariants as answer
+use Rattle.kom_core.specs.declared.answer_kind.AnswerKind.{AnswerKind}
+use Rattle.kom_core.specs.declared.answer_kind.AnswerKind.TheVariants as kind
 use Rattle.kom_types.specs.declared.refusal.Memory.{Memory}
 use Rattle.std.specs.Result.{IfOk, IsOk}
 use Rattle.kom_types.specs.declared.acts.Act.TheVariants as act
@@ -13,8 +13,8 @@ use Rattle.kom_server.proofs.core_desk.CoreDeskDesk.close.Goals.{in_default-via-
 open_now : (kept now : Kept) (session : ℕ) → kept ≡ now → IsOpen session now.pass.seen → IsOpen session kept.pass.seen
 open_now kept now session same open' = subst (λ (kept : Kept). IsOpen session kept.pass.seen) (sym same) open'
 
-taken_only : (result : Result Answer Memory) (P : Answer → Type 0) → ((given : Answer) → P given → given ≡ answer.Taken) → IfOk result P → IsOk result → result ≡ Ok answer.Taken
-taken_only (Ok given) P taken told done = ap (λ (given : Answer). Ok given) (taken given told)
+taken_only : (result : Result AnswerKind Memory) (P : AnswerKind → Type 0) → ((given : AnswerKind) → P given → given ≡ kind.Taken) → IfOk result P → IsOk result → result ≡ Ok kind.Taken
+taken_only (Ok given) P taken told done = ap (λ (given : AnswerKind). Ok given) (taken given told)
 taken_only (Err fault) P taken told done = cc
 
 pub act_and_log-requires-clause-room : goal.act_and_log-requires-clause-room
@@ -35,7 +35,7 @@ pub unreachable-requires : goal.unreachable-requires
 unreachable-requires c =
     let open' : IsOpen c.args.session c.self.inside.pass.seen = open_now _ _ _ c.self.view_is c.requires in
     let room = close_room _ _ _ _ c.args.session c.self.invariant open' in
-    let done : c.act_and_log.result ≡ Ok answer.Taken =
+    let done : c.act_and_log.result ≡ Ok kind.Taken =
     taken_only c.act_and_log.result (λ given. Logs _ _ _ _ (record { pass = c.number.result; moment = c.args.moment; act = act.Close c.args.session }) given) (λ given logs. logs.answered)
     (c.act_and_log.ensures.made (absent_none c.args.session c.self.inside.core.state room.0)) (c.act_and_log.ensures.none_taken tt) in
     elim c.in_default.branch [ in_default-via-in-Ok+in_default w ↦ search rules | in_default-via-in_default w ↦ search rules ]

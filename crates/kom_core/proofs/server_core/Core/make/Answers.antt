@@ -1,5 +1,5 @@
 use Rattle.kom_core.proofs.Soundness.{IsSound-made}
-use Rattle.kom_core.proofs.server_core.Core.act.Goals as goal
+use Rattle.kom_core.proofs.server_core.Core.make.Goals as goal
 
 pub invariant_of-self-in-Made : goal.invariant_of-self-in-Made
 invariant_of-self-in-Made c =
