@@ -3,8 +3,11 @@
 
 usage: tools/bench_once.py [KOMD]      (KOMD: the built program, crates/komd/out/komd if left out)
 
-lines    one million lines `1 56` behind a greeting; the C program reads in the same pieces of 65,536 bytes and
+lines    one million lines `1 56` behind a greeting; the C program reads in the same pieces of 8,192 bytes and
          makes one write for each reply
+duties   the same lines; the C program also does what each line owes here: it reads the clock at each of a line's
+         four acts (the call, the flush, the drain, and the drain that finds nothing left) and keeps a record of
+         80 bytes of each, as the server's records are
 strings  200 unknown calls, each with a string of one mebibyte; the C program reads in the same pieces and copies
          the bytes once into a buffer that it uses again for each mebibyte
 
@@ -18,9 +21,33 @@ import tempfile
 import time
 
 LINES_C = r"""
+#include <stdint.h>
+#include <stdlib.h>
 #include <string.h>
+#include <time.h>
 #include <unistd.h>
-static char piece[65536];
+static char piece[8192];
+#ifdef DUTIES
+struct record { uint32_t pass; uint64_t moment; unsigned char act[56]; uint32_t session; unsigned char is_short; };
+static struct record *records;
+static size_t kept, room;
+static void act(unsigned char kind) {
+    struct timespec now;
+    clock_gettime(CLOCK_REALTIME, &now);
+    if (kept == room) {
+        room = room ? 2 * room : 4;
+        records = realloc(records, room * sizeof *records);
+        if (!records) abort();
+    }
+    struct record *made = &records[kept++];
+    memset(made, 0, sizeof *made);
+    made->moment = now.tv_sec;
+    made->act[0] = kind;
+    made->session = 1;
+}
+#else
+static void act(unsigned char kind) { (void) kind; }
+#endif
 int main(void) {
     ssize_t count;
     int greeted = 0;
@@ -28,7 +55,11 @@ int main(void) {
         char *at = piece, *end = piece + count, *feed;
         while ((feed = memchr(at, '\n', end - at)) != 0) {
             const char *reply = greeted ? "=1 1\n" : "LysKOM\n";
+            act(1);
+            act(2);
+            act(3);
             if (write(1, reply, strlen(reply)) < 0) return 1;
+            act(3);
             greeted = 1;
             at = feed + 1;
         }
@@ -40,7 +71,7 @@ int main(void) {
 STRINGS_C = r"""
 #include <string.h>
 #include <unistd.h>
-static char piece[65536];
+static char piece[8192];
 static char kept[1 << 20];
 int main(void) {
     ssize_t count;
@@ -76,13 +107,13 @@ def seconds(command, path):
         return time.perf_counter() - begin
 
 
-def compare(name, komd, code, write_input, folder):
+def compare(name, komd, code, write_input, folder, *flags):
     path = os.path.join(folder, name + ".in")
     program = os.path.join(folder, name)
     source = program + ".c"
     with open(source, "w", encoding="ascii") as out:
         out.write(code)
-    subprocess.run(["gcc", "-O2", "-o", program, source], check=True)
+    subprocess.run(["gcc", "-O2", *flags, "-o", program, source], check=True)
     write_input(path)
     seconds([program], path)
     ours, theirs = [], []
@@ -99,6 +130,7 @@ def main():
     komd = sys.argv[1] if len(sys.argv) > 1 else os.path.join(here, "..", "crates", "komd", "out", "komd")
     with tempfile.TemporaryDirectory() as folder:
         compare("lines", komd, LINES_C, write_lines, folder)
+        compare("duties", komd, LINES_C, write_lines, folder, "-DDUTIES")
         compare("strings", komd, STRINGS_C, write_strings, folder)
 
 
