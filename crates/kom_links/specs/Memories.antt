@@ -1,7 +1,12 @@
--- What contracts see of the objects in memory: what each was made with, and how many calls it has counted.
-use Rattle.std.specs.Prelude.{◌≡◌, ℕ, List, ◌∷◌, Option, Some}
+-- What contracts see of the objects in memory: what each was made with, how far it has come, and what a link gives and takes by its plan.
+use Rattle.std.specs.Prelude.{◌≡◌, ◌≤◌, ◌+◌, ◌==◌, ◌⊎◌, ℕ, min, if◌then◌else◌, List, ◌∷◌, length, drop, Option, Some}
+use Rattle.std.specs.List.{AllByRecursion}
 use Rattle.kom_links.specs.declared.gate.Next.{Next}
 use Rattle.kom_links.specs.declared.gate.Next.TheVariants as next
+use Rattle.kom_links.specs.declared.link.Got.{Got}
+use Rattle.kom_links.specs.declared.link.Got.TheVariants as got
+use Rattle.kom_links.specs.declared.link.Took.{Took}
+use Rattle.kom_links.specs.declared.link.Took.TheVariants as took
 use Rattle.kom_links.specs.declared.memory_link.LinkPlan.{LinkPlan}
 use Rattle.kom_links.specs.declared.memory_link.Script.{Script}
 use Rattle.kom_links.specs.declared.memory_link.MemoryLink.{MemoryLink}
@@ -23,6 +28,41 @@ reads_of link = link.reads
 -- how many writes a link has counted
 abbrev pub writes_of : MemoryLink → ℕ
 writes_of link = link.writes
+
+-- the place in its input that a link's reads have reached
+abbrev pub place_of : MemoryLink → ℕ
+place_of link = link.taken
+
+-- how many bytes a link's reads have yet to give
+abbrev pub left_of : MemoryLink → ℕ
+left_of link = length (drop link.taken link.input.items)
+
+-- a read that gives so many bytes from a place keeps to the plan: to its limit, where it sets one, and with no cut strictly inside
+abbrev pub KeepsTo : LinkPlan → ℕ → ℕ → Type 0
+KeepsTo plan place count = ((plan.most_read ≡ 0) ⊎ (count ≤ plan.most_read))
+    × AllByRecursion (λ cut. (cut ≤ place) ⊎ (place + count ≤ cut)) plan.cuts.items
+
+-- the most bytes from a place that there is room for, that are left and that keep to the plan
+abbrev pub IsMost : ℕ → ℕ → LinkPlan → ℕ → ℕ → Type 0
+IsMost room left plan place count = (count ≤ room) × (count ≤ left) × KeepsTo plan place count
+    × ((more : ℕ) → more ≤ room → more ≤ left → KeepsTo plan place more → more ≤ count)
+
+-- a read that gives bytes gives the most that it may
+abbrev pub GivesMost : ℕ → ℕ → LinkPlan → ℕ → Got → Type 0
+GivesMost room left plan place (got.Some count) = IsMost room left plan place count
+GivesMost room left plan place got.NotYet = Unit {0}
+GivesMost room left plan place got.End = Unit {0}
+GivesMost room left plan place got.Failed = Unit {0}
+
+-- how many bytes of so many a write takes under a limit; 0 sets none
+abbrev pub taken_under : ℕ → ℕ → ℕ
+taken_under limit size = if limit == 0 then size else min size limit
+
+-- a write that takes bytes takes all that it may
+abbrev pub TakesMost : ℕ → LinkPlan → Took → Type 0
+TakesMost size plan (took.Some count) = count ≡ taken_under plan.most_written size
+TakesMost size plan took.NotYet = Unit {0}
+TakesMost size plan took.Failed = Unit {0}
 
 -- the clients whose links a gate has yet to give
 abbrev pub clients_of : MemoryGate → List Client

@@ -74,7 +74,7 @@ pub struct MemoryLink {
 }
 
 impl MemoryLink {
-    ghost use Rattle.kom_links.specs.Memories.{plan_of, reads_of, writes_of};
+    ghost use Rattle.kom_links.specs.Memories.{plan_of, reads_of, writes_of, place_of, left_of, IsMost};
 
     /// A link whose client sends these bytes and then ends its stream.
     pub fn new(alloc: Global, input: Vec<u8>, plan: LinkPlan) -> MemoryLink
@@ -86,6 +86,7 @@ impl MemoryLink {
         ensures plan { plan_of result ≡ plan }
         ensures no_read { reads_of result ≡ 0 }
         ensures no_write { writes_of result ≡ 0 }
+        ensures at_start { place_of result ≡ 0 }
     {
         MemoryLink {
             input,
@@ -112,6 +113,7 @@ impl MemoryLink {
         ensures fits { result ≤ room }
         ensures there { self.now.taken + result ≤ vec_len self.now.input }
         ensures none { (result ≡ 0) ↔ (self.now.taken ≡ vec_len self.now.input) }
+        ensures most { IsMost room (left_of self.now) (plan_of self.now) (place_of self.now) result }
     {
         let mut count = room.min(self.input.len() - self.taken);
         if 0 < self.plan.most_read {
@@ -135,7 +137,7 @@ fn copy_front(into: &mut [u8], from: &[u8])
 }
 
 impl Link for MemoryLink {
-    ghost use Rattle.kom_links.specs.Memories.{plan_of, reads_of, writes_of};
+    ghost use Rattle.kom_links.specs.Memories.{plan_of, reads_of, writes_of, place_of, left_of, GivesMost, TakesMost};
 
     ghost host_of = { λ link. codes "memory" };
 
@@ -171,6 +173,8 @@ impl Link for MemoryLink {
         // what the plan says of this read
         ensures failed { (result ≡ Got.Failed) ↔ Fails (plan_of self.old).reads.fails.items (reads_of self.old) }
         ensures not_yet { (result ≡ Got.NotYet) ↔ Waits (plan_of self.old).reads (reads_of self.old) }
+        ensures gives { GivesMost (length into.new) (left_of self.old) (plan_of self.old) (place_of self.old) result }
+        ensures place { place_of self.new ≡ place_of self.old + length (read_bytes result into.new) }
         ensures counted { reads_of self.new ≡ next_call (reads_of self.old) }
         ensures writes { writes_of self.new ≡ writes_of self.old }
         ensures plan { plan_of self.new ≡ plan_of self.old }
@@ -206,6 +210,8 @@ impl Link for MemoryLink {
         // What the plan says of this write. One that finds no room fails too.
         ensures failed { Fails (plan_of self.old).writes.fails.items (writes_of self.old) → result ≡ Took.Failed }
         ensures not_yet { (result ≡ Took.NotYet) ↔ Waits (plan_of self.old).writes (writes_of self.old) }
+        ensures takes { TakesMost (length from.now) (plan_of self.old) result }
+        ensures place { place_of self.new ≡ place_of self.old }
         ensures counted { writes_of self.new ≡ next_call (writes_of self.old) }
         ensures reads { reads_of self.new ≡ reads_of self.old }
         ensures plan { plan_of self.new ≡ plan_of self.old }

@@ -43,3 +43,6 @@ returns-clause-failed c = no_failure c.args.self.now.plan.reads.fails.items c.ar
 
 pub returns-clause-not_yet : goal.returns-clause-not_yet
 returns-clause-not_yet c = no_wait c.args.self.now.plan.reads c.args.self.now.reads (λ e. cc) (search rules)
+
+pub returns-clause-gives : goal.returns-clause-gives
+returns-clause-gives c = let e : length c.copy_front.new.into ≡ length c.args.into.now = cc in rw e c.ready-count.ensures.most
