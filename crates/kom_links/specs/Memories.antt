@@ -1,5 +1,5 @@
 -- What contracts see of the objects in memory: what each was made with, how far it has come, and what a link gives and takes by its plan.
-use Rattle.std.specs.Prelude.{◌≡◌, ◌≤◌, ◌+◌, ◌==◌, ◌⊎◌, ℕ, min, if◌then◌else◌, List, ◌∷◌, length, drop, Option, Some}
+use Rattle.std.specs.Prelude.{◌≡◌, ◌≤◌, ◌+◌, ◌==◌, ◌⊎◌, ℕ, min, if◌then◌else◌, Bool, true, false, List, ◌∷◌, length, drop, Option, Some}
 use Rattle.std.specs.List.{AllByRecursion}
 use Rattle.kom_links.specs.declared.gate.Next.{Next}
 use Rattle.kom_links.specs.declared.gate.Next.TheVariants as next
@@ -64,6 +64,26 @@ TakesMost size plan (took.Some count) = count ≡ taken_under plan.most_written 
 TakesMost size plan took.NotYet = Unit {0}
 TakesMost size plan took.Failed = Unit {0}
 
+-- whether a read failed
+abbrev pub read_failed : Got → Bool
+read_failed (got.Some count) = false
+read_failed got.NotYet = false
+read_failed got.End = false
+read_failed got.Failed = true
+
+-- whether a write failed
+abbrev pub write_failed : Took → Bool
+write_failed (took.Some count) = false
+write_failed took.NotYet = false
+write_failed took.Failed = true
+
+-- whether a call for a link failed
+abbrev pub next_failed : {L : Type 0} → Next L → Bool
+next_failed (next.Link link) = false
+next_failed next.NotYet = false
+next_failed next.Ended = false
+next_failed next.Failed = true
+
 -- the clients whose links a gate has yet to give
 abbrev pub clients_of : MemoryGate → List Client
 clients_of gate = gate.clients.items
@@ -104,10 +124,10 @@ world_moments_of world = world.moments.items
 abbrev pub sink_fails_of : MemoryWorld → List ℕ
 sink_fails_of world = world.sink_fails.items
 
--- A link, of which this is left, is that of the first of these clients: it was not called yet, and the other clients remain.
+-- A link, of which this is left, is that of the first of these clients: it stands at its input's start, it was not called yet, and the other clients remain.
 abbrev pub IsLinkOfFirst : Option (List ℕ) → MemoryLink → List Client → List Client → Type 0
 IsLinkOfFirst left link clients others = (client : Client) × (clients ≡ client ∷ others) × (left ≡ Some client.input.items)
-    × (plan_of link ≡ client.plan) × (reads_of link ≡ 0) × (writes_of link ≡ 0)
+    × (plan_of link ≡ client.plan) × (place_of link ≡ 0) × (reads_of link ≡ 0) × (writes_of link ≡ 0)
 
 -- where no link is given, the clients stay
 abbrev pub StaysWithNoLink : {L : Type 0} → Next L → List Client → List Client → Type 0

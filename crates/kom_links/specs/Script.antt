@@ -1,11 +1,15 @@
 -- What the objects in memory do by their scripts.
-use Rattle.std.specs.Prelude.{ℕ, zero, suc, ◌+◌, ◌-◌, ◌^◌, ◌==◌, min, Bool, IsTrue, ◌&&◌, not, List, [], ◌∷◌, ◌++◌, length, slice_index}
+use Rattle.std.specs.Prelude.{ℕ, zero, suc, ◌+◌, ◌-◌, ◌^◌, ◌==◌, min, if◌then◌else◌, Bool, IsTrue, ◌&&◌, not, List, [], ◌∷◌, ◌++◌, length, slice_index}
 use Rattle.std.specs.List.{list_any}
 use Rattle.kom_links.specs.declared.memory_link.Script.{Script}
 
 -- the number of the call that follows this many calls; the count stands still at 2^64 - 1
 abbrev pub next_call : ℕ → ℕ
 next_call made = min (made + 1) (2 ^ 64 - 1)
+
+-- the count of faults after a call, by whether it failed and by the count before it; the count stands still at 2^64 - 1
+abbrev pub faults_after : Bool → ℕ → ℕ
+faults_after failed faults = if failed then next_call faults else faults
 
 -- whether the number of the next call stands in this list
 abbrev pub is_next_in : List ℕ → ℕ → Bool

@@ -1,5 +1,6 @@
 ghost use Rattle.std.specs.Prelude.{◌≡◌, ◌<◌, ℕ, [], Some, None, IfSome, length, vec_len, if◌then◌else◌, ◌==◌, ◌^◌, ◌-◌};
-ghost use Rattle.kom_links.specs.Script.{readings};
+ghost use Rattle.kom_links.specs.Doors.{Gains};
+ghost use Rattle.kom_links.specs.Script.{next_call, moment_at, readings};
 
 use crate::clock::Clock;
 use kom_types::Moment;
@@ -34,9 +35,18 @@ impl MemoryClock {
 }
 
 impl Clock for MemoryClock {
+    ghost use Rattle.kom_links.specs.Memories.{moments_of, readings_of};
+
     ghost gave = { λ clock. if clock.made == 2 ^ 64 - 1 then None else Some (readings clock.script.items clock.made) };
 
-    fn now(&mut self) -> Moment {
+    fn now(&mut self) -> Moment
+        ensures gave { Gains (⟦<MemoryClock as Clock>⟧.gave self.old) result (⟦<MemoryClock as Clock>⟧.gave self.new) }
+
+        // what the script says of this reading
+        ensures moment { result ≡ moment_at (moments_of self.old) (readings_of self.old) }
+        ensures counted { readings_of self.new ≡ next_call (readings_of self.old) }
+        ensures script { moments_of self.new ≡ moments_of self.old }
+    {
         let last = self.script.len() - 1;
         let place = if self.made < last as u64 {
             self.made as usize

@@ -1,8 +1,8 @@
 ghost use Rattle.std.specs.VecDeque.{deque_len};
-ghost use Rattle.std.specs.Prelude.{◌≡◌, ◌+◌, ◌-◌, ◌≤◌, ◌<◌, ◌↔◌, ◌||◌, ℕ, false, [], Some, None, length, option_map, vec_len, IfOk, IfSome, if◌then◌else◌};
+ghost use Rattle.std.specs.Prelude.{◌≡◌, ◌+◌, ◌-◌, ◌≤◌, ◌<◌, ◌↔◌, ◌||◌, ℕ, false, [], ◌∷◌, ◌++◌, Some, None, length, option_map, vec_len, vec_capacity, IfOk, IfSome, if◌then◌else◌};
 ghost use Rattle.kom_links.specs.Outside.{IsNothing};
 ghost use Rattle.kom_links.specs.Doors.{Gains, IfLink, MayNext, is_ended, links_in};
-ghost use Rattle.kom_links.specs.Script.{next_call, Fails, Waits};
+ghost use Rattle.kom_links.specs.Script.{next_call, faults_after, Fails, Waits};
 
 use crate::gate::{Gate, Next};
 use crate::link::Link;
@@ -33,6 +33,7 @@ pub struct MemoryGate {
     has_ended: bool,
     faults: u64,
     ghost counted: { deque_len clients ≤ total },
+    ghost room: { total ≤ vec_capacity returned },
 }
 
 impl MemoryGate {
@@ -75,7 +76,7 @@ impl MemoryGate {
 }
 
 impl Gate for MemoryGate {
-    ghost use Rattle.kom_links.specs.Memories.{clients_of, script_of, calls_of, IsLinkOfFirst, StaysWithNoLink};
+    ghost use Rattle.kom_links.specs.Memories.{clients_of, script_of, calls_of, next_failed, IsLinkOfFirst, StaysWithNoLink};
 
     type Link = MemoryLink;
 
@@ -107,6 +108,7 @@ impl Gate for MemoryGate {
         ensures not_yet { (result ≡ Next.NotYet) ↔ Waits (script_of self.old) (calls_of self.old) }
         ensures counted { calls_of self.new ≡ next_call (calls_of self.old) }
         ensures script { script_of self.new ≡ script_of self.old }
+        ensures fault { ⟦<MemoryGate as Gate>⟧.gate_faults self.new ≡ faults_after (next_failed result) (⟦<MemoryGate as Gate>⟧.gate_faults self.old) }
 
         // whose link is given
         ensures first { IfLink result (λ link. IsLinkOfFirst (⟦<MemoryLink as Link>⟧.left link) link (clients_of self.old) (clients_of self.new)) }
@@ -136,12 +138,19 @@ impl Gate for MemoryGate {
         ensures ended { ⟦<MemoryGate as Gate>⟧.gate_ended self.new ≡ ⟦<MemoryGate as Gate>⟧.gate_ended self.old }
         ensures faults { ⟦<MemoryGate as Gate>⟧.gate_faults self.old ≤ ⟦<MemoryGate as Gate>⟧.gate_faults self.new }
 
+        // It is kept while fewer were given back than were given.
+        ensures kept { IfSome (⟦<MemoryGate as Gate>⟧.given self.old) (λ n. IfSome (⟦<MemoryGate as Gate>⟧.returned self.old) (λ links.
+            length links < n → ⟦<MemoryGate as Gate>⟧.returned self.new ≡ Some (links ++ (link, served) ∷ []))) }
+
         // the calls for a link go on as before
+        ensures no_fault { ⟦<MemoryGate as Gate>⟧.gate_faults self.new ≡ ⟦<MemoryGate as Gate>⟧.gate_faults self.old }
         ensures clients { clients_of self.new ≡ clients_of self.old }
         ensures script { script_of self.new ≡ script_of self.old }
         ensures calls { calls_of self.new ≡ calls_of self.old }
     {
-        if self.returned.push((link, served)).is_err() {
+        if self.returned.len() < self.returned.capacity() {
+            self.returned.push_reserved((link, served));
+        } else {
             self.lost = true;
         }
     }

@@ -1,6 +1,6 @@
 ghost use Rattle.std.specs.Prelude.{◌≡◌, ◌<◌, ◌≤◌, ◌+◌, ◌||◌, ◌↔◌, ℕ, false, [], Some, IsTrue, take, drop, length, vec_len, codes};
 ghost use Rattle.kom_links.specs.Outside.{MayRead, MayWrite, read_bytes, written_bytes, is_end, grown, Shrinks, IsNothing};
-ghost use Rattle.kom_links.specs.Script.{next_call, Fails, Waits};
+ghost use Rattle.kom_links.specs.Script.{next_call, faults_after, Fails, Waits};
 
 use crate::link::{Got, Link, Took};
 use std::alloc::Global;
@@ -137,7 +137,7 @@ fn copy_front(into: &mut [u8], from: &[u8])
 }
 
 impl Link for MemoryLink {
-    ghost use Rattle.kom_links.specs.Memories.{plan_of, reads_of, writes_of, place_of, left_of, GivesMost, TakesMost};
+    ghost use Rattle.kom_links.specs.Memories.{plan_of, reads_of, writes_of, place_of, left_of, read_failed, write_failed, GivesMost, TakesMost};
 
     ghost host_of = { λ link. codes "memory" };
 
@@ -175,6 +175,7 @@ impl Link for MemoryLink {
         ensures not_yet { (result ≡ Got.NotYet) ↔ Waits (plan_of self.old).reads (reads_of self.old) }
         ensures gives { GivesMost (length into.new) (left_of self.old) (plan_of self.old) (place_of self.old) result }
         ensures place { place_of self.new ≡ place_of self.old + length (read_bytes result into.new) }
+        ensures fault { ⟦<MemoryLink as Link>⟧.fault_count self.new ≡ faults_after (read_failed result) (⟦<MemoryLink as Link>⟧.fault_count self.old) }
         ensures counted { reads_of self.new ≡ next_call (reads_of self.old) }
         ensures writes { writes_of self.new ≡ writes_of self.old }
         ensures plan { plan_of self.new ≡ plan_of self.old }
@@ -212,6 +213,7 @@ impl Link for MemoryLink {
         ensures not_yet { (result ≡ Took.NotYet) ↔ Waits (plan_of self.old).writes (writes_of self.old) }
         ensures takes { TakesMost (length from.now) (plan_of self.old) result }
         ensures place { place_of self.new ≡ place_of self.old }
+        ensures fault { ⟦<MemoryLink as Link>⟧.fault_count self.new ≡ faults_after (write_failed result) (⟦<MemoryLink as Link>⟧.fault_count self.old) }
         ensures counted { writes_of self.new ≡ next_call (writes_of self.old) }
         ensures reads { reads_of self.new ≡ reads_of self.old }
         ensures plan { plan_of self.new ≡ plan_of self.old }

@@ -1,6 +1,6 @@
-ghost use Rattle.std.specs.Prelude.{◌≡◌, ◌≤◌, ℕ, [], Some, IsErr, OnOk, OnErr, length, take};
+ghost use Rattle.std.specs.Prelude.{◌≡◌, ◌≤◌, ℕ, [], Some, IsErr, is_err, OnOk, OnErr, length, take};
 ghost use Rattle.kom_links.specs.Outside.{Rose, grown};
-ghost use Rattle.kom_links.specs.Script.{next_call, Fails};
+ghost use Rattle.kom_links.specs.Script.{next_call, faults_after, Fails};
 ghost use Rattle.kom_links.specs.Memories.{fails_of, sink_writes_of};
 
 use crate::sink::{Failed, Sink};
@@ -56,6 +56,7 @@ impl Sink for MemorySink {
 
         // what its numbers say of this write
         ensures scripted { Fails (fails_of self.old) (sink_writes_of self.old) → IsErr result }
+        ensures fault { ⟦<MemorySink as Sink>⟧.sink_faults self.new ≡ faults_after (is_err result) (⟦<MemorySink as Sink>⟧.sink_faults self.old) }
         ensures counted { sink_writes_of self.new ≡ next_call (sink_writes_of self.old) }
         ensures fails { fails_of self.new ≡ fails_of self.old }
     {
