@@ -61,6 +61,11 @@ pub record IsAt (splitting : Splitting) (fed : List ℕ) (taken : List StreamUni
   pub begun : splitting.fault ≡ None → splitting.begun ≡ begun_of (stream.stream_of fed)
   pub place : splitting.fault ≡ None → splitting.place ≡ length fed
 
+-- what a feed answers that meets this fault, and each one behind it
+abbrev pub refusal_at : stream.Fault → FeedRefusal
+refusal_at (stream.Malformed place) = refusal.Malformed place
+refusal_at (stream.LineTooLong place) = refusal.LineTooLong place
+
 -- What a feed answers, after which these bytes were fed in all: a fault exactly where the stream has it.
 abbrev pub Answers : Result (Unit {0}) FeedRefusal → List ℕ → Splitting → List StreamUnit → Type 0
 Answers (Ok done) fed new taken = ((stream.stream_of fed).fault ≡ None) × IsAt new fed taken

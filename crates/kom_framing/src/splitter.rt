@@ -1,6 +1,7 @@
-ghost use Rattle.std.specs.Prelude.{◌≡◌, ◌↔◌, ℕ, List, [], ◌∷◌, ◌++◌, Err, IsNone, IfNone, IfSome, MatchOption};
+ghost use Rattle.std.specs.Prelude.{◌≡◌, ◌↔◌, ℕ, List, [], ◌∷◌, ◌++◌, Err, Some, IsNone, IfNone, IfSome, MatchOption};
+ghost use Rattle.kom_types.specs.Stream as stream;
 ghost use Rattle.kom_framing.specs.declared.units.Unit.{Unit as StreamUnit};
-ghost use Rattle.kom_framing.specs.Splitting.{IsAt, Answers};
+ghost use Rattle.kom_framing.specs.Splitting.{IsAt, Answers, refusal_at};
 ghost use Rattle.kom_framing.specs.Refusing.{refused_by};
 
 use crate::begun::{BegunUnit, follow};
@@ -17,7 +18,7 @@ use std::marker::Model;
 /// Why a piece of the stream was not taken whole.
 #[derive(Clone, Copy, Debug, PartialEq, Eq)]
 pub enum FeedRefusal {
-    /// The byte at this place can continue no token.
+    /// The byte at this place can go on neither with the greeting nor with the line that has begun.
     Malformed(u64),
     /// The byte at this place is one too many for its line.
     LineTooLong(u64),
@@ -77,6 +78,7 @@ impl Splitter {
     pub fn feed(&mut self, piece: &[u8]) -> Result<(), FeedRefusal>
         ensures fed { (fed : List ℕ) (taken : List StreamUnit) → IsAt self.old fed taken → Answers result (fed ++ piece.now) self.new taken }
         ensures unchanged { result ≡ Err FeedRefusal.Memory → self.new ≡ self.old }
+        ensures again { (found : stream.Fault) → self.old.fault ≡ Some found → (result ≡ Err (refusal_at found)) × (self.new ≡ self.old) }
     {
         match self.fault {
             Some(found) => Err(refusal_of(found)),

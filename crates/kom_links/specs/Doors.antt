@@ -43,3 +43,9 @@ abbrev pub MayRefuse : {X : Type 0} → ℕ → ℕ → Result X WorldFault → 
 MayRefuse before after (Ok value) = Unit {0}
 MayRefuse before after (Err world.Failed) = Rose before after
 MayRefuse before after (Err world.Memory) = Unit {0}
+
+-- whether a world failed, which it counts
+abbrev pub has_failed : {X : Type 0} → Result X WorldFault → Bool
+has_failed (Ok value) = false
+has_failed (Err world.Failed) = true
+has_failed (Err world.Memory) = false

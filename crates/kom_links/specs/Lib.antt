@@ -4,4 +4,5 @@ pub mod Records
 pub mod DeskCalls
 pub mod Talk
 pub mod Script
+pub mod Asking
 pub mod Memories

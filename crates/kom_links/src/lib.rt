@@ -2,6 +2,7 @@
 //! and the adapters over standard input, standard output and the system's clock.
 #![tactic(auto)]
 
+mod asked;
 mod clock;
 mod desk;
 mod gate;
@@ -22,6 +23,7 @@ mod system_clock;
 mod tests;
 mod world;
 
+pub use asked::Asked;
 pub use clock::Clock;
 pub use desk::{Desk, DeskFault};
 pub use gate::{Gate, Next};

@@ -1,7 +1,10 @@
-ghost use Rattle.std.specs.Prelude.{◌≡◌, ◌<◌, ◌≤◌, ◌↔◌, false, [], None, IfOk, IfSome, vec_len};
+ghost use Rattle.std.specs.Prelude.{◌≡◌, ◌<◌, ◌≤◌, ◌↔◌, false, [], None, is_ok, IfOk, IfSome, vec_len};
 ghost use Rattle.kom_links.specs.Outside.{IsNothing};
-ghost use Rattle.kom_links.specs.Doors.{MayRefuse};
+ghost use Rattle.kom_links.specs.Doors.{MayRefuse, has_failed};
+ghost use Rattle.kom_links.specs.Script.{faults_after};
+ghost use Rattle.kom_links.specs.Asking.{with_gate, with_clock, with_sink};
 
+use crate::asked::Asked;
 use crate::clock::Clock;
 use crate::gate::Gate;
 use crate::memory_clock::MemoryClock;
@@ -29,6 +32,7 @@ pub struct MemoryWorld {
     gate: Option<GatePlan>,
     moments: Vec<Moment>,
     sink_fails: Vec<u64>,
+    asked: Asked,
     faults: u64,
     ghost some: { 0 < vec_len moments },
 }
@@ -55,6 +59,7 @@ impl MemoryWorld {
             gate,
             moments,
             sink_fails,
+            asked: Asked::nothing(),
             faults: 0,
         }
     }
@@ -71,6 +76,8 @@ impl World for MemoryWorld {
 
     ghost world_faults = { λ world. world.faults };
 
+    ghost asked = { λ world. world.asked };
+
     fn faults(&self) -> u64 {
         self.faults
     }
@@ -81,7 +88,9 @@ impl World for MemoryWorld {
         ensures none_given { IfOk result (λ gate. IfSome (⟦<MemoryGate as Gate>⟧.given gate) (λ n. n ≡ 0)) }
         ensures none_back { IfOk result (λ gate. IfSome (⟦<MemoryGate as Gate>⟧.returned gate) (λ links. links ≡ [])) }
         ensures not_ended { IfOk result (λ gate. ⟦<MemoryGate as Gate>⟧.gate_ended gate ≡ false) }
+        ensures asked { ⟦<MemoryWorld as World>⟧.asked self.new ≡ with_gate (is_ok result) (⟦<MemoryWorld as World>⟧.asked self.old) }
         ensures faults { ⟦<MemoryWorld as World>⟧.world_faults self.old ≤ ⟦<MemoryWorld as World>⟧.world_faults self.new }
+        ensures counted { ⟦<MemoryWorld as World>⟧.world_faults self.new ≡ faults_after (has_failed result) (⟦<MemoryWorld as World>⟧.world_faults self.old) }
 
         // which gate is given
         ensures failed { (result ≡ Err WorldFault.Failed) ↔ (gate_plan_of self.old ≡ None) }
@@ -94,7 +103,7 @@ impl World for MemoryWorld {
         ensures moments { world_moments_of self.new ≡ world_moments_of self.old }
         ensures sink_fails { sink_fails_of self.new ≡ sink_fails_of self.old }
     {
-        match self.gate.take() {
+        let opened = match self.gate.take() {
             Some(plan) => match MemoryGate::make(self.alloc, plan.clients, plan.script) {
                 Ok(gate) => Ok(gate),
                 Err(Memory) => Err(WorldFault::Memory),
@@ -103,12 +112,16 @@ impl World for MemoryWorld {
                 self.faults = self.faults.saturating_add(1);
                 Err(WorldFault::Failed)
             }
-        }
+        };
+        self.asked.count_gate(opened.is_ok());
+        opened
     }
 
     fn clock(&mut self) -> Result<MemoryClock, Memory>
         ensures fresh { IfOk result (λ clock. IsNothing (⟦<MemoryClock as Clock>⟧.gave clock)) }
+        ensures asked { ⟦<MemoryWorld as World>⟧.asked self.new ≡ with_clock (⟦<MemoryWorld as World>⟧.asked self.old) }
         ensures faults { ⟦<MemoryWorld as World>⟧.world_faults self.old ≤ ⟦<MemoryWorld as World>⟧.world_faults self.new }
+        ensures no_more { ⟦<MemoryWorld as World>⟧.world_faults self.new ≡ ⟦<MemoryWorld as World>⟧.world_faults self.old }
 
         // which clock is given
         ensures script { IfOk result (λ clock. moments_of clock ≡ world_moments_of self.old) }
@@ -119,13 +132,16 @@ impl World for MemoryWorld {
         ensures moments { world_moments_of self.new ≡ world_moments_of self.old }
         ensures sink_fails { sink_fails_of self.new ≡ sink_fails_of self.old }
     {
+        self.asked.count_clock();
         Ok(MemoryClock::new(Vec::from_slice(self.alloc, self.moments.as_slice())?))
     }
 
     fn out(&mut self) -> MemorySink
         ensures fresh { ⟦<MemorySink as Sink>⟧.sink_faults result ≡ 0 }
         ensures nothing_put { IsNothing (⟦<MemorySink as Sink>⟧.put result) }
+        ensures asked { ⟦<MemoryWorld as World>⟧.asked self.new ≡ with_sink (⟦<MemoryWorld as World>⟧.asked self.old) }
         ensures faults { ⟦<MemoryWorld as World>⟧.world_faults self.old ≤ ⟦<MemoryWorld as World>⟧.world_faults self.new }
+        ensures no_more { ⟦<MemoryWorld as World>⟧.world_faults self.new ≡ ⟦<MemoryWorld as World>⟧.world_faults self.old }
 
         // which sink is given
         ensures fails { fails_of result ≡ sink_fails_of self.old }
@@ -136,6 +152,7 @@ impl World for MemoryWorld {
         ensures moments { world_moments_of self.new ≡ world_moments_of self.old }
         ensures sink_fails { sink_fails_of self.new ≡ [] }
     {
+        self.asked.count_sink();
         MemorySink::new(
             self.alloc,
             mem::replace(&mut self.sink_fails, Vec::new(self.alloc)),

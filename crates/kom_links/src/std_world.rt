@@ -1,3 +1,4 @@
+use crate::asked::Asked;
 use crate::std_gate::StdGate;
 use crate::std_sink::StdSink;
 use crate::system_clock::SystemClock;
@@ -10,11 +11,16 @@ use std::rt::Clock as Time;
 #[derive(Drop)]
 pub struct StdWorld<'a, R: Input + Print + Time> {
     rt: &'a R,
+    asked: Asked,
 }
 
 impl<'a, R: Input + Print + Time> StdWorld<'a, R> {
+    /// The outside of this process.
     pub fn new(rt: &'a R) -> StdWorld<'a, R> {
-        StdWorld { rt }
+        StdWorld {
+            rt,
+            asked: Asked::nothing(),
+        }
     }
 }
 
@@ -27,19 +33,24 @@ impl<'a, R: Input + Print + Time> World for StdWorld<'a, R> {
 
     ghost world_faults = { λ _. 0 };
 
+    ghost asked = { λ world. world.asked };
+
     fn faults(&self) -> u64 {
         0
     }
 
     fn std_gate(&mut self) -> Result<StdGate<&'a R>, WorldFault> {
+        self.asked.count_gate(true);
         Ok(StdGate::new(self.rt))
     }
 
     fn clock(&mut self) -> Result<SystemClock<&'a R>, Memory> {
+        self.asked.count_clock();
         Ok(SystemClock::new(self.rt))
     }
 
     fn out(&mut self) -> StdSink<&'a R> {
+        self.asked.count_sink();
         StdSink::new(self.rt)
     }
 }

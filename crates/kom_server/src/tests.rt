@@ -5,23 +5,26 @@ use std::alloc::Global;
 use std::collections::VecDeque;
 use std::sync::Wait;
 use std::test::Fail;
+use std::thread::Threads;
 
 /// A greeting and the call for the caller's session number, and the answers.
 const ASKS: &[u8] = b"A5Hceder\n1 56\n";
 
 const ANSWERS: &[u8] = b"LysKOM\n=1 1\n";
 
-/// What a run left: its status, what was put to its links and to its sink, and how its sessions ended.
+/// What a run left: its status, how many acts its history has, what was put to its links and to its sink, and how its
+/// sessions ended.
 #[derive(Drop)]
 struct Left {
     status: u8,
+    acts: usize,
     put: Vec<u8>,
     report: Vec<u8>,
     ends: Vec<SessionEnd>,
 }
 
 /// What the run of a command of these words left.
-fn left_by<R: Wait>(
+fn left_by<R: Threads + Wait + Sync>(
     rt: &R,
     alloc: Global,
     given: &[&str],
@@ -34,7 +37,9 @@ fn left_by<R: Wait>(
     let outcome = run(rt, alloc, &words, &mut world);
     let mut put = Vec::new(alloc);
     let mut ends = Vec::new(alloc);
+    let mut acts = 0;
     if let Some(closing) = &outcome.end {
+        acts = closing.pass.seen().len();
         for gate in &closing.gates {
             for (link, served) in gate.returned() {
                 put.extend_from_slice(link.output())?;
@@ -44,6 +49,7 @@ fn left_by<R: Wait>(
     }
     Ok(Left {
         status: outcome.status,
+        acts,
         put,
         report: Vec::from_slice(alloc, outcome.sink.output())?,
         ends,
@@ -141,21 +147,22 @@ fn a_client_is_answered_by_its_lines(rt: HostRuntime) -> Result<(), Fail> {
 #[test]
 fn a_link_that_fails_ends_its_session_alone(rt: HostRuntime) -> Result<(), Fail> {
     let alloc = rt.alloc();
-    // The place where a read stops, the read and the write at which nothing is ready, those that fail, what is put,
-    // and how it ends.
-    let rows: [(usize, [u64; 4], &[u8], SessionEnd); 10] = [
-        (9, [1, 0, 0, 0], ANSWERS, SessionEnd::End),
-        (9, [2, 0, 0, 0], ANSWERS, SessionEnd::End),
-        (9, [0, 1, 0, 0], ANSWERS, SessionEnd::End),
-        (9, [0, 2, 0, 0], ANSWERS, SessionEnd::End),
-        (9, [0, 0, 1, 0], b"", SessionEnd::LinkFault),
-        (9, [0, 0, 2, 0], b"LysKOM\n", SessionEnd::LinkFault),
-        (9, [0, 0, 3, 0], ANSWERS, SessionEnd::LinkFault),
-        (0, [0, 0, 2, 0], ANSWERS, SessionEnd::LinkFault),
-        (0, [0, 0, 0, 1], b"", SessionEnd::LinkFault),
-        (0, [0, 0, 0, 2], b"LysKOM\n", SessionEnd::LinkFault),
+    // The place where a read stops, the read and the write at which nothing is ready, those that fail, how many acts
+    // are made, what is put, and how it ends. A connect and a call each have a flush and two drains behind them; a
+    // session that is there at a read at which nothing is ready is flushed and drained.
+    let rows: [(usize, [u64; 4], usize, &[u8], SessionEnd); 10] = [
+        (9, [1, 0, 0, 0], 9, ANSWERS, SessionEnd::End),
+        (9, [2, 0, 0, 0], 11, ANSWERS, SessionEnd::End),
+        (9, [0, 1, 0, 0], 9, ANSWERS, SessionEnd::End),
+        (9, [0, 2, 0, 0], 9, ANSWERS, SessionEnd::End),
+        (9, [0, 0, 1, 0], 0, b"", SessionEnd::LinkFault),
+        (9, [0, 0, 2, 0], 5, b"LysKOM\n", SessionEnd::LinkFault),
+        (9, [0, 0, 3, 0], 9, ANSWERS, SessionEnd::LinkFault),
+        (0, [0, 0, 2, 0], 9, ANSWERS, SessionEnd::LinkFault),
+        (0, [0, 0, 0, 1], 4, b"", SessionEnd::LinkFault),
+        (0, [0, 0, 0, 2], 8, b"LysKOM\n", SessionEnd::LinkFault),
     ];
-    for (cut, [late_read, late_write, failed_read, failed_write], output, end) in rows {
+    for (cut, [late_read, late_write, failed_read, failed_write], acts, output, end) in rows {
         let mut plan = LinkPlan::new(alloc);
         plan.cuts.push(cut)?;
         plan.reads = script_of(alloc, late_read, failed_read)?;
@@ -168,6 +175,7 @@ fn a_link_that_fails_ends_its_session_alone(rt: HostRuntime) -> Result<(), Fail>
             world_of(alloc, Some(gate), 0)?,
         )?;
         assert_eq!(rt; left.status, 0);
+        assert_eq!(rt; left.acts, acts);
         assert_eq!(rt; left.put.as_slice(), output);
         assert_eq!(rt; left.ends.as_slice(), [end].as_slice());
     }

@@ -3,8 +3,8 @@ use Rattle.kom_types.specs.declared.byte_kind.ByteKind.TheVariants as kind
 use Rattle.kom_types.specs.ByteKind.{is_blank, is_digit, kind_of}
 use Rattle.kom_types.specs.Token.{Token, Digits, Text, Open, Close, Star, number_of, is_integer}
 
--- What some bytes are to a rule that reads them from the left: a front of what it asks, exactly the whole of
--- it, or bytes that no continuation makes whole.
+-- What some bytes are to a rule that reads them from the left: at fault nowhere yet, and more is wanted; exactly
+-- the whole of what it asks; or at fault.
 pub data Form (X : Type 0) : Type 0 where
   Front : Form X
   Whole : X → Form X

@@ -15,6 +15,12 @@ pub record Rows : Type 0 where
     rest = [];
     fault = None;
   }
+  pub blank_behind_the_letter : (stream_of (codes "A 9Hanna%peer\n")).greeting ≡ Some (codes "anna%peer")
+  pub empty_name : (stream_of (codes "A0H\n")).greeting ≡ Some []
+  pub any_byte_in_a_string : (stream_of (65 ∷ 50 ∷ 72 ∷ 0 ∷ 200 ∷ 10 ∷ [])).greeting ≡ Some (0 ∷ 200 ∷ [])
+  pub other_byte_outside : fault_of (65 ∷ 48 ∷ 72 ∷ 200 ∷ []) ≡ Some 3
+  pub blank_line : (stream_of (codes "A1Ha\n\n1 56\n")).lines ≡ record { tokens = Digits (codes "1") ∷ Digits (codes "56") ∷ []; end = 10 } ∷ []
+  pub tabs_and_returns : (stream_of (codes "A1Ha \t\r\n \t1\t \r2\r\n")).lines ≡ record { tokens = Digits (codes "1") ∷ Digits (codes "2") ∷ []; end = 16 } ∷ []
   pub sign_in_a_number : fault_of (codes "A5Hceder\n1 +5\n") ≡ Some 11
   pub no_greeting : fault_of (codes "B") ≡ Some 0
   pub five_digits : fault_of (codes "A12345") ≡ Some 5

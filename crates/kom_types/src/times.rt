@@ -1,4 +1,4 @@
-ghost use Rattle.std.specs.Prelude.{◌≡◌, ℕ, ◌≤◌, ◌<◌, ◌↔◌, min, IsSome, IfSome};
+ghost use Rattle.std.specs.Prelude.{◌≡◌, ℕ, ◌≤◌, ◌<◌, ◌↔◌, min, Ok, IsSome, IfSome};
 
 use std::marker::Model;
 
@@ -20,7 +20,9 @@ impl Model for Moment {
 }
 
 impl Clone for Moment {
-    fn clone(&self) -> Result<Moment, std::alloc::AllocError> {
+    fn clone(&self) -> Result<Moment, std::alloc::AllocError>
+        ensures { result ≡ Ok self.now }
+    {
         Ok(*self)
     }
 }
@@ -66,5 +68,6 @@ mod tests {
         assert_eq!(rt; Moment::at_most(u64::MAX).seconds(), 253_402_300_799);
         assert!(rt; Moment::new(253_402_300_799).is_some());
         assert!(rt; Moment::new(253_402_300_800).is_none());
+        assert!(rt; matches!(Moment::at_most(3).clone(), Ok(Moment(3))));
     }
 }

@@ -7,6 +7,12 @@ pub returns : goal.returns
 unfolding digits
 returns c = record {
   greeting_and_line = refl;
+  blank_behind_the_letter = refl;
+  empty_name = refl;
+  any_byte_in_a_string = refl;
+  other_byte_outside = refl;
+  blank_line = refl;
+  tabs_and_returns = refl;
   sign_in_a_number = refl;
   no_greeting = refl;
   five_digits = refl;

@@ -1,0 +1,17 @@
+-- How often a world was asked for what it has.
+use Rattle.std.specs.Prelude.{Bool, true, false}
+use Rattle.kom_links.specs.declared.asked.Asked.{Asked}
+use Rattle.kom_links.specs.Script.{next_call}
+
+-- once more for its gate, which it gave or refused
+abbrev pub with_gate : Bool → Asked → Asked
+with_gate true asked = record asked { gates = next_call asked.gates; given = next_call asked.given }
+with_gate false asked = record asked { gates = next_call asked.gates }
+
+-- once more for a clock
+abbrev pub with_clock : Asked → Asked
+with_clock asked = record asked { clocks = next_call asked.clocks }
+
+-- once more for a sink
+abbrev pub with_sink : Asked → Asked
+with_sink asked = record asked { sinks = next_call asked.sinks }
