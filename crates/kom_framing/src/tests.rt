@@ -1,4 +1,5 @@
 use crate::{FeedRefusal, Line, Splitter, Token, Unit};
+use kom_types::Memory;
 use std::alloc::{AllocError, Global};
 use std::test::Fail;
 
@@ -124,6 +125,10 @@ fn streams_are_split_wherever_they_are_cut(rt: HostRuntime) -> Result<(), Fail> 
         ),
         whole(b"A1Ha0H 00H\n", b"Aa; \"\" \"\"@10;"),
         whole(b"A1Ha{ } *\n", b"Aa; { } *@9;"),
+        whole(
+            b"A3H\0\x80\xff1 3H\xff\0\x80\n",
+            b"A\0\x80\xff; 1 \"\xff\0\x80\"@13;",
+        ),
         whole(b"A1Ha4294967295H", b"Aa;"),
         whole(b"A1Ha1 3Hab", b"Aa;"),
         whole(b"A 4Hab", b""),
@@ -142,6 +147,10 @@ fn streams_are_split_wherever_they_are_cut(rt: HostRuntime) -> Result<(), Fail> 
         faulty(b"A1Ha0H0\n", b"Aa;", 6),
         faulty(b"A1HaH\n", b"Aa;", 4),
         faulty(b"A1Ha1 +5\n", b"Aa;", 6),
+        faulty(b"A1Ha1 \0\n", b"Aa;", 6),
+        faulty(b"A1Ha1\xa02\n", b"Aa;", 5),
+        faulty(b"A1Ha\xb1\n", b"Aa;", 4),
+        faulty(b"A\0", b"", 1),
         faulty(b"A1Ha1 2\n3 x\n4 5\n", b"Aa; 1 2@7;", 10),
     ];
     for row in &rows {
@@ -190,7 +199,8 @@ fn a_line_has_at_most_2097152_bytes(rt: HostRuntime) -> Result<(), Fail> {
     let longer = long_line(rt.alloc(), b"2097144H", 2_097_144, b"\n")?;
     let blank = long_line(rt.alloc(), b"", 2_097_152, b"\n")?;
     let unfit = long_line(rt.alloc(), b"", 2_097_152, b"+\n")?;
-    for step in [70_000, 2_097_155, 3_000_000] {
+    // With the second step a piece ends with the last byte that the line may have.
+    for step in [70_000, 2_097_154, 2_097_155, 3_000_000] {
         let (units, fault) = outcome(rt.alloc(), longest.as_slice(), 1, step)?;
         assert!(rt; units.as_slice().ends_with(b" \"@2097154;"));
         assert_eq!(rt; units.len(), 2_097_143 + 14);
@@ -203,5 +213,79 @@ fn a_line_has_at_most_2097152_bytes(rt: HostRuntime) -> Result<(), Fail> {
         let (_, fault) = outcome(rt.alloc(), unfit.as_slice(), 1, step)?;
         assert_eq!(rt; fault, Some(FeedRefusal::Malformed(2_097_155)));
     }
+    Ok(())
+}
+
+#[test]
+fn a_piece_may_be_longer_than_a_line(rt: HostRuntime) -> Result<(), Fail> {
+    let mut line = b"1 94H".to_vec(rt.alloc())?;
+    line.extend_from_slice(vec![in rt.alloc(); b'x'; 94]?.as_slice())?;
+    line.extend_from_slice(b"\n")?;
+    let mut stream = b"A0H".to_vec(rt.alloc())?;
+    for _ in 0..22_000 {
+        stream.extend_from_slice(line.as_slice())?;
+    }
+    let (units, fault) = outcome(rt.alloc(), stream.as_slice(), 3_000_000, 1)?;
+    assert_eq!(rt; units.len(), 2_364_896);
+    assert!(rt; units.as_slice().ends_with(b"x\"@2200002;"));
+    assert_eq!(rt; fault, None);
+    Ok(())
+}
+
+// The strings that have begun announce more bytes than a process has addresses.
+#[test]
+fn an_announced_length_takes_no_memory(rt: HostRuntime) -> Result<(), Fail> {
+    let mut splitters = Vec::new(rt.alloc());
+    for _ in 0..33_000 {
+        let mut splitter = Splitter::new(rt.alloc());
+        assert_eq!(rt; splitter.feed(b"A1Ha1 4294967295H"), Ok(()));
+        splitters.push(splitter)?;
+    }
+    assert_eq!(rt; splitters.len(), 33_000);
+    Ok(())
+}
+
+#[test]
+fn a_fault_is_answered_again_and_units_stay(rt: HostRuntime) -> Result<(), Fail> {
+    let blank = long_line(rt.alloc(), b"", 2_097_153, b"\n")?;
+    let malformed = (
+        b"A1Ha1 2\n3 x\n4 5\n".as_slice(),
+        FeedRefusal::Malformed(10),
+        b"Aa; 1 2@7;".as_slice(),
+    );
+    let too_long = (
+        blank.as_slice(),
+        FeedRefusal::LineTooLong(2_097_155),
+        b"A;".as_slice(),
+    );
+    for (stream, fault, units) in [malformed, too_long] {
+        let mut splitter = Splitter::new(rt.alloc());
+        for piece in [stream, b"", b"\n6 7\n", b""] {
+            assert_eq!(rt; splitter.feed(piece), Err(fault));
+        }
+        let mut shown = Vec::new(rt.alloc());
+        for piece in [b"".as_slice(), b"\n6 7\n"] {
+            assert_eq!(rt; feed(&mut splitter, &mut shown, piece)?, Some(fault));
+            assert_eq!(rt; shown.as_slice(), units);
+        }
+    }
+    Ok(())
+}
+
+#[test]
+fn refusals_are_told(rt: HostRuntime) -> Result<(), Fail> {
+    for (refusal, text) in [
+        (FeedRefusal::Malformed(0), "the byte at 0 fits nowhere"),
+        (
+            FeedRefusal::LineTooLong(2_097_155),
+            "the line is too long at 2097155",
+        ),
+        (FeedRefusal::Memory, "out of memory"),
+    ] {
+        let told = format!(in rt.alloc(); "{refusal}")?;
+        assert_eq!(rt; told.as_str(), text);
+    }
+    let told = format!(in rt.alloc(); "{}", Memory)?;
+    assert_eq!(rt; told.as_str(), "out of memory");
     Ok(())
 }

@@ -217,7 +217,17 @@ mod tests {
         writer.end_line()?;
         writer.mark(b'%')?;
         writer.number(7)?;
-        let expected = b"=1 4294967295 1010 1000000000000001 4Ha\n b 0H { } 0 *\n%7".as_slice();
+        writer.end_line()?;
+        writer.mark(b':')?;
+        writer.number(10)?;
+        writer.bits(0xfffe, 1)?;
+        writer.bits(1, 1)?;
+        writer.bits(0x4d, 8)?;
+        writer.bits(0x0123, 16)?;
+        writer.text(b"0123456789")?;
+        let expected = b"=1 4294967295 1010 1000000000000001 4Ha\n b 0H { } 0 *\n%7\n\
+            :10 0 1 01001101 0000000100100011 10H0123456789"
+            .as_slice();
         assert_eq!(rt; writer.bytes(), expected);
         Ok(())
     }
