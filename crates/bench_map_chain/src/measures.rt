@@ -1,0 +1,85 @@
+// What is measured. The k-th pair has k as its local and as its text.
+ghost use Rattle.std.specs.Prelude.{◌≡◌, ◌<◌, length, IfOk};
+
+use map_chain::{Chain, Memory};
+use std::alloc::{AllocError, Global};
+
+const LOOK_UPS: u32 = 10_000;
+
+pub fn filled(alloc: Global, pairs: u32) -> Result<Chain, Memory>
+    ensures { IfOk result (λ chain. length chain.pairs ≡ pairs) }
+{
+    let mut chain = Chain::new(alloc);
+    for local in 0..pairs {
+        chain.append(local, local)?;
+    }
+    Ok(chain)
+}
+
+pub fn vector(alloc: Global, pairs: u32) -> Result<Vec<(u32, u32)>, AllocError>
+    ensures { IfOk result (λ vector. length vector.items ≡ pairs) }
+{
+    let mut vector = Vec::new(alloc);
+    for local in 0..pairs {
+        vector.push((local, local))?;
+    }
+    Ok(vector)
+}
+
+pub fn up(chain: &Chain) -> u64 {
+    let mut sum: u64 = 0;
+    for (_, text) in chain.from(0) {
+        sum = sum.wrapping_add(u64::from(text));
+    }
+    sum
+}
+
+pub fn down(chain: &Chain) -> u64 {
+    let mut sum: u64 = 0;
+    for (_, text) in chain.before(u32::MAX) {
+        sum = sum.wrapping_add(u64::from(text));
+    }
+    sum
+}
+
+pub fn along(vector: &[(u32, u32)]) -> u64 {
+    let mut sum: u64 = 0;
+    for (_, text) in vector {
+        sum = sum.wrapping_add(u64::from(*text));
+    }
+    sum
+}
+
+/// The texts of locals from the lowest on, drawn from so many.
+pub fn found(chain: &Chain, lowest: u32, locals: u32) -> u64
+    requires { 0 < locals }
+{
+    let mut state = 1;
+    let mut sum: u64 = 0;
+    for _ in 0..LOOK_UPS {
+        let local = lowest.wrapping_add(next(&mut state, locals));
+        sum = sum.wrapping_add(u64::from(chain.get(local).unwrap_or(0)));
+    }
+    sum
+}
+
+/// The next number of a fixed sequence, below a bound.
+fn next(state: &mut u32, bound: u32) -> u32
+    requires { 0 < bound }
+    ensures { result < bound }
+{
+    *state = state.wrapping_mul(1664525).wrapping_add(1013904223);
+    (*state >> 4) % bound
+}
+
+pub fn thin(chain: &mut Chain, pairs: u32) {
+    for half in 0..pairs.div_ceil(2) {
+        chain.remove(2 * half);
+    }
+}
+
+pub fn empty(chain: &mut Chain, pairs: u32) {
+    for back in 1..=pairs {
+        chain.remove(pairs - back);
+    }
+}
