@@ -1,5 +1,5 @@
 // What is measured. The ranges have two numbers each, and begin eight apart.
-ghost use Rattle.std.specs.Prelude.{◌*◌, ◌<◌, ◌≤◌, ◌^◌};
+ghost use Rattle.std.specs.Prelude.{◌≡◌, ◌*◌, ◌<◌, ◌≤◌, ◌^◌, length, IfOk};
 
 use read_ranges::{Ranges, ReadRange};
 use std::alloc::{AllocError, Global};
@@ -18,6 +18,7 @@ const GAPS: u32 = 5000;
 
 pub fn far_apart(alloc: Global, ranges: u32) -> Result<Vec<ReadRange>, AllocError>
     requires { 8 * ranges < 2 ^ 32 }
+    ensures { IfOk result (λ list. length list.items ≡ ranges) }
 {
     let mut list = Vec::new(alloc);
     for place in 0..ranges {
