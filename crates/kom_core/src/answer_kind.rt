@@ -11,7 +11,7 @@ pub enum AnswerKind {
     Connected(u32),
     /// The act was made.
     Taken,
-    /// The act was a drain, and these are the items that it took.
+    /// The act was a drain; the items that it took stand beside the answer.
     Items,
     /// The act was not made, since its session is served no longer.
     Gone(Why),

@@ -58,8 +58,8 @@ impl Core {
         Ok(kind.with_items(items))
     }
 
-    /// The same, but the items that a drain takes stand afterwards in an array of the caller's, in place of what
-    /// stood there; at any other act it is empty. No answer with room for 64 items is moved.
+    /// Makes the act of an entry as `act` does, and leaves the items that a drain takes in an array of the caller's,
+    /// in place of what stood there; at any other act that is empty. No array of 64 items is moved.
     pub fn make(
         &mut self,
         entry: Entry,
