@@ -3,67 +3,32 @@
 
 ghost use Rattle.std.specs.Prelude.{◌≤◌, IfOk};
 
+use bench_watch::{Counts, Request, Watch};
 use kom_disk::{Disk, Failed, FileDisk};
 use std::process::ExitCode;
-use std::rt::{Clock, Env, Files};
-use std::time::Instant;
-use std::{env, fs, io};
+use std::rt::{Clock, Files};
+use std::{fs, io};
 
-/// How many turns there are where the command line has no word.
-const FEW: u32 = 10;
-
-/// The status where the words of the command line ask for nothing.
-const USAGE: u8 = 2;
+const TURNS: Counts = Counts {
+    few: 10,
+    least: 0,
+    most: u32::MAX,
+};
 
 /// The file of the disk, which the program makes and removes.
 const STORE: &str = "bench_disk_store";
 
 const BLOCK: usize = 512;
 
-/// What is told of the turns.
-#[derive(Clone, Copy)]
-enum Told {
-    /// How many bytes they read, which is the same each time.
-    Bytes,
-    /// The time that they took, and the bytes.
-    Time,
-}
-
-/// What the command line asks for.
-#[derive(Clone, Copy)]
-struct Request {
-    turns: u32,
-    told: Told,
-}
-
 fn main(rt: HostRuntime) -> io::Result<ExitCode> {
-    let Some(request) = asked(&rt) else {
-        eprintln!(rt; "usage: bench_disk [TURNS]")?;
-        return Ok(ExitCode::from(USAGE));
+    let Some(request) = bench_watch::asked(&rt, TURNS) else {
+        return bench_watch::refuse(&rt, "bench_disk [TURNS]");
     };
     let done = measure(&rt, request);
     let removed = fs::remove_file(&rt, STORE);
     done?;
     removed?;
     Ok(ExitCode::SUCCESS)
-}
-
-/// With no word the bytes of few turns, and with a number the time of so many.
-fn asked(rt: &(impl Env + Alloc)) -> Option<Request> {
-    let mut words = env::args(rt).ok()?.skip(1);
-    let Some(word) = words.next() else {
-        return Some(Request {
-            turns: FEW,
-            told: Told::Bytes,
-        });
-    };
-    if words.next().is_some() {
-        return None;
-    }
-    Some(Request {
-        turns: word.as_str().parse().ok()?,
-        told: Told::Time,
-    })
 }
 
 fn measure<R>(rt: &R, request: Request) -> io::Result<()>
@@ -73,15 +38,11 @@ where
     let Ok(mut disk) = FileDisk::open(rt, STORE) else {
         return Err(io::ErrorKind::Other.into());
     };
-    let start = Instant::now(rt)?;
-    let Ok(bytes) = turns(&mut disk, request.turns) else {
+    let mut watch = Watch::start(rt, request.told, 0)?;
+    let Ok(bytes) = turns(&mut disk, request.count) else {
         return Err(io::ErrorKind::Other.into());
     };
-    let time = start.elapsed(rt)?;
-    match request.told {
-        Told::Bytes => println!(rt; "cut, write_at, len, read and sync: {bytes}"),
-        Told::Time => println!(rt; "cut, write_at, len, read and sync {time:?} ({bytes})"),
-    }
+    watch.tell(rt, "cut, write_at, len, read and sync", bytes)
 }
 
 /// So many turns, and one sync. How many bytes were read.

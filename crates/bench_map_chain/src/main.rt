@@ -1,71 +1,42 @@
 //! Measures the calls of a chain of pairs beside a vector of the same pairs: their sums, or their times.
 #![tactic(auto)]
 
-ghost use Rattle.std.specs.Prelude.{◌<◌, IfSome};
+ghost use Rattle.std.specs.Prelude.{◌<◌};
 
 mod measures;
-mod watch;
 
+use bench_watch::{Counts, Request, Watch};
 use map_chain::Chain;
 use std::alloc::Global;
+use std::io;
 use std::process::ExitCode;
-use std::rt::{Clock, Env};
-use std::{env, io};
-use watch::{Told, Watch};
+use std::rt::Clock;
 
-/// How many pairs there are where the command line has no word.
-const FEW: u32 = 1000;
+const PAIRS: Counts = Counts {
+    few: 1000,
+    least: 1,
+    most: u32::MAX,
+};
 
 /// How many pairs are the last ones.
 const LAST: u32 = 64;
 
-/// The status where the words of the command line ask for nothing.
-const USAGE: u8 = 2;
-
-/// What the command line asks for.
-#[derive(Clone, Copy)]
-struct Request {
-    pairs: u32,
-    told: Told,
-    ghost some: { 0 < pairs },
-}
+/// How wide the name of a measure is beside its time.
+const WIDTH: usize = 24;
 
 fn main(rt: HostRuntime) -> io::Result<ExitCode> {
-    let Some(request) = asked(&rt) else {
-        eprintln!(rt; "usage: bench_map_chain [PAIRS]")?;
-        return Ok(ExitCode::from(USAGE));
+    let Some(request) = bench_watch::asked(&rt, PAIRS) else {
+        return bench_watch::refuse(&rt, "bench_map_chain [PAIRS]");
     };
     measure(&rt, rt.alloc(), request)?;
     Ok(ExitCode::SUCCESS)
 }
 
-/// With no word the sums of few pairs, and with a number the times of so many.
-fn asked(rt: &(impl Env + Alloc)) -> Option<Request> {
-    let mut words = env::args(rt).ok()?.skip(1);
-    let Some(word) = words.next() else {
-        return Some(Request {
-            pairs: FEW,
-            told: Told::Sums,
-        });
-    };
-    if words.next().is_some() {
-        return None;
-    }
-    Some(Request {
-        pairs: positive(word.as_str())?,
-        told: Told::Times,
-    })
-}
-
-fn positive(word: &str) -> Option<u32>
-    ensures { IfSome result (λ number. 0 < number) }
+fn measure<R: Print + Clock>(rt: &R, alloc: Global, request: Request) -> io::Result<()>
+    requires { 0 < request.count }
 {
-    word.parse().ok().filter(|number| *number > 0)
-}
-
-fn measure<R: Print + Clock>(rt: &R, alloc: Global, request: Request) -> io::Result<()> {
-    let pairs = request.pairs;
-    let mut watch = Watch::start(rt, request.told)?;
+    let pairs = request.count;
+    let mut watch = Watch::start(rt, request.told, WIDTH)?;
     let Ok(mut chain) = measures::filled(alloc, pairs) else {
         return Err(io::ErrorKind::OutOfMemory.into());
     };

@@ -1,76 +1,42 @@
 //! Measures the calls of a set of ranges beside walks over its ranges and copies of their list: sums, or times.
 #![tactic(auto)]
 
-ghost use Rattle.std.specs.Prelude.{◌*◌, ◌<◌, ◌^◌, IfSome};
+ghost use Rattle.std.specs.Prelude.{◌*◌, ◌<◌, ◌^◌};
 
 mod measures;
-mod watch;
 
+use bench_watch::{Counts, Request, Watch};
 use read_ranges::{Ranges, ReadRange};
+use std::io;
 use std::process::ExitCode;
-use std::rt::{Clock, Env};
-use std::{env, io};
-use watch::{Told, Watch};
+use std::rt::Clock;
 
-/// How many ranges there are where the command line has no word.
-const FEW: u32 = 100;
+/// The ranges begin eight apart, below 2^32.
+const RANGES: Counts = Counts {
+    few: 100,
+    least: 1,
+    most: u32::MAX / 8,
+};
 
-/// The status where the words of the command line ask for nothing.
-const USAGE: u8 = 2;
-
-/// What the command line asks for.
-#[derive(Clone, Copy)]
-struct Request {
-    ranges: u32,
-    told: Told,
-    ghost some: { 0 < ranges },
-    ghost fits: { 8 * ranges < 2 ^ 32 },
-}
+/// How wide the name of a measure is beside its time.
+const WIDTH: usize = 40;
 
 fn main(rt: HostRuntime) -> io::Result<ExitCode> {
-    let Some(request) = asked(&rt) else {
-        eprintln!(rt; "usage: bench_read_ranges [RANGES]")?;
-        return Ok(ExitCode::from(USAGE));
+    let Some(request) = bench_watch::asked(&rt, RANGES) else {
+        return bench_watch::refuse(&rt, "bench_read_ranges [RANGES]");
     };
     measure(&rt, request)?;
     Ok(ExitCode::SUCCESS)
 }
 
-/// With no word the sums of few ranges, and with a number the times of so many.
-fn asked(rt: &(impl Env + Alloc)) -> Option<Request> {
-    let mut words = env::args(rt).ok()?.skip(1);
-    let Some(word) = words.next() else {
-        return Some(Request {
-            ranges: FEW,
-            told: Told::Sums,
-        });
-    };
-    if words.next().is_some() {
-        return None;
-    }
-    Some(Request {
-        ranges: fitting(word.as_str())?,
-        told: Told::Times,
-    })
-}
-
-fn fitting(word: &str) -> Option<u32>
-    ensures some { IfSome result (λ ranges. 0 < ranges) }
-    ensures fits { IfSome result (λ ranges. 8 * ranges < 2 ^ 32) }
+fn measure<R: Print + Clock + AllocGlobal>(rt: &R, request: Request) -> io::Result<()>
+    requires some { 0 < request.count }
+    requires fits { 8 * request.count < 2 ^ 32 }
 {
-    let ranges = word.parse().ok()?;
-    if 0 < ranges && ranges <= u32::MAX / 8 {
-        Some(ranges)
-    } else {
-        None
-    }
-}
-
-fn measure<R: Print + Clock + AllocGlobal>(rt: &R, request: Request) -> io::Result<()> {
-    let ranges = request.ranges;
+    let ranges = request.count;
     let list = measures::far_apart(rt.alloc(), ranges)?;
     let mut read = Ranges::new(rt.alloc());
-    let mut watch = Watch::start(rt, request.told)?;
+    let mut watch = Watch::start(rt, request.told, WIDTH)?;
     lists(rt, &mut watch, &mut read, &list)?;
     look_ups(rt, &mut watch, &read, 8 * ranges)?;
     changes(rt, &mut watch, &mut read, ranges)

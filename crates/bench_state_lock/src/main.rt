@@ -6,43 +6,27 @@ ghost use Rattle.kom_state_lock.specs.Passes.{IsPassOf, HoldsNoTurn, AreReady};
 
 mod counter;
 
+use bench_watch::{Counts, Request, Told};
 use counter::{Added, Counter};
 use kom_state_lock::{Hall, Pass};
 use std::alloc::Global;
 use std::process::ExitCode;
-use std::rt::{Clock, Env};
+use std::rt::Clock;
 use std::sync::Wait;
 use std::thread::Threads;
 use std::time::Instant;
-use std::{env, io, thread};
+use std::{io, thread};
 
-/// How many turns each thread takes where the command line has no word.
-const FEW: u32 = 100;
-
-/// The status where the words of the command line ask for nothing.
-const USAGE: u8 = 2;
-
-/// What is told of each measure.
-#[derive(Clone, Copy)]
-enum Told {
-    /// What the turns add up to, which is the same each time.
-    Sums,
-    /// The time that they took in nanoseconds, and the sum.
-    Times,
-}
-
-/// What the command line asks for.
-#[derive(Clone, Copy)]
-struct Request {
-    /// Of each thread.
-    turns: u32,
-    told: Told,
-}
+/// The turns of each thread.
+const TURNS: Counts = Counts {
+    few: 100,
+    least: 0,
+    most: u32::MAX,
+};
 
 fn main(rt: HostRuntime) -> io::Result<ExitCode> {
-    let Some(request) = asked(&rt) else {
-        eprintln!(rt; "usage: bench_state_lock [TURNS]")?;
-        return Ok(ExitCode::from(USAGE));
+    let Some(request) = bench_watch::asked(&rt, TURNS) else {
+        return bench_watch::refuse(&rt, "bench_state_lock [TURNS]");
     };
     let alloc = rt.alloc();
     measure(&rt, alloc, request, 1)?;
@@ -51,24 +35,6 @@ fn main(rt: HostRuntime) -> io::Result<ExitCode> {
         measure(&rt, alloc, request, 4)?;
     }
     Ok(ExitCode::SUCCESS)
-}
-
-/// With no word the sums of few turns, and with a number the times of so many.
-fn asked(rt: &(impl Env + Alloc)) -> Option<Request> {
-    let mut words = env::args(rt).ok()?.skip(1);
-    let Some(word) = words.next() else {
-        return Some(Request {
-            turns: FEW,
-            told: Told::Sums,
-        });
-    };
-    if words.next().is_some() {
-        return None;
-    }
-    Some(Request {
-        turns: word.as_str().parse().ok()?,
-        told: Told::Times,
-    })
 }
 
 fn measure<R: Print + Clock + Threads + Wait + Sync>(
@@ -83,7 +49,7 @@ fn measure<R: Print + Clock + Threads + Wait + Sync>(
         return Err(io::ErrorKind::OutOfMemory.into());
     };
     let start = Instant::now(rt)?;
-    take_together(rt, &hall, row.as_mut_slice(), request.turns);
+    take_together(rt, &hall, row.as_mut_slice(), request.count);
     let time = start.elapsed(rt)?;
     let (counter, _pass) = hall.close(row);
     let total = counter.total;
