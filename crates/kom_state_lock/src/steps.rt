@@ -20,7 +20,7 @@ const HISTORY: usize = 2;
 const TURNS: u64 = 1 << 62;
 
 // So often a seat looks before it sleeps.
-const LOOKS: u32 = 100;
+const LOOKS: u32 = 2000;
 
 fn draw<B: Booked>(words: &Words<B>, seat: &mut Place<B>) -> u64
     requires table { IsSeatOf words.now.table_id seat.old }
