@@ -8,6 +8,8 @@ mod flow;
 mod piece;
 mod serving;
 mod settling;
+#[cfg(test)]
+mod tests;
 mod unit;
 mod writing;
 
