@@ -286,10 +286,11 @@ const STOPPED: DeskFault = DeskFault::Gone(Why::Stopped);
 
 const LOCK_FULL: u64 = 1 << 62;
 
-/// How a link was served, and what was put to it.
+/// How a link was served, how many acts were made, and what was put to it.
 #[derive(Drop)]
 struct Left {
     served: Served,
+    acts: usize,
     put: Vec<u8>,
 }
 
@@ -326,6 +327,7 @@ fn left_by<R: Wait>(
     let served = serve_link(rt, alloc, &mut desk, &mut link, &mut clock);
     Ok(Left {
         served,
+        acts: desk.records.len(),
         put: Vec::from_slice(alloc, link.output())?,
     })
 }
@@ -490,27 +492,36 @@ fn the_first_fault_of_a_desk_gives_the_end(rt: HostRuntime) -> Result<(), Fail> 
 fn a_wait_finds_the_desk_stopped_or_at_fault(rt: HostRuntime) -> Result<(), Fail> {
     let alloc = rt.alloc();
     // The read and the write at which nothing is ready, and the question at which the desk is stopped; how many bytes
-    // a write takes at most; the act that is refused, 0 for none; the session, what is put, and how it ends. The
-    // greeting and the call are read one by one. Where nothing is there to read, a session that stands is flushed and
-    // drained, unless the desk is stopped; what is being written then is written whole.
+    // a write takes at most; the act that is refused, 0 for none; the session, how many acts are made, what is put,
+    // and how it ends. The greeting and the call are read one by one. Where nothing is there to read, a session that
+    // stands is flushed and drained, unless the desk is stopped; what is being written then is written whole, and no
+    // drain follows.
     let none = (0, DeskFault::Memory);
-    let rows: [([u64; 3], usize, (u64, DeskFault), u32, &[u8], SessionEnd); 14] = [
-        ([1, 0, 0], 0, none, 7, ANSWERS, SessionEnd::End),
-        ([1, 0, 1], 0, none, 0, b"", SessionEnd::Stopped),
-        ([2, 0, 0], 0, none, 7, ANSWERS, SessionEnd::End),
-        ([2, 0, 1], 0, none, 7, HELLO, SessionEnd::Stopped),
-        ([3, 0, 1], 0, none, 7, ANSWERS, SessionEnd::Stopped),
-        ([0, 1, 0], 0, none, 7, ANSWERS, SessionEnd::End),
-        ([0, 1, 1], 0, none, 7, HELLO, SessionEnd::Stopped),
-        ([0, 2, 1], 3, none, 7, HELLO, SessionEnd::Stopped),
-        ([0, 2, 1], 0, none, 7, ANSWERS, SessionEnd::Stopped),
-        ([1, 1, 2], 0, none, 7, HELLO, SessionEnd::Stopped),
-        ([2, 1, 2], 0, none, 7, HELLO, SessionEnd::Stopped),
-        ([2, 0, 0], 0, (5, OVERRUN), 7, HELLO, SessionEnd::Overrun),
-        ([2, 0, 0], 0, (6, DROPPED), 7, HELLO, SessionEnd::Dropped),
-        ([2, 0, 1], 0, (5, OVERRUN), 7, HELLO, SessionEnd::Stopped),
+    let rows: [(
+        [u64; 3],
+        usize,
+        (u64, DeskFault),
+        u32,
+        usize,
+        &[u8],
+        SessionEnd,
+    ); 14] = [
+        ([1, 0, 0], 0, none, 7, 9, ANSWERS, SessionEnd::End),
+        ([1, 0, 1], 0, none, 0, 0, b"", SessionEnd::Stopped),
+        ([2, 0, 0], 0, none, 7, 11, ANSWERS, SessionEnd::End),
+        ([2, 0, 1], 0, none, 7, 5, HELLO, SessionEnd::Stopped),
+        ([3, 0, 1], 0, none, 7, 9, ANSWERS, SessionEnd::Stopped),
+        ([0, 1, 0], 0, none, 7, 9, ANSWERS, SessionEnd::End),
+        ([0, 1, 1], 0, none, 7, 4, HELLO, SessionEnd::Stopped),
+        ([0, 2, 1], 3, none, 7, 4, HELLO, SessionEnd::Stopped),
+        ([0, 2, 1], 0, none, 7, 8, ANSWERS, SessionEnd::Stopped),
+        ([1, 1, 2], 0, none, 7, 4, HELLO, SessionEnd::Stopped),
+        ([2, 1, 2], 0, none, 7, 5, HELLO, SessionEnd::Stopped),
+        ([2, 0, 0], 0, (5, OVERRUN), 7, 5, HELLO, SessionEnd::Overrun),
+        ([2, 0, 0], 0, (6, DROPPED), 7, 6, HELLO, SessionEnd::Dropped),
+        ([2, 0, 1], 0, (5, OVERRUN), 7, 4, HELLO, SessionEnd::Stopped),
     ];
-    for ([late_read, late_write, stops], most, refusal, session, output, end) in rows {
+    for ([late_read, late_write, stops], most, refusal, session, acts, output, end) in rows {
         let mut plan = LinkPlan::new(alloc);
         plan.cuts.push(9)?;
         plan.most_written = most;
@@ -518,6 +529,7 @@ fn a_wait_finds_the_desk_stopped_or_at_fault(rt: HostRuntime) -> Result<(), Fail
         plan.writes = script_of(alloc, late_write, 0)?;
         let left = left_by(&rt, alloc, ASKS, plan, &[refusal], stops)?;
         assert_eq!(rt; left.served, Served { session, end });
+        assert_eq!(rt; left.acts, acts);
         assert_eq!(rt; left.put.as_slice(), output);
     }
     Ok(())
