@@ -28,6 +28,8 @@ impl Booked for Counter {
 
     ghost led = { λ opening history value. value.total ≡ fold (λ n e. (n + 1) % 2 ^ 64) opening.total history };
 
+    ghost itself_stays = { λ value. refl };
+
     ghost empty_leads = { λ opening. refl };
 
     ghost staying_leads = { λ opening history old new leads stays. stays ∙ leads };

@@ -17,6 +17,7 @@ module _ {B E : Type 0} where
         carries = is.carries ∙ ap slots_in holds;
         full = is.full ∙ (let h = holds in cc);
         large = λ k waits. absurd cc;
+        below = λ k waits. absurd cc;
       }
 
   pub free_goes : (turn : Turn B E) → HoldsNoTurn turn → is_over turn ≡ false

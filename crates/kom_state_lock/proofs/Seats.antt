@@ -419,6 +419,7 @@ module _ {B E : Type 0} (pass_of : E → ℕ) (led : B → List E → B → Type
         slot = final.4 0 (Some home.0) (ap (λ hs. get_elem? hs 0) home.1);
         leads = subst (λ z. led opening z home.0) (sym whole) home.2;
         settled = record {
+          within = omega (arith, old.number, old.within);
           mine = old.mine ∙ (λ i. entries_of pass_of (sym old.number i) (sym whole i));
           joined = λ k share e. (old.joined k share e).mine ∙ ap (entries_of pass_of share.number) (sym whole);
           beginnings = λ k seen e. subst (IsPrefix seen) (sym whole) (old.beginnings k seen e);
@@ -475,5 +476,5 @@ module _ {B E : Type 0} (pass_of : E → ℕ) (led : B → List E → B → Type
         value = c.value;
         slot = c.slot;
         leads = c.leads;
-        settled = record { mine = s.mine; joined = s.joined; beginnings = s.beginnings; strangers = s.strangers };
+        settled = record { within = s.within; mine = s.mine; joined = s.joined; beginnings = s.beginnings; strangers = s.strangers };
       }

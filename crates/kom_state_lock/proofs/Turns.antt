@@ -222,11 +222,11 @@ module _ {B E : Type 0} (pass_of : E → ℕ) (led : B → List E → B → Type
       } in moved pass_of led opening passes t sv h homes views id v t sv h homes' w r move
 
   pub looks_allowed : (slots id ticket : ℕ) (me : Me (Option B) V) (told : Option B) → me.0.turn ≡ Waiting ticket → ticket < 2 ^ 62 → told ≡ Some opening
-      → Allows Ruled slots id me 1 (λ n. n) (Looks led told me)
+      → Allows Ruled slots id me 1 (λ n. n) (Looks pass_of led told me)
   looks_allowed slots id ticket me told waits few says s r wide here fits =
       let sv = r.serving in
       let found : slice_index s.words 1 ≡ sv = ap (λ ws. slice_index ws 1) r.words in
-      let Goal : ℕ → Type 0 = λ n. (w : V) × (a : Act (Option B)) × Valid s.homes me.1 a × Ruled (stepped s 1 n id me.1 w a) × Looks led told me n (w, carried_after me.1 a) in
+      let Goal : ℕ → Type 0 = λ n. (w : V) × (a : Act (Option B)) × Valid s.homes me.1 a × Ruled (stepped s 1 n id me.1 w a) × Looks pass_of led told me n (w, carried_after me.1 a) in
       let same : slice_set s.words 1 sv ≡ r.ticket ∷ sv ∷ length r.history ∷ [] = ap (λ ws. slice_set ws 1 sv) r.words in
       subst Goal (sym found) (dite (ℕ_discrete sv ticket)
       (λ hit.
@@ -257,6 +257,7 @@ module _ {B E : Type 0} (pass_of : E → ℕ) (led : B → List E → B → Type
                 subst (λ x. led x r.history home.0) two home.2,
                 old.seen,
                 omega (arith, home.3),
+                old.mine ∙ ap (λ n. entries_of pass_of n r.history) (sym old.number),
               )),
             ),
       ))

@@ -26,8 +26,9 @@ module _ {B E : Type 0} where
   abbrev pub Covers : ℕ → View B E → Type 0
   Covers passes v = (n : ℕ) → n < passes → (n ≡ v.number) ⊎ ((k : ℕ) × (share : Share E) × (get_elem? v.joined k ≡ maybe.some share) × (share.number ≡ n))
 
-  -- what the last seat has seen is the whole history: each pass's entries are all of its number, what it had seen is a beginning, and no other pass has entries
+  -- the last seat has a number of the hall, and what it has seen is the whole history: each pass's entries are all of its number, what it had seen is a beginning, and no other pass has entries
   pub record IsSettled (pass_of : E → ℕ) (passes : ℕ) (v : View B E) : Type 0 where
+    pub within : v.number < passes
     pub mine : v.mine ≡ entries_of pass_of v.number v.seen
     pub joined : (k : ℕ) (share : Share E) → get_elem? v.joined k ≡ maybe.some share → share.mine ≡ entries_of pass_of share.number v.seen
     pub beginnings : (k : ℕ) (seen : List E) → get_elem? v.beginnings k ≡ maybe.some seen → IsPrefix seen v.seen

@@ -42,6 +42,7 @@ module _ {B E : Type 0} where
     pub carries : me.1 ≡ slots_in me.0.turn
     pub full : refused ≡ refused_in me.0.turn
     pub large : (ticket : ℕ) → me.0.turn ≡ Waiting ticket → 2 ^ 62 ≤ ticket
+    pub below : (ticket : ℕ) → me.0.turn ≡ Waiting ticket → ticket < me.0.drawn
 
   -- a pass that has taken no turn
   abbrev pub new_pass : TableId → ℕ → PassModel B E
@@ -79,6 +80,17 @@ module _ {B E : Type 0} where
     pub long : length passes ≡ hall.passes
     pub each : (k : ℕ) (d : PassModel B E) → k < length passes → IsReady hall k (slice_index_or passes k d)
 
+  -- the same of all passes but the last one, which whoever made the hall keeps
+  pub record AreReadyButLast (hall : HallModel B) (passes : List (PassModel B E)) : Type 0 where
+    pub long : length passes + 1 ≡ hall.passes
+    pub each : (k : ℕ) (d : PassModel B E) → k < length passes → IsReady hall k (slice_index_or passes k d)
+
+  -- the last pass of a hall, which holds no turn
+  pub record IsReadyLast (hall : HallModel B) (pass : PassModel B E) : Type 0 where
+    pub table : IsPassOf hall pass
+    pub last : number_of pass + 1 ≡ hall.passes
+    pub free : HoldsNoTurn pass.turn
+
   -- the turn is not logged, and the value follows by the entry from the one that was taken
   abbrev pub MayLog : (B → E → B → Type 0) → Turn B E → E → B → Type 0
   MayLog follows (Holding ticket taken before) entry value = follows taken entry value
@@ -98,12 +110,12 @@ module _ {B E : Type 0} where
   MayPut stays Closed value = ⊥
 
   -- the turn begins with a value to which a history leads that goes on from what the pass has seen
-  abbrev pub TakesTurn : (B → List E → B → Type 0) → HallModel B → PassModel B E → B → PassModel B E → Type 0
-  TakesTurn led hall old value new =
+  abbrev pub TakesTurn : (E → ℕ) → (B → List E → B → Type 0) → HallModel B → PassModel B E → B → PassModel B E → Type 0
+  TakesTurn pass_of led hall old value new =
       (ticket : ℕ) × (history : List E)
       × (new ≡ record old { drawn = ticket + 1; turn = Holding ticket value history })
       × (old.drawn ≤ ticket) × (ticket < 2 ^ 62)
-      × led hall.opening history value × IsPrefix old.seen history × (length history < 2 ^ 62)
+      × led hall.opening history value × IsPrefix old.seen history × (length history < 2 ^ 62) × (old.mine ≡ entries_of pass_of old.number history)
 
   -- the ticket that was drawn, now or by an earlier call, is 2^62 or more
   abbrev pub RefusesTurn : PassModel B E → ℕ → PassModel B E → Type 0

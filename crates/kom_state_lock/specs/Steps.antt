@@ -6,7 +6,7 @@ use Rattle.atomic_table.specs.Seated.{TableId}
 use Rattle.atomic_table.specs.Table.{Me, rest}
 use Rattle.kom_state_lock.specs.declared.views.Turn.TheVariants.{Waiting}
 use Rattle.kom_state_lock.specs.declared.views.View.{View}
-use Rattle.kom_state_lock.specs.Views.{drawing, taking, logging, resting}
+use Rattle.kom_state_lock.specs.Views.{entries_of, drawing, taking, logging, resting}
 
 abbrev Seated : Type 0 → Type 0 → Type 0
 Seated B E = Me (Option B) (View B E)
@@ -28,17 +28,17 @@ module _ {B E : Type 0} where
   Draws m found n = (n ≡ (drawing found m.0, m.1)) × (m.0.drawn ≤ found)
 
   -- the slot comes with the value, and a history leads to it that goes on from what the seat has seen
-  abbrev pub Takes : (B → List E → B → Type 0) → B → ℕ → Seated B E → Seated B E → Type 0
-  Takes led opening ticket m n =
+  abbrev pub Takes : (E → ℕ) → (B → List E → B → Type 0) → B → ℕ → Seated B E → Seated B E → Type 0
+  Takes pass_of led opening ticket m n =
       (value : B) × (history : List E)
       × (n ≡ (taking ticket value history m.0, (0, Some value) ∷ m.1))
-      × led opening history value × IsPrefix m.0.seen history × (length history ≤ ticket)
+      × led opening history value × IsPrefix m.0.seen history × (length history ≤ ticket) × (m.0.mine ≡ entries_of pass_of m.0.number history)
 
   -- a look at the ticket that is served: another one changes nothing, the seat's own is its turn
-  abbrev pub Looks : (B → List E → B → Type 0) → Option B → Seated B E → ℕ → Seated B E → Type 0
-  Looks led told m found n =
+  abbrev pub Looks : (E → ℕ) → (B → List E → B → Type 0) → Option B → Seated B E → ℕ → Seated B E → Type 0
+  Looks pass_of led told m found n =
       (ticket : ℕ) (opening : B) → m.0.turn ≡ Waiting ticket → told ≡ Some opening
-      → (found ≢ ticket → n ≡ m) × (found ≡ ticket → Takes led opening ticket m n)
+      → (found ≢ ticket → n ≡ m) × (found ≡ ticket → Takes pass_of led opening ticket m n)
 
   -- the entry and the value that are told are logged
   abbrev pub Logs : Option E → Option B → Seated B E → Seated B E → Type 0
@@ -50,9 +50,9 @@ module _ {B E : Type 0} where
   HandsOn m n = n ≡ (resting m.0, rest m.1)
 
   -- a draw and a take together: the value has left the slot
-  abbrev pub TakesAll : (B → List E → B → Type 0) → B → View B E → B → Seated B E → Type 0
-  TakesAll led opening v value n =
+  abbrev pub TakesAll : (E → ℕ) → (B → List E → B → Type 0) → B → View B E → B → Seated B E → Type 0
+  TakesAll pass_of led opening v value n =
       (ticket : ℕ) × (history : List E)
       × (n ≡ (taking ticket value history (drawing ticket v), (0, None) ∷ []))
       × (v.drawn ≤ ticket) × (ticket < 2 ^ 62)
-      × led opening history value × IsPrefix v.seen history × (length history < 2 ^ 62)
+      × led opening history value × IsPrefix v.seen history × (length history < 2 ^ 62) × (v.mine ≡ entries_of pass_of v.number history)

@@ -17,6 +17,8 @@ pub trait Booked {
     /// The history leads from the opening value to the other one.
     ghost led: { Self → List Self.Entry → Self → Type 0 };
 
+    ghost itself_stays: { (value : Self) → stays value value };
+
     ghost empty_leads: { (opening : Self) → led opening [] opening };
 
     ghost staying_leads: { (opening : Self) (history : List Self.Entry) (old new : Self) → led opening history old → stays old new → led opening history new };

@@ -35,6 +35,7 @@ pub(crate) fn gather<B: Booked>(words: &Words<B>, mut passes: Vec<Pass<B>>) -> (
     while let Some(pass) = passes.pop() {
         join(words, &mut seat, pass.into_seat());
     }
+    passes.destroy_empty();
     (number, seat)
 }
 

@@ -63,7 +63,10 @@ impl<B: Booked> Hall<B> {
                 deal(&table.shared, seat, passes, &mut row);
                 Ok((Hall { table }, row))
             }
-            Err(value) => Err((value, Memory)),
+            Err(value) => {
+                row.destroy_empty();
+                Err((value, Memory))
+            }
         }
     }
 
@@ -71,7 +74,8 @@ impl<B: Booked> Hall<B> {
     pub fn take<R: Wait>(&self, rt: &R, pass: &mut Pass<B>) -> Result<Held<B>, Full>
         requires pass { IsPassOf self.now pass.old }
         requires free { HoldsNoTurn pass.old.turn }
-        ensures turn { MatchResult result (λ held. TakesTurn B.led self.now pass.old held pass.new) (λ full. RefusesTurn pass.old full.0 pass.new) }
+        ensures turn { MatchResult result (λ held. TakesTurn B.pass_of B.led self.now pass.old held pass.new) (λ full. RefusesTurn pass.old full.0 pass.new) }
+        ensures below { IfErr result (λ full. full.0 < pass.new.drawn) }
         ensures full { (n : ℕ) → (result ≡ Err (record { 0 = n })) ↔ ((ticket_in pass.new.turn ≡ Some n) × (2 ^ 62 ≤ n)) }
     {
         if let Some(ticket) = pass.full {
@@ -113,6 +117,7 @@ impl<B: Booked> Hall<B> {
         requires free { All (λ p. HoldsNoTurn p.turn) passes.items }
         ensures leads { B.led self.opening result.1.seen result.0 }
         ensures closed { All (IsClosed B.pass_of result.1) passes.items }
+        ensures number { result.1.number < self.passes }
         ensures others { (number : ℕ) → self.passes ≤ number → entries_of B.pass_of number result.1.seen ≡ [] }
         ensures own { (result.1.mine ≡ entries_of B.pass_of result.1.number result.1.seen) × (result.1.turn ≡ Closed) }
         ensures drawn { Contains (map drawn_by passes.items) result.1.drawn }

@@ -13,6 +13,7 @@
 
 mod booked;
 mod closing;
+mod crossing;
 mod dealing;
 mod hall;
 mod held;

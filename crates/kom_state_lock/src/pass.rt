@@ -1,13 +1,14 @@
 // A pass: the right to take turns in one hall.
 ghost use Rattle.std.specs.Prelude.{◌≡◌, []};
+ghost use Rattle.std.specs.Prelude.{false};
+ghost use Rattle.kom_state_lock.specs.Views.{is_served};
 ghost use Rattle.kom_state_lock.specs.Passes.{HoldsNoTurn, pass_model};
 
 use crate::booked::Booked;
 use crate::plays::Place;
 use std::marker::Model;
 
-/// The right to take turns in one hall, one turn at a time. If it is dropped in its turn, the others wait for ever.
-#[derive(Drop)]
+/// The right to take turns in one hall, one turn at a time. It cannot be let go in its turn, for which the others wait.
 pub struct Pass<B: Booked> {
     pub(crate) number: u32,
     // The ticket that was refused.
@@ -43,5 +44,17 @@ impl<B: Booked> Pass<B> {
             seat,
         } = self;
         seat
+    }
+}
+
+impl<B: Booked> Drop for Pass<B> {
+    fn drop(self)
+        requires free { is_served self.turn ≡ false }
+    {
+        let Self {
+            number: _,
+            full: _,
+            seat: _,
+        } = self;
     }
 }

@@ -59,7 +59,7 @@ pub struct Look<N> {
 }
 
 impl<B: Booked, N: Told<B, B::Entry>> Play<Option<B>, View<B, B::Entry>> for Look<N> {
-    ghost then = { λ _ m found n. Looks B.led N.opening m found n };
+    ghost then = { λ _ m found n. Looks B.pass_of B.led N.opening m found n };
 }
 
 pub struct Log<N> {

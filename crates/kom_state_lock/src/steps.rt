@@ -42,7 +42,7 @@ fn wait_turn<B: Booked, N: Told<B, B::Entry>, R: Wait>(
     requires told { N.opening ≡ Some words.now.key.value.value }
     requires drawn { (seat.old.me.0.turn ≡ Waiting ticket) × (ticket < 2 ^ 62) }
     ensures seat { IsSameSeat seat.old seat.new }
-    ensures taken { Takes B.led words.now.key.value.value ticket seat.old.me seat.new.me }
+    ensures taken { Takes B.pass_of B.led words.now.key.value.value ticket seat.old.me seat.new.me }
 {
     let mut looks = 0;
     for _ in rt.forever() {
@@ -68,7 +68,7 @@ pub(crate) fn take_turn<B: Booked, R: Wait>(
     requires table { IsSeatOf words.now.table_id seat.old }
     requires free { (seat.old.me.0.turn ≡ Resting) × (seat.old.me.1 ≡ []) }
     ensures seat { IsSameSeat seat.old seat.new }
-    ensures turn { MatchResult result (λ value. TakesAll B.led words.now.key.value.value seat.old.me.0 value seat.new.me) (λ ticket. (2 ^ 62 ≤ ticket) × (seat.old.me.0.drawn ≤ ticket) × (seat.new.me ≡ (drawing ticket seat.old.me.0, []))) }
+    ensures turn { MatchResult result (λ value. TakesAll B.pass_of B.led words.now.key.value.value seat.old.me.0 value seat.new.me) (λ ticket. (2 ^ 62 ≤ ticket) × (seat.old.me.0.drawn ≤ ticket) × (seat.new.me ≡ (drawing ticket seat.old.me.0, []))) }
 {
     let ticket = draw(words, seat);
     if ticket >= TURNS {

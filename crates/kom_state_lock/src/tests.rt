@@ -1,8 +1,8 @@
 // A counter and a small store under the lock, with threads that take turns.
 ghost use Rattle.std.specs.Prelude.{◌≡◌, ℕ, ◌+◌, ◌*◌, ◌<◌, ◌≤◌, ◌^◌, ◌%◌, ◌++◌, ◌∷◌, [], length, All, IfSome, fold, if◌then◌else◌};
-ghost use Rattle.kom_state_lock.specs.Passes.{IsPassOf, HoldsNoTurn, AreReady};
+ghost use Rattle.kom_state_lock.specs.Passes.{IsPassOf, HoldsNoTurn, AreReady, AreReadyButLast};
 
-use crate::{Booked, Hall, Held, Pass};
+use crate::{Booked, Hall, Pass};
 use std::alloc::Global;
 use std::sync::Wait;
 use std::test::Fail;
@@ -37,6 +37,8 @@ impl Booked for Counter {
     ghost stays = { λ old new. (new.total ≡ old.total) × (new.added.items ≡ old.added.items) };
 
     ghost led = { λ opening history value. (value.total ≡ fold (λ n e. (n + e.by) % 2 ^ 64) opening.total history) × (value.added.items ≡ opening.added.items ++ history) };
+
+    ghost itself_stays = { λ value. (refl, refl) };
 
     ghost empty_leads = { λ opening. (refl, sym (append-nil opening.added.items)) };
 
@@ -127,6 +129,52 @@ fn count_together<R: Threads + Wait + Sync>(
     Some(counter)
 }
 
+// The same by each pass but the last one, in as many threads.
+fn add_beside<R: Threads + Wait + Sync>(
+    rt: &R,
+    hall: &Hall<Counter>,
+    passes: &mut [Pass<Counter>],
+    turns: u64,
+)
+    requires ready { AreReadyButLast hall.now passes.old }
+    requires some { 0 < length passes.old }
+    ensures { AreReadyButLast hall.now passes.new }
+{
+    let threads = passes.len();
+    thread::for_each_mut(
+        rt,
+        passes,
+        threads,
+        &|_, pass| {
+            let _ = add_often(rt, hall, pass, turns);
+        },
+    );
+}
+
+// A counter that the passes of other threads add to, while the last pass is kept here. It closes the hall with theirs.
+fn count_beside<R: Threads + Wait + Sync>(
+    rt: &R,
+    alloc: Global,
+    passes: u32,
+    turns: u64,
+) -> Option<Counter>
+    requires { (2 ≤ passes) × (passes ≤ 65) }
+{
+    let empty = Counter {
+        total: 0,
+        added: Vec::new(alloc),
+    };
+    let Ok((hall, mut row)) = Hall::make(alloc, empty, passes) else {
+        return None;
+    };
+    let mut own = row.pop().unwrap();
+    add_beside(rt, &hall, row.as_mut_slice(), turns);
+    let _ = add_often(rt, &hall, &mut own, turns);
+    row.push_reserved(own);
+    let (counter, _pass) = hall.close(row);
+    Some(counter)
+}
+
 fn replayed(added: &[Added]) -> u64 {
     let mut total: u64 = 0;
     for entry in added {
@@ -150,6 +198,14 @@ fn each_turn_counts_once(rt: HostRuntime) -> Result<(), Fail> {
             assert_eq!(rt; count as u64, turns, "pass {pass} of {passes}");
         }
     }
+    Ok(())
+}
+
+#[test]
+fn a_hall_is_closed_with_the_pass_that_was_kept(rt: HostRuntime) -> Result<(), Fail> {
+    let counter = count_beside(&rt, rt.alloc(), 65, 100).ok_or("memory")?;
+    assert_eq!(rt; counter.total, 65 * 4_950);
+    assert_eq!(rt; replayed(counter.added.as_slice()), 65 * 4_950);
     Ok(())
 }
 
@@ -182,6 +238,8 @@ impl Booked for Store {
     ghost stays = { λ old new. new.values ≡ old.values };
 
     ghost led = { λ opening history value. value.values ≡ fold (λ values e. slice_set values e.key e.value) opening.values history };
+
+    ghost itself_stays = { λ value. refl };
 
     ghost empty_leads = { λ opening. refl };
 
@@ -286,18 +344,4 @@ fn writes_are_kept_and_reads_change_nothing(rt: HostRuntime) -> Result<(), Fail>
         assert_eq!(rt; store.reads, 3_000 * u64::from(passes), "{passes} passes");
     }
     Ok(())
-}
-
-// Where the value may go to another thread, the hall may be shared, and its passes and the held value sent.
-fn crosses<B: Booked + Send>(hall: &Hall<B>, pass: Pass<B>, held: Held<B>) -> (Pass<B>, Held<B>) {
-    shares(hall);
-    (sends(pass), sends(held))
-}
-
-fn shares<T: Send + Sync>(_value: &T) {}
-
-fn sends<T: Send>(value: T) -> T
-    ensures { result ≡ value }
-{
-    value
 }
