@@ -1,8 +1,10 @@
 #!/usr/bin/env bash
-# Turns per second under kom_state_lock with 1, 2 and 4 threads, beside a std::sync::Mutex in Rust with the same
-# increment. A turn of the hall takes, logs and puts; one of the mutex locks, adds and lets go. Each thread takes
-# 200,000 turns, or as many as the one word says. Both programs run one after the other, three times, and the best time
-# of each counts. It needs rt, which proves the program bench_state_lock first, and rustc.
+# Turns under kom_state_lock with 1, 4, 16 and 64 threads, beside a std::sync::Mutex in Rust with the same increment. A
+# turn of the hall takes, logs and puts; one of the mutex locks, adds and lets go. Short turns come one after another;
+# in a held turn the thread sleeps for 200 us, as with the sync of a disk, and then for 2 ms outside of it. The threads
+# take 200,000 short turns together, or as many as the one word says, and a fiftieth as many held ones. Both programs
+# run one after the other, three times, and the least time and processor time of each count. It needs rt, which proves
+# the program bench_state_lock first, and rustc.
 set -euo pipefail
 turns=${1:-200000}
 root=$(cd "$(dirname "$0")/.." && pwd)
@@ -12,28 +14,64 @@ trap 'rm -rf "$work"' EXIT
 (cd "$root/crates/bench_state_lock" && rt run) > "$work/log" 2>&1 || { cat "$work/log"; exit 1; }
 hall=$root/crates/bench_state_lock/out/bench_state_lock
 
-cat > "$work/mutex.rs" <<RUST
+cat > "$work/mutex.rs" <<'RUST'
 use std::sync::Mutex;
-use std::time::Instant;
+use std::time::{Duration, Instant};
+
+#[repr(C)]
+struct Timespec {
+    secs: i64,
+    nanos: i64,
+}
+
+extern "C" {
+    fn clock_gettime(clock: i32, time: *mut Timespec) -> i32;
+}
+
+// The processor time of the process, in nanoseconds.
+fn processor() -> i64 {
+    let mut time = Timespec { secs: 0, nanos: 0 };
+    assert_eq!(unsafe { clock_gettime(2, &mut time) }, 0);
+    time.secs * 1_000_000_000 + time.nanos
+}
+
+fn rest(time: Duration) {
+    if !time.is_zero() {
+        std::thread::sleep(time);
+    }
+}
+
+fn measure(name: &str, threads: u64, turns: u64, hold: Duration, pause: Duration) {
+    let used = processor();
+    let start = Instant::now();
+    let sum = Mutex::new(0u64);
+    std::thread::scope(|scope| {
+        for _ in 0..threads {
+            scope.spawn(|| {
+                for _ in 0..turns {
+                    let mut sum = sum.lock().unwrap();
+                    *sum = sum.wrapping_add(1);
+                    rest(hold);
+                    drop(sum);
+                    rest(pause);
+                }
+            });
+        }
+    });
+    let nanos = start.elapsed().as_nanos();
+    let processor = processor() - used;
+    let sum = sum.into_inner().unwrap();
+    assert_eq!(sum, threads * turns);
+    println!("{name} {threads}: {nanos} ns, {processor} ns ({sum})");
+}
 
 fn main() {
-    for threads in [1u32, 2, 4] {
-        let sum = Mutex::new(0u64);
-        let start = Instant::now();
-        std::thread::scope(|scope| {
-            for _ in 0..threads {
-                scope.spawn(|| {
-                    for _ in 0..${turns}u64 {
-                        let mut sum = sum.lock().unwrap();
-                        *sum = sum.wrapping_add(1);
-                    }
-                });
-            }
-        });
-        let nanos = start.elapsed().as_nanos();
-        let sum = sum.into_inner().unwrap();
-        assert_eq!(sum, u64::from(threads) * ${turns});
-        println!("threads {threads}: {nanos} ns ({sum})");
+    let turns: u64 = std::env::args().nth(1).unwrap().parse().unwrap();
+    for threads in [1, 4, 16, 64] {
+        measure("short", threads, turns / threads, Duration::ZERO, Duration::ZERO);
+    }
+    for threads in [1, 4, 16, 64] {
+        measure("held", threads, turns / 50 / threads, Duration::from_micros(200), Duration::from_millis(2));
     }
 }
 RUST
@@ -41,14 +79,21 @@ rustc -O -o "$work/mutex" "$work/mutex.rs"
 
 for round in 1 2 3; do
     "$hall" "$turns" > "$work/hall.$round"
-    "$work/mutex" > "$work/mutex.$round"
+    "$work/mutex" "$turns" > "$work/mutex.$round"
 done
 
-# The best of the three times of a program with so many threads.
-best() { grep -h "^threads $2: " "$work/$1".[123] | awk '{ print $3 }' | sort -n | head -1; }
+# The least of a program's three numbers in the column, divided by its turns.
+least() {
+    grep -h "^$2 $3: " "$work/$1".[123] | tr -d '()' | awk -v column="$4" '{ print $column / $7 }' | sort -n | head -1
+}
 
-for threads in 1 2 4; do
-    awk -v n="$threads" -v t="$turns" -v h="$(best hall "$threads")" -v m="$(best mutex "$threads")" 'BEGIN {
-        printf "%d threads: hall %.0f turns/s, mutex %.0f turns/s, hall/mutex %.2f\n", n, n * t * 1e9 / h, n * t * 1e9 / m, m / h
-    }'
+for kind in short held; do
+    for threads in 1 4 16 64; do
+        awk -v kind="$kind" -v n="$threads" \
+            -v ht="$(least hall "$kind" "$threads" 3)" -v mt="$(least mutex "$kind" "$threads" 3)" \
+            -v hp="$(least hall "$kind" "$threads" 5)" -v mp="$(least mutex "$kind" "$threads" 5)" 'BEGIN {
+            printf "%d threads, %s turns: hall %.0f ns, mutex %.0f ns, hall/mutex %.2f; ", n, kind, ht, mt, ht / mt
+            printf "processor time %.0f ns, %.0f ns, %.2f\n", hp, mp, hp / mp
+        }'
+    done
 done

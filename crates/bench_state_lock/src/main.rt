@@ -14,58 +14,103 @@ use std::process::ExitCode;
 use std::rt::Clock;
 use std::sync::Wait;
 use std::thread::Threads;
-use std::time::Instant;
+use std::time::{CpuClock, Duration, Instant};
 use std::{io, thread};
 
-/// The turns of each thread.
+/// The short turns of all threads together.
 const TURNS: Counts = Counts {
-    few: 100,
+    few: 6400,
     least: 0,
     most: u32::MAX,
 };
+
+/// For so many short turns one is held.
+const SHORT_FOR_HELD: u32 = 50;
+
+/// What a thread does in its turn, and then.
+#[derive(Clone, Copy)]
+struct Work {
+    name: &'static str,
+    hold: Duration,
+    pause: Duration,
+}
+
+fn short() -> Work {
+    Work {
+        name: "short",
+        hold: Duration::from_micros(0),
+        pause: Duration::from_micros(0),
+    }
+}
+
+/// As with the sync of a disk.
+fn held() -> Work {
+    Work {
+        name: "held",
+        hold: Duration::from_micros(200),
+        pause: Duration::from_micros(2000),
+    }
+}
 
 fn main(rt: HostRuntime) -> io::Result<ExitCode> {
     let Some(request) = bench_watch::asked(&rt, TURNS) else {
         return bench_watch::refuse(&rt, "bench_state_lock [TURNS]");
     };
     let alloc = rt.alloc();
-    measure(&rt, alloc, request, 1)?;
-    measure(&rt, alloc, request, 2)?;
-    if matches!(request.told, Told::Times) {
-        measure(&rt, alloc, request, 4)?;
+    let count = request.count;
+    for threads in [1, 4, 16, 64] {
+        measure(&rt, alloc, request, threads, count / threads, short())?;
+    }
+    for threads in [1, 4, 16, 64] {
+        measure(
+            &rt,
+            alloc,
+            request,
+            threads,
+            count / SHORT_FOR_HELD / threads,
+            held(),
+        )?;
     }
     Ok(ExitCode::SUCCESS)
 }
 
-fn measure<R: Print + Clock + Threads + Wait + Sync>(
+/// So many turns of each thread.
+fn measure<R: Print + Clock + CpuClock + Threads + Wait + Sync>(
     rt: &R,
     alloc: Global,
     request: Request,
     threads: u32,
+    turns: u32,
+    work: Work,
 ) -> io::Result<()>
     requires { (1 ≤ threads) × (threads ≤ 65) }
 {
+    let used = rt.process_cpu_time()?;
+    let start = Instant::now(rt)?;
     let Ok((hall, mut row)) = Hall::make(alloc, Counter { total: 0 }, threads) else {
         return Err(io::ErrorKind::OutOfMemory.into());
     };
-    let start = Instant::now(rt)?;
-    take_together(rt, &hall, row.as_mut_slice(), request.count);
-    let time = start.elapsed(rt)?;
+    take_together(rt, &hall, row.as_mut_slice(), turns, work);
+    let time = start.elapsed(rt);
+    let used_then = rt.process_cpu_time();
     let (counter, _pass) = hall.close(row);
     let total = counter.total;
-    let nanos = time.as_nanos();
+    let name = work.name;
+    let nanos = time?.as_nanos();
+    let processor = used_then?.saturating_sub(used).as_nanos();
     match request.told {
-        Told::Sums => println!(rt; "threads {threads}: {total}"),
-        Told::Times => println!(rt; "threads {threads}: {nanos} ns ({total})"),
+        Told::Sums => println!(rt; "{name} {threads}: {total}"),
+        Told::Times => println!(rt; "{name} {threads}: {nanos} ns, {processor} ns ({total})"),
     }
 }
 
 /// So many turns of each pass, in as many threads.
-fn take_together<R: Threads + Wait + Sync>(
+fn take_together<R: Clock + Threads + Wait + Sync>(
     rt: &R,
     hall: &Hall<Counter>,
     passes: &mut [Pass<Counter>],
     turns: u32,
+    work: Work,
 )
     requires ready { AreReady hall.now passes.old }
     requires some { 0 < length passes.old }
@@ -76,11 +121,17 @@ fn take_together<R: Threads + Wait + Sync>(
         rt,
         passes,
         threads,
-        &|_, pass| take_turns(rt, hall, pass, turns),
+        &|_, pass| take_turns(rt, hall, pass, turns, work),
     );
 }
 
-fn take_turns<R: Wait>(rt: &R, hall: &Hall<Counter>, pass: &mut Pass<Counter>, turns: u32)
+fn take_turns<R: Clock + Wait>(
+    rt: &R,
+    hall: &Hall<Counter>,
+    pass: &mut Pass<Counter>,
+    turns: u32,
+    work: Work,
+)
     requires { IsPassOf hall.now pass.old × HoldsNoTurn pass.old.turn }
     ensures { IsPassOf hall.now pass.new × HoldsNoTurn pass.new.turn × (pass.new.number ≡ pass.old.number) }
 {
@@ -93,7 +144,15 @@ fn take_turns<R: Wait>(rt: &R, hall: &Hall<Counter>, pass: &mut Pass<Counter>, t
         let entry = Added {
             pass: pass.number(),
         };
+        rest(rt, work.hold);
         hall.log(pass, &mut held, entry);
         hall.put(pass, held);
+        rest(rt, work.pause);
+    }
+}
+
+fn rest(rt: &impl Clock, time: Duration) {
+    if !time.is_zero() {
+        thread::sleep(rt, time);
     }
 }

@@ -1,5 +1,6 @@
 pub mod Begins
 pub mod Places
+pub mod Words
 pub mod Moves
 pub mod Turns
 pub mod PassFacts

@@ -14,7 +14,7 @@ use Rattle.kom_state_lock.specs.declared.views.Turn.TheVariants.{Resting, Waitin
 use Rattle.kom_state_lock.specs.declared.views.Share.{Share}
 use Rattle.kom_state_lock.specs.declared.views.View.{View}
 use Rattle.kom_state_lock.specs.Views.{entries_of, ticket_in, is_over, is_served, may_have_ticket, is_original, spent_seat, first_seat, splitting, split_off, share_of, joining, noting, note_of}
-use Rattle.kom_state_lock.specs.Rule.{at_home, InTurn, IsJoined, IsSeated, IsHome, IsKnown, Stands, Rule}
+use Rattle.kom_state_lock.specs.Rule.{at_home, AreWords, InTurn, IsJoined, IsSeated, IsHome, IsKnown, Stands, Rule}
 use Rattle.kom_state_lock.specs.Closing.{Covers, IsSettled}
 use Rattle.kom_state_lock.proofs.Begins.{begins_itself, longer_begins, longer_first, longer_second}
 use Rattle.kom_state_lock.proofs.Places.{here_below, at_end, count_set, count_end, in_either}
@@ -446,12 +446,12 @@ module _ {B E : Type 0} (pass_of : E → ℕ) (led : B → List E → B → Type
   no_ticket_at_first (suc i) v k e mine = maybe.some-ne-none v (sym e)
 
   -- the table at the start
-  pub opens : (value : B) → 0 < passes → passes ≤ 65 → led opening [] value → Ruled record { words = 0 ∷ 0 ∷ 0 ∷ []; homes = at_home value; views = first_seat ∷ [] }
-  opens value some few leads = record {
+  pub opens : (words : List ℕ) (value : B) → AreWords 0 0 0 words → 0 < passes → passes ≤ 65 → led opening [] value → Ruled record { words = words; homes = at_home value; views = first_seat ∷ [] }
+  opens words value are some few leads = record {
     ticket = 0;
     serving = 0;
     history = [];
-    words = refl;
+    words = are;
     stands = record {
       few = few;
       behind = omega arith;

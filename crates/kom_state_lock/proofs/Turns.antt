@@ -13,11 +13,12 @@ use Rattle.kom_state_lock.specs.declared.views.Turn.{Turn}
 use Rattle.kom_state_lock.specs.declared.views.Turn.TheVariants.{Resting, Waiting, Holding, Logged, Spent, Closed}
 use Rattle.kom_state_lock.specs.declared.views.View.{View}
 use Rattle.kom_state_lock.specs.Views.{entries_of, ticket_in, ticket_of, is_over, is_served, may_have_ticket, is_original, history_in, drawing, taking, logging, resting}
-use Rattle.kom_state_lock.specs.Rule.{at_home, is_out, IsServed, InTurn, IsHome, IsAway, IsKnown, Stands, Rule}
-use Rattle.kom_state_lock.specs.Steps.{Draws, Looks, Logs, HandsOn}
+use Rattle.kom_state_lock.specs.Rule.{at_home, is_out, AreWords, IsServed, InTurn, IsHome, IsAway, IsKnown, Stands, Rule}
+use Rattle.kom_state_lock.specs.Steps.{Draws, Looks, Logs, HandsOn, Marks}
 use Rattle.kom_state_lock.specs.Passes.{MayLog, MayPut}
 use Rattle.kom_state_lock.proofs.Begins.{begins_itself, begins_more}
 use Rattle.kom_state_lock.proofs.Places.{here_below, count_less}
+use Rattle.kom_state_lock.proofs.Words.{word_found, next_written, now_written, length_written, other_written}
 use Rattle.kom_state_lock.proofs.Moves.{ticket_original, served_now, served_goes, ticket_below, moved, IsMove}
 
 abbrev bit : Bool → ℕ
@@ -170,7 +171,7 @@ module _ {B E : Type 0} (pass_of : E → ℕ) (led : B → List E → B → Type
   pub draws_allowed : (slots id : ℕ) (me : Me (Option B) V) → me.0.turn ≡ Resting → Allows Ruled slots id me 0 (λ n. (n + 1) % 2 ^ 64) (Draws me)
   draws_allowed slots id me free s r wide here fits =
       let t = r.ticket in
-      let found : slice_index s.words 0 ≡ t = ap (λ ws. slice_index ws 0) r.words in
+      let found : slice_index s.words 0 ≡ t = word_found s.words 0 t r.words.next in
       let low = bounded t r.serving r.history s.homes s.views r.stands in
       let more : (t + 1) % 2 ^ 64 ≡ t + 1 = mod-eq_of_lt (omega arith) in
       let drawn = (r.stands.each id me.0 here (ap is_over free)).drawn in
@@ -182,7 +183,7 @@ module _ {B E : Type 0} (pass_of : E → ℕ) (led : B → List E → B → Type
           ticket = t + 1;
           serving = r.serving;
           history = r.history;
-          words = ap (λ ws. slice_set ws 0 ((t + 1) % 2 ^ 64)) r.words ∙ ap (λ (n : ℕ). n ∷ r.serving ∷ length r.history ∷ []) more;
+          words = subst (λ n. AreWords (t + 1) r.serving (length r.history) (slice_set s.words 0 n)) (sym more) (next_written t r.serving (length r.history) s.words r.words (t + 1));
           stands = drawn_stands t r.serving r.history s.homes s.views id me.0 r.stands here free;
         },
         (refl, drawn),
@@ -222,12 +223,12 @@ module _ {B E : Type 0} (pass_of : E → ℕ) (led : B → List E → B → Type
       } in moved pass_of led opening passes t sv h homes views id v t sv h homes' w r move
 
   pub looks_allowed : (slots id ticket : ℕ) (me : Me (Option B) V) (told : Option B) → me.0.turn ≡ Waiting ticket → ticket < 2 ^ 62 → told ≡ Some opening
-      → Allows Ruled slots id me 1 (λ n. n) (Looks pass_of led told me)
+      → Allows Ruled slots id me 8 (λ n. n) (Looks pass_of led told me)
   looks_allowed slots id ticket me told waits few says s r wide here fits =
       let sv = r.serving in
-      let found : slice_index s.words 1 ≡ sv = ap (λ ws. slice_index ws 1) r.words in
-      let Goal : ℕ → Type 0 = λ n. (w : V) × (a : Act (Option B)) × Valid s.homes me.1 a × Ruled (stepped s 1 n id me.1 w a) × Looks pass_of led told me n (w, carried_after me.1 a) in
-      let same : slice_set s.words 1 sv ≡ r.ticket ∷ sv ∷ length r.history ∷ [] = ap (λ ws. slice_set ws 1 sv) r.words in
+      let found : slice_index s.words 8 ≡ sv = word_found s.words 8 sv r.words.now in
+      let Goal : ℕ → Type 0 = λ n. (w : V) × (a : Act (Option B)) × Valid s.homes me.1 a × Ruled (stepped s 8 n id me.1 w a) × Looks pass_of led told me n (w, carried_after me.1 a) in
+      let same : AreWords r.ticket sv (length r.history) (slice_set s.words 8 sv) = now_written r.ticket sv (length r.history) s.words r.words sv in
       subst Goal (sym found) (dite (ℕ_discrete sv ticket)
       (λ hit.
       let v : V = me.0 in
@@ -277,6 +278,22 @@ module _ {B E : Type 0} (pass_of : E → ℕ) (led : B → List E → B → Type
             ((λ _. refl), (λ hit. absurd (miss (hit ∙ sym one)))),
       )))
 
+  -- a word to sleep on may be marked at any time
+  pub marks_allowed : (slots id word mark : ℕ) (me : Me (Option B) V) → 24 ≤ word → Allows Ruled slots id me word (λ _. mark) (λ _. Marks me)
+  marks_allowed slots id word mark me far s r wide here fits = (
+    me.0,
+    keeps,
+    tt,
+    record {
+      ticket = r.ticket;
+      serving = r.serving;
+      history = r.history;
+      words = other_written r.ticket r.serving (length r.history) s.words r.words word mark far;
+      stands = subst (λ vs. Standing r.ticket r.serving r.history s.homes vs) (sym (set_again s.views id me.0 here)) r.stands;
+    },
+    refl,
+  )
+
   -- a turn that is not logged, as its seat has it
   logged_stands : (t sv : ℕ) (h : List E) (homes : Homes) (views : List V) (id ticket : ℕ) (v : V) (taken : B) (before : List E) (entry : E) (left : B) → Standing t sv h homes views → get_elem? views id ≡ maybe.some v
       → v.turn ≡ Holding ticket taken before → pass_of entry ≡ v.number → (led opening h taken → led opening (h ++ entry ∷ []) left)
@@ -320,10 +337,10 @@ module _ {B E : Type 0} (pass_of : E → ℕ) (led : B → List E → B → Type
 
   pub logs_allowed : (slots id ticket : ℕ) (me : Me (Option B) V) (taken : B) (before : List E) (entry : E) (left : B) (told : Option E) (value : Option B)
       → me.0.turn ≡ Holding ticket taken before → pass_of entry ≡ me.0.number → ((history : List E) → led opening history taken → led opening (history ++ entry ∷ []) left)
-      → told ≡ Some entry → value ≡ Some left → Allows Ruled slots id me 2 (λ n. (n + 1) % 2 ^ 64) (λ _. Logs told value me)
+      → told ≡ Some entry → value ≡ Some left → Allows Ruled slots id me 16 (λ n. (n + 1) % 2 ^ 64) (λ _. Logs told value me)
   logs_allowed slots id ticket me taken before entry left told value holds names follows one two s r wide here fits =
       let h = r.history in
-      let found : slice_index s.words 2 ≡ length h = ap (λ ws. slice_index ws 2) r.words in
+      let found : slice_index s.words 16 ≡ length h = word_found s.words 16 (length h) r.words.written in
       let v : V = me.0 in
       let old = r.stands.each id v here (ap is_over holds) in
       let says = turn_in r.ticket r.serving h s.homes v (Holding ticket taken before) holds old.turn in
@@ -331,7 +348,7 @@ module _ {B E : Type 0} (pass_of : E → ℕ) (led : B → List E → B → Type
       let brief = says.1.short in
       let more : (length h + 1) % 2 ^ 64 ≡ length (h ++ entry ∷ []) = mod-eq_of_lt (omega arith) ∙ sym (length-append h (entry ∷ [])) in
       let both = logged_stands r.ticket r.serving h s.homes s.views id ticket v taken before entry left r.stands here holds names (follows h) in
-      subst (λ (n : ℕ). (w : V) × (a : Act (Option B)) × Valid s.homes me.1 a × Ruled (stepped s 2 ((n + 1) % 2 ^ 64) id me.1 w a) × Logs told value me (w, carried_after me.1 a)) (sym found) (
+      subst (λ (n : ℕ). (w : V) × (a : Act (Option B)) × Valid s.homes me.1 a × Ruled (stepped s 16 ((n + 1) % 2 ^ 64) id me.1 w a) × Logs told value me (w, carried_after me.1 a)) (sym found) (
         logging entry left v,
         keeps,
         tt,
@@ -339,7 +356,7 @@ module _ {B E : Type 0} (pass_of : E → ℕ) (led : B → List E → B → Type
           ticket = r.ticket;
           serving = r.serving;
           history = h ++ entry ∷ [];
-          words = ap (λ ws. slice_set ws 2 ((length h + 1) % 2 ^ 64)) r.words ∙ ap (λ (n : ℕ). r.ticket ∷ r.serving ∷ n ∷ []) more;
+          words = subst (λ n. AreWords r.ticket r.serving (length (h ++ entry ∷ [])) (slice_set s.words 16 n)) (sym more) (length_written r.ticket r.serving (length h) s.words r.words (length (h ++ entry ∷ [])));
           stands = both.1;
         },
         λ entry' left' f g.
@@ -414,16 +431,16 @@ module _ {B E : Type 0} (pass_of : E → ℕ) (led : B → List E → B → Type
     put_goes Spent value may = absurd may
     put_goes Closed value may = absurd may
 
-    pub hands_on_allowed : (slots id : ℕ) (me : Me (Option B) V) (value : B) → MayPut stays me.0.turn value → me.1 ≡ (0, Some value) ∷ [] → Allows Ruled slots id me 1 (λ n. (n + 1) % 2 ^ 64) (λ _. HandsOn me)
+    pub hands_on_allowed : (slots id : ℕ) (me : Me (Option B) V) (value : B) → MayPut stays me.0.turn value → me.1 ≡ (0, Some value) ∷ [] → Allows Ruled slots id me 8 (λ n. (n + 1) % 2 ^ 64) (λ _. HandsOn me)
     hands_on_allowed slots id me value may carries s r wide here fits =
         let sv = r.serving in
         let v : V = me.0 in
-        let found : slice_index s.words 1 ≡ sv = ap (λ ws. slice_index ws 1) r.words in
+        let found : slice_index s.words 8 ≡ sv = word_found s.words 8 sv r.words.now in
         let both = handed_stands r.ticket sv r.history s.homes (put_back s.homes me.1) s.views id v value r.stands here may (put_goes v.turn value may)
         (λ out. ap (put_back s.homes) carries ∙ ap (λ (hs : Homes). slice_set hs 0 (maybe.some (Some value))) out) in
         let low = both.0 in
         let more : (sv + 1) % 2 ^ 64 ≡ sv + 1 = mod-eq_of_lt (omega arith) in
-        subst (λ (n : ℕ). (w : V) × (a : Act (Option B)) × Valid s.homes me.1 a × Ruled (stepped s 1 ((n + 1) % 2 ^ 64) id me.1 w a) × HandsOn me (w, carried_after me.1 a)) (sym found) (
+        subst (λ (n : ℕ). (w : V) × (a : Act (Option B)) × Valid s.homes me.1 a × Ruled (stepped s 8 ((n + 1) % 2 ^ 64) id me.1 w a) × HandsOn me (w, carried_after me.1 a)) (sym found) (
           resting v,
           gives,
           tt,
@@ -431,7 +448,7 @@ module _ {B E : Type 0} (pass_of : E → ℕ) (led : B → List E → B → Type
             ticket = r.ticket;
             serving = sv + 1;
             history = r.history;
-            words = ap (λ ws. slice_set ws 1 ((sv + 1) % 2 ^ 64)) r.words ∙ ap (λ (n : ℕ). r.ticket ∷ n ∷ length r.history ∷ []) more;
+            words = subst (λ n. AreWords r.ticket (sv + 1) (length r.history) (slice_set s.words 8 n)) (sym more) (now_written r.ticket sv (length r.history) s.words r.words (sv + 1));
             stands = both.1;
           },
           refl,

@@ -1,5 +1,6 @@
 -- What is true of a hall's table between any two steps.
--- Its words are the next ticket, the ticket that is served, and the length of the history. Its one slot has the value.
+-- Three of its words count: the next ticket, the ticket that is served, and the length of the history. They lie 64 bytes
+-- apart, so that no two share a cache line. The rule asks nothing of the others. Its one slot has the value.
 use Rattle.std.specs.Prelude.{◌≡◌, ℕ, ◌+◌, ◌^◌, ◌<◌, ◌≤◌, ◌⊎◌, true, false, List, [], ◌∷◌, length, count_by, Option, Some}
 use mathlib.Core.List.{IsPrefix}
 use mathlib.Core.Option as maybe
@@ -10,6 +11,12 @@ use Rattle.kom_state_lock.specs.declared.views.Turn.TheVariants.{Resting, Waitin
 use Rattle.kom_state_lock.specs.declared.views.Share.{Share}
 use Rattle.kom_state_lock.specs.declared.views.View.{View}
 use Rattle.kom_state_lock.specs.Views.{entries_of, ticket_in, is_over, is_served, may_have_ticket, is_original, spent_seat}
+
+-- the words that count
+pub record AreWords (ticket serving long : ℕ) (words : List ℕ) : Type 0 where
+  pub next : get_elem? words 0 ≡ maybe.some ticket
+  pub now : get_elem? words 8 ≡ maybe.some serving
+  pub written : get_elem? words 16 ≡ maybe.some long
 
 -- the slot, at home with a value, or out with a seat
 abbrev pub at_home : {B : Type 0} → B → List (maybe.Option (Option B))
@@ -89,10 +96,10 @@ module _ {B E : Type 0} (pass_of : E → ℕ) (led : B → List E → B → Type
     pub strangers : (n : ℕ) → passes ≤ n → entries_of pass_of n history ≡ []
     pub known : IsKnown history views
 
-  -- there is one history, as long as the history word says
+  -- there is one history, as long as its word says
   pub record Rule (passes : ℕ) (s : State (Option B) (View B E)) : Type 0 where
     pub ticket : ℕ
     pub serving : ℕ
     pub history : List E
-    pub words : s.words ≡ ticket ∷ serving ∷ length history ∷ []
+    pub words : AreWords ticket serving (length history) s.words
     pub stands : Stands passes ticket serving history s.homes s.views

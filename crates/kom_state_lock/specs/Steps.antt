@@ -15,9 +15,9 @@ Seated B E = Me (Option B) (View B E)
 abbrev pub IsSameSeat : {S V : Type 0} → Seat S V → Seat S V → Type 0
 IsSameSeat old new = (new.table_id ≡ old.table_id) × (new.id ≡ old.id)
 
--- the table of a hall has three words and one slot
+-- the table of a hall has 24 words of which three count, 128 words to sleep on, and one slot
 abbrev pub IsHallTable : TableId → Type 0
-IsHallTable table = (table.words ≡ 3) × (table.slots ≡ 1)
+IsHallTable table = (table.words ≡ 152) × (table.slots ≡ 1)
 
 abbrev pub IsSeatOf : {S V : Type 0} → TableId → Seat S V → Type 0
 IsSeatOf table seat = IsHallTable table × (seat.table_id ≡ table)
@@ -48,6 +48,10 @@ module _ {B E : Type 0} where
   -- the slot goes back
   abbrev pub HandsOn : Seated B E → Seated B E → Type 0
   HandsOn m n = n ≡ (resting m.0, rest m.1)
+
+  -- a mark on a word to sleep on changes nothing
+  abbrev pub Marks : Seated B E → Seated B E → Type 0
+  Marks m n = n ≡ m
 
   -- a draw and a take together: the value has left the slot
   abbrev pub TakesAll : (E → ℕ) → (B → List E → B → Type 0) → B → View B E → B → Seated B E → Type 0

@@ -8,6 +8,7 @@ ghost use Rattle.kom_state_lock.specs.Passes.{AreNewPasses};
 use crate::booked::Booked;
 use crate::pass::Pass;
 use crate::plays::{Another, Desk, Opening, Place, Words};
+use crate::steps::WORDS;
 use atomic_table::{Refused, Table};
 use std::alloc::Global;
 use std::snapshot::Snapshot;
@@ -31,7 +32,7 @@ pub(crate) fn lay_table<B: Booked>(
         return Err(value);
     };
     slots.push_reserved(Some(value));
-    match Table::new(alloc, &[0, 0, 0], slots, &key) {
+    match Table::new(alloc, &[0; WORDS], slots, &key) {
         Ok(made) => Ok(made),
         Err(Refused { mut slots }) => {
             let value = slots.pop().unwrap().unwrap();

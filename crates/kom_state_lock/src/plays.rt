@@ -1,6 +1,6 @@
 // What each step tells. These types are for the proofs alone.
 ghost use Rattle.std.specs.Prelude.{None};
-ghost use Rattle.kom_state_lock.specs.Steps.{Draws, Looks, Logs, HandsOn};
+ghost use Rattle.kom_state_lock.specs.Steps.{Draws, Looks, Logs, HandsOn, Marks};
 ghost use Rattle.kom_state_lock.specs.Views.{first_seat, splitting, split_off, joining, spent_seat, noting, note_of};
 ghost use Rattle.kom_state_lock.specs.Rule.{Rule};
 
@@ -74,6 +74,13 @@ pub struct HandOn;
 
 impl<B, E> Play<Option<B>, View<B, E>> for HandOn {
     ghost then = { λ _ m _ n. HandsOn m n };
+}
+
+/// A word to sleep on is marked.
+pub struct Mark;
+
+impl<B, E> Play<Option<B>, View<B, E>> for Mark {
+    ghost then = { λ _ m _ n. Marks m n };
 }
 
 /// A new seat.

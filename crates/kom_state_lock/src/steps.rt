@@ -1,26 +1,43 @@
 // The steps of a turn, each by one seat of the table.
-ghost use Rattle.std.specs.Prelude.{◌≡◌, ℕ, ◌<◌, ◌≤◌, ◌+◌, ◌^◌, [], ◌∷◌, Some, None, MatchResult};
+ghost use Rattle.std.specs.Prelude.{◌≡◌, ◌≢◌, ℕ, ◌<◌, ◌≤◌, ◌+◌, ◌^◌, true, false, [], ◌∷◌, Some, None, MatchResult};
 ghost use Rattle.kom_state_lock.specs.declared.views.Turn.TheVariants.{Resting, Waiting};
 ghost use Rattle.kom_state_lock.specs.Views.{drawing, logging, resting};
 ghost use Rattle.kom_state_lock.specs.Steps.{Draws, Takes, IsSameSeat, IsSeatOf, TakesAll};
 ghost use Rattle.kom_state_lock.specs.Passes.{MayLog, MayPut};
 
 use crate::booked::Booked;
-use crate::plays::{Draw, HandOn, Log, Look, Place, Told, Words};
+use crate::plays::{Draw, HandOn, Log, Look, Mark, Place, Told, Words};
+use std::hint;
 use std::marker::Brand;
 use std::sync::Wait;
 
+/// The words of the table. Those that count lie 64 bytes apart: each has a cache line of its own.
+pub(crate) const WORDS: usize = 152;
+
 const TICKET: usize = 0;
 
-const SERVING: usize = 1;
+const SERVING: usize = 8;
 
-const HISTORY: usize = 2;
+const HISTORY: usize = 16;
+
+// From here on lie the words to sleep on, each for every 128th ticket. At most 65 tickets are in line, so that those in
+// line at one time sleep on different words.
+const BEDS: usize = 24;
+
+const BED_COUNT: u64 = 128;
+
+// Whether somebody sleeps on a word, or is about to.
+const AWAKE: u64 = 0;
+
+const ASLEEP: u64 = 1;
 
 // The tickets below it have turns.
 const TURNS: u64 = 1 << 62;
 
-// So often a seat looks before it sleeps.
-const LOOKS: u32 = 2000;
+// So often a seat looks before it sleeps, while so many are before it in line.
+const LOOKS: u32 = 200;
+
+const NEAR: u64 = 2;
 
 fn draw<B: Booked>(words: &Words<B>, seat: &mut Place<B>) -> u64
     requires table { IsSeatOf words.now.table_id seat.old }
@@ -29,6 +46,59 @@ fn draw<B: Booked>(words: &Words<B>, seat: &mut Place<B>) -> u64
     ensures drawn { Draws seat.old.me result seat.new.me }
 {
     words.fetch_add::<Draw>(seat, TICKET, 1)
+}
+
+// The word that the pass with the ticket sleeps on.
+fn bed(ticket: u64) -> usize
+    ensures { (24 ≤ result) × (result < 152) }
+{
+    BEDS + (ticket % BED_COUNT) as usize
+}
+
+// Which ticket is served. If it is this one, the slot is taken with the value in it.
+fn look<B: Booked, N: Told<B, B::Entry>>(words: &Words<B>, seat: &mut Place<B>, ticket: u64) -> u64
+    requires table { IsSeatOf words.now.table_id seat.old }
+    requires told { N.opening ≡ Some words.now.key.value.value }
+    requires drawn { (seat.old.me.0.turn ≡ Waiting ticket) × (ticket < 2 ^ 62) }
+    ensures seat { IsSameSeat seat.old seat.new }
+    ensures other { result ≢ ticket → seat.new.me ≡ seat.old.me }
+    ensures taken { result ≡ ticket → Takes B.pass_of B.led words.now.key.value.value ticket seat.old.me seat.new.me }
+{
+    words.load::<Look<N>>(seat, SERVING)
+}
+
+// Looks while the turn is near, without sleeping. Whether it came.
+fn watch<B: Booked, N: Told<B, B::Entry>>(
+    words: &Words<B>,
+    seat: &mut Place<B>,
+    ticket: u64,
+) -> bool
+    requires table { IsSeatOf words.now.table_id seat.old }
+    requires told { N.opening ≡ Some words.now.key.value.value }
+    requires drawn { (seat.old.me.0.turn ≡ Waiting ticket) × (ticket < 2 ^ 62) }
+    ensures seat { IsSameSeat seat.old seat.new }
+    ensures other { result ≡ false → seat.new.me ≡ seat.old.me }
+    ensures taken { result ≡ true → Takes B.pass_of B.led words.now.key.value.value ticket seat.old.me seat.new.me }
+{
+    for _ in 0..LOOKS {
+        let serving = look::<B, N>(words, seat, ticket);
+        if serving == ticket {
+            return true;
+        }
+        if ticket.wrapping_sub(serving) > NEAR {
+            return false;
+        }
+        hint::spin_loop();
+    }
+    false
+}
+
+fn mark<B: Booked>(words: &Words<B>, seat: &mut Place<B>, ticket: u64, sleep: u64) -> u64
+    requires table { IsSeatOf words.now.table_id seat.old }
+    ensures seat { IsSameSeat seat.old seat.new }
+    ensures same { seat.new.me ≡ seat.old.me }
+{
+    words.swap::<Mark>(seat, bed(ticket), sleep)
 }
 
 // Waits until the ticket is served, and takes the slot with the value in it.
@@ -44,19 +114,32 @@ fn wait_turn<B: Booked, N: Told<B, B::Entry>, R: Wait>(
     ensures seat { IsSameSeat seat.old seat.new }
     ensures taken { Takes B.pass_of B.led words.now.key.value.value ticket seat.old.me seat.new.me }
 {
-    let mut looks = 0;
+    if watch::<B, N>(words, seat, ticket) {
+        return;
+    }
     for _ in rt.forever() {
-        let serving = words.load::<Look<N>>(seat, SERVING);
-        if serving == ticket {
+        let _ = mark(words, seat, ticket, ASLEEP);
+        // Whoever serves the ticket after this look finds the mark.
+        if look::<B, N>(words, seat, ticket) == ticket {
             return;
         }
-        if looks < LOOKS {
-            looks += 1;
-        } else {
-            words.park(rt, SERVING, (serving & 0xffff_ffff) as u32);
+        words.park(rt, bed(ticket), ASLEEP as u32);
+        if look::<B, N>(words, seat, ticket) == ticket {
+            return;
         }
     }
     unreachable!()
+}
+
+// Wakes the pass with the ticket, if it sleeps.
+fn wake<B: Booked>(words: &Words<B>, seat: &mut Place<B>, ticket: u64)
+    requires table { IsSeatOf words.now.table_id seat.old }
+    ensures seat { IsSameSeat seat.old seat.new }
+    ensures same { seat.new.me ≡ seat.old.me }
+{
+    if words.peek(bed(ticket)) == ASLEEP && mark(words, seat, ticket, AWAKE) == ASLEEP {
+        words.wake_one(bed(ticket));
+    }
 }
 
 // Takes a turn, or gives the ticket that has none.
@@ -110,7 +193,10 @@ pub(crate) fn hand_on<B: Booked>(words: &Words<B>, seat: &mut Place<B>, value: B
         Some(_) => unreachable!(),
     }
     let served = words.fetch_add::<HandOn>(seat, SERVING, 1);
-    if words.peek(TICKET) != served.wrapping_add(1) {
-        words.wake_all(SERVING);
+    // The next in line marks its word and then looks at SERVING once more. With SERVING written first here, either that
+    // look sees the turn, or the mark is seen here. Who draws the next ticket after the look at TICKET sees the turn too.
+    let next = served.wrapping_add(1);
+    if words.peek(TICKET) != next {
+        wake(words, seat, next);
     }
 }

@@ -4,10 +4,12 @@ ghost use Rattle.kom_state_lock.specs.Passes.{IsPassOf, HoldsNoTurn, AreReady, A
 
 use crate::{Booked, Hall, Pass};
 use std::alloc::Global;
+use std::rt::Clock;
 use std::sync::Wait;
 use std::test::Fail;
 use std::thread;
 use std::thread::Threads;
+use std::time::{CpuClock, Duration};
 
 // So much was added by a pass.
 #[derive(Clone, Copy)]
@@ -343,5 +345,70 @@ fn writes_are_kept_and_reads_change_nothing(rt: HostRuntime) -> Result<(), Fail>
         assert_eq!(rt; store.values, want, "{passes} passes");
         assert_eq!(rt; store.reads, 3_000 * u64::from(passes), "{passes} passes");
     }
+    Ok(())
+}
+
+// One turn that is counted. The first of all is held for so long.
+fn hold_first<R: Clock + Wait>(rt: &R, hall: &Hall<Store>, pass: &mut Pass<Store>, time: Duration)
+    requires { IsPassOf hall.now pass.old × HoldsNoTurn pass.old.turn }
+    ensures { IsPassOf hall.now pass.new × HoldsNoTurn pass.new.turn × (pass.new.number ≡ pass.old.number) }
+{
+    let Ok(mut held) = hall.take(rt, pass) else {
+        return;
+    };
+    let store = held.value();
+    let turns = store.reads;
+    store.reads = turns.wrapping_add(1);
+    if turns == 0 {
+        thread::sleep(rt, time);
+    }
+    hall.put(pass, held);
+}
+
+fn hold_together<R: Threads + Clock + Wait + Sync>(
+    rt: &R,
+    hall: &Hall<Store>,
+    passes: &mut [Pass<Store>],
+    time: Duration,
+)
+    requires ready { AreReady hall.now passes.old }
+    requires some { 0 < length passes.old }
+    ensures { AreReady hall.now passes.new }
+{
+    let threads = passes.len();
+    thread::for_each_mut(
+        rt,
+        passes,
+        threads,
+        &|_, pass| hold_first(rt, hall, pass, time),
+    );
+}
+
+// How many turns were taken, one of which was held for so long while the others waited.
+fn turns_beside<R: Threads + Clock + Wait + Sync>(
+    rt: &R,
+    alloc: Global,
+    passes: u32,
+    time: Duration,
+) -> Option<u64>
+    requires { (1 ≤ passes) × (passes ≤ 65) }
+{
+    let empty = Store {
+        values: [0; 8],
+        reads: 0,
+    };
+    let (hall, mut row) = Hall::make(alloc, empty, passes).ok()?;
+    hold_together(rt, &hall, row.as_mut_slice(), time);
+    let (store, _pass) = hall.close(row);
+    Some(store.reads)
+}
+
+#[test]
+fn waiting_takes_next_to_no_processor_time(rt: HostRuntime) -> Result<(), Fail> {
+    let before = rt.process_cpu_time()?;
+    let turns = turns_beside(&rt, rt.alloc(), 9, Duration::from_secs(1)).ok_or("memory")?;
+    let used = rt.process_cpu_time()?.saturating_sub(before);
+    assert_eq!(rt; turns, 9);
+    assert!(rt; used < Duration::from_millis(50), "{used:?}");
     Ok(())
 }

@@ -1,4 +1,5 @@
-use Rattle.std.proofs.Common.{◌≡◌, [], ◌∷◌, ◌++◌, Some, sym, ap, ◌∙◌, subst}
+use Rattle.std.proofs.Common.{◌≡◌, [], ◌∷◌, ◌++◌, Some, refl, sym, ap, ◌∙◌, subst}
+use Rattle.std.specs.Prelude.{replicate}
 use Rattle.atomic_table.specs.Table.{opening}
 use Rattle.kom_state_lock.specs.Rule.{Rule}
 use Rattle.kom_state_lock.specs.Views.{first_seat}
@@ -10,6 +11,6 @@ new-requires g c =
     let b = g.B.Booked in
     let value = c.args.value in
     let slots : c.push_reserved.new.self.items ≡ Some value ∷ [] = c.push_reserved.ensures.items ∙ ap (λ xs. xs ++ Some value ∷ []) c.in-Ok.ensures.items in
-    subst (λ xs. Rule b.pass_of b.led c.of.result.value c.args.passes (opening (0 ∷ 0 ∷ 0 ∷ []) xs first_seat)) (sym slots)
-    (subst (λ x. Rule b.pass_of b.led x c.args.passes (opening (0 ∷ 0 ∷ 0 ∷ []) (Some value ∷ []) first_seat)) (sym c.of.ensures)
-    (opens b.pass_of b.led value c.args.passes value c.requires.0 c.requires.1 (b.empty_leads value)))
+    subst (λ xs. Rule b.pass_of b.led c.of.result.value c.args.passes (opening (replicate 152 0) xs first_seat)) (sym slots)
+    (subst (λ x. Rule b.pass_of b.led x c.args.passes (opening (replicate 152 0) (Some value ∷ []) first_seat)) (sym c.of.ensures)
+    (opens b.pass_of b.led value c.args.passes (replicate 152 0) value record { next = refl; now = refl; written = refl } c.requires.0 c.requires.1 (b.empty_leads value)))
