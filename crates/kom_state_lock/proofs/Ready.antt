@@ -42,39 +42,51 @@ module _ {B E : Type 0} where
       let here : n < length passes = omega (arith, ready.long) in
       (n, omega (arith, mapped passes), number_at passes n n here (λ d. (ready.each n d here).number))
 
-  before_last : (passes : List (PassModel B E)) (last : PassModel B E) (k : ℕ) (d : PassModel B E) → k < length passes → slice_index_or (passes ++ last ∷ []) k d ≡ slice_index_or passes k d
+  before_last : (passes : List (PassModel B E)) (last : PassModel B E) (k : ℕ) (d : PassModel B E) → k < length passes
+      → slice_index_or (passes ++ last ∷ []) k d ≡ slice_index_or passes k d
   before_last [] last k d low = absurd (omega arith)
   before_last (x ∷ passes) last zero d low = refl
   before_last (x ∷ passes) last (suc k) d low = before_last passes last k d (omega arith)
 
-  at_last : (passes : List (PassModel B E)) (last : PassModel B E) (k : ℕ) (d : PassModel B E) → k ≡ length passes → slice_index_or (passes ++ last ∷ []) k d ≡ last
+  at_last : (passes : List (PassModel B E)) (last : PassModel B E) (k : ℕ) (d : PassModel B E) → k ≡ length passes
+      → slice_index_or (passes ++ last ∷ []) k d ≡ last
   at_last [] last zero d e = refl
   at_last [] last (suc k) d e = absurd (omega arith)
   at_last (x ∷ passes) last zero d e = absurd (omega arith)
   at_last (x ∷ passes) last (suc k) d e = at_last passes last k d (omega arith)
 
   -- the last pass is kept apart from the others
-  pub ready_apart : (hall : HallModel B) (passes : List (PassModel B E)) (last : PassModel B E) → AreReady hall (passes ++ last ∷ []) → AreReadyButLast hall passes × IsReadyLast hall last
+  pub ready_apart : (hall : HallModel B) (passes : List (PassModel B E)) (last : PassModel B E)
+      → AreReady hall (passes ++ last ∷ []) → AreReadyButLast hall passes × IsReadyLast hall last
   ready_apart hall passes last ready =
-      let long : length passes + 1 ≡ hall.passes = sym (length-append passes (last ∷ [])) ∙ ready.long in
-      let own : IsReady hall (length passes) last = subst (IsReady hall (length passes)) (at_last passes last (length passes) last refl) (ready.each (length passes) last (omega (arith, length-append passes (last ∷ [])))) in (
+      let more = length-append passes (last ∷ []) in
+      let long : length passes + 1 ≡ hall.passes = sym more ∙ ready.long in
+      let own : IsReady hall (length passes) last =
+      subst (IsReady hall (length passes)) (at_last passes last (length passes) last refl)
+      (ready.each (length passes) last (omega arith)) in (
         record {
           long = long;
-          each = λ k d low. subst (IsReady hall k) (before_last passes last k d low) (ready.each k d (omega (arith, length-append passes (last ∷ []))));
+          each = λ k d low. subst (IsReady hall k) (before_last passes last k d low) (ready.each k d (omega arith));
         },
         record { table = own.table; last = ap (λ n. n + 1) own.number ∙ long; free = own.free },
       )
 
-  pub ready_popped : (hall : HallModel B) (row passes : List (PassModel B E)) (popped : Option (PassModel B E)) (last : PassModel B E) → AreReady hall row → row ≡ passes ++ option_to_list popped → popped ≡ Some last
+  pub ready_popped : (hall : HallModel B) (row passes : List (PassModel B E)) (popped : Option (PassModel B E))
+      (last : PassModel B E) → AreReady hall row → row ≡ passes ++ option_to_list popped → popped ≡ Some last
       → AreReadyButLast hall passes × IsReadyLast hall last
-  ready_popped hall row passes popped last ready e is = ready_apart hall passes last (subst (AreReady hall) (e ∙ ap (λ o. passes ++ option_to_list o) is) ready)
+  ready_popped hall row passes popped last ready e is =
+      ready_apart hall passes last (subst (AreReady hall) (e ∙ ap (λ o. passes ++ option_to_list o) is) ready)
 
   -- and comes back to them
-  pub ready_again : (hall : HallModel B) (passes : List (PassModel B E)) (last : PassModel B E) → AreReadyButLast hall passes → IsReadyLast hall last → AreReady hall (passes ++ last ∷ [])
+  pub ready_again : (hall : HallModel B) (passes : List (PassModel B E)) (last : PassModel B E)
+      → AreReadyButLast hall passes → IsReadyLast hall last → AreReady hall (passes ++ last ∷ [])
   ready_again hall passes last others own = record {
     long = length-append passes (last ∷ []) ∙ others.long;
     each = λ k d low. elim (ℕ_discrete k (length passes)) [
-      | yes e ↦ subst (IsReady hall k) (sym (at_last passes last k d e)) record { table = own.table; number = omega (arith, own.last, others.long); free = own.free }
+      | yes e ↦
+          let number : number_of last ≡ k = omega (arith, own.last, others.long) in
+          subst (IsReady hall k) (sym (at_last passes last k d e))
+          record { table = own.table; number = number; free = own.free }
       | no e ↦
           let below : k < length passes = omega (arith, length-append passes (last ∷ [])) in
           subst (IsReady hall k) (sym (before_last passes last k d below)) (others.each k d below)
@@ -82,8 +94,14 @@ module _ {B E : Type 0} where
   }
 
   -- the others as a slice of the row was left, and the last one as it is after its own turns
-  pub ready_pushed : (hall : HallModel B) (row others rest : List (PassModel B E)) (n : ℕ) (was last : PassModel B E) → row ≡ take n (others ++ rest) ++ last ∷ [] → n ≡ length others → AreReadyButLast hall others → IsReadyLast hall was
+  pub ready_pushed : (hall : HallModel B) (row others rest : List (PassModel B E)) (n : ℕ) (was last : PassModel B E)
+      → row ≡ take n (others ++ rest) ++ last ∷ [] → n ≡ length others
+      → AreReadyButLast hall others → IsReadyLast hall was
       → IsPassOf hall last → HoldsNoTurn last.turn → last.number ≡ was.number → AreReady hall row
   ready_pushed hall row others rest n was last e long ready own table free number =
-      let items : row ≡ others ++ last ∷ [] = e ∙ ap (λ l. l ++ last ∷ []) (ap (λ m. take m (others ++ rest)) long ∙ take-append_seam others rest) in
-      subst (AreReady hall) (sym items) (ready_again hall others last ready record { table = table; last = ap (λ m. m + 1) number ∙ own.last; free = free })
+      let seam : take n (others ++ rest) ≡ others =
+      ap (λ m. take m (others ++ rest)) long ∙ take-append_seam others rest in
+      let items : row ≡ others ++ last ∷ [] = e ∙ ap (λ l. l ++ last ∷ []) seam in
+      let same : number_of last + 1 ≡ hall.passes = ap (λ m. m + 1) number ∙ own.last in
+      subst (AreReady hall) (sym items)
+      (ready_again hall others last ready record { table = table; last = same; free = free })

@@ -446,7 +446,8 @@ module _ {B E : Type 0} (pass_of : E → ℕ) (led : B → List E → B → Type
   no_ticket_at_first (suc i) v k e mine = maybe.some-ne-none v (sym e)
 
   -- the table at the start
-  pub opens : (words : List ℕ) (value : B) → AreWords 0 0 0 words → 0 < passes → passes ≤ 65 → led opening [] value → Ruled record { words = words; homes = at_home value; views = first_seat ∷ [] }
+  pub opens : (words : List ℕ) (value : B) → AreWords 0 0 0 words → 0 < passes → passes ≤ 65 → led opening [] value
+      → Ruled record { words = words; homes = at_home value; views = first_seat ∷ [] }
   opens words value are some few leads = record {
     ticket = 0;
     serving = 0;
@@ -476,5 +477,11 @@ module _ {B E : Type 0} (pass_of : E → ℕ) (led : B → List E → B → Type
         value = c.value;
         slot = c.slot;
         leads = c.leads;
-        settled = record { within = s.within; mine = s.mine; joined = s.joined; beginnings = s.beginnings; strangers = s.strangers };
+        settled = record {
+          within = s.within;
+          mine = s.mine;
+          joined = s.joined;
+          beginnings = s.beginnings;
+          strangers = s.strangers;
+        };
       }

@@ -183,7 +183,8 @@ module _ {B E : Type 0} (pass_of : E → ℕ) (led : B → List E → B → Type
           ticket = t + 1;
           serving = r.serving;
           history = r.history;
-          words = subst (λ n. AreWords (t + 1) r.serving (length r.history) (slice_set s.words 0 n)) (sym more) (next_written t r.serving (length r.history) s.words r.words (t + 1));
+          words = subst (λ n. AreWords (t + 1) r.serving (length r.history) (slice_set s.words 0 n)) (sym more)
+              (next_written t r.serving (length r.history) s.words r.words (t + 1));
           stands = drawn_stands t r.serving r.history s.homes s.views id me.0 r.stands here free;
         },
         (refl, drawn),
@@ -228,7 +229,8 @@ module _ {B E : Type 0} (pass_of : E → ℕ) (led : B → List E → B → Type
       let sv = r.serving in
       let found : slice_index s.words 8 ≡ sv = word_found s.words 8 sv r.words.now in
       let Goal : ℕ → Type 0 = λ n. (w : V) × (a : Act (Option B)) × Valid s.homes me.1 a × Ruled (stepped s 8 n id me.1 w a) × Looks pass_of led told me n (w, carried_after me.1 a) in
-      let same : AreWords r.ticket sv (length r.history) (slice_set s.words 8 sv) = now_written r.ticket sv (length r.history) s.words r.words sv in
+      let same : AreWords r.ticket sv (length r.history) (slice_set s.words 8 sv) =
+      now_written r.ticket sv (length r.history) s.words r.words sv in
       subst Goal (sym found) (dite (ℕ_discrete sv ticket)
       (λ hit.
       let v : V = me.0 in
@@ -279,7 +281,8 @@ module _ {B E : Type 0} (pass_of : E → ℕ) (led : B → List E → B → Type
       )))
 
   -- a word to sleep on may be marked at any time
-  pub marks_allowed : (slots id word mark : ℕ) (me : Me (Option B) V) → 24 ≤ word → Allows Ruled slots id me word (λ _. mark) (λ _. Marks me)
+  pub marks_allowed : (slots id word mark : ℕ) (me : Me (Option B) V) → 24 ≤ word
+      → Allows Ruled slots id me word (λ _. mark) (λ _. Marks me)
   marks_allowed slots id word mark me far s r wide here fits = (
     me.0,
     keeps,
@@ -289,7 +292,8 @@ module _ {B E : Type 0} (pass_of : E → ℕ) (led : B → List E → B → Type
       serving = r.serving;
       history = r.history;
       words = other_written r.ticket r.serving (length r.history) s.words r.words word mark far;
-      stands = subst (λ vs. Standing r.ticket r.serving r.history s.homes vs) (sym (set_again s.views id me.0 here)) r.stands;
+      stands = subst (λ vs. Standing r.ticket r.serving r.history s.homes vs)
+          (sym (set_again s.views id me.0 here)) r.stands;
     },
     refl,
   )
@@ -356,7 +360,8 @@ module _ {B E : Type 0} (pass_of : E → ℕ) (led : B → List E → B → Type
           ticket = r.ticket;
           serving = r.serving;
           history = h ++ entry ∷ [];
-          words = subst (λ n. AreWords r.ticket r.serving (length (h ++ entry ∷ [])) (slice_set s.words 16 n)) (sym more) (length_written r.ticket r.serving (length h) s.words r.words (length (h ++ entry ∷ [])));
+          words = subst (λ n. AreWords r.ticket r.serving (length (h ++ entry ∷ [])) (slice_set s.words 16 n)) (sym more)
+              (length_written r.ticket r.serving (length h) s.words r.words (length (h ++ entry ∷ [])));
           stands = both.1;
         },
         λ entry' left' f g.
@@ -448,7 +453,8 @@ module _ {B E : Type 0} (pass_of : E → ℕ) (led : B → List E → B → Type
             ticket = r.ticket;
             serving = sv + 1;
             history = r.history;
-            words = subst (λ n. AreWords r.ticket (sv + 1) (length r.history) (slice_set s.words 8 n)) (sym more) (now_written r.ticket sv (length r.history) s.words r.words (sv + 1));
+            words = subst (λ n. AreWords r.ticket (sv + 1) (length r.history) (slice_set s.words 8 n)) (sym more)
+                (now_written r.ticket sv (length r.history) s.words r.words (sv + 1));
             stands = both.1;
           },
           refl,

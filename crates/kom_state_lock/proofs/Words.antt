@@ -15,7 +15,8 @@ word_found (x ∷ words) (suc i) n e = word_found words i n e
 here : (words : List ℕ) (i old new : ℕ) → get_elem? words i ≡ some old → get_elem? (slice_set words i new) i ≡ some new
 here words i old new e = set_here words i new (here_below words i old e)
 
-there : (words : List ℕ) (i j n new : ℕ) → j ≢ i → get_elem? words j ≡ some n → get_elem? (slice_set words i new) j ≡ some n
+there : (words : List ℕ) (i j n new : ℕ) → j ≢ i → get_elem? words j ≡ some n
+    → get_elem? (slice_set words i new) j ≡ some n
 there words i j n new other e = set_else words i j new other ∙ e
 
 module _ (t sv l : ℕ) (words : List ℕ) (are : AreWords t sv l words) where

@@ -26,7 +26,8 @@ module _ {B E : Type 0} where
   abbrev pub Covers : ℕ → View B E → Type 0
   Covers passes v = (n : ℕ) → n < passes → (n ≡ v.number) ⊎ ((k : ℕ) × (share : Share E) × (get_elem? v.joined k ≡ maybe.some share) × (share.number ≡ n))
 
-  -- the last seat has a number of the hall, and what it has seen is the whole history: each pass's entries are all of its number, what it had seen is a beginning, and no other pass has entries
+  -- the last seat has a number of the hall, and what it has seen is the whole history: each pass's
+  -- entries are all of its number, what it had seen is a beginning, and no other pass has entries
   pub record IsSettled (pass_of : E → ℕ) (passes : ℕ) (v : View B E) : Type 0 where
     pub within : v.number < passes
     pub mine : v.mine ≡ entries_of pass_of v.number v.seen

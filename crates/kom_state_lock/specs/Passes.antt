@@ -83,7 +83,8 @@ module _ {B E : Type 0} where
   -- the same of all passes but the last one, which whoever made the hall keeps
   pub record AreReadyButLast (hall : HallModel B) (passes : List (PassModel B E)) : Type 0 where
     pub long : length passes + 1 ≡ hall.passes
-    pub each : (k : ℕ) (d : PassModel B E) → k < length passes → IsReady hall k (slice_index_or passes k d)
+    pub each : (k : ℕ) (d : PassModel B E) → k < length passes
+        → IsReady hall k (slice_index_or passes k d)
 
   -- the last pass of a hall, which holds no turn
   pub record IsReadyLast (hall : HallModel B) (pass : PassModel B E) : Type 0 where
@@ -109,13 +110,16 @@ module _ {B E : Type 0} where
   MayPut stays Spent value = ⊥
   MayPut stays Closed value = ⊥
 
-  -- the turn begins with a value to which a history leads that goes on from what the pass has seen
-  abbrev pub TakesTurn : (E → ℕ) → (B → List E → B → Type 0) → HallModel B → PassModel B E → B → PassModel B E → Type 0
+  -- the turn begins with a value to which a history leads that goes on from what the pass has seen,
+  -- and all that this history has of the pass it knows as its own
+  abbrev pub TakesTurn : (E → ℕ) → (B → List E → B → Type 0) → HallModel B
+      → PassModel B E → B → PassModel B E → Type 0
   TakesTurn pass_of led hall old value new =
       (ticket : ℕ) × (history : List E)
       × (new ≡ record old { drawn = ticket + 1; turn = Holding ticket value history })
       × (old.drawn ≤ ticket) × (ticket < 2 ^ 62)
-      × led hall.opening history value × IsPrefix old.seen history × (length history < 2 ^ 62) × (old.mine ≡ entries_of pass_of old.number history)
+      × led hall.opening history value × IsPrefix old.seen history × (length history < 2 ^ 62)
+      × (old.mine ≡ entries_of pass_of old.number history)
 
   -- the ticket that was drawn, now or by an earlier call, is 2^62 or more
   abbrev pub RefusesTurn : PassModel B E → ℕ → PassModel B E → Type 0

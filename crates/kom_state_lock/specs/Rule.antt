@@ -1,6 +1,7 @@
 -- What is true of a hall's table between any two steps.
--- Three of its words count: the next ticket, the ticket that is served, and the length of the history. They lie 64 bytes
--- apart, so that no two share a cache line. The rule asks nothing of the others. Its one slot has the value.
+-- Three of its words count: the next ticket, the ticket that is served, and the length of the
+-- history. They lie 64 bytes apart, so that no two share a cache line. The rule asks nothing of the
+-- other words. The table's one slot has the value.
 use Rattle.std.specs.Prelude.{◌≡◌, ℕ, ◌+◌, ◌^◌, ◌<◌, ◌≤◌, ◌⊎◌, true, false, List, [], ◌∷◌, length, count_by, Option, Some}
 use mathlib.Core.List.{IsPrefix}
 use mathlib.Core.Option as maybe

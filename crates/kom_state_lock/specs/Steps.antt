@@ -27,15 +27,19 @@ module _ {B E : Type 0} where
   abbrev pub Draws : Seated B E → ℕ → Seated B E → Type 0
   Draws m found n = (n ≡ (drawing found m.0, m.1)) × (m.0.drawn ≤ found)
 
-  -- the slot comes with the value, and a history leads to it that goes on from what the seat has seen
-  abbrev pub Takes : (E → ℕ) → (B → List E → B → Type 0) → B → ℕ → Seated B E → Seated B E → Type 0
+  -- the slot comes with the value, and a history leads to it that goes on from what the seat has
+  -- seen, and has of the seat what it knows as its own
+  abbrev pub Takes : (E → ℕ) → (B → List E → B → Type 0) → B → ℕ
+      → Seated B E → Seated B E → Type 0
   Takes pass_of led opening ticket m n =
       (value : B) × (history : List E)
       × (n ≡ (taking ticket value history m.0, (0, Some value) ∷ m.1))
-      × led opening history value × IsPrefix m.0.seen history × (length history ≤ ticket) × (m.0.mine ≡ entries_of pass_of m.0.number history)
+      × led opening history value × IsPrefix m.0.seen history × (length history ≤ ticket)
+      × (m.0.mine ≡ entries_of pass_of m.0.number history)
 
   -- a look at the ticket that is served: another one changes nothing, the seat's own is its turn
-  abbrev pub Looks : (E → ℕ) → (B → List E → B → Type 0) → Option B → Seated B E → ℕ → Seated B E → Type 0
+  abbrev pub Looks : (E → ℕ) → (B → List E → B → Type 0) → Option B
+      → Seated B E → ℕ → Seated B E → Type 0
   Looks pass_of led told m found n =
       (ticket : ℕ) (opening : B) → m.0.turn ≡ Waiting ticket → told ≡ Some opening
       → (found ≢ ticket → n ≡ m) × (found ≡ ticket → Takes pass_of led opening ticket m n)
@@ -54,9 +58,11 @@ module _ {B E : Type 0} where
   Marks m n = n ≡ m
 
   -- a draw and a take together: the value has left the slot
-  abbrev pub TakesAll : (E → ℕ) → (B → List E → B → Type 0) → B → View B E → B → Seated B E → Type 0
+  abbrev pub TakesAll : (E → ℕ) → (B → List E → B → Type 0) → B
+      → View B E → B → Seated B E → Type 0
   TakesAll pass_of led opening v value n =
       (ticket : ℕ) × (history : List E)
       × (n ≡ (taking ticket value history (drawing ticket v), (0, None) ∷ []))
       × (v.drawn ≤ ticket) × (ticket < 2 ^ 62)
-      × led opening history value × IsPrefix v.seen history × (length history < 2 ^ 62) × (v.mine ≡ entries_of pass_of v.number history)
+      × led opening history value × IsPrefix v.seen history × (length history < 2 ^ 62)
+      × (v.mine ≡ entries_of pass_of v.number history)

@@ -8,7 +8,8 @@ fn may_go<T: Send>() {}
 
 fn may_be_shared<T: Sync>() {}
 
-/// Where a value may go to another thread, so may its hall, a pass and the held value, and threads may share the hall.
+/// Where a value may go to another thread, so may its hall, a pass and the held value, and threads
+/// may share the hall.
 pub fn may_cross<B: Booked + Send>() {
     may_go::<Hall<B>>();
     may_be_shared::<Hall<B>>();

@@ -74,7 +74,9 @@ impl<B: Booked> Hall<B> {
     pub fn take<R: Wait>(&self, rt: &R, pass: &mut Pass<B>) -> Result<Held<B>, Full>
         requires pass { IsPassOf self.now pass.old }
         requires free { HoldsNoTurn pass.old.turn }
-        ensures turn { MatchResult result (λ held. TakesTurn B.pass_of B.led self.now pass.old held pass.new) (λ full. RefusesTurn pass.old full.0 pass.new) }
+        ensures turn { MatchResult result
+            (λ held. TakesTurn B.pass_of B.led self.now pass.old held pass.new)
+            (λ full. RefusesTurn pass.old full.0 pass.new) }
         ensures below { IfErr result (λ full. full.0 < pass.new.drawn) }
         ensures full { (n : ℕ) → (result ≡ Err (record { 0 = n })) ↔ ((ticket_in pass.new.turn ≡ Some n) × (2 ^ 62 ≤ n)) }
     {

@@ -9,6 +9,10 @@
 //! With nobody waiting, a turn is two atomic additions (three where it is logged) and two atomic loads, and takes no
 //! memory. It moves the value out of its slot and back, `size_of::<Option<B>>()` bytes each time. Keep what grows
 //! behind a `Box` or in a `Vec`, and a turn costs as much for a large state as for a small one.
+//!
+//! A pass that has more than three tickets before its own, or has looked for its turn a thousand
+//! times, sleeps on a word of its ticket. `put` wakes the next in line and nobody else. For this a
+//! hall has 1,216 bytes of words beside its value.
 #![tactic(auto)]
 
 mod booked;

@@ -8,7 +8,8 @@ use crate::booked::Booked;
 use crate::plays::Place;
 use std::marker::Model;
 
-/// The right to take turns in one hall, one turn at a time. It cannot be let go in its turn, for which the others wait.
+/// The right to take turns in one hall, one turn at a time. In its turn, for whose end the others
+/// wait, it cannot be let go.
 pub struct Pass<B: Booked> {
     pub(crate) number: u32,
     // The ticket that was refused.

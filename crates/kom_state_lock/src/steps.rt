@@ -1,5 +1,6 @@
 // The steps of a turn, each by one seat of the table.
-ghost use Rattle.std.specs.Prelude.{◌≡◌, ◌≢◌, ℕ, ◌<◌, ◌≤◌, ◌+◌, ◌^◌, true, false, [], ◌∷◌, Some, None, MatchResult};
+ghost use Rattle.std.specs.Prelude.{◌≡◌, ◌≢◌, ℕ, ◌<◌, ◌≤◌, ◌+◌, ◌^◌, true, false, [], ◌∷◌};
+ghost use Rattle.std.specs.Prelude.{Some, None, MatchResult};
 ghost use Rattle.kom_state_lock.specs.declared.views.Turn.TheVariants.{Resting, Waiting};
 ghost use Rattle.kom_state_lock.specs.Views.{drawing, logging, resting};
 ghost use Rattle.kom_state_lock.specs.Steps.{Draws, Takes, IsSameSeat, IsSeatOf, TakesAll};
@@ -20,8 +21,8 @@ const SERVING: usize = 8;
 
 const HISTORY: usize = 16;
 
-// From here on lie the words to sleep on, each for every 128th ticket. At most 65 tickets are in line, so that those in
-// line at one time sleep on different words.
+// From here on lie the words to sleep on, each for every 128th ticket. At most 65 tickets are in
+// line, so that those in line at one time sleep on different words.
 const BEDS: usize = 24;
 
 const BED_COUNT: u64 = 128;
@@ -34,10 +35,11 @@ const ASLEEP: u64 = 1;
 // The tickets below it have turns.
 const TURNS: u64 = 1 << 62;
 
-// So often a seat looks before it sleeps, while so many are before it in line.
-const LOOKS: u32 = 200;
+// A seat looks so often before it sleeps, which takes about as long as to sleep and be woken. Where
+// more than NEAR tickets are before its own, it sleeps at once.
+const LOOKS: u32 = 1000;
 
-const NEAR: u64 = 2;
+const NEAR: u64 = 3;
 
 fn draw<B: Booked>(words: &Words<B>, seat: &mut Place<B>) -> u64
     requires table { IsSeatOf words.now.table_id seat.old }
@@ -62,7 +64,8 @@ fn look<B: Booked, N: Told<B, B::Entry>>(words: &Words<B>, seat: &mut Place<B>, 
     requires drawn { (seat.old.me.0.turn ≡ Waiting ticket) × (ticket < 2 ^ 62) }
     ensures seat { IsSameSeat seat.old seat.new }
     ensures other { result ≢ ticket → seat.new.me ≡ seat.old.me }
-    ensures taken { result ≡ ticket → Takes B.pass_of B.led words.now.key.value.value ticket seat.old.me seat.new.me }
+    ensures taken { result ≡ ticket
+        → Takes B.pass_of B.led words.now.key.value.value ticket seat.old.me seat.new.me }
 {
     words.load::<Look<N>>(seat, SERVING)
 }
@@ -78,7 +81,8 @@ fn watch<B: Booked, N: Told<B, B::Entry>>(
     requires drawn { (seat.old.me.0.turn ≡ Waiting ticket) × (ticket < 2 ^ 62) }
     ensures seat { IsSameSeat seat.old seat.new }
     ensures other { result ≡ false → seat.new.me ≡ seat.old.me }
-    ensures taken { result ≡ true → Takes B.pass_of B.led words.now.key.value.value ticket seat.old.me seat.new.me }
+    ensures taken { result ≡ true
+        → Takes B.pass_of B.led words.now.key.value.value ticket seat.old.me seat.new.me }
 {
     for _ in 0..LOOKS {
         let serving = look::<B, N>(words, seat, ticket);
@@ -151,7 +155,9 @@ pub(crate) fn take_turn<B: Booked, R: Wait>(
     requires table { IsSeatOf words.now.table_id seat.old }
     requires free { (seat.old.me.0.turn ≡ Resting) × (seat.old.me.1 ≡ []) }
     ensures seat { IsSameSeat seat.old seat.new }
-    ensures turn { MatchResult result (λ value. TakesAll B.pass_of B.led words.now.key.value.value seat.old.me.0 value seat.new.me) (λ ticket. (2 ^ 62 ≤ ticket) × (seat.old.me.0.drawn ≤ ticket) × (seat.new.me ≡ (drawing ticket seat.old.me.0, []))) }
+    ensures turn { MatchResult result
+        (λ value. TakesAll B.pass_of B.led words.now.key.value.value seat.old.me.0 value seat.new.me)
+        (λ ticket. (2 ^ 62 ≤ ticket) × (seat.old.me.0.drawn ≤ ticket) × (seat.new.me ≡ (drawing ticket seat.old.me.0, []))) }
 {
     let ticket = draw(words, seat);
     if ticket >= TURNS {
@@ -193,8 +199,9 @@ pub(crate) fn hand_on<B: Booked>(words: &Words<B>, seat: &mut Place<B>, value: B
         Some(_) => unreachable!(),
     }
     let served = words.fetch_add::<HandOn>(seat, SERVING, 1);
-    // The next in line marks its word and then looks at SERVING once more. With SERVING written first here, either that
-    // look sees the turn, or the mark is seen here. Who draws the next ticket after the look at TICKET sees the turn too.
+    // The next in line marks its word and then looks at SERVING once more. With SERVING written
+    // first here, either that look sees the turn, or the mark is seen here. Who draws the next
+    // ticket after the look at TICKET sees the turn too.
     let next = served.wrapping_add(1);
     if words.peek(TICKET) != next {
         wake(words, seat, next);

@@ -153,7 +153,8 @@ fn add_beside<R: Threads + Wait + Sync>(
     );
 }
 
-// A counter that the passes of other threads add to, while the last pass is kept here. It closes the hall with theirs.
+// A counter that the passes of other threads add to, while the last pass is kept here. It closes
+// the hall with theirs.
 fn count_beside<R: Threads + Wait + Sync>(
     rt: &R,
     alloc: Global,
