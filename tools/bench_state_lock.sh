@@ -1,12 +1,13 @@
 #!/usr/bin/env bash
-# Turns under kom_state_lock with 1, 4, 16 and 64 threads, beside a std::sync::Mutex in Rust with the same increment. A
-# turn of the hall takes, logs and puts; one of the mutex locks, adds and lets go. Short turns come one after another;
-# in a held turn the thread sleeps for 200 us, as with the sync of a disk, and then for 2 ms outside of it. The threads
-# take 200,000 short turns together, or as many as the one word says, and a fiftieth as many held ones. Both programs
-# run one after the other, three times, and the least time and processor time of each count. It needs rt, which proves
-# the program bench_state_lock first, and rustc.
+# Turns under kom_state_lock with 1, 4, 16 and 64 threads, beside a std::sync::Mutex in Rust with the
+# same increment. A turn of the hall takes, logs and puts; one of the mutex locks, adds and lets go.
+# Short turns come one after another; in a held turn the thread sleeps for 200 us, as with the sync of
+# a disk, and then for 2 ms outside of it. The threads take 2,000,000 short turns together, or as many
+# as the one word says, and a 500th as many held ones. Both programs run one after the other, three
+# times, and of each the least time and the least processor time count. It needs rt, which proves the
+# program bench_state_lock first, and rustc.
 set -euo pipefail
-turns=${1:-200000}
+turns=${1:-2000000}
 root=$(cd "$(dirname "$0")/.." && pwd)
 work=$(mktemp -d)
 trap 'rm -rf "$work"' EXIT
@@ -71,7 +72,8 @@ fn main() {
         measure("short", threads, turns / threads, Duration::ZERO, Duration::ZERO);
     }
     for threads in [1, 4, 16, 64] {
-        measure("held", threads, turns / 50 / threads, Duration::from_micros(200), Duration::from_millis(2));
+        let held = turns / 500 / threads;
+        measure("held", threads, held, Duration::from_micros(200), Duration::from_millis(2));
     }
 }
 RUST
@@ -84,16 +86,16 @@ done
 
 # The least of a program's three numbers in the column, divided by its turns.
 least() {
-    grep -h "^$2 $3: " "$work/$1".[123] | tr -d '()' | awk -v column="$4" '{ print $column / $7 }' | sort -n | head -1
+    grep -h "^$2 $3: " "$work/$1".[123] | tr -d '()' |
+        awk -v column="$4" '{ print $column / $7 }' | sort -n | head -1
 }
 
 for kind in short held; do
     for threads in 1 4 16 64; do
-        awk -v kind="$kind" -v n="$threads" \
-            -v ht="$(least hall "$kind" "$threads" 3)" -v mt="$(least mutex "$kind" "$threads" 3)" \
-            -v hp="$(least hall "$kind" "$threads" 5)" -v mp="$(least mutex "$kind" "$threads" 5)" 'BEGIN {
-            printf "%d threads, %s turns: hall %.0f ns, mutex %.0f ns, hall/mutex %.2f; ", n, kind, ht, mt, ht / mt
-            printf "processor time %.0f ns, %.0f ns, %.2f\n", hp, mp, hp / mp
-        }'
+        echo "$threads $kind $(least hall "$kind" "$threads" 3) $(least mutex "$kind" "$threads" 3)" \
+            "$(least hall "$kind" "$threads" 5) $(least mutex "$kind" "$threads" 5)"
     done
-done
+done | awk '{
+    printf "%d threads, %s turns: hall %.0f ns, mutex %.0f ns, hall/mutex %.2f; ", $1, $2, $3, $4, $3 / $4
+    printf "processor time %.0f ns, %.0f ns, %.2f\n", $5, $6, $5 / $6
+}'

@@ -19,13 +19,13 @@ use std::{io, thread};
 
 /// The short turns of all threads together.
 const TURNS: Counts = Counts {
-    few: 6400,
+    few: 32_000,
     least: 0,
     most: u32::MAX,
 };
 
 /// For so many short turns one is held.
-const SHORT_FOR_HELD: u32 = 50;
+const SHORT_FOR_HELD: u32 = 500;
 
 /// What a thread does in its turn, and then.
 #[derive(Clone, Copy)]
