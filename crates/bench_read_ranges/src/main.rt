@@ -1,4 +1,5 @@
-//! Measures the calls of a set of ranges beside walks over its ranges and copies of their list: sums, or times.
+//! Measures the calls of a set of ranges beside walks over its ranges and copies of their list: sums,
+//! or times.
 #![tactic(auto)]
 
 ghost use Rattle.std.specs.Prelude.{◌*◌, ◌<◌, ◌^◌};
@@ -6,7 +7,7 @@ ghost use Rattle.std.specs.Prelude.{◌*◌, ◌<◌, ◌^◌};
 mod measures;
 
 use bench_watch::{Counts, Request, Watch};
-use read_ranges::{Ranges, ReadRange};
+use read_ranges::{Range, Ranges};
 use std::io;
 use std::process::ExitCode;
 use std::rt::Clock;
@@ -46,13 +47,20 @@ fn lists<R: Print + Clock + AllocGlobal>(
     rt: &R,
     watch: &mut Watch,
     read: &mut Ranges,
-    list: &[ReadRange],
+    list: &[Range],
 ) -> io::Result<()> {
     watch.tell(rt, "100 sets", measures::set_often(read, list))?;
     watch.tell(
         rt,
         "100 copies of the list",
         measures::copied(rt.alloc(), list)?,
+    )?;
+    watch.tell(rt, "100 clones of the set", measures::cloned(read))?;
+    let own = Vec::from_slice(rt.alloc(), list)?;
+    watch.tell(
+        rt,
+        "100 lists made sets and given back",
+        measures::given_back(own, u32::MAX),
     )
 }
 

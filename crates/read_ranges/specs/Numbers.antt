@@ -1,9 +1,15 @@
 -- A set of numbers from 1 to 4294967295, and the ranges that it is shown as.
-use Rattle.std.specs.Prelude.{ℕ, zero, suc, ◌+◌, ◌-◌, ◌≤◌, ◌<◌, ◌==◌, if◌then◌else◌, List, [], ◌∷◌, filter, IsTrue, refl}
+use Rattle.std.specs.Prelude.{ℕ, zero, suc, ◌+◌, ◌-◌, ◌≤◌, ◌<◌, ◌==◌, if◌then◌else◌}
+use Rattle.std.specs.Prelude.{◌≡◌, List, [], ◌∷◌, length, filter, IsTrue, refl}
 use Rattle.std.specs.List.{flat_map}
 use Rattle.std.specs.Ordering.{nat_cmp}
 use Rattle.std.specs.Coded.{Coded, code_by, coded×, coded_ℕ}
 use Rattle.std.specs.FinSet.{FinSet, contains, from_list, code}
+use Rattle.read_ranges.specs.declared.Range.{Range}
+
+-- the range from a first number to a last one
+abbrev pub range : ℕ → ℕ → Range
+range first last = record { first = first; last = last }
 
 -- what contracts see of a `Ranges`: the set of numbers, and how many ranges it has room for in all
 pub record ReadSet : Type 0 where
@@ -13,7 +19,8 @@ pub record ReadSet : Type 0 where
 -- a read set is stored as the pair of its fields
 abbrev pub read_set_code : Coded ReadSet
 read_set_code =
-    code_by (FinSet nat_cmp × ℕ) (coded× (code coded_ℕ) coded_ℕ) (λ s. (s.numbers, s.spare)) (λ p. record { numbers = p.0; spare = p.1 }) (λ _. refl)
+    code_by (FinSet nat_cmp × ℕ) (coded× (code coded_ℕ) coded_ℕ)
+    (λ s. (s.numbers, s.spare)) (λ p. record { numbers = p.0; spare = p.1 }) (λ _. refl)
 
 -- the greatest number that a set may have
 abbrev pub greatest : ℕ
@@ -24,36 +31,51 @@ unfoldable pub numbers_from : ℕ → ℕ → List ℕ
 numbers_from first zero = []
 numbers_from first (suc count) = first ∷ numbers_from (first + 1) count
 
--- the numbers of a range, which is given by its first and its last
-abbrev pub numbers_in : ℕ × ℕ → List ℕ
-numbers_in r = numbers_from r.0 (r.1 + 1 - r.0)
+-- the numbers of a range
+abbrev pub numbers_in : Range → List ℕ
+numbers_in r = numbers_from r.first (r.last + 1 - r.first)
 
 -- the union of ranges
-unfoldable pub union_of : List (ℕ × ℕ) → FinSet nat_cmp
+unfoldable pub union_of : List Range → FinSet nat_cmp
 union_of rs = from_list (flat_map numbers_in rs)
 
--- ranges that rise and neither meet nor touch: the first begins at `least` or later, each other one two or more after the end of the one before
-abbrev pub RiseFrom : ℕ → List (ℕ × ℕ) → Type 0
+-- ranges that rise and neither meet nor touch: the first begins at `least` or later, each other one
+-- two or more after the end of the one before
+abbrev pub RiseFrom : ℕ → List Range → Type 0
 RiseFrom least [] = Unit {0}
-RiseFrom least (r ∷ rs) = (least ≤ r.0) × (r.0 ≤ r.1) × (r.1 ≤ greatest) × RiseFrom (r.1 + 2) rs
+RiseFrom least (r ∷ rs) =
+    (least ≤ r.first) × (r.first ≤ r.last) × (r.last ≤ greatest) × RiseFrom (r.last + 2) rs
 
 -- rising, disjoint, non-touching ranges of numbers from 1 on
-abbrev pub AreRanges : List (ℕ × ℕ) → Type 0
+abbrev pub AreRanges : List Range → Type 0
 AreRanges rs = RiseFrom 1 rs
 
--- a number put before ranges: it lengthens the first one where that begins right after it, and else stands alone
-abbrev pub with_number : ℕ → List (ℕ × ℕ) → List (ℕ × ℕ)
-with_number n [] = (n, n) ∷ []
-with_number n (r ∷ rs) = if r.0 == n + 1 then (n, r.1) ∷ rs else (n, n) ∷ r ∷ rs
+-- a number put before ranges: it lengthens the first one if that begins right after it, and else
+-- stands alone
+abbrev pub with_number : ℕ → List Range → List Range
+with_number n [] = range n n ∷ []
+with_number n (r ∷ rs) = if r.first == n + 1 then range n r.last ∷ rs else range n n ∷ r ∷ rs
 
 -- rising numbers as ranges, cut wherever a number is missing
-abbrev pub cut : List ℕ → List (ℕ × ℕ)
+abbrev pub cut : List ℕ → List Range
 cut [] = []
 cut (n ∷ ns) = with_number n (cut ns)
 
 -- the ranges of a set: its numbers in rising order, cut wherever one is missing
-unfoldable pub ranges_of : FinSet nat_cmp → List (ℕ × ℕ)
+unfoldable pub ranges_of : FinSet nat_cmp → List Range
 ranges_of s = cut (filter (contains s) (numbers_from 1 greatest))
+
+-- how many ranges a set has
+abbrev pub count_of : FinSet nat_cmp → ℕ
+count_of s = length (ranges_of s)
+
+-- how many ranges the union of a list has
+abbrev pub made_by : List Range → ℕ
+made_by rs = count_of (union_of rs)
+
+-- ranges that rise and neither meet nor touch, whose union is the set
+abbrev pub AreRangesOf : List Range → FinSet nat_cmp → Type 0
+AreRangesOf rs s = AreRanges rs × (union_of rs ≡ s)
 
 -- the set has no number but those from 1 to the greatest
 abbrev pub IsWithinBounds : FinSet nat_cmp → Type 0

@@ -1,30 +1,52 @@
 //! A list of ranges that keeps a single one in itself, and takes memory from the second on.
-ghost use Rattle.std.specs.Prelude.{◌≡◌, ◌≤◌, ◌<◌, ◌++◌, ◌∷◌, [], length, slice_set, OnOk, OnErr, option_to_list};
+ghost use Rattle.std.specs.Prelude.{◌≡◌, ◌≤◌, ◌<◌, ◌++◌, ◌∷◌, [], length, slice_set};
+ghost use Rattle.std.specs.Prelude.{OnOk, OnErr, IfOk, IfErr, option_to_list};
 ghost use Rattle.std.specs.List.{insert, remove};
+ghost use Rattle.read_ranges.specs.ListFault.{EndWithinBelow};
+ghost use Rattle.read_ranges.specs.Merged.{merged};
 
-use crate::Memory;
-use std::alloc::Global;
+use crate::list::merge;
+use crate::{Memory, Range};
+use std::alloc::{AllocError, AllocFailed, Global};
 use std::marker::Model;
-
-/// The first and the last number of a range.
-pub type ReadRange = (u32, u32);
 
 /// While there is one range it stands in `one`, and `many` is empty.
 #[derive(Debug, Drop)]
 pub(crate) struct Kept {
-    one: Option<ReadRange>,
-    many: Vec<ReadRange>,
+    one: Option<Range>,
+    many: Vec<Range>,
 }
 
 impl Model for Kept {
-    ghost use Rattle.std.specs.Prelude.{◌≡◌, ◌++◌, [], max, option_to_list, vec_capacity, OnSome};
-    ghost use Rattle.read_ranges.specs.Kept.{KeptRanges};
+    ghost use Rattle.std.specs.Prelude.{◌≡◌, [], vec_capacity, OnSome};
+    ghost use Rattle.read_ranges.specs.Kept.{KeptRanges, kept_ranges};
 
     ghost Value = { KeptRanges };
 
-    ghost view = { λ k. record { items = option_to_list k.one ++ k.many.items; spare = max 1 (vec_capacity k.many) } };
+    ghost view = { λ k. kept_ranges k.one k.many.items (vec_capacity k.many) };
 
     ghost invariant = { λ k. OnSome k.one (k.many.items ≡ []) };
+}
+
+impl Clone for Kept {
+    ghost is_clone = { λ kept copy. copy.items ≡ kept.items };
+
+    ghost is_infallible = { λ kept. length kept.items ≤ 1 };
+
+    fn clone(&self) -> Result<Kept, AllocError> {
+        let alloc = *self.many.allocator();
+        match self.as_slice() {
+            [] => Ok(Kept::new(alloc)),
+            [range] => Ok(Kept {
+                one: Some(*range),
+                many: Vec::new(alloc),
+            }),
+            ranges => Ok(Kept {
+                one: None,
+                many: Vec::from_slice(alloc, ranges)?,
+            }),
+        }
+    }
 }
 
 impl Kept {
@@ -37,7 +59,38 @@ impl Kept {
         }
     }
 
-    pub fn as_slice(&self) -> &[ReadRange]
+    /// Keeps a given list, with one range in place of those that touch.
+    pub fn of_list(list: Vec<Range>) -> Kept
+        ensures items { result.items ≡ merged list.items }
+        ensures bounds { EndWithinBelow list.items (length list.items) }
+        ensures spare { length list.items ≤ result.spare }
+    {
+        let mut many = list;
+        let count = merge(&mut many);
+        many.truncate(count);
+        Kept { one: None, many }
+    }
+
+    /// The ranges as a list. Memory is wanted for a single range alone, and where there is none the
+    /// ranges come back.
+    pub fn into_list(self) -> Result<Vec<Range>, AllocFailed<Kept>>
+        ensures ok { IfOk result (λ list. list.items ≡ self.items) }
+        ensures err { IfErr result (λ refused. refused.value.items ≡ self.items) }
+        ensures full { OnErr result (length self.items ≡ 1) }
+    {
+        let Kept { one, mut many } = self;
+        let Some(range) = one else {
+            return Ok(many);
+        };
+        match many.push(range) {
+            Ok(()) => Ok(many),
+            Err(_) => Err(AllocFailed {
+                value: Kept { one, many },
+            }),
+        }
+    }
+
+    pub fn as_slice(&self) -> &[Range]
         ensures { result.now ≡ self.now.items }
     {
         match &self.one {
@@ -47,7 +100,7 @@ impl Kept {
     }
 
     /// Keeps this range alone, or none.
-    pub fn keep_only(&mut self, range: Option<ReadRange>)
+    pub fn keep_only(&mut self, range: Option<Range>)
         ensures items { self.new.items ≡ option_to_list range }
         ensures spare { self.new.spare ≡ self.old.spare }
     {
@@ -69,7 +122,7 @@ impl Kept {
     }
 
     /// Writes a range in the place of another.
-    pub fn write(&mut self, at: usize, range: ReadRange)
+    pub fn write(&mut self, at: usize, range: Range)
         requires { at < length self.old.items }
         ensures items { self.new.items ≡ slice_set self.old.items at range }
         ensures spare { self.new.spare ≡ self.old.spare }
@@ -93,7 +146,7 @@ impl Kept {
         }
     }
 
-    pub fn insert(&mut self, at: usize, range: ReadRange) -> Result<(), Memory>
+    pub fn insert(&mut self, at: usize, range: Range) -> Result<(), Memory>
         requires { at ≤ length self.old.items }
         ensures ok { OnOk result (self.new.items ≡ insert self.old.items at range) }
         ensures err { OnErr result (self.new.items ≡ self.old.items) }
@@ -124,7 +177,7 @@ impl Kept {
     }
 
     /// Adds a range at the end, where there is room.
-    pub fn push(&mut self, range: ReadRange)
+    pub fn push(&mut self, range: Range)
         requires { length self.old.items < self.old.spare }
         ensures items { self.new.items ≡ self.old.items ++ range ∷ [] }
         ensures spare { self.old.spare ≤ self.new.spare }

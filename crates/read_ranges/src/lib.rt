@@ -1,26 +1,37 @@
 //! Exact sets of the numbers that a member has read, kept as ranges.
 //!
-//! A set has numbers from 1 to 4294967295. It is kept as its ranges in rising order, none of which meets
-//! or touches another. A set of one range, as 1 to n, needs no memory.
+//! A set has numbers from 1 to 4294967295. It is kept as its ranges in rising order, none of which
+//! meets or touches another. A set of one range, as 1 to n, needs no memory.
 #![tactic(auto)]
 
-ghost use Rattle.std.specs.Prelude.{◌≡◌, ◌≢◌, ◌≤◌, ◌<◌, ◌↔◌, ℕ, List, length, OnOk, OnErr, IsErrOf, IsNone, IfSome};
+ghost use Rattle.std.specs.Prelude.{◌≡◌, ◌≢◌, ◌≤◌, ◌<◌, ◌↔◌, ℕ, List, length};
+ghost use Rattle.std.specs.Prelude.{OnOk, OnErr, IfOk, IfErr, IsErrOf, IsNone, IfSome};
 ghost use Rattle.std.specs.Ordering.{nat_cmp};
 ghost use Rattle.std.specs.FinSet as set;
-ghost use Rattle.read_ranges.specs.Numbers.{AreRanges, union_of, ranges_of, numbers_from, IsNextUnread, IsReadFrom, IsWithinBounds};
-ghost use Rattle.read_ranges.specs.ListFault.{IsFirstInvalid, IsFirstOutOfOrder, IsFaultless};
+ghost use Rattle.read_ranges.specs.declared.Range.{Range};
+ghost use Rattle.read_ranges.specs.Numbers.{AreRanges, AreRangesOf, union_of, ranges_of};
+ghost use Rattle.read_ranges.specs.Numbers.{numbers_from, count_of, made_by, IsWithinBounds};
+ghost use Rattle.read_ranges.specs.Numbers.{IsNextUnread, IsReadFrom};
+ghost use Rattle.read_ranges.specs.ListFault.{IsFaultless, IsErrExactlyAt};
+ghost use Rattle.read_ranges.specs.ListFault.{IsFirstInvalid, IsFirstOutOfOrder};
 
 mod edit;
 mod kept;
-mod list;
+pub mod list;
 mod search;
 #[cfg(test)]
 mod tests;
 
 use kept::Kept;
-pub use kept::ReadRange;
 use std::alloc::{AllocError, AllocFailed, Global};
 use std::marker::Model;
+
+/// The numbers from the first to the last.
+#[derive(Clone, Copy, Debug, PartialEq, Eq)]
+pub struct Range {
+    pub first: u32,
+    pub last: u32,
+}
 
 /// There was no memory. The set stays as it was.
 #[derive(Clone, Copy, Debug, PartialEq, Eq)]
@@ -59,8 +70,8 @@ impl From<Memory> for RangeFault {
     }
 }
 
-/// A set of numbers from 1 to 4294967295, which contracts see as such a set, with the number of ranges
-/// that there is room for in all.
+/// A set of numbers from 1 to 4294967295, which contracts see as such a set, with the number of
+/// ranges that there is room for in all.
 #[derive(Debug, Drop)]
 pub struct Ranges {
     kept: Kept,
@@ -78,6 +89,19 @@ impl Model for Ranges {
     ghost invariant = { λ a. AreRanges a.kept.items };
 }
 
+impl Clone for Ranges {
+    ghost is_clone = { λ read copy. copy.numbers ≡ read.numbers };
+
+    // No memory is wanted for the copy of a set of one range.
+    ghost is_infallible = { λ read. count_of read.numbers ≤ 1 };
+
+    fn clone(&self) -> Result<Ranges, AllocError> {
+        Ok(Ranges {
+            kept: self.kept.clone()?,
+        })
+    }
+}
+
 impl Ranges {
     /// The empty set. It takes no memory, and has room for one range.
     pub fn new(alloc: Global) -> Ranges
@@ -86,6 +110,36 @@ impl Ranges {
     {
         Ranges {
             kept: Kept::new(alloc),
+        }
+    }
+
+    /// The set of the numbers of a list, whose memory becomes the set's own. The ranges may touch.
+    pub fn from_list(list: Vec<Range>) -> Ranges
+        requires { IsFaultless list.items }
+        ensures numbers { result.numbers ≡ union_of list.items }
+        ensures spare { length list.items ≤ result.spare }
+    {
+        Ranges {
+            kept: Kept::of_list(list),
+        }
+    }
+
+    /// The ranges of the set as a list, which has the set's memory.
+    pub fn into_list(self) -> Result<Vec<Range>, AllocFailed<Ranges>>
+        ensures ok { IfOk result (λ list. list.items ≡ ranges_of self.numbers) }
+
+        // Memory is wanted for a set of one range alone. Without it the set comes back.
+        ensures full { OnErr result (count_of self.numbers ≡ 1) }
+        ensures err { IfErr result (λ refused. refused.value.numbers ≡ self.numbers) }
+    {
+        let Ranges { kept } = self;
+        match kept.into_list() {
+            Ok(list) => Ok(list),
+            Err(refused) => Err(AllocFailed {
+                value: Ranges {
+                    kept: refused.value,
+                },
+            }),
         }
     }
 
@@ -107,13 +161,13 @@ impl Ranges {
 
     /// How many ranges the set has.
     pub fn count(&self) -> usize
-        ensures { result ≡ length (ranges_of self.now.numbers) }
+        ensures { result ≡ count_of self.now.numbers }
     {
         self.ranges().len()
     }
 
     /// The ranges of the set, in rising order.
-    pub fn ranges(&self) -> &[ReadRange]
+    pub fn ranges(&self) -> &[Range]
         ensures ranges { result.now ≡ ranges_of self.now.numbers }
         ensures rising { AreRanges result.now }
         ensures union { union_of result.now ≡ self.now.numbers }
@@ -130,7 +184,7 @@ impl Ranges {
         ensures spare { self.old.spare ≤ self.new.spare }
 
         // Memory is wanted only for more ranges than there is room for.
-        ensures full { OnErr result (self.old.spare < length (ranges_of (set.insert self.old.numbers n))) }
+        ensures full { OnErr result (self.old.spare < count_of (set.insert self.old.numbers n)) }
     {
         edit::mark(&mut self.kept, n)
     }
@@ -143,25 +197,26 @@ impl Ranges {
         ensures spare { self.old.spare ≤ self.new.spare }
 
         // Memory is wanted only for more ranges than there is room for.
-        ensures full { OnErr result (self.old.spare < length (ranges_of (set.remove self.old.numbers n))) }
+        ensures full { OnErr result (self.old.spare < count_of (set.remove self.old.numbers n)) }
     {
         edit::unmark(&mut self.kept, n)
     }
 
     /// Makes the set the numbers of a list of rising ranges, which may touch.
-    pub fn set(&mut self, list: &[ReadRange]) -> Result<(), RangeFault>
+    pub fn set(&mut self, list: &[Range]) -> Result<(), RangeFault>
         ensures ok { OnOk result (self.new.numbers ≡ union_of list.now) }
         ensures err { OnErr result (self.new.numbers ≡ self.old.numbers) }
         ensures spare { self.old.spare ≤ self.new.spare }
 
         // The first faulty range of the list is told, as invalid where it is that.
-        ensures invalid { (i : ℕ) → (result ≡ Err (RangeFault.Invalid i)) ↔ IsFirstInvalid list.now i }
-        ensures order { (i : ℕ) → (result ≡ Err (RangeFault.Order i)) ↔ IsFirstOutOfOrder list.now i }
+        ensures invalid { IsErrExactlyAt result RangeFault.Invalid (IsFirstInvalid list.now) }
+        ensures order { IsErrExactlyAt result RangeFault.Order (IsFirstOutOfOrder list.now) }
         ensures faultless { OnOk result (IsFaultless list.now) }
 
-        // Memory is wanted only for a faultless list, and only for more ranges than there is room for.
+        // Memory is wanted only for a faultless list, and only for more ranges than there is
+        // room for.
         ensures memory { IsErrOf result RangeFault.Memory → IsFaultless list.now }
-        ensures full { IsErrOf result RangeFault.Memory → self.old.spare < length (ranges_of (union_of list.now)) }
+        ensures full { IsErrOf result RangeFault.Memory → self.old.spare < made_by list.now }
         ensures long { IsErrOf result RangeFault.Memory → self.old.spare < length list.now }
     {
         list::check(list)?;
@@ -175,8 +230,8 @@ impl Ranges {
         ensures numbers { self.new.numbers ≡ set.from_list (numbers_from 1 n) }
         ensures spare { self.new.spare ≡ self.old.spare }
     {
-        self.kept
-            .keep_only(if n == 0 { None } else { Some((1, n)) });
+        let whole = Range { first: 1, last: n };
+        self.kept.keep_only(if n == 0 { None } else { Some(whole) });
     }
 
     /// Makes room for so many ranges in all.
@@ -190,8 +245,9 @@ impl Ranges {
     }
 }
 
-/// The ranges of a set are the one list of rising, disjoint, non-touching ranges whose union is the set.
+/// The ranges of a set are the one list of rising, disjoint, non-touching ranges whose union is the
+/// set.
 pub fn one_list_of_ranges()
-    ensures exists { (s : set.FinSet nat_cmp) → IsWithinBounds s → AreRanges (ranges_of s) × (union_of (ranges_of s) ≡ s) }
-    ensures only { (rs : List (ℕ × ℕ)) → AreRanges rs → ranges_of (union_of rs) ≡ rs }
+    ensures exists { (s : set.FinSet nat_cmp) → IsWithinBounds s → AreRangesOf (ranges_of s) s }
+    ensures only { (rs : List Range) → AreRanges rs → ranges_of (union_of rs) ≡ rs }
 {}

@@ -1,37 +1,52 @@
 //! A given list of ranges: its faults, and its ranges with those that touch made one.
-ghost use Rattle.std.specs.Prelude.{◌≡◌, ◌+◌, ◌≤◌, ◌<◌, ◌↔◌, length, IsTrue, OnOk, IfErr};
-ghost use Rattle.read_ranges.specs.ListFault.{IsFaultless, IsListFault, IsFaultAt, EndWithinBelow, range_at};
+ghost use Rattle.std.specs.Prelude.{◌≡◌, ◌+◌, ◌≤◌, ◌<◌, ◌↔◌, length, take, IsTrue};
+ghost use Rattle.std.specs.Prelude.{OnOk, IfErr, MatchOption};
+ghost use Rattle.read_ranges.specs.ListFault.{IsFaultless, IsFirstFault, IsListFault, IsFaultAt};
+ghost use Rattle.read_ranges.specs.ListFault.{EndWithinBelow, range_at};
 ghost use Rattle.read_ranges.specs.Merged.{merged};
 ghost use Rattle.read_ranges.specs.Numbers.{greatest};
 
-use crate::RangeFault;
-use crate::kept::{Kept, ReadRange};
+use crate::kept::Kept;
+use crate::{Range, RangeFault};
 
-/// What is wrong with the range at a place, if anything is.
-fn fault_at(list: &[ReadRange], at: usize) -> Option<RangeFault>
+/// What is wrong with the range at a place, if anything is: the range itself, and only then its
+/// order.
+pub fn fault_at(list: &[Range], at: usize) -> Option<RangeFault>
     requires { at < length list.now }
     ensures fault { IsFaultAt list.now at result }
-    ensures bound { let range = range_at list.now at in range.1 ≤ greatest }
+    ensures bound { let range = range_at list.now at in range.last ≤ greatest }
 {
-    let (first, last) = list[at];
+    let Range { first, last } = list[at];
     if first == 0 || last < first {
         return Some(RangeFault::Invalid(at));
     }
-    if at > 0 && first <= list[at - 1].1 {
+    if at > 0 && first <= list[at - 1].last {
         return Some(RangeFault::Order(at));
     }
     None
 }
 
-/// Whether the second range begins right after the first.
-fn touches(before: ReadRange, after: ReadRange) -> bool
-    ensures { IsTrue result ↔ (after.0 ≡ before.1 + 1) }
+/// The place of the first faulty range.
+pub fn first_fault(list: &[Range]) -> Option<usize>
+    ensures { MatchOption result (IsFaultless list.now) (IsFirstFault list.now) }
 {
-    before.1.checked_add(1) == Some(after.0)
+    for at in 0..list.len() {
+        if fault_at(list, at).is_some() {
+            return Some(at);
+        }
+    }
+    None
+}
+
+/// Whether the second range begins right after the first.
+fn touches(before: Range, after: Range) -> bool
+    ensures { IsTrue result ↔ (after.first ≡ before.last + 1) }
+{
+    before.last.checked_add(1) == Some(after.first)
 }
 
 /// Finds the first fault of the list.
-pub fn check(list: &[ReadRange]) -> Result<(), RangeFault>
+pub fn check(list: &[Range]) -> Result<(), RangeFault>
     ensures faultless { OnOk result (IsFaultless list.now) }
     ensures bounds { OnOk result (EndWithinBelow list.now (length list.now)) }
     ensures refused { IfErr result (IsListFault list.now) }
@@ -45,7 +60,7 @@ pub fn check(list: &[ReadRange]) -> Result<(), RangeFault>
 }
 
 /// How many ranges the list makes.
-pub fn merged_count(list: &[ReadRange]) -> usize
+pub(crate) fn merged_count(list: &[Range]) -> usize
     ensures { result ≡ length (merged list.now) }
 {
     let Some((&first, others)) = list.split_first() else {
@@ -55,7 +70,7 @@ pub fn merged_count(list: &[ReadRange]) -> usize
     let mut count = 1;
     for &range in others {
         if touches(last, range) {
-            last.1 = range.1;
+            last.last = range.last;
         } else {
             count += 1;
             last = range;
@@ -65,7 +80,7 @@ pub fn merged_count(list: &[ReadRange]) -> usize
 }
 
 /// Keeps the ranges that the list makes, in place of those before.
-pub fn refill(kept: &mut Kept, list: &[ReadRange])
+pub(crate) fn refill(kept: &mut Kept, list: &[Range])
     requires { length (merged list.now) ≤ kept.old.spare }
     ensures items { kept.new.items ≡ merged list.now }
     ensures spare { kept.old.spare ≤ kept.new.spare }
@@ -77,11 +92,44 @@ pub fn refill(kept: &mut Kept, list: &[ReadRange])
     let mut last = first;
     for &range in others {
         if touches(last, range) {
-            last.1 = range.1;
+            last.last = range.last;
         } else {
             kept.push(last);
             last = range;
         }
     }
     kept.push(last);
+}
+
+/// The range itself. No number is past the bounds of a set.
+fn within_bounds(range: Range) -> Range
+    ensures same { result ≡ range }
+    ensures bound { range.last ≤ greatest }
+{
+    range
+}
+
+/// Makes one range of those that touch, where the list stands, and tells how many there are then.
+pub(crate) fn merge(list: &mut [Range]) -> usize
+    ensures count { result ≤ length list.old }
+    ensures items { take result list.new ≡ merged list.old }
+    ensures bounds { EndWithinBelow list.old (length list.old) }
+{
+    if list.is_empty() {
+        return 0;
+    }
+    let mut last = within_bounds(list[0]);
+    let mut count = 0;
+    for at in 1..list.len() {
+        let range = within_bounds(list[at]);
+        if touches(last, range) {
+            last.last = range.last;
+        } else {
+            list[count] = last;
+            count += 1;
+            last = range;
+        }
+    }
+    list[count] = last;
+    count + 1
 }

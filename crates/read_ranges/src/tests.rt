@@ -3,8 +3,12 @@ use std::test::Fail;
 
 const LAST: u32 = 4294967295;
 
+fn range(first: u32, last: u32) -> Range {
+    Range { first, last }
+}
+
 /// The set of a list that is known to be right.
-fn of_list(alloc: Global, list: &[ReadRange]) -> Result<Ranges, RangeFault> {
+fn of_list(alloc: Global, list: &[Range]) -> Result<Ranges, RangeFault> {
     let mut read = Ranges::new(alloc);
     read.set(list)?;
     Ok(read)
@@ -12,34 +16,50 @@ fn of_list(alloc: Global, list: &[ReadRange]) -> Result<Ranges, RangeFault> {
 
 #[test]
 fn a_mark_between_two_ranges_joins_them(rt: HostRuntime) -> Result<(), Fail> {
-    let mut read = of_list(rt.alloc(), &[(1, 4), (6, 9)])?;
+    let mut read = of_list(rt.alloc(), &[range(1, 4), range(6, 9)])?;
     assert_eq!(rt; read.count(), 2);
     assert_eq!(rt; read.next_unread(1), Some(5));
     read.mark(5)?;
-    assert_eq!(rt; read.ranges(), [(1, 9)].as_slice());
+    assert_eq!(rt; read.ranges(), [range(1, 9)].as_slice());
     read.unmark(1)?;
-    assert_eq!(rt; read.ranges(), [(2, 9)].as_slice());
+    assert_eq!(rt; read.ranges(), [range(2, 9)].as_slice());
     read.unmark(5)?;
-    assert_eq!(rt; read.ranges(), [(2, 4), (6, 9)].as_slice());
+    assert_eq!(rt; read.ranges(), [range(2, 4), range(6, 9)].as_slice());
     assert_eq!(rt; read.next_unread(6), Some(10));
     Ok(())
 }
 
 #[test]
 fn lists_are_taken_or_refused(rt: HostRuntime) -> Result<(), Fail> {
-    let cases: [(&[ReadRange], Result<(), RangeFault>, &[ReadRange]); 9] = [
-        (&[(1, 3), (4, 6)], Ok(()), &[(1, 6)]),
-        (&[(1, 5), (5, 7)], Err(RangeFault::Order(1)), &[(2, 9)]),
-        (&[(5, 4)], Err(RangeFault::Invalid(0)), &[(2, 9)]),
+    let cases: [(&[Range], Result<(), RangeFault>, &[Range]); 9] = [
+        (&[range(1, 3), range(4, 6)], Ok(()), &[range(1, 6)]),
+        (
+            &[range(1, 5), range(5, 7)],
+            Err(RangeFault::Order(1)),
+            &[range(2, 9)],
+        ),
+        (&[range(5, 4)], Err(RangeFault::Invalid(0)), &[range(2, 9)]),
         (&[], Ok(()), &[]),
-        (&[(0, 3)], Err(RangeFault::Invalid(0)), &[(2, 9)]),
-        (&[(3, 4), (0, 2)], Err(RangeFault::Invalid(1)), &[(2, 9)]),
-        (&[(3, 4), (1, 2)], Err(RangeFault::Order(1)), &[(2, 9)]),
-        (&[(7, 7), (9, 9), (10, 12)], Ok(()), &[(7, 7), (9, 12)]),
-        (&[(1, LAST)], Ok(()), &[(1, LAST)]),
+        (&[range(0, 3)], Err(RangeFault::Invalid(0)), &[range(2, 9)]),
+        (
+            &[range(3, 4), range(0, 2)],
+            Err(RangeFault::Invalid(1)),
+            &[range(2, 9)],
+        ),
+        (
+            &[range(3, 4), range(1, 2)],
+            Err(RangeFault::Order(1)),
+            &[range(2, 9)],
+        ),
+        (
+            &[range(7, 7), range(9, 9), range(10, 12)],
+            Ok(()),
+            &[range(7, 7), range(9, 12)],
+        ),
+        (&[range(1, LAST)], Ok(()), &[range(1, LAST)]),
     ];
     for (list, answer, left) in cases {
-        let mut read = of_list(rt.alloc(), &[(2, 9)])?;
+        let mut read = of_list(rt.alloc(), &[range(2, 9)])?;
         assert_eq!(rt; read.set(list), answer);
         assert_eq!(rt; read.ranges(), left);
     }
@@ -52,7 +72,7 @@ fn the_first_and_the_last_number(rt: HostRuntime) -> Result<(), Fail> {
     assert_eq!(rt; read.next_unread(LAST), Some(LAST));
     read.mark(1)?;
     read.mark(LAST)?;
-    assert_eq!(rt; read.ranges(), [(1, 1), (LAST, LAST)].as_slice());
+    assert_eq!(rt; read.ranges(), [range(1, 1), range(LAST, LAST)].as_slice());
     assert_eq!(rt;
         (
             read.holds(0),
@@ -65,22 +85,55 @@ fn the_first_and_the_last_number(rt: HostRuntime) -> Result<(), Fail> {
     assert_eq!(rt; read.next_unread(LAST), None);
     read.mark(LAST - 1)?;
     read.mark(2)?;
-    assert_eq!(rt; read.ranges(), [(1, 2), (LAST - 1, LAST)].as_slice());
+    assert_eq!(rt;
+        read.ranges(),
+        [range(1, 2), range(LAST - 1, LAST)].as_slice()
+    );
     read.unmark(LAST)?;
     read.unmark(1)?;
-    assert_eq!(rt; read.ranges(), [(2, 2), (LAST - 1, LAST - 1)].as_slice());
+    assert_eq!(rt;
+        read.ranges(),
+        [range(2, 2), range(LAST - 1, LAST - 1)].as_slice()
+    );
     Ok(())
 }
 
 #[test]
 fn a_cut_leaves_one_range_or_none(rt: HostRuntime) -> Result<(), Fail> {
-    let mut read = of_list(rt.alloc(), &[(2, 4), (6, 9), (20, 30)])?;
+    let mut read = of_list(rt.alloc(), &[range(2, 4), range(6, 9), range(20, 30)])?;
     read.cut_to(7);
-    assert_eq!(rt; read.ranges(), [(1, 7)].as_slice());
+    assert_eq!(rt; read.ranges(), [range(1, 7)].as_slice());
     read.cut_to(0);
     assert_eq!(rt; read.count(), 0);
     read.cut_to(LAST);
     assert_eq!(rt; read.next_unread(1), None);
+    Ok(())
+}
+
+#[test]
+fn the_first_fault_of_a_list(rt: HostRuntime) -> Result<(), Fail> {
+    let faulty = [range(3, 4), range(6, 5), range(1, 2)];
+    assert_eq!(rt; list::first_fault(&faulty), Some(1));
+    assert_eq!(rt; list::check(&faulty), Err(RangeFault::Invalid(1)));
+    assert_eq!(rt; list::fault_at(&faulty, 2), Some(RangeFault::Order(2)));
+    assert_eq!(rt; list::first_fault(&[range(3, 4), range(5, 5)]), None);
+    Ok(())
+}
+
+#[test]
+fn a_list_becomes_a_set_and_comes_back(rt: HostRuntime) -> Result<(), Fail> {
+    let given = [range(1, 3), range(4, 6), range(9, 9)].to_vec(rt.alloc())?;
+    list::check(&given)?;
+    let mut read = Ranges::from_list(given);
+    let copy = read.clone()?;
+    read.unmark(9)?;
+    assert_eq!(rt; copy.ranges(), [range(1, 6), range(9, 9)].as_slice());
+    let list = read.into_list().ok().ok_or("no memory")?;
+    assert_eq!(rt; list.as_slice(), [range(1, 6)].as_slice());
+    let mut one = Ranges::new(rt.alloc());
+    one.cut_to(7);
+    let list = one.clone()?.into_list().ok().ok_or("no memory")?;
+    assert_eq!(rt; list.as_slice(), one.ranges());
     Ok(())
 }
 
@@ -94,8 +147,8 @@ fn there_is_room_after_a_reserve(rt: HostRuntime) -> Result<(), Fail> {
     let mut read = handed_over(Ranges::new(rt.alloc()));
     read.mark(3)?;
     read.reserve(4)?;
-    assert_eq!(rt; read.ranges(), [(3, 3)].as_slice());
-    read.set(&[(1, 1), (3, 3), (5, 5), (7, 7)])?;
+    assert_eq!(rt; read.ranges(), [range(3, 3)].as_slice());
+    read.set(&[range(1, 1), range(3, 3), range(5, 5), range(7, 7)])?;
     assert_eq!(rt; read.count(), 4);
     Ok(())
 }
@@ -143,7 +196,7 @@ fn marks_and_unmarks_do_as_flags_do(rt: HostRuntime) -> Result<(), Fail> {
     }
     assert_eq!(rt;
         read.ranges(),
-        [(2, 2), (4, 6), (8, 8), (10, 11)].as_slice()
+        [range(2, 2), range(4, 6), range(8, 8), range(10, 11)].as_slice()
     );
     Ok(())
 }

@@ -1,12 +1,13 @@
 use Rattle.std.proofs.Common.{set, arith}
 use Rattle.std.specs.List.{insert}
+use Rattle.read_ranges.specs.Numbers.{range}
 use Rattle.read_ranges.specs.Places.{Marks}
 use Rattle.read_ranges.proofs.Edits.{mark_end, mark_alone, mark_before, mark_held, one_more, rise_inserted, set_inserted, full_inserted}
 use Rattle.read_ranges.proofs.edit.mark.Goals as goal
 use Rattle.read_ranges.proofs.edit.mark.Goals.{In_default, Then-saturating_sub-gt1, Then-n-first}
 
 -- past all ranges
-past_all : (c : In_default) → Marks c.args.kept.now.items (insert c.args.kept.now.items c.place_of-at.result (c.args.n, c.args.n)) c.args.n
+past_all : (c : In_default) → Marks c.args.kept.now.items (insert c.args.kept.now.items c.place_of-at.result (range c.args.n c.args.n)) c.args.n
 past_all c =
     let place = rw c.as_slice-ranges.ensures at c.place_of-at.ensures in
     let missing = rw (c.in_default.is, c.as_slice-ranges.ensures) at c.get.ensures.lookup in
@@ -26,7 +27,7 @@ returns-in_default-clause-full c =
     full_inserted _ _ _ _ more c.insert.ensures.full
 
 -- before the range at the place
-before : (c : Then-saturating_sub-gt1) → Marks c.args.kept.now.items (insert c.args.kept.now.items c.place_of-at.result (c.args.n, c.args.n)) c.args.n
+before : (c : Then-saturating_sub-gt1) → Marks c.args.kept.now.items (insert c.args.kept.now.items c.place_of-at.result (range c.args.n c.args.n)) c.args.n
 before c =
     let place = rw c.as_slice-ranges.ensures at c.place_of-at.ensures in
     let found = rw c.as_slice-ranges.ensures at c.in-Some.ensures.lookup in
@@ -48,7 +49,7 @@ returns-then-saturating_sub-gt1-clause-full c =
     full_inserted _ _ _ _ more c.insert-then-saturating_sub-gt1.ensures.full
 
 -- right before the range at the place
-lower : (c : Then-n-first) → Marks c.args.kept.now.items (set c.args.kept.now.items c.place_of-at.result (c.args.n, c.in-Some.field-0.now.1)) c.args.n
+lower : (c : Then-n-first) → Marks c.args.kept.now.items (set c.args.kept.now.items c.place_of-at.result (range c.args.n c.in-Some.field-0.now.last)) c.args.n
 lower c =
     let place = rw c.as_slice-ranges.ensures at c.place_of-at.ensures in
     let found = rw c.as_slice-ranges.ensures at c.in-Some.ensures.lookup in

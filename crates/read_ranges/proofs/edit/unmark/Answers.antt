@@ -1,13 +1,13 @@
 use Rattle.std.proofs.Common.{◌+◌, ◌-◌, ◌≤◌, length, set, arith}
 use Rattle.std.specs.List.{insert, remove}
 use Rattle.std.proofs.lemmas.Result.{err_from_is_err_and}
-use Rattle.read_ranges.specs.Numbers.{greatest}
+use Rattle.read_ranges.specs.Numbers.{range, greatest}
 use Rattle.read_ranges.proofs.Edits.{Unmarks, ends_from, ends_within, unmark_end, unmark_absent, unmark_whole, unmark_first, unmark_last, unmark_middle, one_more_split}
 use Rattle.read_ranges.proofs.edit.unmark.Goals as goal
 use Rattle.read_ranges.proofs.edit.unmark.Goals.{In-Some, Then-first-last, Then-first-n-2, Then-last-n, Else-last-n}
 
 -- the range at the place ends at n or above, and within bounds
-reaches : (c : In-Some) → (c.args.n ≤ c.in-Some.field-0.now.1) × (c.in-Some.field-0.now.1 ≤ greatest)
+reaches : (c : In-Some) → (c.args.n ≤ c.in-Some.field-0.now.last) × (c.in-Some.field-0.now.last ≤ greatest)
 reaches c =
     let place = rw c.as_slice-ranges.ensures at c.place_of-at.ensures in
     let found = rw c.as_slice-ranges.ensures at c.in-Some.ensures.lookup in
@@ -20,7 +20,7 @@ pub overflow_add-above : goal.overflow_add-above
 overflow_add-above c = let end = reaches (goal.at.overflow_add-above c).In-Some in omega (arith, end)
 
 -- n is inside the range at the place
-middle : (c : Else-last-n) → Unmarks c.args.kept.now.items (set (insert c.args.kept.now.items (c.place_of-at.result + 1) (c.args.n + 1, c.in-Some.field-0.now.1)) c.place_of-at.result (c.in-Some.field-0.now.0, c.args.n - 1)) c.args.n
+middle : (c : Else-last-n) → Unmarks c.args.kept.now.items (set (insert c.args.kept.now.items (c.place_of-at.result + 1) (range (c.args.n + 1) c.in-Some.field-0.now.last)) c.place_of-at.result (range c.in-Some.field-0.now.first (c.args.n - 1))) c.args.n
 middle c =
     let place = rw c.as_slice-ranges.ensures at c.place_of-at.ensures in
     let found = rw c.as_slice-ranges.ensures at c.in-Some.ensures.lookup in
@@ -59,7 +59,7 @@ pub returns-then-first-last-clause-ok : goal.returns-then-first-last-clause-ok
 returns-then-first-last-clause-ok c = rw c.remove.ensures.items (whole (goal.at.returns-then-first-last-clause-ok c).Then-first-last).numbers
 
 -- n begins it
-first : (c : Then-first-n-2) → Unmarks c.args.kept.now.items (set c.args.kept.now.items c.place_of-at.result (c.args.n + 1, c.in-Some.field-0.now.1)) c.args.n
+first : (c : Then-first-n-2) → Unmarks c.args.kept.now.items (set c.args.kept.now.items c.place_of-at.result (range (c.args.n + 1) c.in-Some.field-0.now.last)) c.args.n
 first c =
     let place = rw c.as_slice-ranges.ensures at c.place_of-at.ensures in
     let found = rw c.as_slice-ranges.ensures at c.in-Some.ensures.lookup in
@@ -73,7 +73,7 @@ pub returns-then-first-n-2-clause-ok : goal.returns-then-first-n-2-clause-ok
 returns-then-first-n-2-clause-ok c = rw c.write.ensures.items (first (goal.at.returns-then-first-n-2-clause-ok c).Then-first-n-2).numbers
 
 -- n ends it
-last : (c : Then-last-n) → Unmarks c.args.kept.now.items (set c.args.kept.now.items c.place_of-at.result (c.in-Some.field-0.now.0, c.args.n - 1)) c.args.n
+last : (c : Then-last-n) → Unmarks c.args.kept.now.items (set c.args.kept.now.items c.place_of-at.result (range c.in-Some.field-0.now.first (c.args.n - 1))) c.args.n
 last c =
     let place = rw c.as_slice-ranges.ensures at c.place_of-at.ensures in
     let found = rw c.as_slice-ranges.ensures at c.in-Some.ensures.lookup in
