@@ -15,10 +15,10 @@ use Rattle.map_chain.proofs.Lists.{AllFrom-weaken}
 use Rattle.map_chain.proofs.Seeking.{AllBelow-append, AllFrom-append, rising-right, rising_after, pairs-cut, back_rising, filled_at}
 
 -- a test that each passes, or none
-kept : (b : Bool) (x : Pair) (l : List Pair) → b ≡ true → cond b (x ∷ l) l ≡ x ∷ l
+pub kept : (b : Bool) (x : Pair) (l : List Pair) → b ≡ true → cond b (x ∷ l) l ≡ x ∷ l
 kept b x l e = ap (λ c. cond c (x ∷ l) l) e
 
-left_out : (b : Bool) (x : Pair) (l : List Pair) → b ≡ false → cond b (x ∷ l) l ≡ l
+pub left_out : (b : Bool) (x : Pair) (l : List Pair) → b ≡ false → cond b (x ∷ l) l ≡ l
 left_out b x l e = ap (λ c. cond c (x ∷ l) l) e
 
 below-low : (n : ℕ) (ps : List Pair) → AllBelow n ps → below n ps ≡ ps
@@ -153,10 +153,3 @@ pub place_cut : (n : ℕ) (bs : Placed) (i : ℕ) (p : Ptr) (ps : List Pair) (k 
     → AllFilled bs → Cut n (pairs_of bs) (pairs_of (take i bs) ++ take k ps) (drop k ps ++ pairs_of (drop (suc i) bs))
 place_cut n bs i p ps k s e place r filled =
     cut_at n bs i p (record { pairs = ps; is = e; before = s.before; reached = reached_by n bs i p ps s e }) k place r filled
-
-pub from-none : (n : ℕ) (ps : List Pair) → from_on n ps ≡ [] → AllBelow n ps
-from-none n [] e = tt
-from-none n (p ∷ ps) e = elim (cases_lt p.0 n) [
-  | inl less ↦ (less, from-none n ps (sym (left_out _ p (from_on n ps) (lt-leb n p.0 less)) ∙ e))
-  | inr more ↦ let some = sym (kept _ p (from_on n ps) (le-leb n p.0 more)) ∙ e in let none : p ∷ from_on n ps ≡ [] = some in cc
-]

@@ -2,7 +2,7 @@
 --     rising-push, rising_gap, rising_count      rising locals
 --     pairs-*, filled-*, room-*                  one block that changes, or goes
 --     grown                                      the last block takes a pair
---     lost_pair, lost_last, lost_block           a pair goes, and maybe its block
+--     lost_pair, alone                           a pair goes, and maybe its block
 --     chain_grown, chain_left, chain_stocked     what holds of a chain holds on
 use Rattle.std.proofs.Common.{◌≡◌, ℕ, zero, suc, min, max, ◌+◌, ◌-◌, ◌*◌, ◌/◌, ◌%◌, ◌^◌, ◌<◌, ◌≤◌, List, [], ◌∷◌, ◌++◌, length, take, drop, slice_get, Some, inl, inr, refl, sym, ap, subst, ◌∙◌, arith, append_assoc, append-nil}
 use Rattle.std.proofs.lemmas.List.{length-append}
@@ -50,7 +50,7 @@ pub length_filled : (bs : Placed) → AllFilled bs → length bs ≤ length (pai
 length_filled [] f = omega arith
 length_filled (b ∷ bs) f = let some : 0 < length b.1 = f.0 in let rest = length_filled bs f.2 in let both = length-append b.1 (pairs_of bs) in omega arith
 
-room-cons : (b : Ptr × List Pair) (cs : Placed) → 0 < length cs → room_in (b ∷ cs) ≡ room_in cs
+pub room-cons : (b : Ptr × List Pair) (cs : Placed) → 0 < length cs → room_in (b ∷ cs) ≡ room_in cs
 room-cons b [] some = absurd (omega arith)
 room-cons b (c ∷ cs) some = refl
 
@@ -176,7 +176,7 @@ one_gone (p ∷ q ∷ ps) k one h = absurd (omega arith)
 
 module _ (used spare : Placed) (i k : ℕ) (p : Ptr) (ps : List Pair) (at : slice_get used i ≡ Some (p, ps)) (within : k < length ps) (filled : AllFilled used) where
   -- the only pair of its block
-  alone : (used' : Placed) → used' ≡ remove used i → length ps ≤ 1 → (q : Ptr) (qs : List Pair) → slice_get used i ≡ Some (q, qs)
+  pub alone : (used' : Placed) → used' ≡ remove used i → length ps ≤ 1 → (q : Ptr) (qs : List Pair) → slice_get used i ≡ Some (q, qs)
       → pairs_of used' ≡ pairs_of (take i used) ++ (remove qs k ++ pairs_of (drop (suc i) used))
   alone used' is one q qs e =
       let same = (one_block used i p q ps qs at e).1 in
@@ -193,29 +193,6 @@ module _ (used spare : Placed) (i k : ℕ) (p : Ptr) (ps : List Pair) (at : slic
         few = omega arith;
         room = omega arith;
       })
-
-  pub lost_last : (used' spare' : Placed) (q : Ptr) → used' ≡ remove used i → spare' ≡ spare ++ (q, []) ∷ [] → length ps ≤ 1 → suc i ≡ length used → HasLost used spare i k used' spare'
-  lost_last used' spare' q is kept one last =
-      let size = ap (λ (l : Placed). length l) is in let less = length-remove_at used i (omega arith) in
-      let more = ap (λ (l : Placed). length l) kept ∙ length-append spare ((q, []) ∷ []) in
-      let room = room-last used i p ps last at in
-      record {
-        pairs = alone used' is one;
-        filled = subst AllFilled (sym is) (filled-remove used i filled);
-        few = omega arith;
-        room = omega arith;
-      }
-
-  pub lost_block : (used' : Placed) → used' ≡ remove used i → length ps ≤ 1 → suc i < length used → HasLost used spare i k used' spare
-  lost_block used' is one inside =
-      let size = ap (λ (l : Placed). length l) is in let less = length-remove_at used i (omega arith) in
-      let room = ap room_in is ∙ room-remove used i inside in
-      record {
-        pairs = alone used' is one;
-        filled = subst AllFilled (sym is) (filled-remove used i filled);
-        few = omega arith;
-        room = omega arith;
-      }
 
 -- spare blocks have come, and not more than were asked for
 pub record HasStocked (old now : Placed) (blocks : ℕ) : Type 0 where

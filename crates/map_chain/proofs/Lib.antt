@@ -1,9 +1,12 @@
+pub mod Below
 mod Crosses
 mod Filters
 mod Growing
+mod Indexing
 mod Linking
 mod Lists
 mod Seeking
 mod Sharing
 mod Steps
+mod Thin
 mod Walking

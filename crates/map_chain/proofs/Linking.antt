@@ -122,10 +122,6 @@ blocks-block (n ∷ ns) (suc i) f = ap (λ (l : List (Ptr × List Pair)). (n.0, 
 
 -- ---- what leads on
 
-pub LeadsOn-first : (h : Ptr) (ns : List (Ptr × Node)) → LeadsOn h ns → 0 < length ns → IsAt ns 0 h
-LeadsOn-first h [] l m = absurd (omega arith)
-LeadsOn-first h (n ∷ ns) l m = ap (λ (p : Ptr). Some p) (sym l.0)
-
 pub LeadsOn-at : (h : Ptr) (ns : List (Ptr × Node)) (i : ℕ) (p : Ptr) (x : Node) → LeadsOn h ns → slice_get ns i ≡ Some (p, x) → suc i < length ns → IsAt ns (suc i) x.next.ptr
 LeadsOn-at h [] i p x l e m = absurd (omega arith)
 LeadsOn-at h (n ∷ []) i p x l e m = absurd (omega arith)

@@ -1,6 +1,7 @@
 -- Lists of pairs of rising locals.
 --     gap_goes, gap_left       the pairs after a gap move down over it
 --     get_taken                an element within the first n
+--     take_get                 one more of the first k
 --     AllFrom-*, AllBelow-*    what holds of every local
 --     rising_below, rising_from     one local tells of all before it, or of all after it
 use Rattle.std.proofs.Common.{◌≡◌, ℕ, zero, suc, ◌<◌, ◌≤◌, List, [], ◌∷◌, ◌++◌, length, take, drop, get_or, set, slice_get, Some, refl, sym, ap, subst, ◌∙◌, arith}
@@ -43,6 +44,11 @@ module _ {X : Type 0} where
   get_taken (x ∷ xs) zero i d h m = absurd (omega arith)
   get_taken (x ∷ xs) (suc n) zero d h m = refl
   get_taken (x ∷ xs) (suc n) (suc i) d h m = get_taken xs n i d (omega arith) (omega arith)
+
+pub take_get : {X : Type 0} (xs : List X) (k : ℕ) (q : X) → slice_get xs k ≡ Some q → take (suc k) xs ≡ take k xs ++ q ∷ []
+take_get [] k q e = cc
+take_get (x ∷ xs) zero q e = let at : x ≡ q = cc in ap (λ y. y ∷ []) at
+take_get (x ∷ xs) (suc k) q e = ap (λ l. x ∷ l) (take_get xs k q e)
 
 pub AllFrom-weaken : (m n : ℕ) (ps : List Pair) → m ≤ n → AllFrom n ps → AllFrom m ps
 AllFrom-weaken m n [] le a = tt

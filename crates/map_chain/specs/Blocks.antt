@@ -1,7 +1,9 @@
 -- Blocks of pairs, each at its place.
-use Rattle.std.specs.Prelude.{◌≡◌, ℕ, suc, ◌+◌, ◌-◌, ◌*◌, ◌<◌, ◌≤◌, ◌⊎◌, List, [], ◌∷◌, ◌++◌, length, take, drop, remove, slice_get, Some}
+use Rattle.std.specs.Prelude.{◌≡◌, ℕ, suc, ◌+◌, ◌-◌, ◌*◌, ◌<◌, ◌≤◌, ◌⊎◌, Bool, true, false, Option, None}
+use Rattle.std.specs.Prelude.{List, [], ◌∷◌, ◌++◌, length, take, drop, remove, slice_get, Some}
 use denote.RawPtr.{Ptr}
 use Rattle.map_chain.specs.Pairs.{Pair, AllBelow, highest}
+use Rattle.map_chain.specs.declared.nodes.Place.{Place}
 
 -- blocks in their order, each with its place
 abbrev pub Placed : Type 0
@@ -30,12 +32,28 @@ pub record IsSought (n : ℕ) (bs : Placed) (i : ℕ) (p : Ptr) : Type 0 where
   pub before : AllBelow n (pairs_of (take i bs))
   pub reached : n ≤ highest pairs
 
--- the last block has a local of n or above
-pub record Reaches (n : ℕ) (bs : Placed) : Type 0 where
-  pub place : Ptr
+-- a place and a number are those of the first block with a local of n or above, if there is one
+abbrev pub HasSought : ℕ → Placed → Option (Place × ℕ) → Type 0
+HasSought n bs None = AllBelow n (pairs_of bs)
+HasSought n bs (Some r) = IsSought n bs r.1 r.0.ptr
+
+-- the i-th block has these pairs
+abbrev pub IsBlockAt : Placed → ℕ → List Pair → Type 0
+IsBlockAt bs i ps = (p : Ptr) × (slice_get bs i ≡ Some (p, ps))
+
+-- the i-th block, at p, has room for so many pairs more
+abbrev pub HasRoomAt : Placed → ℕ → Ptr → ℕ → Type 0
+HasRoomAt bs i p more = (ps : List Pair) → slice_get bs i ≡ Some (p, ps) → length ps + more ≤ 64
+
+-- the i-th block and the one after it fit into one
+pub record FitTogether (bs : Placed) (i : ℕ) : Type 0 where
+  pub here : Ptr
+  pub next : Ptr
   pub pairs : List Pair
-  pub is : slice_get bs (length bs - 1) ≡ Some (place, pairs)
-  pub reached : n ≤ highest pairs
+  pub more : List Pair
+  pub first : slice_get bs i ≡ Some (here, pairs)
+  pub second : slice_get bs (suc i) ≡ Some (next, more)
+  pub fits : length pairs + length more ≤ 64
 
 -- the i-th block, at p, has k pairs
 pub record IsWhole (bs : Placed) (i : ℕ) (p : Ptr) (k : ℕ) : Type 0 where
@@ -51,11 +69,36 @@ room_of used spare = room_in used + 64 * length spare
 abbrev pub HasMadeRoom : Placed → Placed → Placed → Placed → Type 0
 HasMadeRoom used spare used' spare' =
     ((0 < room_in used) × (used' ≡ used) × (spare' ≡ spare))
-    ⊎ ((p : Ptr) × (room_in used ≡ 0) × (used' ≡ used ++ (p, []) ∷ []) × (length spare' ≡ length spare - 1))
+    ⊎ ((p : Ptr) × (room_in used ≡ 0) × (used' ≡ used ++ (p, []) ∷ [])
+    × (length spare' ≡ length spare - 1))
+
+-- there was no room in the last block and no spare block, and nothing has changed
+abbrev pub HasNoRoom : Placed → Placed → Placed → Placed → Type 0
+HasNoRoom used spare used' spare' = (used' ≡ used) × (spare' ≡ spare) × (room_of used spare ≡ 0)
+
+-- the i-th block has a k-th pair
+abbrev pub IsPairAt : Placed → ℕ → ℕ → Type 0
+IsPairAt bs i k = (p : Ptr) × (ps : List Pair) × (slice_get bs i ≡ Some (p, ps)) × (k < length ps)
+
+-- a block that has left is a spare one if it was the last
+pub record HasPutBy (spare spare' : Placed) (is_last : Bool) : Type 0 where
+  pub kept : is_last ≡ true → length spare' ≡ suc (length spare)
+  pub gone : is_last ≡ false → spare' ≡ spare
+
+-- the pairs are the same, in no more blocks, and no room is gone
+pub record HasKept (used spare used' spare' : Placed) : Type 0 where
+  pub pairs : pairs_of used' ≡ pairs_of used
+  pub filled : AllFilled used'
+  pub few : length used' + length spare' ≤ length used + length spare
+  pub room : room_of used spare ≤ room_of used' spare'
+
+-- the pairs of the i-th block but for the k-th, and those of all others
+abbrev pub pairs_but : Placed → ℕ → ℕ → List Pair → List Pair
+pairs_but bs i k ps = pairs_of (take i bs) ++ (remove ps k ++ pairs_of (drop (suc i) bs))
 
 -- the k-th pair of the i-th block is gone, and no room
 pub record HasLost (used spare : Placed) (i k : ℕ) (used' spare' : Placed) : Type 0 where
-  pub pairs : (p : Ptr) (ps : List Pair) → slice_get used i ≡ Some (p, ps) → pairs_of used' ≡ pairs_of (take i used) ++ (remove ps k ++ pairs_of (drop (suc i) used))
+  pub pairs : (p : Ptr) (ps : List Pair) → slice_get used i ≡ Some (p, ps) → pairs_of used' ≡ pairs_but used i k ps
   pub filled : AllFilled used'
   pub few : length used' + length spare' ≤ length used + length spare
   pub room : room_of used spare ≤ room_of used' spare'

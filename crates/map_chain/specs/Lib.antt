@@ -1,6 +1,7 @@
 pub mod Blocks
 pub mod Chain
 pub mod Edit
+pub mod Index
 pub mod Lends
 pub mod Links
 pub mod Nodes

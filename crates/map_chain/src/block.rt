@@ -1,5 +1,6 @@
 //! One block of pairs.
-ghost use Rattle.std.specs.Prelude.{◌≡◌, ℕ, ◌+◌, ◌-◌, ◌<◌, ◌≤◌, List, [], ◌∷◌, ◌++◌, length, take, remove, slice_get, Some};
+ghost use Rattle.std.specs.Prelude.{◌≡◌, ℕ, ◌+◌, ◌-◌, ◌<◌, ◌≤◌, List, [], ◌∷◌, ◌++◌, length};
+ghost use Rattle.std.specs.Prelude.{take, remove, slice_get, Some};
 ghost use Rattle.map_chain.specs.Pairs.{Pair, IsRising, IsPlace, IsBlock, highest};
 
 use std::marker::Model;
@@ -11,7 +12,7 @@ pub(crate) const ROOM: usize = 64;
 #[derive(Drop)]
 pub(crate) struct Block {
     len: usize,
-    // The local of the last pair, kept here so that a search passes over the block without a look at its pairs.
+    // The local of the last pair, kept here so that a search for a block reads its head alone.
     high: u32,
     pairs: [(u32, u32); ROOM],
 }
@@ -71,6 +72,17 @@ impl Block {
         self.pairs[self.len] = (local, text);
         self.high = local;
         self.len += 1;
+    }
+
+    /// Adds the pairs of another block.
+    pub(crate) fn extend(&mut self, more: &Block)
+        requires { length self.old + length more.now ≤ 64 }
+        ensures { self.new ≡ self.old ++ more.now }
+    {
+        for k in 0..more.len() {
+            let (local, text) = more.pair(k);
+            self.push(local, text);
+        }
     }
 
     pub(crate) fn remove(&mut self, k: usize)

@@ -6,6 +6,7 @@ ghost use Rattle.map_chain.specs.Links.{with_next, with_previous};
 ghost use Rattle.map_chain.specs.Nodes.{IsAt};
 ghost use Rattle.map_chain.specs.Pairs.{Pair, AllBelow, IsRising};
 ghost use Rattle.map_chain.specs.Blocks.{Placed, pairs_of, room_in, AllFilled, IsSought};
+ghost use Rattle.map_chain.specs.Blocks.{HasRoomAt};
 
 use crate::block::{Block, ROOM};
 use crate::loose::Loose;
@@ -112,13 +113,6 @@ impl Blocks {
         self.count
     }
 
-    pub(crate) fn first(&self) -> Place
-        requires { 0 < length self.now }
-        ensures { IsAt self.now 0 result.ptr }
-    {
-        self.first
-    }
-
     pub(crate) fn last(&self) -> Place
         requires { 0 < length self.now }
         ensures { IsAt self.now (length self.now - 1) result.ptr }
@@ -164,7 +158,8 @@ impl Blocks {
     /// Takes the i-th block out, and links its neighbours to one another.
     pub(crate) fn unlink(&mut self, at: Place, i: usize, alloc: Global) -> Box<Node>
         requires { IsAt self.old i at.ptr }
-        ensures { self.new ≡ remove self.old i }
+        ensures node { slice_get self.old i ≡ Some (at.ptr, result.value.block) }
+        ensures others { self.new ≡ remove self.old i }
     {
         let node = self.nodes.get(at, i);
         let (next, previous) = (node.next, node.previous);
@@ -208,6 +203,15 @@ impl Blocks {
         ensures { self.new ≡ edit i (λ ps. remove ps k) self.old }
     {
         self.nodes.get_mut(at, i).block.remove(k);
+    }
+
+    /// Adds pairs to the i-th block.
+    pub(crate) fn add_pairs(&mut self, at: Place, i: usize, more: &Block)
+        requires place { IsAt self.old i at.ptr }
+        requires fits { HasRoomAt self.old i at.ptr (length more.now) }
+        ensures { self.new ≡ edit i (λ ps. ps ++ more.now) self.old }
+    {
+        self.nodes.get_mut(at, i).block.extend(more);
     }
 
     /// Takes the last block out, if there is one.

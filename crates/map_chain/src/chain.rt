@@ -1,11 +1,13 @@
 //! The chain.
-ghost use Rattle.std.specs.Prelude.{◌≡◌, ◌+◌, ◌^◌, ◌<◌, ◌≤◌, List, [], ◌∷◌, ◌++◌, ◌↔◌, length, max, reverse, slice_get, Some, IsTrue, OnOk, OnErr};
-ghost use Rattle.map_chain.specs.Nodes.{IsAt};
-ghost use Rattle.map_chain.specs.Blocks.{AllFilled, HasMadeRoom, HasLost, room_of};
+ghost use Rattle.std.specs.Prelude.{◌≡◌, ◌+◌, ◌^◌, ◌<◌, ◌≤◌, ◌↔◌, [], ◌∷◌, ◌++◌, length, max, reverse};
+ghost use Rattle.std.specs.Prelude.{vec_capacity, IsTrue, OnOk, OnErr};
+ghost use Rattle.map_chain.specs.Blocks.{AllFilled, HasMadeRoom, HasNoRoom, IsPairAt, HasLost};
+ghost use Rattle.map_chain.specs.Index.{IsIndexed};
 ghost use Rattle.map_chain.specs.Pairs.{Pair, AllBelow, IsRising, text_of, without, from_on, below};
 
 use crate::block::ROOM;
 use crate::blocks::Blocks;
+use crate::joining::{join_thin, put_by, take_block};
 use crate::memory::Memory;
 use crate::node::Node;
 use crate::nodes::Place;
@@ -15,62 +17,82 @@ use std::marker::Model;
 
 /// Pairs of a local number and a text, of rising locals, in a two-way chain of blocks of 64 pairs.
 ///
-/// `append` and `len` are constant. `get`, `remove`, `from` and `before` go from block to block, from the
-/// end of the chain whose locals are nearer, and search one block by halving. So in the middle of a chain of a million
-/// pairs they pass over some 8,000 blocks, of each of which they read the head alone.
+/// `append` and `len` are constant. `get`, `remove`, `from` and `before` find their block by halving,
+/// over an index of the blocks' places, and the pair in it by halving too. A block that has become
+/// thin is joined with a neighbour if both fit into one.
 pub struct Chain {
     used: Blocks,
     spare: Blocks,
+    index: Vec<Place>,
     len: usize,
     alloc: Global,
 }
 
 impl Model for Chain {
     ghost use Rattle.map_chain.specs.Chain.{Listed, IsChain};
+    ghost use Rattle.std.specs.Prelude.{vec_capacity};
     ghost use Rattle.map_chain.specs.Blocks.{pairs_of, room_of};
+    ghost use Rattle.map_chain.specs.Index.{IsIndexed};
 
     ghost Value = { Listed };
 
     ghost view = { λ c. record { pairs = pairs_of c.used; spare = room_of c.used c.spare } };
 
-    ghost invariant = { λ c. IsChain c.used c.spare c.len };
+    ghost invariant = { λ c. IsChain c.used c.spare c.len × IsIndexed c.index.items (vec_capacity c.index) c.used c.spare };
 }
 
-// Makes room in the last block for one more pair, by another block where there is none: a spare one if there is one.
-fn make_room(used: &mut Blocks, spare: &mut Blocks, alloc: Global) -> Result<(), Memory>
-    requires { AllFilled used.old × (length used.old < 2 ^ 60) }
+// Makes room in the last block for one more pair, by another block if there is none: a spare one if
+// there is one.
+fn make_room(
+    used: &mut Blocks,
+    spare: &mut Blocks,
+    index: &mut Vec<Place>,
+    alloc: Global,
+) -> Result<(), Memory>
+    requires blocks { AllFilled used.old × (length used.old < 2 ^ 60) }
+    requires index { IsIndexed index.old.items (vec_capacity index.old) used.old spare.old }
     ensures ok { OnOk result (HasMadeRoom used.old spare.old used.new spare.new) }
-    ensures err { OnErr result ((used.new ≡ used.old) × (spare.new ≡ spare.old) × (room_of used.old spare.old ≡ 0)) }
+    ensures err { OnErr result (HasNoRoom used.old spare.old used.new spare.new) }
+    ensures index { IsIndexed index.new.items (vec_capacity index.new) used.new spare.new }
 {
     if used.room() > 0 {
         return Ok(());
     }
-    if let Some(node) = spare.pop(alloc) {
-        used.link(node);
-        return Ok(());
-    }
-    let node = Box::new(alloc, Node::new())?;
-    used.link(node);
+    let node = match spare.pop(alloc) {
+        Some(node) => node,
+        None => {
+            index.reserve(1)?;
+            Box::new(alloc, Node::new())?
+        }
+    };
+    index.push(used.link(node)).unwrap();
     Ok(())
 }
 
-// Removes the k-th pair of the i-th block. A block that has become empty leaves the chain, and is kept if it was the last.
-fn take_pair(used: &mut Blocks, spare: &mut Blocks, at: Place, i: usize, k: usize, alloc: Global)
-    requires place { IsAt used.old i at.ptr }
-    requires within { (ps : List Pair) → slice_get used.old i ≡ Some (at.ptr, ps) → k < length ps }
+// Removes the k-th pair of the i-th block, which leaves the chain if it has become empty.
+fn take_pair(
+    used: &mut Blocks,
+    spare: &mut Blocks,
+    index: &mut Vec<Place>,
+    i: usize,
+    k: usize,
+    alloc: Global,
+)
+    requires within { IsPairAt used.old i k }
     requires blocks { AllFilled used.old × (length used.old + length spare.old ≤ 2 ^ 60) }
-    ensures { HasLost used.old spare.old i k used.new spare.new }
+    requires index { IsIndexed index.old.items (vec_capacity index.old) used.old spare.old }
+    ensures lost { HasLost used.old spare.old i k used.new spare.new }
+    ensures index { IsIndexed index.new.items (vec_capacity index.new) used.new spare.new }
 {
+    let at = index[i];
     if used.block(at, i).len() > 1 {
         used.remove_pair(at, i, k);
+        join_thin(used, spare, index, i, alloc);
         return;
     }
-    if i + 1 == used.len() {
-        let node = used.unlink(at, i, alloc);
-        spare.link(node);
-        return;
-    }
-    drop(used.unlink(at, i, alloc));
+    let is_last = i + 1 == index.len();
+    let node = take_block(used, index, i, alloc);
+    put_by(spare, node, is_last);
 }
 
 // Adds blocks until there are this many.
@@ -96,6 +118,7 @@ impl Chain {
         Chain {
             used: Blocks::new(alloc),
             spare: Blocks::new(alloc),
+            index: Vec::new(alloc),
             len: 0,
             alloc,
         }
@@ -119,7 +142,7 @@ impl Chain {
         ensures text { result ≡ text_of local self.now.pairs }
         ensures rising { IsRising self.now.pairs }
     {
-        let (at, i) = self.used.seek(local)?;
+        let (at, i) = self.used.seek(&self.index, local)?;
         let block = self.used.block(at, i);
         let (found, text) = block.pair(block.find(local));
         if found == local { Some(text) } else { None }
@@ -132,7 +155,7 @@ impl Chain {
         ensures err { OnErr result ((self.new.pairs ≡ self.old.pairs) × (self.old.spare ≡ 0)) }
         ensures spare { self.old.spare ≤ self.new.spare + 1 }
     {
-        make_room(&mut self.used, &mut self.spare, self.alloc)?;
+        make_room(&mut self.used, &mut self.spare, &mut self.index, self.alloc)?;
         self.used.push_last(local, text);
         self.len += 1;
         Ok(())
@@ -144,14 +167,21 @@ impl Chain {
         ensures pairs { self.new.pairs ≡ without local self.old.pairs }
         ensures spare { self.old.spare ≤ self.new.spare }
     {
-        let (at, i) = self.used.seek(local)?;
+        let (at, i) = self.used.seek(&self.index, local)?;
         let block = self.used.block(at, i);
         let k = block.find(local);
         let (found, text) = block.pair(k);
         if found != local {
             return None;
         }
-        take_pair(&mut self.used, &mut self.spare, at, i, k, self.alloc);
+        take_pair(
+            &mut self.used,
+            &mut self.spare,
+            &mut self.index,
+            i,
+            k,
+            self.alloc,
+        );
         self.len -= 1;
         Some(text)
     }
@@ -164,6 +194,7 @@ impl Chain {
         ensures spare { self.old.spare ≤ self.new.spare }
     {
         let blocks = n.saturating_sub(self.used.room()).div_ceil(ROOM);
+        self.index.reserve(blocks)?;
         stock(&mut self.spare, blocks, self.alloc)
     }
 
@@ -172,7 +203,7 @@ impl Chain {
         ensures pairs { result ≡ from_on local self.now.pairs }
         ensures rising { IsRising self.now.pairs }
     {
-        Upward::new(&self.used, local)
+        Upward::new(&self.used, &self.index, local)
     }
 
     /// The pairs strictly below the ceiling, falling.
@@ -180,7 +211,7 @@ impl Chain {
         ensures pairs { result ≡ reverse (below ceiling self.now.pairs) }
         ensures rising { IsRising self.now.pairs }
     {
-        Downward::new(&self.used, ceiling)
+        Downward::new(&self.used, &self.index, ceiling)
     }
 }
 
@@ -189,6 +220,7 @@ impl Drop for Chain {
         let Chain {
             used,
             spare,
+            index: _,
             len: _,
             alloc,
         } = self;

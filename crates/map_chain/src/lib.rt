@@ -4,6 +4,7 @@
 mod block;
 mod blocks;
 mod chain;
+mod joining;
 mod loose;
 mod memory;
 mod node;

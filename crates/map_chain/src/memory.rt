@@ -17,6 +17,12 @@ impl fmt::Display for Memory {
 
 impl Error for Memory {}
 
+impl From<AllocError> for Memory {
+    fn from(_refused: AllocError) -> Memory {
+        Memory
+    }
+}
+
 impl<T: Drop> From<AllocFailed<T>> for Memory {
     fn from(_refused: AllocFailed<T>) -> Memory {
         Memory

@@ -1,5 +1,6 @@
 //! The walks over the pairs where they stand.
 ghost use Rattle.std.specs.Prelude.{◌≡◌, ◌+◌, ◌-◌, ◌<◌, length, reverse};
+ghost use Rattle.map_chain.specs.Index.{IsIndexOf};
 ghost use Rattle.map_chain.specs.Nodes.{IsAt};
 ghost use Rattle.std.specs.Iterator.{YieldsFirst, item_count};
 ghost use Rattle.map_chain.specs.Pairs.{IsRising, from_on, below};
@@ -56,11 +57,12 @@ impl<'a> Model for Upward<'a> {
 }
 
 impl<'a> Upward<'a> {
-    pub(crate) fn new(blocks: &'a Blocks, local: u32) -> Upward<'a>
-        requires { IsRising (pairs_of blocks.now) × AllFilled blocks.now }
+    pub(crate) fn new(blocks: &'a Blocks, index: &[Place], local: u32) -> Upward<'a>
+        requires order { IsRising (pairs_of blocks.now) × AllFilled blocks.now }
+        requires index { IsIndexOf index.now blocks.now }
         ensures { result ≡ from_on local (pairs_of blocks.now) }
     {
-        match blocks.seek(local) {
+        match blocks.seek(index, local) {
             Some((at, i)) => {
                 let k = blocks.block(at, i).find(local);
                 Upward { blocks, at, i, k }
@@ -109,7 +111,8 @@ impl<'a> Iterator for Upward<'a> {
 #[derive(Drop)]
 pub struct Downward<'a> {
     blocks: &'a Blocks,
-    // The first `k` pairs of the block at `at`, the last of the first `i`, are still to come, and all before it.
+    // The first `k` pairs of the block at `at`, the last of the first `i`, are still to come, and
+    // all before it.
     at: Place,
     i: usize,
     k: usize,
@@ -128,12 +131,13 @@ impl<'a> Model for Downward<'a> {
 }
 
 impl<'a> Downward<'a> {
-    pub(crate) fn new(blocks: &'a Blocks, ceiling: u32) -> Downward<'a>
-        requires { IsRising (pairs_of blocks.now) × AllFilled blocks.now }
+    pub(crate) fn new(blocks: &'a Blocks, index: &[Place], ceiling: u32) -> Downward<'a>
+        requires order { IsRising (pairs_of blocks.now) × AllFilled blocks.now }
+        requires index { IsIndexOf index.now blocks.now }
         ensures { result ≡ reverse (below ceiling (pairs_of blocks.now)) }
     {
         let count = blocks.len();
-        match blocks.seek(ceiling) {
+        match blocks.seek(index, ceiling) {
             Some((at, i)) => {
                 let k = blocks.block(at, i).find(ceiling);
                 if k > 0 {

@@ -5,7 +5,7 @@ use Rattle.map_chain.specs.Nodes.{IsAt}
 use Rattle.map_chain.specs.Pairs.{Pair}
 use Rattle.map_chain.specs.Links.{blocks_of}
 use Rattle.map_chain.specs.declared.node.Node.{Node}
-use Rattle.map_chain.proofs.Linking.{had_at, LeadsOn-at, LeadsBack-at, LedOn-places, Relinked, led_past, IsAt-node, get-within}
+use Rattle.map_chain.proofs.Linking.{had_at, LeadsOn-at, LeadsBack-at, LedOn-places, Relinked, led_past, IsAt-node, get-within, one_block, block_at}
 use Rattle.map_chain.proofs.blocks.Blocks.unlink.Goals as goal
 
 pub get-node-requires : goal.get-node-requires
@@ -49,5 +49,14 @@ invariant_of-self c =
     let v = c.self.invariant in let n = v.counted in let few = v.few in let m = relinked c in let less = m.1 in
     record { linked = m.0.linked; counted = omega arith; few = omega arith }
 
-pub returns : goal.returns
-returns c = (relinked c).0.blocks ∙ ap (λ (bs : List (Ptr × List Pair)). remove bs c.args.i) c.self.view_is
+pub returns-clause-others : goal.returns-clause-others
+returns-clause-others c = (relinked c).0.blocks ∙ ap (λ (bs : List (Ptr × List Pair)). remove bs c.args.i) c.self.view_is
+
+pub returns-clause-node : goal.returns-clause-node
+returns-clause-node c =
+    let s = c.self.inside in let ns = s.nodes.nodes in let x = c.get-node.result.now in let p = c.args.at.ptr in let ks = c.lead_back-self-inside.new.nodes.nodes in
+    let on = c.lead_on-self-inside.ensures in let back = c.lead_back-self-inside.ensures in
+    let all = led_past s.first s.last s.count ns c.lead_on-self-inside.new.nodes.nodes ks c.args.i p x c.lead_on-self-inside.result c.lead_back-self-inside.result c.self.invariant c.get-node.ensures
+    (record { at_first = on.at_first; after_one = on.after_one }) back.at_last back.before_one in
+    let same = (one_block ks c.args.i p p x c.take.result.value all.0 c.take.ensures.node).1 ∙ sym c.into_box.ensures.value in
+    block_at ns c.args.self.now c.self.view_is c.args.i p x c.get-node.ensures ∙ ap (λ (y : Node). Some (p, y.block)) same
