@@ -1,9 +1,11 @@
-//! Measures the calls of a chain of pairs beside a vector of the same pairs: their sums, or their times.
+//! Measures the calls of a chain of pairs beside a vector of the same pairs, and those of 16 chains
+//! that grew side by side: their sums, or their times.
 #![tactic(auto)]
 
 ghost use Rattle.std.specs.Prelude.{◌<◌};
 
 mod measures;
+mod side_by_side;
 
 use bench_watch::{Counts, Request, Watch};
 use map_chain::Chain;
@@ -21,14 +23,18 @@ const PAIRS: Counts = Counts {
 /// How many pairs are the last ones.
 const LAST: u32 = 64;
 
+/// How many pairs are taken out and added, at most.
+const RENEWED: u32 = 10_000;
+
 /// How wide the name of a measure is beside its time.
-const WIDTH: usize = 24;
+const WIDTH: usize = 40;
 
 fn main(rt: HostRuntime) -> io::Result<ExitCode> {
     let Some(request) = bench_watch::asked(&rt, PAIRS) else {
         return bench_watch::refuse(&rt, "bench_map_chain [PAIRS]");
     };
     measure(&rt, rt.alloc(), request)?;
+    measure_side_by_side(&rt, rt.alloc(), request)?;
     Ok(ExitCode::SUCCESS)
 }
 
@@ -47,9 +53,13 @@ fn measure<R: Print + Clock>(rt: &R, alloc: Global, request: Request) -> io::Res
     watch.tell(rt, "walk down", measures::down(&chain))?;
     watch.tell(rt, "walk a vector", measures::along(&vector))?;
     look_ups(rt, &mut watch, &chain, pairs)?;
-    measures::thin(&mut chain, pairs);
+    let more = RENEWED.min(u32::MAX - pairs);
+    let renewed = measures::renewed(&mut chain, pairs, more);
+    watch.tell(rt, "remove in the middle, append", renewed)?;
+    let all = pairs + more;
+    measures::thin(&mut chain, all);
     watch.tell(rt, "remove every second", chain.len() as u64)?;
-    measures::empty(&mut chain, pairs);
+    measures::empty(&mut chain, all);
     watch.tell(rt, "remove the rest downward", chain.len() as u64)
 }
 
@@ -68,4 +78,27 @@ fn look_ups<R: Print + Clock>(
         measures::found(chain, pairs - last, last),
     )?;
     watch.tell(rt, "get anywhere", measures::found(chain, 0, pairs))
+}
+
+fn measure_side_by_side<R: Print + Clock>(rt: &R, alloc: Global, request: Request) -> io::Result<()>
+    requires { 0 < request.count }
+{
+    let pairs = request.count;
+    let mut watch = Watch::start(rt, request.told, WIDTH)?;
+    let Ok(mut chains) = side_by_side::filled(alloc, pairs) else {
+        return Err(io::ErrorKind::OutOfMemory.into());
+    };
+    watch.tell(rt, "16 chains side by side", chains.len() as u64)?;
+    let found = side_by_side::found(&chains, pairs);
+    watch.tell(rt, "10000 gets in the 16", found)?;
+    let walked = side_by_side::walked(&chains, pairs);
+    watch.tell(rt, "10000 walks of 255 pairs in the 16", walked)?;
+    let removed = side_by_side::removed(&mut chains, pairs);
+    watch.tell(rt, "10000 removals in the 16", removed)?;
+    if let Some(chain) = chains.first_mut() {
+        measures::thin_out(chain, pairs);
+        watch.tell(rt, "remove all but every 64th of one", chain.len() as u64)?;
+        watch.tell(rt, "walk up the rest", measures::up(chain))?;
+    }
+    Ok(())
 }

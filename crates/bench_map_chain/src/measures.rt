@@ -1,13 +1,15 @@
 // What is measured. The k-th pair has k as its local and as its text.
-ghost use Rattle.std.specs.Prelude.{◌≡◌, ◌<◌, length, IfOk};
+ghost use Rattle.std.specs.Prelude.{◌≡◌, ◌+◌, ◌<◌, ◌^◌, length, IfOk};
+ghost use Rattle.map_chain.specs.Pairs.{AllBelow};
 
 use map_chain::{Chain, Memory};
 use std::alloc::{AllocError, Global};
 
-const LOOK_UPS: u32 = 10_000;
+pub const LOOK_UPS: u32 = 10_000;
 
 pub fn filled(alloc: Global, pairs: u32) -> Result<Chain, Memory>
-    ensures { IfOk result (λ chain. length chain.pairs ≡ pairs) }
+    ensures length { IfOk result (λ chain. length chain.pairs ≡ pairs) }
+    ensures below { IfOk result (λ chain. AllBelow pairs chain.pairs) }
 {
     let mut chain = Chain::new(alloc);
     for local in 0..pairs {
@@ -64,7 +66,7 @@ pub fn found(chain: &Chain, lowest: u32, locals: u32) -> u64
 }
 
 /// The next number of a fixed sequence, below a bound.
-fn next(state: &mut u32, bound: u32) -> u32
+pub fn next(state: &mut u32, bound: u32) -> u32
     requires { 0 < bound }
     ensures { result < bound }
 {
@@ -72,9 +74,34 @@ fn next(state: &mut u32, bound: u32) -> u32
     (*state >> 4) % bound
 }
 
+/// For each of so many locals from the first on, takes out the pair at half of it and adds one at
+/// the end. The texts that were taken out.
+pub fn renewed(chain: &mut Chain, first: u32, count: u32) -> u64
+    requires above { AllBelow first chain.old.pairs }
+    requires fits { first + count < 2 ^ 32 }
+{
+    let mut sum: u64 = 0;
+    for local in first..first + count {
+        sum = sum.wrapping_add(u64::from(chain.remove(local / 2).unwrap_or(0)));
+        let Ok(()) = chain.append(local, local) else {
+            return sum;
+        };
+    }
+    sum
+}
+
 pub fn thin(chain: &mut Chain, pairs: u32) {
     for half in 0..pairs.div_ceil(2) {
         chain.remove(2 * half);
+    }
+}
+
+/// Takes out all pairs but those of every 64th local.
+pub fn thin_out(chain: &mut Chain, pairs: u32) {
+    for local in 0..pairs {
+        if local % 64 != 0 {
+            chain.remove(local);
+        }
     }
 }
 
