@@ -85,6 +85,7 @@ fn measure_side_by_side<R: Print + Clock>(rt: &R, alloc: Global, request: Reques
 {
     let pairs = request.count;
     let mut watch = Watch::start(rt, request.told, WIDTH)?;
+    watch.tell(rt, "calls at random", measures::at_random(alloc, pairs))?;
     let Ok(mut chains) = side_by_side::filled(alloc, pairs) else {
         return Err(io::ErrorKind::OutOfMemory.into());
     };

@@ -74,6 +74,38 @@ pub fn next(state: &mut u32, bound: u32) -> u32
     (*state >> 4) % bound
 }
 
+/// Adds a pair, unless there is one from its local on.
+pub fn add(chain: &mut Chain, local: u32) -> Result<(), Memory> {
+    let next = chain.from(local).next();
+    match next {
+        Some(_) => Ok(()),
+        None => chain.append(local, local),
+    }
+}
+
+/// So many calls that are drawn, of a chain of its own: appends, removals, look-ups, and room made
+/// for more. Where memory is refused it goes on. The texts that were found, and how many are left.
+pub fn at_random(alloc: Global, calls: u32) -> u64 {
+    let mut chain = Chain::new(alloc);
+    let mut state = 1;
+    let mut last: u32 = 0;
+    let mut sum: u64 = 0;
+    for _ in 0..calls {
+        let local = next(&mut state, last.max(1));
+        let found = match next(&mut state, 8) {
+            0 => u32::from(chain.reserve(local as usize % 200).is_ok()),
+            1 => chain.get(local).unwrap_or(0),
+            2 | 3 | 4 => chain.remove(local).unwrap_or(0),
+            _ => {
+                last = last.wrapping_add(u32::from(add(&mut chain, last).is_ok()));
+                last
+            }
+        };
+        sum = sum.wrapping_add(u64::from(found));
+    }
+    sum.wrapping_add(chain.len() as u64)
+}
+
 /// For each of so many locals from the first on, takes out the pair at half of it and adds one at
 /// the end. The texts that were taken out.
 pub fn renewed(chain: &mut Chain, first: u32, count: u32) -> u64

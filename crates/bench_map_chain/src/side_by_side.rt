@@ -1,7 +1,7 @@
-// Chains that grow side by side, so that the blocks of each lie scattered among those of the others.
+// Chains that grow side by side, so that the blocks of each lie scattered among those of others.
 ghost use Rattle.std.specs.Prelude.{◌<◌};
 
-use crate::measures::{LOOK_UPS, next};
+use crate::measures::{LOOK_UPS, add, next};
 use map_chain::{Chain, Memory};
 use std::alloc::Global;
 
@@ -22,15 +22,6 @@ pub fn filled(alloc: Global, pairs: u32) -> Result<Vec<Chain>, Memory> {
         }
     }
     Ok(chains)
-}
-
-/// Adds a pair, unless there is one from its local on.
-fn add(chain: &mut Chain, local: u32) -> Result<(), Memory> {
-    let next = chain.from(local).next();
-    match next {
-        Some(_) => Ok(()),
-        None => chain.append(local, local),
-    }
 }
 
 /// The number of a chain that is drawn.

@@ -1,6 +1,6 @@
 use Rattle.std.proofs.Common.{sym, ◌∙◌}
 use Rattle.map_chain.proofs.Below.{below_none}
-use Rattle.bench_map_chain.proofs.side_by_side.add.Goals as goal
+use Rattle.bench_map_chain.proofs.measures.add.Goals as goal
 
 pub append-requires : goal.append-requires
 append-requires c =
