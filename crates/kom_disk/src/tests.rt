@@ -177,9 +177,9 @@ fn needs_send<T: Send>(_: &T) {}
 fn laws_hold_of_a_disk(rt: HostRuntime) -> Result<(), Fail> {
     let alloc = rt.alloc();
     images_since::<MemoryDisk>();
-    calls_in_turn::<MemoryDisk, Brand>();
+    calls_in_turn::<MemoryDisk, (), Brand>(&());
     passes_in_turn::<MemoryDisk>();
-    wider_fact::<MemoryDisk, Brand, Brand>();
+    wider_fact::<MemoryDisk, (), Brand, Brand>(&());
     let mut disk = MemoryDisk::make(alloc, Vec::new(alloc), 8, Vec::new(alloc), None)?;
     assert_eq!(rt; write_cut_and_read(&mut disk), Ok(*b"abxy"));
     needs_send(&disk);
