@@ -30,6 +30,14 @@ torn_whole at from bytes within = record {
     range_length : length (take at bytes ++ from) ≡ at + length from
     range_length = omega (arith, length-append (take at bytes) from, front_length)
 
+-- what was written stands in its range
+pub written_whole : (at : ℕ) (from bytes : List ℕ) → at ≤ length bytes → take (length from) (drop at (overwritten bytes at from)) ≡ from
+written_whole at from bytes within =
+    let split : overwritten bytes at from ≡ take at bytes ++ (from ++ drop (at + length from) bytes) = append_assoc (take at bytes) from (drop (at + length from) bytes) in
+    ap (λ (l : List ℕ). take (length from) (drop at l)) split
+    ∙ ap (take (length from)) (drop_at (take at bytes) (from ++ drop (at + length from) bytes) at (length-take-le at bytes within))
+    ∙ take_at from (drop (at + length from) bytes) (length from) refl
+
 cut_front : (n : ℕ) (bytes : List ℕ) → take (length (take n bytes)) bytes ≡ take n bytes
 cut_front zero bytes = refl
 cut_front (suc n) [] = refl

@@ -1,6 +1,6 @@
 // What follows for every disk from its meanings, for arguments over many calls.
-ghost use Rattle.std.specs.Prelude.{◌≤◌, ℕ, List, IsTrue};
-ghost use Rattle.kom_disk.specs.Disk.{AddsNone, Passes};
+ghost use Rattle.std.specs.Prelude.{◌≡◌, ◌≤◌, ◌+◌, ℕ, List, IsTrue, length, take, drop, max};
+ghost use Rattle.kom_disk.specs.Disk.{overwritten, Torn, Shortened, AddsNone, Passes};
 ghost use Rattle.kom_disk.specs.Moments.{HasInside, LeftSince, LeavesOnly};
 
 use crate::Disk;
@@ -53,4 +53,16 @@ pub fn wider_fact<D: Disk, T, P: Fact, Q: Fact>(about: &T)
     ensures { (old new : D) → LeavesOnly D.moment D.images_at old new P.holds
         → ((at : ℕ) (image : List ℕ) → D.moment old ≤ at → at ≤ D.moment new → P.holds at image → Q.holds at image)
         → LeavesOnly D.moment D.images_at old new Q.holds }
+{}
+
+/// What a call leaves that succeeds: it is one of what a stop may leave of it, and in the range of a write stands what
+/// was written.
+pub fn whole_calls()
+    ensures write { (bytes from : List ℕ) (at : ℕ) → at ≤ length bytes
+        → Torn at (length from) bytes (overwritten bytes at from) }
+    ensures written { (bytes from : List ℕ) (at : ℕ) → at ≤ length bytes
+        → take (length from) (drop at (overwritten bytes at from)) ≡ from }
+    ensures longer { (bytes from : List ℕ) (at : ℕ) → at ≤ length bytes
+        → length (overwritten bytes at from) ≡ max (length bytes) (at + length from) }
+    ensures cut { (bytes : List ℕ) (n : ℕ) → Shortened n bytes (take n bytes) }
 {}

@@ -15,7 +15,7 @@ mod tear;
 pub use disk::Disk;
 pub use errors::{Failed, Memory};
 pub use file_disk::FileDisk;
-pub use laws::{Fact, calls_in_turn, images_since, passes_in_turn, wider_fact};
+pub use laws::{Fact, calls_in_turn, images_since, passes_in_turn, whole_calls, wider_fact};
 pub use memory_disk::MemoryDisk;
 pub use read::read_up_to;
 

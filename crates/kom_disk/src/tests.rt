@@ -3,7 +3,7 @@ ghost use Rattle.kom_disk.specs.MemoryDisk.{bytes_of};
 
 use crate::{
     Disk, Failed, FileDisk, MemoryDisk, calls_in_turn, images_since, passes_in_turn, read_up_to,
-    wider_fact,
+    whole_calls, wider_fact,
 };
 use std::alloc::Global;
 use std::fs;
@@ -179,6 +179,7 @@ fn laws_hold_of_a_disk(rt: HostRuntime) -> Result<(), Fail> {
     images_since::<MemoryDisk>();
     calls_in_turn::<MemoryDisk, (), Brand>(&());
     passes_in_turn::<MemoryDisk>();
+    whole_calls();
     wider_fact::<MemoryDisk, (), Brand, Brand>(&());
     let mut disk = MemoryDisk::make(alloc, Vec::new(alloc), 8, Vec::new(alloc), None)?;
     assert_eq!(rt; write_cut_and_read(&mut disk), Ok(*b"abxy"));
