@@ -5,9 +5,10 @@ use Rattle.std.specs.List.{AllByRecursion}
 use Rattle.std.proofs.lemmas.List.Elements.{recursion_from_All}
 use Rattle.std.specs.declared.alloc.Global.{Global}
 use Rattle.kom_disk.specs.Disk.{overwritten, Torn, Shortened, ComesBy, AddsNone, Only, Passes}
-use Rattle.kom_disk.specs.Steps.{bytes_after, stable_after, torn_after, IsImage, KeepsNothing, IsWrite, LeftOf, LeftBy, EndsSynced}
+use Rattle.kom_disk.specs.Steps.{bytes_after, stable_after, torn_after, IsImage, KeepsNothing, IsWrite, LeftOf, LeftBy, EndsSynced, all_steps}
 use Rattle.kom_disk.specs.declared.step.Step.{Step}
 use Rattle.kom_disk.specs.declared.step.Step.TheVariants.{Write, Cut, Sync, Pass}
+use Rattle.kom_disk.proofs.Moments.{passes_in_turn}
 use Rattle.kom_disk.proofs.Torn.{torn_away, cut_away, torn_whole, cut_whole}
 
 pub bytes_after-append : (bytes : List ℕ) (xs ys : List Step) → bytes_after bytes (xs ++ ys) ≡ bytes_after (bytes_after bytes xs) ys
@@ -105,6 +106,16 @@ module _ (start : List ℕ) where
   pub passes_nothing : (xs ys : List Step) → KeepsNothing xs ys → Passes true (length xs) (length ys) (at xs) (at ys)
   passes_nothing xs ys (inl same) = passes_same xs ys same
   passes_nothing xs ys (inr more) = passes_more xs ys Pass more
+
+  -- a call that failed, and then a part of it
+  pub passes_on : (xs ys zs : List Step) → KeepsNothing xs ys → Passes true (length ys) (length zs) (at ys) (at zs) → Passes true (length xs) (length zs) (at xs) (at zs)
+  passes_on xs ys zs nothing later = passes_in_turn length at true xs ys zs (passes_nothing xs ys nothing) later
+      (λ told image left. (all_steps start xs image).1 (nothing_adds xs ys nothing image ((all_steps start ys image).0 left)))
+
+  pub comes_on : (step : List ℕ → List ℕ → Type 0) (xs ys : List Step) (images : List ℕ → Type 0) → KeepsNothing xs ys → ComesBy step (IsImage start ys) images → ComesBy step (IsImage start xs) images
+  comes_on step xs ys images nothing later image left =
+      let from = later image left in
+      (from.0, nothing_adds xs ys nothing from.0 from.1, from.2)
 
   pub read_more : (xs ys : List Step) (s : Step) → ys ≡ xs ++ s ∷ [] → read ys ≡ bytes_after (read xs) (s ∷ [])
   read_more xs ys s more = ap read more ∙ bytes_after-append start xs (s ∷ [])

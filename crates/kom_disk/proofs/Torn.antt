@@ -1,7 +1,7 @@
 -- What torn writes and cuts may leave.
-use Rattle.std.proofs.Common.{◌≡◌, ◌≤◌, ◌+◌, ℕ, List, ◌++◌, length, take, drop, max, zero, suc, [], ◌∷◌, refl, ◌∙◌, ap, arith, append_assoc, length-append}
-use Rattle.std.proofs.lemmas.List.{take_all, take_at, drop_at, length-take, length-take-le, length-drop}
-use Rattle.kom_disk.specs.Disk.{overwritten, Torn, Shortened}
+use Rattle.std.proofs.Common.{◌≡◌, ◌≤◌, ◌+◌, ◌-◌, ℕ, List, ◌++◌, length, take, drop, max, zero, suc, [], ◌∷◌, refl, sym, ◌∙◌, ap, arith, append_assoc, length-append}
+use Rattle.std.proofs.lemmas.List.{take_all, take_at, drop_at, length-take, length-take-le, length-drop, drop-drop}
+use Rattle.kom_disk.specs.Disk.{overwritten, Torn, Shortened, ComesBy}
 
 -- nothing of a write is there
 pub torn_away : (at n : ℕ) (bytes : List ℕ) → Torn at n bytes bytes
@@ -14,6 +14,25 @@ cut_away n bytes = record { front = take_all (length bytes) bytes (omega arith);
 pub length-overwritten : (bytes : List ℕ) (at : ℕ) (from : List ℕ) → at ≤ length bytes → length (overwritten bytes at from) ≡ max (length bytes) (at + length from)
 length-overwritten bytes at from within =
     omega (arith, length-append (take at bytes ++ from) (drop (at + length from) bytes), length-append (take at bytes) from, length-take-le at bytes within, length-drop (at + length from) bytes)
+
+-- a part of a write is left of all of it
+pub torn_wider : (at m n : ℕ) (old new : List ℕ) → m ≤ n → Torn at m old new → Torn at n old new
+torn_wider at m n old new within torn = record {
+  front = torn.front;
+  back = rest new ∙ ap (drop (n - m)) torn.back ∙ sym (rest old);
+  no_shorter = torn.no_shorter;
+  no_longer = omega (arith, torn.no_longer, within);
+}
+  where
+    rest : (l : List ℕ) → drop (at + n) l ≡ drop (n - m) (drop (at + m) l)
+    rest l =
+        let same : at + n ≡ at + m + (n - m) = omega (arith, within) in
+        ap (λ (k : ℕ). drop k l) same ∙ sym (drop-drop (n - m) (at + m) l)
+
+pub comes_wider : (at m n : ℕ) (old new : List ℕ → Type 0) → m ≤ n → ComesBy (Torn at m) old new → ComesBy (Torn at n) old new
+comes_wider at m n old new within comes image left =
+    let from = comes image left in
+    (from.0, from.1, torn_wider at m n from.0 image within from.2)
 
 -- all of a write is there
 pub torn_whole : (at : ℕ) (from bytes : List ℕ) → at ≤ length bytes → Torn at (length from) bytes (overwritten bytes at from)

@@ -60,32 +60,74 @@ fn replay_write(bytes: &mut Vec<u8>, at: usize, from: &[u8]) -> Result<(), Alloc
     Ok(())
 }
 
-/// What is left of these steps, none of them a sync, by the kinds that `choice` picks.
-pub fn torn(stable: Vec<u8>, steps: &[Step], choice: u64) -> Result<Vec<u8>, AllocError>
+/// What is left of these steps, none of them a sync: the first writes and cuts of them torn as `each` lists it, and the
+/// later ones by the kinds that `choice` picks.
+pub fn torn(
+    stable: Vec<u8>,
+    steps: &[Step],
+    each: &[Tear],
+    choice: u64,
+) -> Result<Vec<u8>, AllocError>
     requires { All (λ step. step ≢ Sync) steps.now }
     ensures image { IfOk result (λ image. torn_after (λ was. was ≡ stable.items) stable.items steps.now image.items) }
-    ensures stable { choice ≡ 0 → IfOk result (λ image. image.items ≡ stable.items) }
+    ensures stable { each.now ≡ [] → choice ≡ 0 → IfOk result (λ image. image.items ≡ stable.items) }
 {
     let mut image = stable;
-    let mut rest = choice / 8;
+    let mut place = 0;
     for step in steps {
-        tear_step(Tear::of(choice % 8 + rest % 8), &mut image, step)?;
-        rest /= 8;
+        tear_step(each, choice, place, &mut image, step)?;
+        place = next_place(place, step);
     }
     Ok(image)
 }
 
-fn tear_step(tear: Tear, bytes: &mut Vec<u8>, step: &Step) -> Result<(), AllocError>
+// The place of the next write or cut among them.
+fn next_place(place: usize, step: &Step) -> usize {
+    match step {
+        Step::Write(..) | Step::Cut(_) => place.saturating_add(1),
+        Step::Sync | Step::Pass => place,
+    }
+}
+
+fn tear_step(
+    each: &[Tear],
+    choice: u64,
+    place: usize,
+    bytes: &mut Vec<u8>,
+    step: &Step,
+) -> Result<(), AllocError>
     requires { step.now ≢ Sync }
     ensures left { OnOk result (LeftBy step.now bytes.old.items bytes.new.items) }
-    ensures nothing { tear ≡ Nothing → OnOk result (bytes.new.items ≡ bytes.old.items) }
+    ensures nothing { each.now ≡ [] → choice ≡ 0 → OnOk result (bytes.new.items ≡ bytes.old.items) }
 {
     match step {
-        Step::Write(at, from) => tear_write(tear, bytes, *at, from),
+        Step::Write(at, from) => {
+            let tear = pick(each, choice, place, from.len());
+            tear_write(tear, bytes, *at, from)
+        }
         Step::Cut(len) => {
+            let tear = pick(each, choice, place, bytes.len().saturating_sub(*len));
             tear_cut(tear, bytes, *len);
             Ok(())
         }
         Step::Sync | Step::Pass => Ok(()),
+    }
+}
+
+// How the write or the cut of this place is torn, which is one of n bytes. Below 8 a choice picks one kind for all of
+// them, and a greater one a kind for each.
+fn pick(each: &[Tear], choice: u64, place: usize, n: usize) -> Tear
+    ensures { each.now ≡ [] → choice ≡ 0 → result ≡ Nothing }
+{
+    match each.get(place) {
+        Some(tear) => *tear,
+        None => {
+            let rest = if place < 21 {
+                choice >> (3 * (place + 1))
+            } else {
+                0
+            };
+            Tear::of(choice % 8 + rest % 8, n)
+        }
     }
 }

@@ -9,6 +9,7 @@ mod image;
 mod laws;
 mod memory_disk;
 mod read;
+mod script;
 mod step;
 mod tear;
 
@@ -18,6 +19,7 @@ pub use file_disk::FileDisk;
 pub use laws::{Fact, calls_in_turn, images_since, passes_in_turn, whole_calls, wider_fact};
 pub use memory_disk::MemoryDisk;
 pub use read::read_up_to;
+pub use tear::Tear;
 
 #[cfg(test)]
 mod tests;

@@ -1,60 +1,63 @@
 // What a stop leaves of a write or of a cut.
-ghost use Rattle.std.specs.Prelude.{◌≡◌, ◌<◌, ◌≤◌, ◌+◌, ◌^◌, length, take, drop, max, OnOk};
+ghost use Rattle.std.specs.Prelude.{◌≡◌, ◌<◌, ◌≤◌, ◌+◌, ◌^◌, length, take, drop, max, OnOk, IfOk};
 ghost use Rattle.kom_disk.specs.Disk.{Torn, Shortened};
 ghost use Rattle.kom_disk.specs.declared.tear.Tear.TheVariants.{Nothing};
 
-use std::alloc::AllocError;
+use std::alloc::{AllocError, Global};
 
-/// A kind of torn write. Of a cut that is neither left out nor whole, half is done.
+/// What is left of a write. Of a cut `First` cuts off so many bytes, `Whole` all of them, and any other kind but
+/// `Nothing` half of them.
 #[derive(Clone, Copy)]
 pub enum Tear {
     /// None of it.
     Nothing,
     /// All of it.
     Whole,
-    /// The front half of its bytes, and the file no longer than these reach.
-    Front,
-    /// The back half of its bytes.
-    Back,
+    /// So many of its first bytes, and the file no longer than these reach.
+    First(usize),
+    /// Its bytes from this place on.
+    Last(usize),
+    /// The one byte at this place, and the file no longer than it reaches.
+    One(usize),
     /// Other bytes than were written.
     Others,
     /// Other bytes than were written, and the file no longer than before.
     OthersWithin,
     /// No byte of it, but the file as long as it asked for.
     LengthAlone,
-    /// Other bytes in the front half, and its own in the back half.
-    OthersInFront,
+    /// Other bytes before this place, and its own from there on.
+    OthersFirst(usize),
 }
 
 impl Tear {
-    /// The kind of this number, from 0 on and again from 8 on.
-    pub fn of(number: u64) -> Tear
+    /// The kind of this number, from 0 on and again from 8 on, for n bytes that are written or cut off.
+    pub fn of(number: u64, n: usize) -> Tear
         ensures { number ≡ 0 → result ≡ Nothing }
     {
         match number % 8 {
             0 => Tear::Nothing,
             1 => Tear::Whole,
-            2 => Tear::Front,
-            3 => Tear::Back,
+            2 => Tear::First(n / 2),
+            3 => Tear::Last(n / 2),
             4 => Tear::Others,
             5 => Tear::OthersWithin,
             6 => Tear::LengthAlone,
-            _ => Tear::OthersInFront,
+            _ => Tear::OthersFirst(n / 2),
         }
     }
 
-    // The byte at one place of n in the range, where this one was and that one was written.
-    fn byte(self, place: usize, n: usize, was: u8, written: u8) -> u8
+    // The byte at one place of the range, where this one was and that one was written.
+    fn byte(self, place: usize, was: u8, written: u8) -> u8
         ensures { self ≡ Nothing → result ≡ was }
     {
-        let in_front = place < n / 2;
         match self {
             Tear::Nothing | Tear::LengthAlone => was,
             Tear::Whole => written,
-            Tear::Front => if in_front { written } else { was },
-            Tear::Back => if in_front { was } else { written },
+            Tear::First(count) => if place < count { written } else { was },
+            Tear::Last(from) => if place < from { was } else { written },
+            Tear::One(at) => if place == at { written } else { was },
             Tear::Others | Tear::OthersWithin => !written,
-            Tear::OthersInFront => if in_front { !written } else { written },
+            Tear::OthersFirst(from) => if place < from { !written } else { written },
         }
     }
 
@@ -67,7 +70,8 @@ impl Tear {
     {
         match self {
             Tear::Nothing | Tear::OthersWithin => len,
-            Tear::Front => len.max(at + n / 2),
+            Tear::First(count) => len.max(at + n.min(count)),
+            Tear::One(place) => len.max(at + n.min(place.saturating_add(1))),
             _ => len.max(at + n),
         }
     }
@@ -82,9 +86,8 @@ fn mix(tear: Tear, bytes: &mut [u8], at: usize, end: usize, from: &[u8])
     ensures back { drop end bytes.new ≡ drop end bytes.old }
     ensures nothing { tear ≡ Nothing → bytes.new ≡ bytes.old }
 {
-    let n = from.len();
     for i in at..end {
-        bytes[i] = tear.byte(i - at, n, bytes[i], from[i - at]);
+        bytes[i] = tear.byte(i - at, bytes[i], from[i - at]);
     }
 }
 
@@ -103,6 +106,22 @@ pub fn tear_write(tear: Tear, bytes: &mut Vec<u8>, at: usize, from: &[u8]) -> Re
     Ok(())
 }
 
+/// What a torn write leaves in its range, as far as the file then reaches.
+pub fn torn_range(
+    alloc: Global,
+    tear: Tear,
+    bytes: &[u8],
+    at: usize,
+    from: &[u8],
+) -> Result<Vec<u8>, AllocError>
+    ensures { IfOk result (λ left. length left.items ≤ length from.now) }
+{
+    let mut left = bytes.to_vec(alloc)?;
+    tear_write(tear, &mut left, at, from)?;
+    let there = left.get(at..).unwrap_or(&[]);
+    there[..there.len().min(from.len())].to_vec(alloc)
+}
+
 /// Leaves a torn cut in `bytes`.
 pub fn tear_cut(tear: Tear, bytes: &mut Vec<u8>, len: usize)
     ensures torn { Shortened len bytes.old.items bytes.new.items }
@@ -114,6 +133,7 @@ pub fn tear_cut(tear: Tear, bytes: &mut Vec<u8>, len: usize)
     match tear {
         Tear::Nothing => {}
         Tear::Whole => bytes.truncate(len),
+        Tear::First(count) => bytes.truncate(len.max(bytes.len().saturating_sub(count))),
         _ => bytes.truncate(len + (bytes.len() - len) / 2),
     }
 }

@@ -2,8 +2,8 @@ ghost use Rattle.std.specs.Prelude.{◌≡◌, length};
 ghost use Rattle.kom_disk.specs.MemoryDisk.{bytes_of};
 
 use crate::{
-    Disk, Failed, FileDisk, MemoryDisk, calls_in_turn, images_since, passes_in_turn, read_up_to,
-    whole_calls, wider_fact,
+    Disk, Failed, FileDisk, MemoryDisk, Tear, calls_in_turn, images_since, passes_in_turn,
+    read_up_to, whole_calls, wider_fact,
 };
 use std::alloc::Global;
 use std::fs;
@@ -80,6 +80,55 @@ fn greater_choices_tear_each_write_in_its_own_way(rt: HostRuntime) -> Result<(),
     for (choice, want) in [(8, b"Wbcd"), (64, b"abcZ"), (72, b"WbcZ"), (512, b"abcd")] {
         let image = disk.image(choice)?;
         assert_eq!(rt; image.as_slice(), want.as_slice(), "choice {choice}");
+    }
+    Ok(())
+}
+
+#[test]
+fn each_write_and_cut_is_torn_as_listed(rt: HostRuntime) -> Result<(), Fail> {
+    let alloc = rt.alloc();
+    let mut disk = MemoryDisk::make(alloc, b"abcdef".to_vec(alloc)?, 6, Vec::new(alloc), None)?;
+    assert!(rt; disk.write_at(0, b"WXYZ").is_ok());
+    assert!(rt; disk.len().is_ok());
+    assert!(rt; disk.cut(2).is_ok());
+    let cases: [(&[Tear], &[u8]); 6] = [
+        (&[], b"abcdef"),
+        (&[Tear::One(2)], b"abYdef"),
+        (&[Tear::One(2), Tear::First(3)], b"abY"),
+        (&[Tear::Last(3), Tear::Nothing], b"abcZef"),
+        (&[Tear::OthersFirst(1), Tear::First(9)], b"\xa8X"),
+        (&[Tear::Whole, Tear::Whole], b"WX"),
+    ];
+    for (tears, want) in cases {
+        let image = disk.image_torn(tears)?;
+        assert_eq!(rt; image.as_slice(), want);
+    }
+    Ok(())
+}
+
+#[test]
+fn a_failed_write_leaves_a_part(rt: HostRuntime) -> Result<(), Fail> {
+    let alloc = rt.alloc();
+    let cases: [(Tear, &[u8]); 6] = [
+        (Tear::Nothing, b"abcdef"),
+        (Tear::First(1), b"abcd1f"),
+        (Tear::One(2), b"abcdef3"),
+        (Tear::LengthAlone, b"abcdef\0\0"),
+        (Tear::Last(1), b"abcde234"),
+        (Tear::Whole, b"abcd1234"),
+    ];
+    for (tear, want) in cases {
+        let bytes = b"abcdef".to_vec(alloc)?;
+        let mut disk = MemoryDisk::make(alloc, bytes, 8, vec![in alloc; 1]?, None)?;
+        disk.leave_parts(tear);
+        assert_eq!(rt; disk.write_at(4, b"1234"), Err(Failed));
+        let image = disk.image(1)?;
+        assert_eq!(rt; image.as_slice(), want);
+        // The next call does not fail, and no part stands past the room.
+        assert_eq!(rt; disk.sync(), Ok(()));
+        assert_eq!(rt; disk.write_at(6, b"xyz"), Err(Failed));
+        assert!(rt; disk.image(1)?.len() <= 8);
+        assert_eq!(rt; disk.faults(), 2);
     }
     Ok(())
 }

@@ -1,4 +1,4 @@
-use Rattle.std.proofs.Common.{◌≡◌, ◌+◌, ◌/◌, ◌%◌, ℕ, List, [], ◌∷◌, ◌++◌, take, sym, ◌∙◌, ap, subst}
+use Rattle.std.proofs.Common.{◌≡◌, ◌+◌, ℕ, List, [], ◌∷◌, ◌++◌, take, sym, ◌∙◌, ap, subst}
 use Rattle.std.proofs.lemmas.List.{take_more}
 use Rattle.kom_disk.specs.Steps.{torn_after}
 use Rattle.kom_disk.specs.declared.step.Step.{Step}
@@ -14,9 +14,5 @@ loop-step-preserved c =
     let P : List Step → Type 0 = λ (l : List Step). torn_after (λ was. was ≡ stable) stable l c.tear_step.new.bytes.items in
     record {
       left = subst P (sym more) (torn_once_more (λ was. was ≡ stable) stable done c.step-item.result c.loop-step.image.items c.tear_step.new.bytes.items c.loop-step.invariant.left c.in_ok-tear_step.ensures.left);
-      same = λ zero.
-          let no_rest : c.loop-step.rest ≡ 0 = c.loop-step.invariant.none_chosen zero in
-          let number : c.args.choice % 8 + c.loop-step.rest % 8 ≡ 0 = ap (λ (n : ℕ). n % 8 + c.loop-step.rest % 8) zero ∙ ap (λ (n : ℕ). 0 % 8 + n % 8) no_rest in
-          c.in_ok-tear_step.ensures.nothing (c.of.ensures number) ∙ c.loop-step.invariant.same zero;
-      none_chosen = λ zero. ap (λ (n : ℕ). n / 8) (c.loop-step.invariant.none_chosen zero);
+      same = λ none zero. c.in_ok-tear_step.ensures.nothing none zero ∙ c.loop-step.invariant.same none zero;
     }

@@ -1,4 +1,4 @@
-use Rattle.std.proofs.Common.{◌≡◌, ◌≢◌, ℕ, List, take, drop, All, rules, sym, ◌∙◌, ap, subst}
+use Rattle.std.proofs.Common.{◌≡◌, ◌≢◌, ℕ, List, take, drop, All, rules, refl, sym, ◌∙◌, ap, subst}
 use Rattle.kom_disk.specs.Steps.{bytes_after, torn_after, EndsSynced}
 use Rattle.kom_disk.specs.declared.step.Step.{Step}
 use Rattle.kom_disk.specs.declared.step.Step.TheVariants.{Sync}
@@ -24,4 +24,4 @@ returns-clause-stable c = λ zero.
     let ends : EndsSynced (take end steps) = search rules in
     let is_stable : c.in_ok-stable.stable.items ≡ bytes_after start (take end steps) = search rules in
     let none : All (λ step. step ≢ Sync) (drop end steps) = search rules in
-    c.in_ok-torn.ensures.stable zero ∙ sym (image_stable start steps end ends c.in_ok-stable.stable.items is_stable none)
+    c.in_ok-torn.ensures.stable refl zero ∙ sym (image_stable start steps end ends c.in_ok-stable.stable.items is_stable none)

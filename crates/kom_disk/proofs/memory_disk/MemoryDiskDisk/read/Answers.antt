@@ -21,11 +21,13 @@ pub returns-in_err-begin-clause-script : goal.returns-in_err-begin-clause-script
 returns-in_err-begin-clause-script c =
     let nothing = looked c.args.self.now.calls.steps.items c.begin.new.self.steps.items c.begin.result c.begin.ensures.kept c.begin.ensures.failed in
     record {
+      numbered = c.begin.ensures.numbered;
       fails = λ due. search rules;
       kept = search rules;
-      bytes_left = search rules;
-      images_left = on_err c.from_residual.result _ (nothing_adds c.args.self.now.start.items c.args.self.now.calls.steps.items c.begin.new.self.steps.items nothing);
+      bytes_left = λ none. search rules;
+      images_left = λ none. on_err c.from_residual.result _ (nothing_adds c.args.self.now.start.items c.args.self.now.calls.steps.items c.begin.new.self.steps.items nothing);
       same_fails = c.begin.ensures.same_fails;
       same_stop = c.begin.ensures.same_stop;
       same_room = search rules;
+      same_part = search rules;
     }

@@ -14,11 +14,13 @@ returns-clause-stop c = synced_adds c.args.self.now.start.items c.args.self.now.
 
 pub returns-clause-script : goal.returns-clause-script
 returns-clause-script c = record {
+  numbered = c.begin.ensures.numbered;
   fails = c.begin.ensures.fails;
   kept = synced_kept c.args.self.now.start.items c.args.self.now.calls.steps.items c.begin.new.self.steps.items c.begin.result c.begin.ensures.kept;
-  bytes_left = search rules;
-  images_left = failed_adds c.args.self.now.start.items c.args.self.now.calls.steps.items c.begin.new.self.steps.items c.begin.result c.begin.ensures.failed;
+  bytes_left = λ none. search rules;
+  images_left = λ none. failed_adds c.args.self.now.start.items c.args.self.now.calls.steps.items c.begin.new.self.steps.items c.begin.result c.begin.ensures.failed;
   same_fails = c.begin.ensures.same_fails;
   same_stop = c.begin.ensures.same_stop;
   same_room = search rules;
+  same_part = search rules;
 }
