@@ -25,15 +25,17 @@ fn main(rt: HostRuntime) -> io::Result<ExitCode> {
         return bench_watch::refuse(&rt, "bench_disk [TURNS]");
     };
     let done = measure(&rt, request);
-    let removed = fs::remove_file(&rt, STORE);
+    // Without a turn there is no file.
+    if fs::exists(&rt, STORE)? {
+        fs::remove_file(&rt, STORE)?;
+    }
     done?;
-    removed?;
     Ok(ExitCode::SUCCESS)
 }
 
 fn measure<R>(rt: &R, request: Request) -> io::Result<()>
 where
-    R: Print + Clock + Files<File = fs::File>,
+    R: Print + Clock + Files<File = fs::File> + AllocGlobal + Copy,
 {
     let Ok(mut disk) = FileDisk::open(rt, STORE) else {
         return Err(io::ErrorKind::Other.into());
@@ -46,7 +48,7 @@ where
 }
 
 /// So many turns, and one sync. How many bytes were read.
-fn turns(disk: &mut FileDisk, count: u32) -> Result<u64, Failed> {
+fn turns<D: Disk>(disk: &mut D, count: u32) -> Result<u64, Failed> {
     let block = [7; BLOCK];
     let mut back = [0; BLOCK];
     let mut bytes: u64 = 0;
@@ -58,7 +60,7 @@ fn turns(disk: &mut FileDisk, count: u32) -> Result<u64, Failed> {
 }
 
 /// Makes a block all that the disk holds, and reads it. How many bytes were read.
-fn turn(disk: &mut FileDisk, block: &[u8; BLOCK], back: &mut [u8; BLOCK]) -> Result<u64, Failed>
+fn turn<D: Disk>(disk: &mut D, block: &[u8; BLOCK], back: &mut [u8; BLOCK]) -> Result<u64, Failed>
     ensures { IfOk result (λ bytes. bytes ≤ BLOCK) }
 {
     disk.cut(0)?;

@@ -1,5 +1,5 @@
 -- What the calls of a disk do to its bytes, and what a stop between two syncs may leave of them.
-use Rattle.std.specs.Prelude.{◌≡◌, ◌<◌, ◌≤◌, ◌↔◌, ◌⊎◌, ◌+◌, ◌++◌, ℕ, Bool, IsTrue, false, List, length, take, drop, max, min}
+use Rattle.std.specs.Prelude.{◌≡◌, ◌<◌, ◌≤◌, ◌↔◌, ◌⊎◌, ◌+◌, [], ◌∷◌, ◌++◌, ℕ, Bool, IsTrue, false, List, length, take, drop, max, min}
 use Rattle.std.proofs.lemmas.Bool.{false≢true}
 
 -- bytes, with other bytes written over them from a place on
@@ -17,6 +17,11 @@ pub record Torn (at n : ℕ) (old new : List ℕ) : Type 0 where
 pub record Shortened (n : ℕ) (old new : List ℕ) : Type 0 where
   pub front : take (length new) old ≡ new
   pub no_shorter : min n (length old) ≤ length new
+
+-- What a read of these bytes adds to what the reads have given. Where there are none no read is made.
+abbrev pub told_read : ℕ → List ℕ → List (ℕ × List ℕ)
+told_read at [] = []
+told_read at (byte ∷ bytes) = (at, byte ∷ bytes) ∷ []
 
 -- each new image comes from an old one by this step
 abbrev pub ComesBy : (List ℕ → List ℕ → Type 0) → (List ℕ → Type 0) → (List ℕ → Type 0) → Type 0

@@ -1,7 +1,7 @@
 pub mod Disk
 pub mod Faults
-pub mod FileDisk
 pub mod MemoryDisk
 pub mod Moments
 pub mod Script
+pub mod Shared
 pub mod Steps

@@ -1,5 +1,5 @@
 // What a disk is.
-ghost use Rattle.std.specs.Prelude.{◌≡◌, ◌≤◌, ◌↔◌, ◌+◌, ℕ, Bool, IsTrue, List, length, take, drop, min, max, IfOk, OnOk, OnErr};
+ghost use Rattle.std.specs.Prelude.{◌≡◌, ◌≤◌, ◌↔◌, ◌+◌, [], ◌∷◌, ◌++◌, ℕ, Bool, IsTrue, List, length, take, drop, min, max, IfOk, OnOk, OnErr};
 ghost use Rattle.kom_disk.specs.Disk.{overwritten, Torn, Shortened, ComesBy, AddsNone, Only, Passes};
 ghost use Rattle.kom_disk.specs.Faults.{CountsFault};
 
@@ -26,6 +26,12 @@ pub trait Disk {
     /// What a stop at a moment up to now could have left.
     ghost images_at: { Self → ℕ → List ℕ → Type 0 };
 
+    /// Whether the clauses on reads hold. A disk may tell these while its content changes beside it.
+    ghost tells_reads: { Bool };
+
+    /// What its reads have given, each with its place, the first of them first.
+    ghost reads: { Self → List (ℕ × List ℕ) };
+
     /// How many calls have failed. The count stands still at the end of its type.
     ghost faults: { Self → ℕ };
 
@@ -38,6 +44,7 @@ pub trait Disk {
         ensures bytes { IsTrue tells → bytes self.new ≡ bytes self.old }
         ensures stop { IsTrue tells → AddsNone (images self.old) (images self.new) }
         ensures time { Passes tells (moment self.old) (moment self.new) (images_at self.old) (images_at self.new) }
+        ensures reads { IsTrue tells_reads → reads self.new ≡ reads self.old }
         ensures faults { CountsFault (faults self.old) (faults self.new) result };
 
     /// Fills `into` with the bytes from `at` on. After an error it may hold anything.
@@ -48,6 +55,8 @@ pub trait Disk {
         ensures bytes { IsTrue tells → bytes self.new ≡ bytes self.old }
         ensures stop { IsTrue tells → AddsNone (images self.old) (images self.new) }
         ensures time { Passes tells (moment self.old) (moment self.new) (images_at self.old) (images_at self.new) }
+        ensures told { IsTrue tells_reads → OnOk result (reads self.new ≡ reads self.old ++ (at, into.new) ∷ []) }
+        ensures untold { IsTrue tells_reads → OnErr result (reads self.new ≡ reads self.old) }
         ensures faults { CountsFault (faults self.old) (faults self.new) result };
 
     /// Writes over what is there, and past the end. A call that fails may have written a part of it.
@@ -59,6 +68,7 @@ pub trait Disk {
         ensures size_left { OnErr result ((size self.old ≤ size self.new) × (size self.new ≤ max (size self.old) (at + length from.now))) }
         ensures stop { IsTrue tells → ComesBy (Torn at (length from.now)) (images self.old) (images self.new) }
         ensures time { Passes tells (moment self.old) (moment self.new) (images_at self.old) (images_at self.new) }
+        ensures reads { IsTrue tells_reads → reads self.new ≡ reads self.old }
         ensures faults { CountsFault (faults self.old) (faults self.new) result };
 
     /// Keeps the first `len` bytes, and all where there are no more. A call that fails may have cut off fewer.
@@ -69,6 +79,7 @@ pub trait Disk {
         ensures size_left { OnErr result ((min len (size self.old) ≤ size self.new) × (size self.new ≤ size self.old)) }
         ensures stop { IsTrue tells → ComesBy (Shortened len) (images self.old) (images self.new) }
         ensures time { Passes tells (moment self.old) (moment self.new) (images_at self.old) (images_at self.new) }
+        ensures reads { IsTrue tells_reads → reads self.new ≡ reads self.old }
         ensures faults { CountsFault (faults self.old) (faults self.new) result };
 
     /// Makes the bytes and their length outlast a stop. After a call that fails each image is one from before it.
@@ -78,6 +89,7 @@ pub trait Disk {
         ensures bytes { IsTrue tells → bytes self.new ≡ bytes self.old }
         ensures stop { IsTrue tells → AddsNone (images self.old) (images self.new) }
         ensures time { Passes tells (moment self.old) (moment self.new) (images_at self.old) (images_at self.new) }
+        ensures reads { IsTrue tells_reads → reads self.new ≡ reads self.old }
         ensures faults { CountsFault (faults self.old) (faults self.new) result };
 
     /// The bytes that are told are as many as are counted.

@@ -1,13 +1,13 @@
 // A disk over a file of the system. It tells nothing of content.
-ghost use Rattle.std.specs.Prelude.{◌≡◌, ◌<◌, ◌≤◌, ◌+◌, ◌^◌, ℕ, List, [], false, length, max, min, IfOk, OnOk, OnErr};
+ghost use Rattle.std.specs.Prelude.{◌≡◌, ◌≤◌, ◌+◌, ℕ, List, [], false, length, max, min, IfOk, OnOk, OnErr};
 ghost use Rattle.kom_disk.specs.Disk.{owes_nothing};
 ghost use Rattle.kom_disk.specs.Faults.{CountsFault, Rose};
 
+use crate::place::{HostPlace, OpenedFile, Place};
 use crate::{Disk, Failed};
-use std::fs::{File, OpenOptions};
+use std::fs::File;
 use std::io;
 use std::os::unix::fs::FileExt;
-use std::path::Path;
 use std::rt::Files;
 
 // The system takes no offset and no length from here on.
@@ -15,32 +15,85 @@ const MAX_LEN: u64 = (1 << 63) - 1;
 
 /// A file that is read and written in place. Its clauses say that each error is counted, and how long the file is
 /// by its last measure and its own calls since. That a real file keeps what was synced rests on the system.
-/// After a write that failed the file may be longer than is counted, until `len` measures it. After a sync that failed
-/// each later one fails.
+/// After a write or a cut that failed the file is measured, at once or else by the next of them, which fails as long as
+/// the file has another length than is counted; `len` counts it anew. After a sync that failed each later one fails.
 #[derive(Drop)]
-pub struct FileDisk {
-    file: File,
+pub struct FileDisk<P: Place> {
+    place: P,
+    /// None until a write makes it.
+    file: Option<P::File>,
     /// As last measured, and changed by the calls since.
     len: u64,
     faults: u64,
+    /// The length is not known, since a call failed and then the measure.
+    is_unmeasured: bool,
     /// A sync has failed. The system may have dropped what it could not write, and would sync the rest.
     is_lost: bool,
-    ghost fits: { len < 2 ^ 63 },
 }
 
-impl FileDisk {
-    ghost use Rattle.kom_disk.specs.FileDisk.{failed_calls};
-
-    /// Opens the file of this path, and makes an empty one where it is missing. Its entry in the folder is synced, for
-    /// which the folder has to be readable.
-    pub fn open<R: Files<File = File>>(rt: &R, path: &str) -> Result<FileDisk, Failed>
-        ensures { IfOk result (λ disk. failed_calls disk ≡ 0) }
+impl<R: Files<File = File> + AllocGlobal + Copy> FileDisk<HostPlace<R>> {
+    /// Opens the file of this path, and locks it for as long as the disk lives: a second opening fails, in this process
+    /// or in another one. The entries of its folder are synced. A missing file is an empty disk, which the first write
+    /// makes, readable and writable for its owner alone; that write fails where another process has made the file since.
+    ///
+    /// It fails where the folder is missing or not readable, at a directory, and at a file that this process may not both
+    /// read and write; a file that nobody may write is opened by root alone. A device is opened as an empty disk:
+    /// on `/dev/full` each write fails, on `/dev/null` what is written is gone, and on both each sync fails and each cut
+    /// but one past the end.
+    pub fn open(rt: &R, path: &str) -> Result<FileDisk<HostPlace<R>>, Failed>
+        ensures { IfOk result (λ disk. disk.faults ≡ 0) }
     {
-        match open_synced(rt, path) {
+        FileDisk::at(host_place(rt, path)?)
+    }
+
+    /// Opens the file of this path for reading alone: it is not made and not locked, and writes fail. It fails where the
+    /// file is missing.
+    pub fn open_to_read(rt: &R, path: &str) -> Result<FileDisk<HostPlace<R>>, Failed>
+        ensures { IfOk result (λ disk. disk.faults ≡ 0) }
+    {
+        FileDisk::at_to_read(host_place(rt, path)?)
+    }
+}
+
+fn host_place<R: Files<File = File> + AllocGlobal + Copy>(
+    rt: &R,
+    path: &str,
+) -> Result<HostPlace<R>, Failed> {
+    match String::from_str(rt.alloc(), path) {
+        Ok(path) => Ok(HostPlace::new(*rt, path)),
+        Err(_) => Err(Failed),
+    }
+}
+
+impl<P: Place> FileDisk<P> {
+    /// As `open`, of any place.
+    pub fn at(place: P) -> Result<FileDisk<P>, Failed>
+        ensures { IfOk result (λ disk. disk.faults ≡ 0) }
+    {
+        match open_locked(&place) {
             Ok((file, len)) => Ok(FileDisk {
+                place,
                 file,
                 len,
                 faults: 0,
+                is_unmeasured: false,
+                is_lost: false,
+            }),
+            Err(_) => Err(Failed),
+        }
+    }
+
+    /// As `open_to_read`, of any place.
+    pub fn at_to_read(place: P) -> Result<FileDisk<P>, Failed>
+        ensures { IfOk result (λ disk. disk.faults ≡ 0) }
+    {
+        match open_measured(&place) {
+            Ok((file, len)) => Ok(FileDisk {
+                place,
+                file: Some(file),
+                len,
+                faults: 0,
+                is_unmeasured: false,
                 is_lost: false,
             }),
             Err(_) => Err(Failed),
@@ -54,43 +107,125 @@ impl FileDisk {
         self.faults = self.faults.saturating_add(1);
         Failed
     }
+
+    // Counts a write or a cut that failed, and the length that it left if that lies between these.
+    fn fail_between(&mut self, least: u64, most: u64) -> Failed
+        requires { (least ≤ self.old.len) × (self.old.len ≤ most) }
+        ensures len { (least ≤ self.new.len) × (self.new.len ≤ most) }
+        ensures faults { Rose self.old.faults self.new.faults × (self.old.faults ≤ self.new.faults) }
+    {
+        match self.measured() {
+            Ok(len) if least <= len && len <= most => {
+                self.len = len;
+                self.is_unmeasured = false;
+            }
+            _ => self.is_unmeasured = true,
+        }
+        self.fail()
+    }
+
+    // Measures a file whose length is not known, and fails where it is not the counted one.
+    fn settle(&mut self) -> Result<(), Failed>
+        ensures len { self.new.len ≡ self.old.len }
+        ensures faults { CountsFault self.old.faults self.new.faults result }
+    {
+        if !self.is_unmeasured {
+            return Ok(());
+        }
+        match self.measured() {
+            Ok(len) if len == self.len => {
+                self.is_unmeasured = false;
+                Ok(())
+            }
+            _ => Err(self.fail()),
+        }
+    }
+
+    fn measured(&self) -> io::Result<u64> {
+        match &self.file {
+            Some(file) => file.measure(),
+            None => Ok(0),
+        }
+    }
+
+    // Makes the file if there is none yet.
+    fn make_missing(&mut self) -> Result<(), Failed>
+        ensures len { self.new.len ≡ self.old.len }
+        ensures faults { CountsFault self.old.faults self.new.faults result }
+    {
+        if self.file.is_some() {
+            return Ok(());
+        }
+        match make_locked(&self.place) {
+            Ok(file) => {
+                self.file = Some(file);
+                Ok(())
+            }
+            Err(_) => Err(self.fail()),
+        }
+    }
+
+    fn read_all(&self, at: u64, into: &mut [u8]) -> io::Result<()> {
+        match &self.file {
+            Some(file) => file.read_exact_at(into, at),
+            None => Ok(()),
+        }
+    }
+
+    fn write_all(&self, at: u64, from: &[u8]) -> io::Result<()> {
+        match &self.file {
+            Some(file) => file.write_all_at(from, at),
+            None => Err(io::ErrorKind::NotFound.into()),
+        }
+    }
+
+    fn shorten(&self, len: u64) -> io::Result<()> {
+        match &self.file {
+            Some(file) => file.set_len(len),
+            None => Ok(()),
+        }
+    }
+
+    fn sync_file(&self) -> io::Result<()> {
+        match &self.file {
+            Some(file) => file.sync(),
+            None => Ok(()),
+        }
+    }
 }
 
-fn open_synced<R: Files<File = File>>(rt: &R, path: &str) -> io::Result<(File, u64)>
-    ensures { IfOk result (λ opened. opened.1 < 2 ^ 63) }
-{
-    let file = OpenOptions::new()
-        .read(true)
-        .write(true)
-        .create(true)
-        .open(rt, path)?;
-    let folder = match Path::new(path).parent() {
-        Some(folder) if !folder.as_str().is_empty() => folder,
-        _ => Path::new("."),
+fn open_locked<P: Place>(place: &P) -> io::Result<(Option<P::File>, u64)> {
+    let file = place.open()?;
+    let len = match &file {
+        Some(file) => {
+            file.lock()?;
+            file.measure()?
+        }
+        None => 0,
     };
-    File::open(rt, folder)?.sync_all()?;
-    let len = measure(&file)?;
+    place.sync_folder()?;
     Ok((file, len))
 }
 
-fn measure(file: &File) -> io::Result<u64>
-    ensures { IfOk result (λ n. n < 2 ^ 63) }
-{
-    let len = file.metadata()?.len();
-    if len > MAX_LEN {
-        return Err(io::ErrorKind::InvalidData.into());
-    }
-    Ok(len)
+fn open_measured<P: Place>(place: &P) -> io::Result<(P::File, u64)> {
+    let file = place.open_to_read()?;
+    let len = file.measure()?;
+    Ok((file, len))
 }
 
-impl Disk for FileDisk {
-    ghost use Rattle.kom_disk.specs.FileDisk.{counted_length, failed_calls};
+fn make_locked<P: Place>(place: &P) -> io::Result<P::File> {
+    let file = place.make()?;
+    file.lock()?;
+    place.sync_folder()?;
+    Ok(file)
+}
 
+impl<P: Place> Disk for FileDisk<P> {
     ghost tells = { false };
 
     ghost bytes = { λ _. [] };
 
-    ghost size = { counted_length };
+    ghost size = { λ disk. disk.len };
 
     ghost images = { λ _ _. ⊥ };
 
@@ -98,7 +233,11 @@ impl Disk for FileDisk {
 
     ghost images_at = { λ _ _ _. ⊥ };
 
-    ghost faults = { failed_calls };
+    ghost tells_reads = { false };
+
+    ghost reads = { λ _. [] };
+
+    ghost faults = { λ disk. disk.faults };
 
     ghost counts_bytes = { λ _ told. owes_nothing told };
 
@@ -111,9 +250,10 @@ impl Disk for FileDisk {
     }
 
     fn len(&mut self) -> Result<u64, Failed> {
-        match measure(&self.file) {
+        match self.measured() {
             Ok(len) => {
                 self.len = len;
+                self.is_unmeasured = false;
                 Ok(len)
             }
             Err(_) => Err(self.fail()),
@@ -121,35 +261,40 @@ impl Disk for FileDisk {
     }
 
     fn read(&mut self, at: u64, into: &mut [u8]) -> Result<(), Failed> {
-        match self.file.read_exact_at(into, at) {
+        match self.read_all(at, into) {
             Ok(()) => Ok(()),
             Err(_) => Err(self.fail()),
         }
     }
 
     fn write_at(&mut self, at: u64, from: &[u8]) -> Result<(), Failed> {
-        if from.len() as u64 > MAX_LEN - at {
+        self.settle()?;
+        let end = at.saturating_add(from.len() as u64);
+        if end > MAX_LEN {
             return Err(self.fail());
         }
-        match self.file.write_all_at(from, at) {
+        self.make_missing()?;
+        let longest = self.len.max(end);
+        match self.write_all(at, from) {
             Ok(()) => {
-                self.len = self.len.max(at + from.len() as u64);
+                self.len = longest;
                 Ok(())
             }
-            Err(_) => Err(self.fail()),
+            Err(_) => Err(self.fail_between(self.len, longest)),
         }
     }
 
     fn cut(&mut self, len: u64) -> Result<(), Failed> {
+        self.settle()?;
         if len > self.len {
             return Ok(());
         }
-        match self.file.set_len(len) {
+        match self.shorten(len) {
             Ok(()) => {
                 self.len = len;
                 Ok(())
             }
-            Err(_) => Err(self.fail()),
+            Err(_) => Err(self.fail_between(len, self.len)),
         }
     }
 
@@ -157,7 +302,7 @@ impl Disk for FileDisk {
         if self.is_lost {
             return Err(self.fail());
         }
-        match self.file.sync_data() {
+        match self.sync_file() {
             Ok(()) => Ok(()),
             Err(_) => {
                 self.is_lost = true;

@@ -8,8 +8,10 @@ mod file_disk;
 mod image;
 mod laws;
 mod memory_disk;
+mod place;
 mod read;
 mod script;
+mod shared_disk;
 mod step;
 mod tear;
 
@@ -18,8 +20,12 @@ pub use errors::{Failed, Memory};
 pub use file_disk::FileDisk;
 pub use laws::{Fact, calls_in_turn, images_since, passes_in_turn, whole_calls, wider_fact};
 pub use memory_disk::MemoryDisk;
+pub use place::{HostPlace, OpenedFile, Place};
 pub use read::read_up_to;
+pub use shared_disk::{Change, Given, SharedDisk};
 pub use tear::Tear;
 
+#[cfg(test)]
+mod file_tests;
 #[cfg(test)]
 mod tests;

@@ -1,5 +1,5 @@
 // A disk in memory, which can fail, stop, and show what a stop would leave.
-ghost use Rattle.std.specs.Prelude.{◌≡◌, ◌<◌, ◌≤◌, ◌+◌, true, refl, length, take, drop, vec_len, vec_capacity, IsErr, IfOk, IfSome, OnOk, OnErr};
+ghost use Rattle.std.specs.Prelude.{◌≡◌, ◌<◌, ◌≤◌, ◌+◌, [], true, false, refl, length, take, drop, vec_len, vec_capacity, IsErr, IfOk, IfSome, OnOk, OnErr};
 ghost use Rattle.std.proofs.Common.{inr};
 ghost use Rattle.kom_disk.specs.Disk.{overwritten, Torn, Shortened, ComesBy, AddsNone, Only, Passes};
 ghost use Rattle.kom_disk.specs.Faults.{CountsFault};
@@ -153,6 +153,10 @@ impl Disk for MemoryDisk {
     ghost moment = { moment_of };
 
     ghost images_at = { images_after };
+
+    ghost tells_reads = { false };
+
+    ghost reads = { λ _. [] };
 
     ghost faults = { faults_of };
 

@@ -2,17 +2,12 @@ ghost use Rattle.std.specs.Prelude.{◌≡◌, length};
 ghost use Rattle.kom_disk.specs.MemoryDisk.{bytes_of};
 
 use crate::{
-    Disk, Failed, FileDisk, MemoryDisk, Tear, calls_in_turn, images_since, passes_in_turn,
-    read_up_to, whole_calls, wider_fact,
+    Change, Disk, Failed, MemoryDisk, SharedDisk, Tear, calls_in_turn, images_since,
+    passes_in_turn, read_up_to, whole_calls, wider_fact,
 };
 use std::alloc::Global;
-use std::fs;
 use std::marker::Brand;
 use std::test::Fail;
-
-const FOLDER: &str = "kom_disk_test";
-
-const PATH: &str = "kom_disk_test/store";
 
 // Four calls that change a disk of the bytes `abcdef`, as long as none fails.
 fn write_and_cut(disk: &mut MemoryDisk) -> Result<(), Failed> {
@@ -182,7 +177,7 @@ fn a_write_past_the_room_fails(rt: HostRuntime) -> Result<(), Fail> {
 }
 
 // Leaves `abxy` on a disk, and reads it.
-fn write_cut_and_read<D: Disk>(disk: &mut D) -> Result<[u8; 4], Failed> {
+pub fn write_cut_and_read<D: Disk>(disk: &mut D) -> Result<[u8; 4], Failed> {
     disk.cut(0)?;
     disk.write_at(0, b"abcd")?;
     disk.write_at(2, b"xyz")?;
@@ -194,33 +189,7 @@ fn write_cut_and_read<D: Disk>(disk: &mut D) -> Result<[u8; 4], Failed> {
     Ok(back)
 }
 
-#[test]
-fn a_file_is_kept(rt: HostRuntime) -> Result<(), Fail> {
-    let _ = fs::remove_dir_all(&rt, FOLDER);
-    assert!(rt; matches!(FileDisk::open(&rt, PATH), Err(Failed)));
-    fs::create_dir(&rt, FOLDER)?;
-    let mut disk = FileDisk::open(&rt, PATH)?;
-    needs_send(&disk);
-    assert_eq!(rt; disk.len(), Ok(0));
-    assert_eq!(rt; write_cut_and_read(&mut disk), Ok(*b"abxy"));
-    let mut again = FileDisk::open(&rt, PATH)?;
-    assert_eq!(rt; again.len(), Ok(4));
-    assert_eq!(rt; write_cut_and_read(&mut again), Ok(*b"abxy"));
-    assert_eq!(rt; (disk.faults(), again.faults()), (0, 0));
-    // The bytes that one handle has cut off are missing at the other.
-    if disk.len() == Ok(4) {
-        assert_eq!(rt; again.cut(2), Ok(()));
-        assert_eq!(rt; disk.read(0, &mut [0; 4]), Err(Failed));
-        assert_eq!(rt; disk.len(), Ok(2));
-    }
-    assert_eq!(rt; (disk.faults(), again.faults()), (1, 0));
-    let kept = fs::read(&rt, PATH)?;
-    assert_eq!(rt; kept.as_slice(), b"ab".as_slice());
-    fs::remove_dir_all(&rt, FOLDER)?;
-    Ok(())
-}
-
-fn needs_send<T: Send>(_: &T) {}
+pub fn needs_send<T: Send>(_: &T) {}
 
 #[test]
 fn laws_hold_of_a_disk(rt: HostRuntime) -> Result<(), Fail> {
@@ -241,5 +210,32 @@ fn laws_hold_of_a_disk(rt: HostRuntime) -> Result<(), Fail> {
         );
         assert_eq!(rt; back, *want, "at {at}");
     }
+    Ok(())
+}
+
+#[test]
+fn bytes_change_beside_a_shared_disk(rt: HostRuntime) -> Result<(), Fail> {
+    let alloc = rt.alloc();
+    let mut changes = Vec::new(alloc);
+    for (call, bytes) in [(3, b"abcdef"), (6, b"abXdef"), (9, b"a_____")] {
+        changes.push(Change {
+            call,
+            bytes: bytes[..if call == 9 { 1 } else { 6 }].to_vec(alloc)?,
+        })?;
+    }
+    let fails = vec![in alloc; 5]?;
+    let mut disk = SharedDisk::make(alloc, b"abc".to_vec(alloc)?, changes, fails, None);
+    let mut back = *b"______";
+    assert_eq!(rt; read_up_to(&mut disk, 1, &mut back), Ok(2));
+    assert_eq!(rt; back, *b"bc____");
+    assert_eq!(rt; read_up_to(&mut disk, 1, &mut back), Ok(5));
+    assert_eq!(rt; back, *b"bcdef_");
+    assert_eq!(rt; disk.sync(), Err(Failed));
+    assert_eq!(rt; read_up_to(&mut disk, 2, &mut back), Ok(4));
+    assert_eq!(rt; back, *b"Xdeff_");
+    assert_eq!(rt; disk.cut(9), Err(Failed));
+    assert_eq!(rt; disk.write_at(0, b"a"), Err(Failed));
+    assert_eq!(rt; disk.faults(), 3);
+    assert_eq!(rt; disk.len(), Ok(1));
     Ok(())
 }
