@@ -5,9 +5,12 @@ use Rattle.kom_disk.specs.Disk.{Only}
 use Rattle.kom_disk.specs.Moments.{LeavesOnly}
 use Rattle.disk_example.specs.Cell.{content_of, IsEither, Changes}
 
-module _ {D : Type 0} (moment : D → ℕ) (images_at : D → ℕ → List ℕ → Type 0) (old new : D) (images : List ℕ → Type 0) (bytes : List ℕ) (was content : List ℕ) where
-  pub ends : LeavesOnly moment images_at old new (IsEither was content) → ((image : List ℕ) → images_at new (moment new) image → images image)
-      → Only bytes images → content_of bytes ≡ content → LeavesOnly moment images_at old new (Changes (moment new) was content)
+module _ {D : Type 0} (moment : D → ℕ) (images_at : D → ℕ → List ℕ → Type 0) (old new : D) (images : List ℕ → Type 0)
+    (bytes : List ℕ) (was content : List ℕ) where
+  pub ends : LeavesOnly moment images_at old new (IsEither was content)
+      → ((image : List ℕ) → images_at new (moment new) image → images image)
+      → Only bytes images → content_of bytes ≡ content
+      → LeavesOnly moment images_at old new (Changes (moment new) was content)
   ends stretch now stable holds = record {
     forward = stretch.forward;
     each = λ at image from to left. ⊎_elim

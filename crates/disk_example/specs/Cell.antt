@@ -4,7 +4,8 @@ use Rattle.kom_disk.specs.Disk.{Only}
 
 -- the slot that the first byte names: the second where it is 1
 abbrev pub content_of : List ℕ → List ℕ
-content_of file = if slice_index_or file 0 0 == 1 then take 8 (drop 9 file) else take 8 (drop 1 file)
+content_of file =
+    if slice_index_or file 0 0 == 1 then take 8 (drop 9 file) else take 8 (drop 1 file)
 
 -- the slot that it does not name
 abbrev pub other_of : List ℕ → List ℕ
@@ -23,6 +24,8 @@ Stays content moment image = content_of image ≡ content
 abbrev pub IsEither : List ℕ → List ℕ → ℕ → List ℕ → Type 0
 IsEither old new moment image = (content_of image ≡ old) ⊎ (content_of image ≡ new)
 
--- before the last moment the image stands for the old content or the new one, and then for the new one
+-- before the last moment the image stands for the old content or the new one, and then for the new
+-- one
 abbrev pub Changes : ℕ → List ℕ → List ℕ → ℕ → List ℕ → Type 0
-Changes last old new moment image = (content_of image ≡ new) ⊎ ((moment < last) × (content_of image ≡ old))
+Changes last old new moment image =
+    (content_of image ≡ new) ⊎ ((moment < last) × (content_of image ≡ old))

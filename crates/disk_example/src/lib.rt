@@ -1,4 +1,5 @@
-//! A cell of eight bytes on any disk: a stop leaves its content from before a replacement, or from after it.
+//! A cell of eight bytes on any disk: a stop leaves its content from before a replacement, or from
+//! after it.
 #![tactic(auto)]
 
 mod cell;

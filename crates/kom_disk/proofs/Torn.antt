@@ -3,23 +3,27 @@ use Rattle.std.proofs.Common.{◌≡◌, ◌≤◌, ◌+◌, ◌-◌, ℕ, List,
 use Rattle.std.proofs.lemmas.List.{take_all, take_at, drop_at, length-take, length-take-le, length-drop, drop-drop}
 use Rattle.kom_disk.specs.Disk.{overwritten, Torn, Shortened, ComesBy}
 
--- nothing of a write is there
-pub torn_away : (at n : ℕ) (bytes : List ℕ) → Torn at n bytes bytes
-torn_away at n bytes = record { front = refl; back = refl; no_shorter = omega arith; no_longer = omega arith }
-
 -- nothing of a cut is there
 pub cut_away : (n : ℕ) (bytes : List ℕ) → Shortened n bytes bytes
-cut_away n bytes = record { front = take_all (length bytes) bytes (omega arith); no_shorter = omega arith }
+cut_away n bytes = record { prefix = take_all (length bytes) bytes (omega arith); no_shorter = omega arith }
 
-pub length-overwritten : (bytes : List ℕ) (at : ℕ) (from : List ℕ) → at ≤ length bytes → length (overwritten bytes at from) ≡ max (length bytes) (at + length from)
+pub length-overwritten : (bytes : List ℕ) (at : ℕ) (from : List ℕ) → at ≤ length bytes
+    → length (overwritten bytes at from) ≡ max (length bytes) (at + length from)
 length-overwritten bytes at from within =
-    omega (arith, length-append (take at bytes ++ from) (drop (at + length from) bytes), length-append (take at bytes) from, length-take-le at bytes within, length-drop (at + length from) bytes)
+    omega (
+      arith,
+      length-append (take at bytes ++ from) (drop (at + length from) bytes),
+      length-append
+          (take at bytes) from,
+      length-take-le at bytes within,
+      length-drop (at + length from) bytes,
+    )
 
 -- a part of a write is left of all of it
 pub torn_wider : (at m n : ℕ) (old new : List ℕ) → m ≤ n → Torn at m old new → Torn at n old new
 torn_wider at m n old new within torn = record {
-  front = torn.front;
-  back = rest new ∙ ap (drop (n - m)) torn.back ∙ sym (rest old);
+  prefix = torn.prefix;
+  suffix = rest new ∙ ap (drop (n - m)) torn.suffix ∙ sym (rest old);
   no_shorter = torn.no_shorter;
   no_longer = omega (arith, torn.no_longer, within);
 }
@@ -29,39 +33,35 @@ torn_wider at m n old new within torn = record {
         let same : at + n ≡ at + m + (n - m) = omega (arith, within) in
         ap (λ (k : ℕ). drop k l) same ∙ sym (drop-drop (n - m) (at + m) l)
 
-pub comes_wider : (at m n : ℕ) (old new : List ℕ → Type 0) → m ≤ n → ComesBy (Torn at m) old new → ComesBy (Torn at n) old new
+pub comes_wider : (at m n : ℕ) (old new : List ℕ → Type 0) → m ≤ n → ComesBy (Torn at m) old new
+    → ComesBy (Torn at n) old new
 comes_wider at m n old new within comes image left =
     let from = comes image left in
     (from.0, from.1, torn_wider at m n from.0 image within from.2)
 
 -- all of a write is there
-pub torn_whole : (at : ℕ) (from bytes : List ℕ) → at ≤ length bytes → Torn at (length from) bytes (overwritten bytes at from)
+pub torn_whole : (at : ℕ) (from bytes : List ℕ) → at ≤ length bytes
+    → Torn at (length from) bytes (overwritten bytes at from)
 torn_whole at from bytes within = record {
-  front = ap (take at) (append_assoc (take at bytes) from (drop (at + length from) bytes)) ∙ take_at (take at bytes) (from ++ drop (at + length from) bytes) at front_length;
-  back = drop_at (take at bytes ++ from) (drop (at + length from) bytes) (at + length from) range_length;
+  prefix =
+      ap (take at) (append_assoc (take at bytes) from (drop (at + length from) bytes))
+      ∙ take_at (take at bytes) (from ++ drop (at + length from) bytes) at prefix_length;
+  suffix = drop_at (take at bytes ++ from) (drop (at + length from) bytes) (at + length from) range_length;
   no_shorter = omega (arith, length-overwritten bytes at from within);
   no_longer = omega (arith, length-overwritten bytes at from within);
 }
   where
-    front_length : length (take at bytes) ≡ at
-    front_length = length-take-le at bytes within
+    prefix_length : length (take at bytes) ≡ at
+    prefix_length = length-take-le at bytes within
 
     range_length : length (take at bytes ++ from) ≡ at + length from
-    range_length = omega (arith, length-append (take at bytes) from, front_length)
+    range_length = omega (arith, length-append (take at bytes) from, prefix_length)
 
--- what was written stands in its range
-pub written_whole : (at : ℕ) (from bytes : List ℕ) → at ≤ length bytes → take (length from) (drop at (overwritten bytes at from)) ≡ from
-written_whole at from bytes within =
-    let split : overwritten bytes at from ≡ take at bytes ++ (from ++ drop (at + length from) bytes) = append_assoc (take at bytes) from (drop (at + length from) bytes) in
-    ap (λ (l : List ℕ). take (length from) (drop at l)) split
-    ∙ ap (take (length from)) (drop_at (take at bytes) (from ++ drop (at + length from) bytes) at (length-take-le at bytes within))
-    ∙ take_at from (drop (at + length from) bytes) (length from) refl
-
-cut_front : (n : ℕ) (bytes : List ℕ) → take (length (take n bytes)) bytes ≡ take n bytes
-cut_front zero bytes = refl
-cut_front (suc n) [] = refl
-cut_front (suc n) (b ∷ bytes) = ap (λ (l : List ℕ). b ∷ l) (cut_front n bytes)
+cut_prefix : (n : ℕ) (bytes : List ℕ) → take (length (take n bytes)) bytes ≡ take n bytes
+cut_prefix zero bytes = refl
+cut_prefix (suc n) [] = refl
+cut_prefix (suc n) (b ∷ bytes) = ap (λ (l : List ℕ). b ∷ l) (cut_prefix n bytes)
 
 -- all of a cut is there
 pub cut_whole : (n : ℕ) (bytes : List ℕ) → Shortened n bytes (take n bytes)
-cut_whole n bytes = record { front = cut_front n bytes; no_shorter = omega (arith, length-take n bytes) }
+cut_whole n bytes = record { prefix = cut_prefix n bytes; no_shorter = omega (arith, length-take n bytes) }

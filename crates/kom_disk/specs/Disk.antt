@@ -6,19 +6,21 @@ use Rattle.std.proofs.lemmas.Bool.{false≢true}
 abbrev pub overwritten : List ℕ → ℕ → List ℕ → List ℕ
 overwritten bytes at from = take at bytes ++ from ++ drop (at + length from) bytes
 
--- What is left of a write of n bytes: anything in its range and past the old end, elsewhere what was there.
+-- What is left of a write of n bytes: anything in its range and past the old end, elsewhere what
+-- was there.
 pub record Torn (at n : ℕ) (old new : List ℕ) : Type 0 where
-  pub front : take at new ≡ take at old
-  pub back : drop (at + n) new ≡ drop (at + n) old
+  pub prefix : take at new ≡ take at old
+  pub suffix : drop (at + n) new ≡ drop (at + n) old
   pub no_shorter : length old ≤ length new
   pub no_longer : length new ≤ max (length old) (at + n)
 
--- What is left of a cut to n bytes: a front of what was there, and no less than was asked for.
+-- What is left of a cut to n bytes: a prefix of what was there, and no less than was asked for.
 pub record Shortened (n : ℕ) (old new : List ℕ) : Type 0 where
-  pub front : take (length new) old ≡ new
+  pub prefix : take (length new) old ≡ new
   pub no_shorter : min n (length old) ≤ length new
 
--- What a read of these bytes adds to what the reads have given. Where there are none no read is made.
+-- What a read of these bytes adds to what the reads have given. Where there are none no read is
+-- made.
 abbrev pub told_read : ℕ → List ℕ → List (ℕ × List ℕ)
 told_read at [] = []
 told_read at (byte ∷ bytes) = (at, byte ∷ bytes) ∷ []
@@ -35,12 +37,15 @@ AddsNone old new = (image : List ℕ) → new image → old image
 abbrev pub Only : List ℕ → (List ℕ → Type 0) → Type 0
 Only bytes images = (image : List ℕ) → images image → image ≡ bytes
 
--- A call takes the clock from one moment to another and never back. What a stop up to its start could have
--- left stays as it was, and inside the call a stop leaves an image from its start or one from its end.
+-- A call takes the clock from one moment to another and never back. What a stop up to its start
+-- could have left stays as it was, and inside the call a stop leaves an image from its start or one
+-- from its end.
 pub record Passes (tells : Bool) (start end : ℕ) (old new : ℕ → List ℕ → Type 0) : Type 0 where
   pub forward : start ≤ end
-  pub kept : IsTrue tells → (moment : ℕ) (image : List ℕ) → moment ≤ start → (new moment image ↔ old moment image)
-  pub inside : IsTrue tells → (moment : ℕ) (image : List ℕ) → start < moment → moment ≤ end → new moment image → old start image ⊎ new end image
+  pub kept : IsTrue tells → (moment : ℕ) (image : List ℕ) → moment ≤ start
+      → (new moment image ↔ old moment image)
+  pub inside : IsTrue tells → (moment : ℕ) (image : List ℕ) → start < moment → moment ≤ end
+      → new moment image → old start image ⊎ new end image
 
 -- a disk that tells nothing owes nothing
 pub owes_nothing : {P : Type 0} → IsTrue false → P

@@ -55,8 +55,8 @@ fails_of disk = disk.calls.script.fails.items
 abbrev pub stop_of : MemoryDisk → Option ℕ
 stop_of disk = disk.calls.script.stop
 
--- A call keeps to the script: it takes the next number, whether it fails or not, and where that number is to fail it does.
--- If it fails no byte and no image changes, unless a part is to be left.
+-- A call keeps to the script: it takes the next number, whether it fails or not, and where that
+-- number is to fail it does. If it fails no byte and no image changes, unless a part is to be left.
 pub record KeepsToScript {T E : Type 0} (old new : MemoryDisk) (result : Result T E) : Type 0 where
   pub numbered : calls_of new ≡ next_number (calls_of old)
   pub fails : IsToFail (fails_of old) (stop_of old) (calls_of new) → IsErr result

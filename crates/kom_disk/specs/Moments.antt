@@ -1,8 +1,10 @@
 -- What a stop leaves over a stretch of a disk's clock.
 use Rattle.std.specs.Prelude.{◌<◌, ◌≤◌, ◌↔◌, ℕ, List}
 
--- Inside a call from one moment to another a stop leaves an image from its start, or one from its end, which has P then.
-pub record HasInside (start end : ℕ) (old new : List ℕ → Type 0) (P : ℕ → List ℕ → Type 0) : Type 0 where
+-- Inside a call from one moment to another a stop leaves an image from its start, or one from its
+-- end, which has P then.
+pub record HasInside (start end : ℕ) (old new : List ℕ → Type 0)
+    (P : ℕ → List ℕ → Type 0) : Type 0 where
   pub before : (at : ℕ) (image : List ℕ) → start < at → at < end → old image → P at image
   pub after : (at : ℕ) (image : List ℕ) → start < at → at ≤ end → new image → P at image
 
@@ -14,8 +16,11 @@ module _ {D : Type 0} (moment : D → ℕ) (images_at : D → ℕ → List ℕ �
     pub to : at ≤ moment disk
     pub left : images_at disk at image
 
-  -- From the old disk to the new one each moment leaves only what has P then, and the earlier moments stay as they were.
+  -- From the old disk to the new one each moment leaves only what has P then, and the earlier
+  -- moments stay as they were.
   pub record LeavesOnly (old new : D) (P : ℕ → List ℕ → Type 0) : Type 0 where
     pub forward : moment old ≤ moment new
-    pub each : (at : ℕ) (image : List ℕ) → moment old ≤ at → at ≤ moment new → images_at new at image → P at image
-    pub kept : (at : ℕ) (image : List ℕ) → at ≤ moment old → (images_at new at image ↔ images_at old at image)
+    pub each : (at : ℕ) (image : List ℕ) → moment old ≤ at → at ≤ moment new
+        → images_at new at image → P at image
+    pub kept : (at : ℕ) (image : List ℕ) → at ≤ moment old
+        → (images_at new at image ↔ images_at old at image)

@@ -6,7 +6,8 @@ use Rattle.kom_disk.specs.declared.shared_disk.Given.{Given}
 -- what is shown at the call of this number: the bytes of the last change that has come
 abbrev pub shown_at : List ℕ → List Change → ℕ → List ℕ
 shown_at bytes [] number = bytes
-shown_at bytes (change ∷ later) number = shown_at (if nat_le change.call number then change.bytes.items else bytes) later number
+shown_at bytes (change ∷ later) number =
+    shown_at (if nat_le change.call number then change.bytes.items else bytes) later number
 
 -- what the reads gave, each with its place
 abbrev pub reads_given : List Given → List (ℕ × List ℕ)

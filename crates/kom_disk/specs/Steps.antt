@@ -17,7 +17,8 @@ bytes_after bytes (Pass ∷ later) = bytes_after bytes later
 -- the bytes at the last sync among these steps, and before any sync the stable bytes of before
 abbrev pub stable_after : List ℕ → List ℕ → List Step → List ℕ
 stable_after stable bytes [] = stable
-stable_after stable bytes (Write at from ∷ later) = stable_after stable (overwritten bytes at from.items) later
+stable_after stable bytes (Write at from ∷ later) =
+    stable_after stable (overwritten bytes at from.items) later
 stable_after stable bytes (Cut len ∷ later) = stable_after stable (take len bytes) later
 stable_after stable bytes (Sync ∷ later) = stable_after bytes bytes later
 stable_after stable bytes (Pass ∷ later) = stable_after stable bytes later
@@ -29,17 +30,21 @@ LeftOf step images image = (was : List ℕ) × images was × step was image
 -- what is left after these steps, each write and cut since the last sync torn
 abbrev pub torn_after : (List ℕ → Type 0) → List ℕ → List Step → List ℕ → Type 0
 torn_after images bytes [] = images
-torn_after images bytes (Write at from ∷ later) = torn_after (LeftOf (Torn at (length from.items)) images) (overwritten bytes at from.items) later
-torn_after images bytes (Cut len ∷ later) = torn_after (LeftOf (Shortened len) images) (take len bytes) later
+torn_after images bytes (Write at from ∷ later) =
+    torn_after (LeftOf (Torn at (length from.items)) images) (overwritten bytes at from.items) later
+torn_after images bytes (Cut len ∷ later) =
+    torn_after (LeftOf (Shortened len) images) (take len bytes) later
 torn_after images bytes (Sync ∷ later) = torn_after (λ image. image ≡ bytes) bytes later
 torn_after images bytes (Pass ∷ later) = torn_after images bytes later
 
 -- what a stop after these steps may leave: the steps since the last sync torn, or all of them whole
 abbrev pub IsImage : List ℕ → List Step → List ℕ → Type 0
-IsImage start steps image = torn_after (λ was. was ≡ start) start steps image ⊎ (image ≡ bytes_after start steps)
+IsImage start steps image =
+    torn_after (λ was. was ≡ start) start steps image ⊎ (image ≡ bytes_after start steps)
 
 -- the images after all steps are those of now
-pub all_steps : (start : List ℕ) (steps : List Step) (image : List ℕ) → (IsImage start (take (length steps) steps) image ↔ IsImage start steps image)
+pub all_steps : (start : List ℕ) (steps : List Step) (image : List ℕ)
+    → (IsImage start (take (length steps) steps) image ↔ IsImage start steps image)
 all_steps start steps image =
     let P : List Step → Type 0 = λ done. IsImage start done image in
     (λ left. subst P (take-length steps) left, λ left. subst P (sym (take-length steps)) left)

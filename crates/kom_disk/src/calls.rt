@@ -26,12 +26,15 @@ impl Calls {
         }
     }
 
-    /// Numbers a call, and keeps what it is to do. With nothing to do, by the script or out of memory the call fails.
+    /// Numbers a call, and keeps what it is to do. With nothing to do, by the script or out of
+    /// memory the call fails.
     pub fn begin(&mut self, step: Option<Step>) -> Result<(), Failed>
-        ensures kept { OnOk result (IsSomeAnd step (λ step. self.new.steps.items ≡ self.old.steps.items ++ step ∷ [])) }
+        ensures kept { OnOk result
+            (IsSomeAnd step (λ step. self.new.steps.items ≡ self.old.steps.items ++ step ∷ [])) }
         ensures failed { OnErr result (KeepsNothing self.old.steps.items self.new.steps.items) }
         ensures numbered { self.new.script.made ≡ next_number self.old.script.made }
-        ensures fails { IsToFail self.old.script.fails.items self.old.script.stop self.new.script.made → IsErr result }
+        ensures fails { IsToFail self.old.script.fails.items self.old.script.stop
+            self.new.script.made → IsErr result }
         ensures faults { CountsFault self.old.script.faults self.new.script.faults result }
         ensures same_fails { self.new.script.fails.items ≡ self.old.script.fails.items }
         ensures same_stop { self.new.script.stop ≡ self.old.script.stop }
@@ -48,7 +51,8 @@ impl Calls {
 
     /// Keeps what a call has done, unless memory has run out.
     pub fn keep(&mut self, step: Step) -> bool
-        ensures steps { self.new.steps.items ≡ (if result then self.old.steps.items ++ step ∷ [] else self.old.steps.items) }
+        ensures steps { self.new.steps.items
+            ≡ (if result then self.old.steps.items ++ step ∷ [] else self.old.steps.items) }
         ensures script { self.new.script ≡ self.old.script }
     {
         self.steps.push(step).is_ok()

@@ -1,4 +1,4 @@
-// Why a call has no answer.
+// Why a call failed.
 use std::alloc::{AllocError, AllocFailed};
 
 /// The disk failed, and has counted it.

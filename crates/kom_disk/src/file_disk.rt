@@ -13,10 +13,11 @@ use std::rt::Files;
 // The system takes no offset and no length from here on.
 const MAX_LEN: u64 = (1 << 63) - 1;
 
-/// A file that is read and written in place. Its clauses say that each error is counted, and how long the file is
-/// by its last measure and its own calls since. That a real file keeps what was synced rests on the system.
-/// After a write or a cut that failed the file is measured, at once or else by the next of them, which fails as long as
-/// the file has another length than is counted; `len` counts it anew. After a sync that failed each later one fails.
+/// A file that is read and written in place. Its clauses say that each error is counted, and how
+/// long the file is by its last measure and its own calls since. That a real file keeps what was
+/// synced rests on the system. After a write or a cut that failed the file is measured, at once or
+/// else by the next of them, which fails as long as the file has another length than is counted;
+/// `len` counts it anew. After a sync that failed each later one fails.
 #[derive(Drop)]
 pub struct FileDisk<P: Place> {
     place: P,
@@ -27,27 +28,29 @@ pub struct FileDisk<P: Place> {
     faults: u64,
     /// The length is not known, since a call failed and then the measure.
     is_unmeasured: bool,
-    /// A sync has failed. The system may have dropped what it could not write, and would sync the rest.
+    /// A sync has failed. The system may have dropped what it could not write, and would sync the
+    /// rest.
     is_lost: bool,
 }
 
 impl<R: Files<File = File> + AllocGlobal + Copy> FileDisk<HostPlace<R>> {
-    /// Opens the file of this path, and locks it for as long as the disk lives: a second opening fails, in this process
-    /// or in another one. The entries of its folder are synced. A missing file is an empty disk, which the first write
-    /// makes, readable and writable for its owner alone; that write fails where another process has made the file since.
+    /// Opens the file of this path, and locks it for as long as the disk lives: a second opening
+    /// fails, in this process or in another one. The entries of its folder are synced. A missing
+    /// file is an empty disk, which the first write makes, readable and writable for its owner
+    /// alone; that write fails where another process has made the file since.
     ///
-    /// It fails where the folder is missing or not readable, at a directory, and at a file that this process may not both
-    /// read and write; a file that nobody may write is opened by root alone. A device is opened as an empty disk:
-    /// on `/dev/full` each write fails, on `/dev/null` what is written is gone, and on both each sync fails and each cut
-    /// but one past the end.
+    /// It fails where the folder is missing or not readable, at a directory, and at a file that
+    /// this process may not both read and write; a file that nobody may write is opened by root
+    /// alone. A device is opened as an empty disk: on `/dev/full` each write fails, on `/dev/null`
+    /// what is written is gone, and on both each sync fails and each cut but one past the end.
     pub fn open(rt: &R, path: &str) -> Result<FileDisk<HostPlace<R>>, Failed>
         ensures { IfOk result (λ disk. disk.faults ≡ 0) }
     {
         FileDisk::at(host_place(rt, path)?)
     }
 
-    /// Opens the file of this path for reading alone: it is not made and not locked, and writes fail. It fails where the
-    /// file is missing.
+    /// Opens the file of this path for reading alone: it is not made and not locked, and writes
+    /// fail. It fails where the file is missing.
     pub fn open_to_read(rt: &R, path: &str) -> Result<FileDisk<HostPlace<R>>, Failed>
         ensures { IfOk result (λ disk. disk.faults ≡ 0) }
     {
@@ -102,7 +105,8 @@ impl<P: Place> FileDisk<P> {
 
     fn fail(&mut self) -> Failed
         ensures len { self.new.len ≡ self.old.len }
-        ensures faults { Rose self.old.faults self.new.faults × (self.old.faults ≤ self.new.faults) }
+        ensures faults { Rose self.old.faults self.new.faults
+            × (self.old.faults ≤ self.new.faults) }
     {
         self.faults = self.faults.saturating_add(1);
         Failed
@@ -112,7 +116,8 @@ impl<P: Place> FileDisk<P> {
     fn fail_between(&mut self, least: u64, most: u64) -> Failed
         requires { (least ≤ self.old.len) × (self.old.len ≤ most) }
         ensures len { (least ≤ self.new.len) × (self.new.len ≤ most) }
-        ensures faults { Rose self.old.faults self.new.faults × (self.old.faults ≤ self.new.faults) }
+        ensures faults { Rose self.old.faults self.new.faults
+            × (self.old.faults ≤ self.new.faults) }
     {
         match self.measured() {
             Ok(len) if least <= len && len <= most => {

@@ -214,7 +214,8 @@ fn a_file_is_measured_after_a_failed_write(rt: HostRuntime) -> Result<(), Fail> 
     assert_eq!(rt; disk.write_at(0, b"12345"), Err(Failed));
     assert_eq!(rt; disk.cut(2), Ok(()));
     assert_eq!(rt; disk.len(), Ok(2));
-    // and where that fails before the next change, which then fails until the length is counted anew.
+    // and where that fails before the next change, which then fails until the length is counted
+    // anew.
     let mut disk = open(failing(3, 4))?;
     assert_eq!(rt; disk.write_at(0, b"12345"), Err(Failed));
     assert_eq!(rt; disk.cut(2), Err(Failed));
@@ -240,7 +241,8 @@ fn a_file_is_kept(rt: HostRuntime) -> Result<(), Fail> {
     let mut late = FileDisk::open(&rt, PATH)?;
     assert_eq!(rt; write_cut_and_read(&mut disk), Ok(*b"abxy"));
     assert_eq!(rt; fs::metadata(&rt, PATH)?.mode() & 0o777, 0o600);
-    // Another that found no file does not write over it, and while the disk lives no other opens it.
+    // Another that found no file does not write over it, and while the disk lives no other opens
+    // it.
     assert_eq!(rt; late.write_at(0, b"a"), Err(Failed));
     assert!(rt; FileDisk::open(&rt, PATH).is_err());
     let mut reads = FileDisk::open_to_read(&rt, PATH)?;

@@ -60,8 +60,8 @@ fn replay_write(bytes: &mut Vec<u8>, at: usize, from: &[u8]) -> Result<(), Alloc
     Ok(())
 }
 
-/// What is left of these steps, none of them a sync: the first writes and cuts of them torn as `each` lists it, and the
-/// later ones by the kinds that `choice` picks.
+/// What is left of these steps, none of them a sync: the first writes and cuts of them torn as
+/// `each` lists it, and the later ones by the kinds that `choice` picks.
 pub fn torn(
     stable: Vec<u8>,
     steps: &[Step],
@@ -69,8 +69,10 @@ pub fn torn(
     choice: u64,
 ) -> Result<Vec<u8>, AllocError>
     requires { All (λ step. step ≢ Sync) steps.now }
-    ensures image { IfOk result (λ image. torn_after (λ was. was ≡ stable.items) stable.items steps.now image.items) }
-    ensures stable { each.now ≡ [] → choice ≡ 0 → IfOk result (λ image. image.items ≡ stable.items) }
+    ensures image { IfOk result
+        (λ image. torn_after (λ was. was ≡ stable.items) stable.items steps.now image.items) }
+    ensures stable { each.now ≡ [] → choice ≡ 0
+        → IfOk result (λ image. image.items ≡ stable.items) }
 {
     let mut image = stable;
     let mut place = 0;
@@ -114,8 +116,8 @@ fn tear_step(
     }
 }
 
-// How the write or the cut of this place is torn, which is one of n bytes. Below 8 a choice picks one kind for all of
-// them, and a greater one a kind for each.
+// How the write or the cut of this place is torn, which is one of n bytes. Below 8 a choice picks
+// one kind for all of them, and a greater one a kind for each.
 fn pick(each: &[Tear], choice: u64, place: usize, n: usize) -> Tear
     ensures { each.now ≡ [] → choice ≡ 0 → result ≡ Nothing }
 {

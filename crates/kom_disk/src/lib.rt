@@ -1,4 +1,5 @@
-//! Disks that a stop may tear: what one is, one in memory that can stop and fail, and one over a file.
+//! Disks that a stop may tear: what one is, one in memory that can stop and fail, and one over a
+//! file.
 #![tactic(auto)]
 
 mod calls;

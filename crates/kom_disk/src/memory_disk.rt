@@ -13,8 +13,8 @@ use crate::tear::{Tear, torn_range};
 use crate::{Disk, Failed, Memory};
 use std::alloc::Global;
 
-/// Bytes in memory. Each call that succeeds is one moment of its clock. A call that fails changes no byte and no image,
-/// unless a part of a failed write is to be left.
+/// Bytes in memory. Each call that succeeds is one moment of its clock. A call that fails changes
+/// no byte and no image, unless a part of a failed write is to be left.
 #[derive(Drop)]
 pub struct MemoryDisk {
     alloc: Global,
@@ -33,8 +33,9 @@ impl MemoryDisk {
     ghost use Rattle.kom_disk.specs.MemoryDisk.{bytes_of, stable_of, images_of, moment_of, faults_of, room_of, fails_of, stop_of, calls_of, part_of, images_after};
     ghost use Rattle.kom_disk.specs.declared.tear.Tear.TheVariants.{Nothing};
 
-    /// A disk with these bytes, which a stop would leave. A write that ends past `room` fails, and so does each call whose
-    /// number, from 1 on, stands in `fails`, and each after the first `stop` calls.
+    /// A disk with these bytes, which a stop would leave. A write that ends past `room` fails, and
+    /// so does each call whose number, from 1 on, stands in `fails`, and each after the first
+    /// `stop` calls.
     pub fn make(
         alloc: Global,
         bytes: Vec<u8>,
@@ -44,10 +45,12 @@ impl MemoryDisk {
     ) -> Result<MemoryDisk, Memory>
         ensures bytes { IfOk result (λ disk. bytes_of disk ≡ bytes.items) }
         ensures stable { IfOk result (λ disk. Only bytes.items (images_of disk)) }
-        ensures no_call { IfOk result (λ disk. (moment_of disk ≡ 0) × (calls_of disk ≡ 0) × (faults_of disk ≡ 0)) }
+        ensures no_call { IfOk result
+            (λ disk. (moment_of disk ≡ 0) × (calls_of disk ≡ 0) × (faults_of disk ≡ 0)) }
         ensures no_part { IfOk result (λ disk. part_of disk ≡ Nothing) }
         ensures room { IfOk result (λ disk. room_of disk ≡ room) }
-        ensures script { IfOk result (λ disk. (fails_of disk ≡ fails.items) × (stop_of disk ≡ stop)) }
+        ensures script { IfOk result
+            (λ disk. (fails_of disk ≡ fails.items) × (stop_of disk ≡ stop)) }
     {
         let start = bytes.as_slice().to_vec(alloc)?;
         let mut bytes = bytes;
@@ -62,8 +65,9 @@ impl MemoryDisk {
         })
     }
 
-    /// One image of those that a stop now may leave. Choice 0 picks the stable bytes, choice 1 the bytes as they are read.
-    /// A choice below 8 tears each write and cut since the last sync in one way, and greater ones tear them in different ways.
+    /// One image of those that a stop now may leave. Choice 0 picks the stable bytes, choice 1 the
+    /// bytes as they are read. A choice below 8 tears each write and cut since the last sync in one
+    /// way, and greater ones tear them in different ways.
     pub fn image(&self, choice: u64) -> Result<Vec<u8>, Memory>
         ensures image { IfOk result (λ image. images_of self.now image.items) }
         ensures stable { choice ≡ 0 → IfOk result (λ image. image.items ≡ stable_of self.now) }
@@ -78,8 +82,8 @@ impl MemoryDisk {
         Ok(torn(stable, since, &[], choice)?)
     }
 
-    /// The image that is left where the writes and cuts since the last sync are torn so, in their order. Those after the
-    /// last of the list leave nothing.
+    /// The image that is left where the writes and cuts since the last sync are torn so, in their
+    /// order. Those after the last of the list leave nothing.
     pub fn image_torn(&self, tears: &[Tear]) -> Result<Vec<u8>, Memory>
         ensures image { IfOk result (λ image. images_of self.now image.items) }
     {
@@ -94,9 +98,11 @@ impl MemoryDisk {
         ensures part { part_of self.new ≡ part }
         ensures bytes { bytes_of self.new ≡ bytes_of self.old }
         ensures stop { AddsNone (images_of self.old) (images_of self.new) }
-        ensures script { (calls_of self.new ≡ calls_of self.old) × (fails_of self.new ≡ fails_of self.old)
+        ensures script { (calls_of self.new ≡ calls_of self.old)
+            × (fails_of self.new ≡ fails_of self.old)
             × (stop_of self.new ≡ stop_of self.old) × (room_of self.new ≡ room_of self.old) }
-        ensures counts { (moment_of self.new ≡ moment_of self.old) × (faults_of self.new ≡ faults_of self.old) }
+        ensures counts { (moment_of self.new ≡ moment_of self.old)
+            × (faults_of self.new ≡ faults_of self.old) }
     {
         self.part = part;
     }
@@ -105,8 +111,10 @@ impl MemoryDisk {
     fn leave_part(&mut self, at: usize, from: &[u8])
         requires { at ≤ length (bytes_of self.old) }
         ensures left { Torn at (length from.now) (bytes_of self.old) (bytes_of self.new) }
-        ensures stop { ComesBy (Torn at (length from.now)) (images_of self.old) (images_of self.new) }
-        ensures time { Passes true (moment_of self.old) (moment_of self.new) (images_after self.old) (images_after self.new) }
+        ensures stop { ComesBy (Torn at (length from.now)) (images_of self.old)
+            (images_of self.new) }
+        ensures time { Passes true (moment_of self.old) (moment_of self.new) (images_after self.old)
+            (images_after self.new) }
         ensures nothing { part_of self.old ≡ Nothing → self.new ≡ self.old }
         ensures script { self.new.calls.script ≡ self.old.calls.script }
         ensures same { (room_of self.new ≡ room_of self.old) × (part_of self.new ≡ part_of self.old)
@@ -124,8 +132,10 @@ impl MemoryDisk {
     fn leave(&mut self, at: usize, left: &[u8])
         requires { at ≤ length (bytes_of self.old) }
         ensures left { Torn at (length left.now) (bytes_of self.old) (bytes_of self.new) }
-        ensures stop { ComesBy (Torn at (length left.now)) (images_of self.old) (images_of self.new) }
-        ensures time { Passes true (moment_of self.old) (moment_of self.new) (images_after self.old) (images_after self.new) }
+        ensures stop { ComesBy (Torn at (length left.now)) (images_of self.old)
+            (images_of self.new) }
+        ensures time { Passes true (moment_of self.old) (moment_of self.new) (images_after self.old)
+            (images_after self.new) }
         ensures script { self.new.calls.script ≡ self.old.calls.script }
         ensures same { (room_of self.new ≡ room_of self.old) × (part_of self.new ≡ part_of self.old)
             × (self.new.start ≡ self.old.start) }
@@ -174,7 +184,8 @@ impl Disk for MemoryDisk {
         ensures counted { IfOk result (λ n. n ≡ length (bytes_of self.new)) }
         ensures bytes { bytes_of self.new ≡ bytes_of self.old }
         ensures stop { AddsNone (images_of self.old) (images_of self.new) }
-        ensures time { Passes true (moment_of self.old) (moment_of self.new) (images_after self.old) (images_after self.new) }
+        ensures time { Passes true (moment_of self.old) (moment_of self.new) (images_after self.old)
+            (images_after self.new) }
         ensures faults { CountsFault (faults_of self.old) (faults_of self.new) result }
         ensures script { KeepsToScript self.old self.new result }
     {
@@ -184,10 +195,12 @@ impl Disk for MemoryDisk {
 
     fn read(&mut self, at: u64, into: &mut [u8]) -> Result<(), Failed>
         requires { at + length into.old ≤ length (bytes_of self.old) }
-        ensures given { OnOk result (into.new ≡ take (length into.old) (drop at (bytes_of self.old))) }
+        ensures given { OnOk result
+            (into.new ≡ take (length into.old) (drop at (bytes_of self.old))) }
         ensures bytes { bytes_of self.new ≡ bytes_of self.old }
         ensures stop { AddsNone (images_of self.old) (images_of self.new) }
-        ensures time { Passes true (moment_of self.old) (moment_of self.new) (images_after self.old) (images_after self.new) }
+        ensures time { Passes true (moment_of self.old) (moment_of self.new) (images_after self.old)
+            (images_after self.new) }
         ensures faults { CountsFault (faults_of self.old) (faults_of self.new) result }
         ensures script { KeepsToScript self.old self.new result }
     {
@@ -199,11 +212,15 @@ impl Disk for MemoryDisk {
 
     fn write_at(&mut self, at: u64, from: &[u8]) -> Result<(), Failed>
         requires { at ≤ length (bytes_of self.old) }
-        ensures written { OnOk result (bytes_of self.new ≡ overwritten (bytes_of self.old) at from.now) }
-        ensures left { OnErr result (Torn at (length from.now) (bytes_of self.old) (bytes_of self.new)) }
+        ensures written { OnOk result
+            (bytes_of self.new ≡ overwritten (bytes_of self.old) at from.now) }
+        ensures left { OnErr result
+            (Torn at (length from.now) (bytes_of self.old) (bytes_of self.new)) }
         ensures room { room_of self.old < at + length from.now → IsErr result }
-        ensures stop { ComesBy (Torn at (length from.now)) (images_of self.old) (images_of self.new) }
-        ensures time { Passes true (moment_of self.old) (moment_of self.new) (images_after self.old) (images_after self.new) }
+        ensures stop { ComesBy (Torn at (length from.now)) (images_of self.old)
+            (images_of self.new) }
+        ensures time { Passes true (moment_of self.old) (moment_of self.new) (images_after self.old)
+            (images_after self.new) }
         ensures faults { CountsFault (faults_of self.old) (faults_of self.new) result }
         ensures script { KeepsToScript self.old self.new result }
     {
@@ -225,7 +242,8 @@ impl Disk for MemoryDisk {
         ensures cut { OnOk result (bytes_of self.new ≡ take len (bytes_of self.old)) }
         ensures left { OnErr result (bytes_of self.new ≡ bytes_of self.old) }
         ensures stop { ComesBy (Shortened len) (images_of self.old) (images_of self.new) }
-        ensures time { Passes true (moment_of self.old) (moment_of self.new) (images_after self.old) (images_after self.new) }
+        ensures time { Passes true (moment_of self.old) (moment_of self.new) (images_after self.old)
+            (images_after self.new) }
         ensures faults { CountsFault (faults_of self.old) (faults_of self.new) result }
         ensures script { KeepsToScript self.old self.new result }
     {
@@ -239,7 +257,8 @@ impl Disk for MemoryDisk {
         ensures durable { OnOk result (Only (bytes_of self.new) (images_of self.new)) }
         ensures bytes { bytes_of self.new ≡ bytes_of self.old }
         ensures stop { AddsNone (images_of self.old) (images_of self.new) }
-        ensures time { Passes true (moment_of self.old) (moment_of self.new) (images_after self.old) (images_after self.new) }
+        ensures time { Passes true (moment_of self.old) (moment_of self.new) (images_after self.old)
+            (images_after self.new) }
         ensures faults { CountsFault (faults_of self.old) (faults_of self.new) result }
         ensures script { KeepsToScript self.old self.new result }
     {

@@ -1,4 +1,5 @@
-// The script of a disk in memory, which says which of its calls fail. It numbers them, and counts those that failed.
+// The script of a disk in memory, which says which of its calls fail. It numbers them, and counts
+// those that failed.
 ghost use Rattle.std.specs.Prelude.{◌≡◌, ◌≤◌, ◌↔◌, IsTrue};
 ghost use Rattle.kom_disk.specs.Faults.{Rose};
 ghost use Rattle.kom_disk.specs.Script.{IsToFail, next_number};
@@ -31,7 +32,8 @@ impl Script {
         ensures numbered { self.new.made ≡ next_number self.old.made }
         ensures fails { IsTrue result ↔ IsToFail self.old.fails.items self.old.stop self.new.made }
         ensures same_faults { self.new.faults ≡ self.old.faults }
-        ensures same_script { (self.new.fails.items ≡ self.old.fails.items) × (self.new.stop ≡ self.old.stop) }
+        ensures same_script { (self.new.fails.items ≡ self.old.fails.items)
+            × (self.new.stop ≡ self.old.stop) }
     {
         self.made = self.made.saturating_add(1);
         is_to_fail(&self.fails, self.stop, self.made)
@@ -42,7 +44,8 @@ impl Script {
         ensures rose { Rose self.old.faults self.new.faults }
         ensures never_falls { self.old.faults ≤ self.new.faults }
         ensures same_number { self.new.made ≡ self.old.made }
-        ensures same_script { (self.new.fails.items ≡ self.old.fails.items) × (self.new.stop ≡ self.old.stop) }
+        ensures same_script { (self.new.fails.items ≡ self.old.fails.items)
+            × (self.new.stop ≡ self.old.stop) }
     {
         self.faults = self.faults.saturating_add(1);
         Failed

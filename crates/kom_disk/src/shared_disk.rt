@@ -23,8 +23,9 @@ pub struct Given {
     pub bytes: Vec<u8>,
 }
 
-/// Bytes in memory that another writes. It tells its reads and not its content, and cannot be written. Its calls are
-/// numbered from 1 on, and at each it shows the bytes of the last change of those that have come.
+/// Bytes in memory that another writes. It tells its reads and not its content, and cannot be
+/// written. Its calls are numbered from 1 on, and at each it shows the bytes of the last change of
+/// those that have come.
 #[derive(Drop)]
 pub struct SharedDisk {
     alloc: Global,
@@ -37,8 +38,8 @@ pub struct SharedDisk {
 }
 
 impl SharedDisk {
-    /// A disk that shows `start` until the first change. Each call whose number stands in `fails` fails, and each after
-    /// the first `stop` calls.
+    /// A disk that shows `start` until the first change. Each call whose number stands in `fails`
+    /// fails, and each after the first `stop` calls.
     pub fn make(
         alloc: Global,
         start: Vec<u8>,
@@ -46,8 +47,10 @@ impl SharedDisk {
         fails: Vec<u64>,
         stop: Option<u64>,
     ) -> SharedDisk
-        ensures shown { (result.start.items ≡ start.items) × (result.changes.items ≡ changes.items) }
-        ensures no_call { (result.script.made ≡ 0) × (result.script.faults ≡ 0) × (result.given.items ≡ []) }
+        ensures shown { (result.start.items ≡ start.items)
+            × (result.changes.items ≡ changes.items) }
+        ensures no_call { (result.script.made ≡ 0) × (result.script.faults ≡ 0)
+            × (result.given.items ≡ []) }
         ensures script { (result.script.fails.items ≡ fails.items) × (result.script.stop ≡ stop) }
     {
         SharedDisk {
@@ -63,11 +66,13 @@ impl SharedDisk {
     // Numbers a call, which may be one that fails.
     fn begin(&mut self) -> Result<(), Failed>
         ensures numbered { self.new.script.made ≡ next_number self.old.script.made }
-        ensures fails { IsToFail self.old.script.fails.items self.old.script.stop self.new.script.made → IsErr result }
+        ensures fails { IsToFail self.old.script.fails.items self.old.script.stop
+            self.new.script.made → IsErr result }
         ensures faults { CountsFault self.old.script.faults self.new.script.faults result }
         ensures same { (self.new.start ≡ self.old.start) × (self.new.changes ≡ self.old.changes)
             × (self.new.len ≡ self.old.len) × (self.new.given ≡ self.old.given) }
-        ensures same_script { (self.new.script.fails.items ≡ self.old.script.fails.items) × (self.new.script.stop ≡ self.old.script.stop) }
+        ensures same_script { (self.new.script.fails.items ≡ self.old.script.fails.items)
+            × (self.new.script.stop ≡ self.old.script.stop) }
     {
         if self.script.next() {
             return Err(self.script.fail());
@@ -75,10 +80,15 @@ impl SharedDisk {
         Ok(())
     }
 
-    // Fills `into` with what is shown now, and keeps what it gave, if so much is there and memory is found.
+    // Fills `into` with what is shown now, and keeps what it gave, if so much is there and memory
+    // is found.
     fn give(&mut self, at: u64, into: &mut [u8]) -> Result<(), AllocError>
-        ensures given { OnOk result (into.new ≡ take (length into.old) (drop at (shown_at self.old.start.items self.old.changes.items self.old.script.made))) }
-        ensures told { OnOk result (reads_given self.new.given.items ≡ reads_given self.old.given.items ++ (at, into.new) ∷ []) }
+        ensures given { OnOk result
+            (into.new ≡ take (length into.old)
+            (drop at (shown_at self.old.start.items self.old.changes.items self.old.script.made))) }
+        ensures told { OnOk result
+            (reads_given self.new.given.items ≡ reads_given self.old.given.items
+            ++ (at, into.new) ∷ []) }
         ensures untold { OnErr result (self.new.given.items ≡ self.old.given.items) }
         ensures same { (self.new.start ≡ self.old.start) × (self.new.changes ≡ self.old.changes)
             × (self.new.len ≡ self.old.len) × (self.new.script ≡ self.old.script) }
@@ -107,7 +117,8 @@ fn shown<'a>(start: &'a [u8], changes: &'a [Change], number: u64) -> &'a [u8]
 }
 
 fn later<'a>(shown: &'a [u8], change: &'a Change, number: u64) -> &'a [u8]
-    ensures { result.now ≡ (if nat_le change.now.call number then change.now.bytes.items else shown.now) }
+    ensures { result.now
+        ≡ (if nat_le change.now.call number then change.now.bytes.items else shown.now) }
 {
     if change.call <= number {
         change.bytes.as_slice()
@@ -147,12 +158,14 @@ impl Disk for SharedDisk {
 
     fn len(&mut self) -> Result<u64, Failed>
         ensures counted { IfOk result (λ n. (n ≡ self.new.len)
-            × (n ≡ length (shown_at self.old.start.items self.old.changes.items self.new.script.made))) }
+            × (n ≡ length
+            (shown_at self.old.start.items self.old.changes.items self.new.script.made))) }
         ensures size_left { OnErr result (self.new.len ≡ self.old.len) }
         ensures reads { reads_given self.new.given.items ≡ reads_given self.old.given.items }
         ensures faults { CountsFault self.old.script.faults self.new.script.faults result }
         ensures numbered { self.new.script.made ≡ next_number self.old.script.made }
-        ensures fails { IsToFail self.old.script.fails.items self.old.script.stop self.new.script.made → IsErr result }
+        ensures fails { IsToFail self.old.script.fails.items self.old.script.stop
+            self.new.script.made → IsErr result }
     {
         self.begin()?;
         self.len = shown(&self.start, &self.changes, self.script.made).len() as u64;
@@ -161,13 +174,19 @@ impl Disk for SharedDisk {
 
     fn read(&mut self, at: u64, into: &mut [u8]) -> Result<(), Failed>
         requires { at + length into.old ≤ self.old.len }
-        ensures shown { OnOk result (into.new ≡ take (length into.old) (drop at (shown_at self.old.start.items self.old.changes.items self.new.script.made))) }
-        ensures told { OnOk result (reads_given self.new.given.items ≡ reads_given self.old.given.items ++ (at, into.new) ∷ []) }
-        ensures untold { OnErr result (reads_given self.new.given.items ≡ reads_given self.old.given.items) }
+        ensures shown { OnOk result
+            (into.new ≡ take (length into.old)
+            (drop at (shown_at self.old.start.items self.old.changes.items self.new.script.made))) }
+        ensures told { OnOk result
+            (reads_given self.new.given.items ≡ reads_given self.old.given.items
+            ++ (at, into.new) ∷ []) }
+        ensures untold { OnErr result
+            (reads_given self.new.given.items ≡ reads_given self.old.given.items) }
         ensures size { self.new.len ≡ self.old.len }
         ensures faults { CountsFault self.old.script.faults self.new.script.faults result }
         ensures numbered { self.new.script.made ≡ next_number self.old.script.made }
-        ensures fails { IsToFail self.old.script.fails.items self.old.script.stop self.new.script.made → IsErr result }
+        ensures fails { IsToFail self.old.script.fails.items self.old.script.stop
+            self.new.script.made → IsErr result }
     {
         self.begin()?;
         match self.give(at, into) {

@@ -5,8 +5,8 @@ ghost use Rattle.kom_disk.specs.declared.tear.Tear.TheVariants.{Nothing};
 
 use std::alloc::{AllocError, Global};
 
-/// What is left of a write. Of a cut `First` cuts off so many bytes, `Whole` all of them, and any other kind but
-/// `Nothing` half of them.
+/// What is left of a write. Of a cut `First` cuts off so many bytes, `Whole` all of them, and any
+/// other kind but `Nothing` half of them.
 #[derive(Clone, Copy)]
 pub enum Tear {
     /// None of it.
@@ -30,7 +30,8 @@ pub enum Tear {
 }
 
 impl Tear {
-    /// The kind of this number, from 0 on and again from 8 on, for n bytes that are written or cut off.
+    /// The kind of this number, from 0 on and again from 8 on, for n bytes that are written or cut
+    /// off.
     pub fn of(number: u64, n: usize) -> Tear
         ensures { number ≡ 0 → result ≡ Nothing }
     {
@@ -82,8 +83,8 @@ fn mix(tear: Tear, bytes: &mut [u8], at: usize, end: usize, from: &[u8])
     requires start { at ≤ end }
     requires end { end ≤ length bytes.old }
     requires enough { end ≤ at + length from.now }
-    ensures front { take at bytes.new ≡ take at bytes.old }
-    ensures back { drop end bytes.new ≡ drop end bytes.old }
+    ensures prefix { take at bytes.new ≡ take at bytes.old }
+    ensures suffix { drop end bytes.new ≡ drop end bytes.old }
     ensures nothing { tear ≡ Nothing → bytes.new ≡ bytes.old }
 {
     for i in at..end {

@@ -128,7 +128,7 @@ fn a_failed_write_leaves_a_part(rt: HostRuntime) -> Result<(), Fail> {
     Ok(())
 }
 
-// Five calls, and which of them answered Ok.
+// Five calls, and which of them succeeded.
 fn five_calls(disk: &mut MemoryDisk) -> [bool; 5]
     requires { length (bytes_of disk.old) ≡ 6 }
 {
@@ -152,10 +152,10 @@ fn each_call_fails_in_turn(rt: HostRuntime) -> Result<(), Fail> {
         (4, [true, true, true, false, true], b"axydef"),
         (5, [true, true, true, true, false], b"abcdef"),
     ];
-    for (number, answers, stable) in cases {
+    for (number, outcomes, stable) in cases {
         let fails = vec![in alloc; number]?;
         let mut disk = MemoryDisk::make(alloc, b"abcdef".to_vec(alloc)?, 6, fails, None)?;
-        assert_eq!(rt; five_calls(&mut disk), answers, "call {number}");
+        assert_eq!(rt; five_calls(&mut disk), outcomes, "call {number}");
         assert_eq!(rt; disk.faults(), u64::from(number > 0), "call {number}");
         let image = disk.image(0)?;
         assert_eq!(rt; image.as_slice(), stable, "call {number}");

@@ -5,8 +5,8 @@ use Rattle.kom_disk.proofs.tear.mix.Given as goal
 
 -- outside the range the bytes are as they were
 pub record SameOutside (tear : Tear) (at end : ℕ) (was now : List ℕ) : Type 0 where
-  pub front : take at now ≡ take at was
-  pub back : drop end now ≡ drop end was
+  pub prefix : take at now ≡ take at was
+  pub suffix : drop end now ≡ drop end was
   pub nothing : tear ≡ Nothing → now ≡ was
 
 abbrev pub invariant-loop-i : goal.invariant-loop-i

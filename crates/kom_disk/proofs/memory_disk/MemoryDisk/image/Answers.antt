@@ -12,9 +12,13 @@ returns-clause-image c =
     let end = c.synced.result in
     let ends : EndsSynced (take end steps) = search rules in
     let is_stable : c.in_ok-stable.stable.items ≡ bytes_after start (take end steps) = search rules in
-    let since : (c.split_at.result).1.now ≡ drop end steps = c.split_at.ensures.back ∙ ap (drop end) c.as_slice-steps.ensures.value in
-    let P : List Step → Type 0 = λ (l : List Step). torn_after (λ was. was ≡ c.in_ok-stable.stable.items) c.in_ok-stable.stable.items l c.in_ok-torn.field-0.items in
-    image_left start steps end ends c.in_ok-stable.stable.items is_stable c.in_ok-torn.field-0.items (subst P since c.in_ok-torn.ensures.image)
+    let since : (c.split_at.result).1.now ≡ drop end steps =
+    c.split_at.ensures.back ∙ ap (drop end) c.as_slice-steps.ensures.value in
+    let P : List Step → Type 0 =
+    λ (l : List Step). torn_after (λ was. was ≡ c.in_ok-stable.stable.items) c.in_ok-stable.stable.items l
+    c.in_ok-torn.field-0.items in
+    image_left start steps end ends c.in_ok-stable.stable.items is_stable c.in_ok-torn.field-0.items
+    (subst P since c.in_ok-torn.ensures.image)
 
 pub returns-clause-stable : goal.returns-clause-stable
 returns-clause-stable c = λ zero.
@@ -24,4 +28,5 @@ returns-clause-stable c = λ zero.
     let ends : EndsSynced (take end steps) = search rules in
     let is_stable : c.in_ok-stable.stable.items ≡ bytes_after start (take end steps) = search rules in
     let none : All (λ step. step ≢ Sync) (drop end steps) = search rules in
-    c.in_ok-torn.ensures.stable refl zero ∙ sym (image_stable start steps end ends c.in_ok-stable.stable.items is_stable none)
+    c.in_ok-torn.ensures.stable refl zero
+    ∙ sym (image_stable start steps end ends c.in_ok-stable.stable.items is_stable none)
