@@ -9,25 +9,27 @@ const FOLDER: &str = "kom_disk_test";
 
 const PATH: &str = "kom_disk_test/store";
 
-// What fails of a file, the calls that measure, write, cut and sync by their numbers.
+// What fails of a file: the calls that measure, write, cut and sync by their numbers, and a sync of
+// its folder by its own.
 #[derive(Clone, Copy)]
 struct Plan {
     is_missing: bool,
     is_locked: bool,
-    folder_fails: bool,
+    folder_fails: u32,
     fails: [u32; 2],
 }
 
 const SOUND: Plan = Plan {
     is_missing: false,
     is_locked: false,
-    folder_fails: false,
+    folder_fails: 0,
     fails: [0, 0],
 };
 
 #[derive(Drop)]
 struct FakePlace {
     plan: Plan,
+    folder_calls: Cell<u32>,
 }
 
 // An empty file of at most 16 bytes, which are written three at once.
@@ -131,7 +133,9 @@ impl Place for FakePlace {
     }
 
     fn sync_folder(&self) -> io::Result<()> {
-        if self.plan.folder_fails {
+        let number = self.folder_calls.get().wrapping_add(1);
+        self.folder_calls.set(number);
+        if self.plan.folder_fails == number {
             return Err(io::ErrorKind::Other.into());
         }
         Ok(())
@@ -139,7 +143,10 @@ impl Place for FakePlace {
 }
 
 fn open(plan: Plan) -> Result<FileDisk<FakePlace>, Failed> {
-    FileDisk::at(FakePlace { plan })
+    FileDisk::at(FakePlace {
+        plan,
+        folder_calls: Cell::new(0),
+    })
 }
 
 fn failing(first: u32, second: u32) -> Plan {
@@ -193,17 +200,22 @@ fn a_failed_sync_is_not_forgotten(rt: HostRuntime) -> Result<(), Fail> {
 fn an_opening_locks_and_syncs_the_folder(rt: HostRuntime) -> Result<(), Fail> {
     let (mut locked, mut unsynced) = (SOUND, SOUND);
     locked.is_locked = true;
-    unsynced.folder_fails = true;
+    unsynced.folder_fails = 1;
     assert!(rt; open(locked).is_err());
     assert!(rt; open(unsynced).is_err());
+    // A missing file is made by the first write, and then the same holds of it.
     locked.is_missing = true;
-    let mut disk = open(locked)?;
-    assert_eq!(rt;
-        (disk.len(), disk.cut(0), disk.sync()),
-        (Ok(0), Ok(()), Ok(()))
-    );
-    assert_eq!(rt; disk.write_at(0, b"a"), Err(Failed));
-    assert_eq!(rt; disk.faults(), 1);
+    unsynced.is_missing = true;
+    unsynced.folder_fails = 2;
+    for plan in [locked, unsynced] {
+        let mut disk = open(plan)?;
+        assert_eq!(rt;
+            (disk.len(), disk.cut(0), disk.sync()),
+            (Ok(0), Ok(()), Ok(()))
+        );
+        assert_eq!(rt; disk.write_at(0, b"a"), Err(Failed));
+        assert_eq!(rt; disk.faults(), 1);
+    }
     Ok(())
 }
 

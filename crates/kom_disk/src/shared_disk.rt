@@ -1,9 +1,8 @@
 // A disk in memory whose bytes change beside it, as if another process wrote them.
-ghost use Rattle.std.specs.Prelude.{◌≡◌, ◌≤◌, ◌+◌, ℕ, List, [], ◌∷◌, ◌++◌, true, false, length, take, drop, IsErr, IfOk, OnOk, OnErr, nat_le, if◌then◌else◌};
+ghost use Rattle.std.specs.Prelude.{◌≡◌, ◌≤◌, ◌+◌, ℕ, List, [], ◌∷◌, ◌++◌, IsTrue, true, false, length, take, drop, IsErr, IfOk, OnOk, OnErr, nat_le, if◌then◌else◌};
 ghost use Rattle.kom_disk.specs.Disk.{owes_nothing};
 ghost use Rattle.kom_disk.specs.Faults.{CountsFault};
-ghost use Rattle.kom_disk.specs.Script.{IsToFail, next_number};
-ghost use Rattle.kom_disk.specs.Shared.{shown_at, reads_given};
+ghost use Rattle.kom_disk.specs.Shared.{shown_at, reads_given, TakesNumber};
 
 use crate::script::Script;
 use crate::{Disk, Failed};
@@ -65,14 +64,9 @@ impl SharedDisk {
 
     // Numbers a call, which may be one that fails.
     fn begin(&mut self) -> Result<(), Failed>
-        ensures numbered { self.new.script.made ≡ next_number self.old.script.made }
-        ensures fails { IsToFail self.old.script.fails.items self.old.script.stop
-            self.new.script.made → IsErr result }
         ensures faults { CountsFault self.old.script.faults self.new.script.faults result }
-        ensures same { (self.new.start ≡ self.old.start) × (self.new.changes ≡ self.old.changes)
-            × (self.new.len ≡ self.old.len) × (self.new.given ≡ self.old.given) }
-        ensures same_script { (self.new.script.fails.items ≡ self.old.script.fails.items)
-            × (self.new.script.stop ≡ self.old.script.stop) }
+        ensures script { TakesNumber self.old self.new result }
+        ensures same { (self.new.len ≡ self.old.len) × (self.new.given ≡ self.old.given) }
     {
         if self.script.next() {
             return Err(self.script.fail());
@@ -80,9 +74,20 @@ impl SharedDisk {
         Ok(())
     }
 
-    // Fills `into` with what is shown now, and keeps what it gave, if so much is there and memory
-    // is found.
+    // Whether so many bytes are shown now from `at` on.
+    fn shows(&self, at: u64, count: usize) -> bool
+        ensures { IsTrue result
+            → at + count ≤ length
+            (shown_at self.now.start.items self.now.changes.items self.now.script.made) }
+    {
+        let len = shown(&self.start, &self.changes, self.script.made).len() as u64;
+        at <= len && count as u64 <= len - at
+    }
+
+    // Fills `into` with what is shown now, and keeps what it gave.
     fn give(&mut self, at: u64, into: &mut [u8]) -> Result<(), AllocError>
+        requires { at + length into.old
+            ≤ length (shown_at self.old.start.items self.old.changes.items self.old.script.made) }
         ensures given { OnOk result
             (into.new ≡ take (length into.old)
             (drop at (shown_at self.old.start.items self.old.changes.items self.old.script.made))) }
@@ -94,11 +99,8 @@ impl SharedDisk {
             × (self.new.len ≡ self.old.len) × (self.new.script ≡ self.old.script) }
     {
         let shown = shown(&self.start, &self.changes, self.script.made);
-        if at > shown.len() as u64 || into.len() as u64 > shown.len() as u64 - at {
-            return Err(AllocError);
-        }
-        let at_place = at as usize;
-        into.copy_from_slice(&shown[at_place..at_place + into.len()]);
+        let place = at as usize;
+        into.copy_from_slice(&shown[place..place + into.len()]);
         let bytes = into.to_vec(self.alloc)?;
         self.given.push(Given { at, bytes })?;
         Ok(())
@@ -163,9 +165,7 @@ impl Disk for SharedDisk {
         ensures size_left { OnErr result (self.new.len ≡ self.old.len) }
         ensures reads { reads_given self.new.given.items ≡ reads_given self.old.given.items }
         ensures faults { CountsFault self.old.script.faults self.new.script.faults result }
-        ensures numbered { self.new.script.made ≡ next_number self.old.script.made }
-        ensures fails { IsToFail self.old.script.fails.items self.old.script.stop
-            self.new.script.made → IsErr result }
+        ensures script { TakesNumber self.old self.new result }
     {
         self.begin()?;
         self.len = shown(&self.start, &self.changes, self.script.made).len() as u64;
@@ -174,8 +174,7 @@ impl Disk for SharedDisk {
 
     fn read(&mut self, at: u64, into: &mut [u8]) -> Result<(), Failed>
         requires { at + length into.old ≤ self.old.len }
-        ensures shown { OnOk result
-            (into.new ≡ take (length into.old)
+        ensures shown { OnOk result (into.new ≡ take (length into.old)
             (drop at (shown_at self.old.start.items self.old.changes.items self.new.script.made))) }
         ensures told { OnOk result
             (reads_given self.new.given.items ≡ reads_given self.old.given.items
@@ -184,28 +183,46 @@ impl Disk for SharedDisk {
             (reads_given self.new.given.items ≡ reads_given self.old.given.items) }
         ensures size { self.new.len ≡ self.old.len }
         ensures faults { CountsFault self.old.script.faults self.new.script.faults result }
-        ensures numbered { self.new.script.made ≡ next_number self.old.script.made }
-        ensures fails { IsToFail self.old.script.fails.items self.old.script.stop
-            self.new.script.made → IsErr result }
+        ensures script { TakesNumber self.old self.new result }
     {
         self.begin()?;
+        if !self.shows(at, into.len()) {
+            return Err(self.script.fail());
+        }
         match self.give(at, into) {
             Ok(()) => Ok(()),
             Err(_) => Err(self.script.fail()),
         }
     }
 
-    fn write_at(&mut self, at: u64, from: &[u8]) -> Result<(), Failed> {
+    fn write_at(&mut self, at: u64, from: &[u8]) -> Result<(), Failed>
+        ensures refused { IsErr result }
+        ensures size { self.new.len ≡ self.old.len }
+        ensures reads { reads_given self.new.given.items ≡ reads_given self.old.given.items }
+        ensures faults { CountsFault self.old.script.faults self.new.script.faults result }
+        ensures script { TakesNumber self.old self.new result }
+    {
         self.begin()?;
         Err(self.script.fail())
     }
 
-    fn cut(&mut self, len: u64) -> Result<(), Failed> {
+    fn cut(&mut self, len: u64) -> Result<(), Failed>
+        ensures refused { IsErr result }
+        ensures size { self.new.len ≡ self.old.len }
+        ensures reads { reads_given self.new.given.items ≡ reads_given self.old.given.items }
+        ensures faults { CountsFault self.old.script.faults self.new.script.faults result }
+        ensures script { TakesNumber self.old self.new result }
+    {
         self.begin()?;
         Err(self.script.fail())
     }
 
-    fn sync(&mut self) -> Result<(), Failed> {
+    fn sync(&mut self) -> Result<(), Failed>
+        ensures size { self.new.len ≡ self.old.len }
+        ensures reads { reads_given self.new.given.items ≡ reads_given self.old.given.items }
+        ensures faults { CountsFault self.old.script.faults self.new.script.faults result }
+        ensures script { TakesNumber self.old self.new result }
+    {
         self.begin()
     }
 }
