@@ -1,5 +1,5 @@
 use crate::{Cell, OpenError};
-use kom_disk::{Failed, MemoryDisk};
+use kom_disk::MemoryDisk;
 use std::test::Fail;
 
 const OLD: [u8; 8] = *b"old text";
