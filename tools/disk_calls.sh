@@ -18,7 +18,7 @@ cat > plain.c <<C
 int main(void) {
     char block[512] = {7}, back[512];
     struct stat found;
-    int file = open("plain_store", O_RDWR | O_CREAT, 0666);
+    int file = open("plain_store", O_RDWR | O_CREAT, 0600);
     for (int turn = 0; turn < $turns; turn++)
         if (ftruncate(file, 0) != 0 || pwrite(file, block, 512, 0) != 512 || fstat(file, &found) != 0
             || pread(file, back, 512, 0) != 512)

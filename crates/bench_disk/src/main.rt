@@ -6,7 +6,7 @@ ghost use Rattle.std.specs.Prelude.{◌≤◌, IfOk};
 use bench_watch::{Counts, Request, Watch};
 use kom_disk::{Disk, Failed, FileDisk};
 use std::process::ExitCode;
-use std::rt::{Clock, Files};
+use std::rt::Clock;
 use std::{fs, io};
 
 const TURNS: Counts = Counts {
@@ -24,7 +24,10 @@ fn main(rt: HostRuntime) -> io::Result<ExitCode> {
     let Some(request) = bench_watch::asked(&rt, TURNS) else {
         return bench_watch::refuse(&rt, "bench_disk [TURNS]");
     };
-    let done = measure(&rt, request);
+    let Ok(mut disk) = FileDisk::open(&rt, STORE) else {
+        return Err(io::ErrorKind::Other.into());
+    };
+    let done = measure(&rt, request, &mut disk);
     // Without a turn there is no file.
     if fs::exists(&rt, STORE)? {
         fs::remove_file(&rt, STORE)?;
@@ -33,15 +36,13 @@ fn main(rt: HostRuntime) -> io::Result<ExitCode> {
     Ok(ExitCode::SUCCESS)
 }
 
-fn measure<R>(rt: &R, request: Request) -> io::Result<()>
+fn measure<R, D>(rt: &R, request: Request, disk: &mut D) -> io::Result<()>
 where
-    R: Print + Clock + Files<File = fs::File> + AllocGlobal + Copy,
+    R: Print + Clock,
+    D: Disk,
 {
-    let Ok(mut disk) = FileDisk::open(rt, STORE) else {
-        return Err(io::ErrorKind::Other.into());
-    };
     let mut watch = Watch::start(rt, request.told, 0)?;
-    let Ok(bytes) = turns(&mut disk, request.count) else {
+    let Ok(bytes) = turns(disk, request.count) else {
         return Err(io::ErrorKind::Other.into());
     };
     watch.tell(rt, "cut, write_at, len, read and sync", bytes)
