@@ -1,5 +1,5 @@
-//! Measures the calls of a set of ranges beside walks over its ranges and copies of their list: sums,
-//! or times.
+//! Measures the calls of a set of ranges beside walks over its ranges and copies of their list:
+//! sums, or times.
 #![tactic(auto)]
 
 ghost use Rattle.std.specs.Prelude.{◌*◌, ◌<◌, ◌^◌};

@@ -13,7 +13,7 @@ use Rattle.map_chain.specs.Pairs.{Pair, AllBelow, AllFrom, IsRising}
 use Rattle.map_chain.specs.Edit.{edit}
 use Rattle.map_chain.specs.Blocks.{Placed, pairs_of, room_in, room_of, AllFilled, HasMadeRoom, HasLost}
 use Rattle.map_chain.specs.Chain.{IsChain}
-use Rattle.map_chain.proofs.Linking.{length-edit, get-within, length-remove_at, one_block, room-last, room-some}
+use Rattle.map_chain.proofs.Linking.{length-edit, get-within, length-remove_at, one_block, room-some}
 use Rattle.map_chain.proofs.Seeking.{AllBelow-append, AllFrom-append, AllFrom-left, AllFrom-right, pairs-append, filled_at}
 
 pub rising-push : (ps : List Pair) (q : Pair) → IsRising ps → AllBelow q.0 ps → IsRising (ps ++ q ∷ [])

@@ -1,5 +1,6 @@
 -- Blocks of pairs, each at its place.
-use Rattle.std.specs.Prelude.{◌≡◌, ℕ, suc, ◌+◌, ◌-◌, ◌*◌, ◌<◌, ◌≤◌, ◌⊎◌, Bool, true, false, Option, None}
+use Rattle.std.specs.Prelude.{◌≡◌, ℕ, suc, ◌+◌, ◌-◌, ◌*◌, ◌<◌, ◌≤◌, ◌⊎◌}
+use Rattle.std.specs.Prelude.{Bool, true, false, Option, None}
 use Rattle.std.specs.Prelude.{List, [], ◌∷◌, ◌++◌, length, take, drop, remove, slice_get, Some}
 use denote.RawPtr.{Ptr}
 use Rattle.map_chain.specs.Pairs.{Pair, AllBelow, highest}
@@ -72,6 +73,12 @@ HasMadeRoom used spare used' spare' =
     ⊎ ((p : Ptr) × (room_in used ≡ 0) × (used' ≡ used ++ (p, []) ∷ [])
     × (length spare' ≡ length spare - 1))
 
+-- the i-th block has more than 32 pairs, or fits into one with neither neighbour
+abbrev pub IsSettled : Placed → ℕ → Type 0
+IsSettled bs i =
+    ((p : Ptr) (ps : List Pair) → slice_get bs i ≡ Some (p, ps) → 32 < length ps)
+    ⊎ (¬ FitTogether bs i × (0 < i → ¬ FitTogether bs (i - 1)))
+
 -- there was no room in the last block and no spare block, and nothing has changed
 abbrev pub HasNoRoom : Placed → Placed → Placed → Placed → Type 0
 HasNoRoom used spare used' spare' = (used' ≡ used) × (spare' ≡ spare) × (room_of used spare ≡ 0)
@@ -79,6 +86,10 @@ HasNoRoom used spare used' spare' = (used' ≡ used) × (spare' ≡ spare) × (r
 -- the i-th block has a k-th pair
 abbrev pub IsPairAt : Placed → ℕ → ℕ → Type 0
 IsPairAt bs i k = (p : Ptr) × (ps : List Pair) × (slice_get bs i ≡ Some (p, ps)) × (k < length ps)
+
+-- the i-th block, at p, has a k-th pair
+abbrev pub IsPairOf : Placed → ℕ → Ptr → ℕ → Type 0
+IsPairOf bs i p k = (ps : List Pair) → slice_get bs i ≡ Some (p, ps) → k < length ps
 
 -- a block that has left is a spare one if it was the last
 pub record HasPutBy (spare spare' : Placed) (is_last : Bool) : Type 0 where
@@ -96,9 +107,14 @@ pub record HasKept (used spare used' spare' : Placed) : Type 0 where
 abbrev pub pairs_but : Placed → ℕ → ℕ → List Pair → List Pair
 pairs_but bs i k ps = pairs_of (take i bs) ++ (remove ps k ++ pairs_of (drop (suc i) bs))
 
+-- those are the pairs, whatever the i-th block has
+abbrev pub HasPairsBut : Placed → ℕ → ℕ → Placed → Type 0
+HasPairsBut used i k used' =
+    (p : Ptr) (ps : List Pair) → slice_get used i ≡ Some (p, ps) → pairs_of used' ≡ pairs_but used i k ps
+
 -- the k-th pair of the i-th block is gone, and no room
 pub record HasLost (used spare : Placed) (i k : ℕ) (used' spare' : Placed) : Type 0 where
-  pub pairs : (p : Ptr) (ps : List Pair) → slice_get used i ≡ Some (p, ps) → pairs_of used' ≡ pairs_but used i k ps
+  pub pairs : HasPairsBut used i k used'
   pub filled : AllFilled used'
   pub few : length used' + length spare' ≤ length used + length spare
   pub room : room_of used spare ≤ room_of used' spare'

@@ -1,5 +1,7 @@
 -- Pairs of a local number and a text, in the order of their locals.
-use Rattle.std.specs.Prelude.{◌≡◌, ℕ, ◌<◌, ◌≤◌, ◌==◌, not, nat_lt, nat_le, suc, List, [], ◌∷◌, length, take, drop, filter, Option, Some, None, if◌then◌else◌}
+use Rattle.std.specs.Prelude.{◌≡◌, ℕ, ◌<◌, ◌≤◌, ◌==◌, not, nat_lt, nat_le, suc}
+use Rattle.std.specs.Prelude.{List, [], ◌∷◌, length, take, drop, filter}
+use Rattle.std.specs.Prelude.{Option, Some, None, if◌then◌else◌}
 
 -- a local number and its text
 abbrev pub Pair : Type 0

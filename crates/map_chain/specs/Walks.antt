@@ -1,5 +1,6 @@
 -- What is left of a walk over blocks of pairs.
-use Rattle.std.specs.Prelude.{◌≡◌, ℕ, zero, suc, ◌-◌, ◌<◌, ◌≤◌, List, [], ◌∷◌, ◌++◌, length, take, drop, slice_get, Some}
+use Rattle.std.specs.Prelude.{◌≡◌, ℕ, zero, suc, ◌-◌, ◌<◌, ◌≤◌, slice_get, Some}
+use Rattle.std.specs.Prelude.{List, [], ◌∷◌, ◌++◌, length, take, drop}
 use denote.RawPtr.{Ptr}
 use Rattle.map_chain.specs.Pairs.{Pair}
 use Rattle.map_chain.specs.Blocks.{Placed, pairs_of, AllFilled}
@@ -27,4 +28,5 @@ pub record StandsUp (bs : Placed) (i k : ℕ) (p : Ptr) : Type 0 where
 pub record StandsDown (bs : Placed) (i k : ℕ) (p : Ptr) : Type 0 where
   pub filled : AllFilled bs
   pub within : i ≤ length bs
-  pub here : 0 < i → (ps : List Pair) × (slice_get bs (i - 1) ≡ Some (p, ps)) × (0 < k) × (k ≤ length ps)
+  pub here :
+      0 < i → (ps : List Pair) × (slice_get bs (i - 1) ≡ Some (p, ps)) × (0 < k) × (k ≤ length ps)

@@ -1,12 +1,12 @@
 //! Blocks of pairs, linked both ways.
-ghost use Rattle.std.specs.Prelude.{◌≡◌, ℕ, ◌+◌, ◌-◌, ◌^◌, ◌<◌, ◌≤◌, List, [], ◌∷◌, ◌++◌, length, remove, slice_get, Some, MatchOption};
+ghost use Rattle.std.specs.Prelude.{◌≡◌, ℕ, ◌+◌, ◌-◌, ◌^◌, ◌<◌, ◌≤◌, List, [], ◌∷◌, ◌++◌, length};
+ghost use Rattle.std.specs.Prelude.{remove, slice_get, Some, MatchOption};
 ghost use denote.RawPtr.{Ptr};
 ghost use Rattle.map_chain.specs.Edit.{edit};
 ghost use Rattle.map_chain.specs.Links.{with_next, with_previous};
 ghost use Rattle.map_chain.specs.Nodes.{IsAt};
 ghost use Rattle.map_chain.specs.Pairs.{Pair, AllBelow, IsRising};
-ghost use Rattle.map_chain.specs.Blocks.{Placed, pairs_of, room_in, AllFilled, IsSought};
-ghost use Rattle.map_chain.specs.Blocks.{HasRoomAt};
+ghost use Rattle.map_chain.specs.Blocks.{Placed, pairs_of, room_in, AllFilled, HasRoomAt, IsPairOf};
 
 use crate::block::{Block, ROOM};
 use crate::loose::Loose;
@@ -52,7 +52,8 @@ fn set_previous(nodes: &mut Nodes<Node, Global>, at: Place, i: usize, previous: 
     nodes.get_mut(at, i).previous = previous;
 }
 
-// Lets what leads on to the i-th node lead to `next`: the node before it, at `before`, or the first place, which comes back.
+// Lets what leads on to the i-th node lead to `next`: the node before it, at `before`, or the first
+// place, which comes back.
 fn lead_on(
     nodes: &mut Nodes<Node, Global>,
     first: Place,
@@ -72,8 +73,8 @@ fn lead_on(
     first
 }
 
-// Lets what leads back from the i-th node of `count` lead to `previous`: that node, at `at`, or the last place, which comes
-// back.
+// Lets what leads back from the i-th node of `count` lead to `previous`: that node, at `at`, or the
+// last place, which comes back.
 fn lead_back(
     nodes: &mut Nodes<Node, Global>,
     last: Place,
@@ -199,7 +200,7 @@ impl Blocks {
     /// Removes the k-th pair of the i-th block.
     pub(crate) fn remove_pair(&mut self, at: Place, i: usize, k: usize)
         requires place { IsAt self.old i at.ptr }
-        requires within { (ps : List Pair) → slice_get self.old i ≡ Some (at.ptr, ps) → k < length ps }
+        requires within { IsPairOf self.old i at.ptr k }
         ensures { self.new ≡ edit i (λ ps. remove ps k) self.old }
     {
         self.nodes.get_mut(at, i).block.remove(k);

@@ -1,6 +1,6 @@
 //! The chain.
-ghost use Rattle.std.specs.Prelude.{◌≡◌, ◌+◌, ◌^◌, ◌<◌, ◌≤◌, ◌↔◌, [], ◌∷◌, ◌++◌, length, max, reverse};
-ghost use Rattle.std.specs.Prelude.{vec_capacity, IsTrue, OnOk, OnErr};
+ghost use Rattle.std.specs.Prelude.{◌≡◌, ◌+◌, ◌^◌, ◌<◌, ◌≤◌, ◌↔◌, [], ◌∷◌, ◌++◌, length};
+ghost use Rattle.std.specs.Prelude.{max, reverse, vec_capacity, IsTrue, OnOk, OnErr};
 ghost use Rattle.map_chain.specs.Blocks.{AllFilled, HasMadeRoom, HasNoRoom, IsPairAt, HasLost};
 ghost use Rattle.map_chain.specs.Index.{IsIndexed};
 ghost use Rattle.map_chain.specs.Pairs.{Pair, AllBelow, IsRising, text_of, without, from_on, below};
@@ -17,8 +17,8 @@ use std::marker::Model;
 
 /// Pairs of a local number and a text, of rising locals, in a two-way chain of blocks of 64 pairs.
 ///
-/// `append` and `len` are constant. `get`, `remove`, `from` and `before` find their block by halving,
-/// over an index of the blocks' places, and the pair in it by halving too. A block that has become
+/// `append` and `len` are constant. `get`, `remove`, `from` and `before` find their block by
+/// halving an index of the blocks' places, and the pair in it by halving too. A block that has become
 /// thin is joined with a neighbour if both fit into one.
 pub struct Chain {
     used: Blocks,
@@ -29,16 +29,16 @@ pub struct Chain {
 }
 
 impl Model for Chain {
-    ghost use Rattle.map_chain.specs.Chain.{Listed, IsChain};
+    ghost use Rattle.map_chain.specs.Chain.{Listed};
     ghost use Rattle.std.specs.Prelude.{vec_capacity};
     ghost use Rattle.map_chain.specs.Blocks.{pairs_of, room_of};
-    ghost use Rattle.map_chain.specs.Index.{IsIndexed};
+    ghost use Rattle.map_chain.specs.Index.{IsKept};
 
     ghost Value = { Listed };
 
     ghost view = { λ c. record { pairs = pairs_of c.used; spare = room_of c.used c.spare } };
 
-    ghost invariant = { λ c. IsChain c.used c.spare c.len × IsIndexed c.index.items (vec_capacity c.index) c.used c.spare };
+    ghost invariant = { λ c. IsKept c.used c.spare c.len c.index.items (vec_capacity c.index) };
 }
 
 // Makes room in the last block for one more pair, by another block if there is none: a spare one if

@@ -1,7 +1,8 @@
 //! Blocks that leave the chain, and thin blocks that are joined.
-ghost use Rattle.std.specs.Prelude.{◌≡◌, ◌+◌, ◌^◌, ◌<◌, ◌≤◌, length, remove, slice_get, Some};
+ghost use Rattle.std.specs.Prelude.{◌≡◌, ◌+◌, ◌^◌, ◌<◌, ◌≤◌, ◌⊎◌, length, remove};
 ghost use Rattle.std.specs.Prelude.{IsTrue, vec_capacity};
-ghost use Rattle.map_chain.specs.Blocks.{AllFilled, FitTogether, HasKept, HasPutBy, IsBlockAt};
+ghost use Rattle.map_chain.specs.Blocks.{AllFilled, FitTogether, IsSettled, IsBlockAt};
+ghost use Rattle.map_chain.specs.Blocks.{HasKept, HasPutBy};
 ghost use Rattle.map_chain.specs.Index.{IsIndexOf, IsIndexed};
 
 use crate::block::ROOM;
@@ -56,6 +57,7 @@ pub(crate) fn join_thin(
     requires blocks { AllFilled used.old × (length used.old + length spare.old ≤ 2 ^ 60) }
     requires index { IsIndexed index.old.items (vec_capacity index.old) used.old spare.old }
     ensures kept { HasKept used.old spare.old used.new spare.new }
+    ensures joined { (length used.new < length used.old) ⊎ IsSettled used.old i }
     ensures index { IsIndexed index.new.items (vec_capacity index.new) used.new spare.new }
 {
     if used.block(index[i], i).len() > THIN {
@@ -63,16 +65,23 @@ pub(crate) fn join_thin(
     }
     if fit_together(used, index, i) {
         join(used, spare, index, i, alloc);
-    } else if i > 0 && fit_together(used, index, i - 1) {
-        join(used, spare, index, i - 1, alloc);
+        return;
     }
+    if i == 0 {
+        return;
+    }
+    if !fit_together(used, index, i - 1) {
+        return;
+    }
+    join(used, spare, index, i - 1, alloc);
 }
 
 // Whether the i-th block and the one after it fit into one.
 fn fit_together(used: &Blocks, index: &[Place], i: usize) -> bool
     requires within { i < length used.now }
     requires index { IsIndexOf index.now used.now }
-    ensures { IsTrue result → FitTogether used.now i }
+    ensures yes { IsTrue result → FitTogether used.now i }
+    ensures no { FitTogether used.now i → IsTrue result }
 {
     if i + 1 == index.len() {
         return false;
@@ -87,6 +96,7 @@ fn join(used: &mut Blocks, spare: &mut Blocks, index: &mut Vec<Place>, i: usize,
     requires together { FitTogether used.old i }
     requires blocks { AllFilled used.old × (length used.old + length spare.old ≤ 2 ^ 60) }
     requires index { IsIndexed index.old.items (vec_capacity index.old) used.old spare.old }
+    ensures fewer { length used.new < length used.old }
     ensures kept { HasKept used.old spare.old used.new spare.new }
     ensures index { IsIndexed index.new.items (vec_capacity index.new) used.new spare.new }
 {

@@ -89,7 +89,8 @@ fn a_refused_append_changes_nothing(rt: HostRuntime) -> Result<(), Fail> {
     Ok(())
 }
 
-// Each row appends some pairs, and then removes all those of some locals whose number has none of the row's bits.
+// Each row appends some pairs, and then removes all those of some locals whose number has none of
+// the row's bits.
 #[test]
 fn it_is_a_list_of_pairs(rt: HostRuntime) -> Result<(), Fail> {
     let mut chain = Chain::new(rt.alloc());

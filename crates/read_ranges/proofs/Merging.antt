@@ -1,7 +1,7 @@
 -- One step of making those ranges one that touch, where their list stands.
-use Rattle.std.proofs.Common.{◌≡◌, ◌≢◌, ℕ, ◌+◌, ◌<◌, ◌≤◌, List, [], ◌∷◌, ◌++◌, length, get_or, take, drop, set}
+use Rattle.std.proofs.Common.{◌≡◌, ◌≢◌, ℕ, ◌+◌, ◌<◌, ◌≤◌, List, [], ◌∷◌, ◌++◌, length, take, drop, set}
 use Rattle.std.proofs.Common.{sym, ap, ◌∙◌, subst, append_assoc, arith}
-use Rattle.std.proofs.lemmas.List.{drop_more, drop-set-lt, take_more_set, get_or-drop}
+use Rattle.std.proofs.lemmas.List.{drop_more, drop-set-lt, take_more_set}
 use Rattle.read_ranges.specs.declared.Range.{Range}
 use Rattle.read_ranges.specs.Numbers.{range, greatest}
 use Rattle.read_ranges.specs.Merged.{merged}

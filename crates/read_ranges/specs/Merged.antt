@@ -1,5 +1,5 @@
 -- A list of ranges with those that touch made one.
-use Rattle.std.specs.Prelude.{ℕ, ◌+◌, ◌==◌, if◌then◌else◌, List, [], ◌∷◌}
+use Rattle.std.specs.Prelude.{◌+◌, ◌==◌, if◌then◌else◌, List, [], ◌∷◌}
 use Rattle.read_ranges.specs.declared.Range.{Range}
 use Rattle.read_ranges.specs.Numbers.{range}
 

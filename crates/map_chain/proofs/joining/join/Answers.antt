@@ -7,7 +7,7 @@ use Rattle.map_chain.specs.Pairs.{Pair}
 use Rattle.map_chain.specs.Nodes.{places}
 use Rattle.map_chain.specs.Blocks.{Placed, FitTogether, IsBlockAt}
 use Rattle.map_chain.specs.declared.node.Node.{Node}
-use Rattle.map_chain.proofs.Linking.{one_block, get-within, places-edit}
+use Rattle.map_chain.proofs.Linking.{one_block, get-within, places-edit, length-edit, length-remove_at}
 use Rattle.map_chain.proofs.Indexing.{index_length}
 use Rattle.map_chain.proofs.Thin.{get-remove_before, kept_join}
 use Rattle.map_chain.proofs.joining.join.Goals as goal
@@ -57,3 +57,10 @@ returns-clause-index c =
       places = c.take_block-node.ensures.index ∙ sym (ap places c.add_pairs.ensures ∙ places-edit c.take_block-node.new.used c.args.i (λ (l : List Pair). l ++ c.deref.result.now.block));
       room = omega arith;
     }
+
+pub returns-clause-fewer : goal.returns-clause-fewer
+returns-clause-fewer c =
+    let t = c.requires.together in let taken = c.take_block-node.new.used in let qs : List Pair = c.deref.result.now.block in
+    let within = get-within c.args.used.now (suc c.args.i) (t.next, t.more) t.second in
+    let less = ap (λ (bs : Placed). length bs) c.take_block-node.ensures.others in let gone = length-remove_at c.args.used.now (c.args.i + 1) (omega arith) in
+    let same = ap (λ (bs : Placed). length bs) c.add_pairs.ensures ∙ length-edit taken c.args.i (λ (l : List Pair). l ++ qs) in omega arith

@@ -1,8 +1,3 @@
-use Rattle.std.proofs.Common.{subst, sym, List, ◌≡◌}
-use Rattle.std.specs.List.{remove}
-use Rattle.map_chain.specs.Blocks.{Placed}
-use Rattle.map_chain.specs.Index.{IsIndexOf}
-use Rattle.map_chain.specs.declared.nodes.Place.{Place}
 use Rattle.map_chain.proofs.Indexing.{index-remove}
 use Rattle.map_chain.proofs.joining.take_block.Goals as goal
 

@@ -1,4 +1,4 @@
-use Rattle.std.proofs.Common.{◌≡◌, ℕ, suc, ◌+◌, ◌-◌, ◌/◌, length, take, subst, arith}
+use Rattle.std.proofs.Common.{◌≡◌, ℕ, suc, ◌+◌, ◌-◌, ◌/◌, take, subst, arith}
 use Rattle.std.proofs.lemmas.List.{take_all}
 use denote.RawPtr.{null_ptr}
 use Rattle.map_chain.specs.Pairs.{AllBelow}
