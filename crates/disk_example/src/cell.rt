@@ -1,6 +1,7 @@
 // A byte that names one of two slots, and the slots. A new content is written into the slot that is
 // not named, and is stable before the byte names it.
 ghost use Rattle.std.specs.Prelude.{◌≡◌, ◌≤◌, IsTrue, OnOk, IfOk, if◌then◌else◌};
+ghost use Rattle.kom_disk.specs.Faults.{CountsFault};
 ghost use Rattle.kom_disk.specs.Moments.{LeavesOnly};
 ghost use Rattle.disk_example.specs.Cell.{content_of, other_of, IsSettled, Stays, IsEither, Changes};
 
@@ -67,6 +68,7 @@ impl<D: Disk> Cell<D> {
         ensures same { IsTrue D.tells → D.bytes self.new.disk ≡ D.bytes self.old.disk }
         ensures settled { IsTrue D.tells
             → IsSettled self.new.is_second (D.bytes self.new.disk) (D.images self.new.disk) }
+        ensures faults { CountsFault (D.faults self.old.disk) (D.faults self.new.disk) result }
     {
         let mut content = [0; 8];
         self.disk.read(other_slot(!self.is_second), &mut content)?;
@@ -88,6 +90,7 @@ impl<D: Disk> Cell<D> {
         ensures changed { IsTrue D.tells
             → OnOk result (LeavesOnly D.moment D.images_at self.old.disk self.new.disk
             (Changes (D.moment self.new.disk) (content_of (D.bytes self.old.disk)) content.now)) }
+        ensures faults { CountsFault (D.faults self.old.disk) (D.faults self.new.disk) result }
     {
         self.write_other(content)?;
         self.name_other()
@@ -105,6 +108,7 @@ impl<D: Disk> Cell<D> {
         ensures any_moment { IsTrue D.tells
             → LeavesOnly D.moment D.images_at self.old.disk self.new.disk
             (Stays (content_of (D.bytes self.old.disk))) }
+        ensures faults { CountsFault (D.faults self.old.disk) (D.faults self.new.disk) result }
     {
         whole_calls();
         calls_in_turn::<D, D, Brand>(&self.disk);
@@ -127,6 +131,7 @@ impl<D: Disk> Cell<D> {
             → OnOk result (LeavesOnly D.moment D.images_at self.old.disk self.new.disk
             (Changes (D.moment self.new.disk) (content_of (D.bytes self.old.disk))
             (other_of (D.bytes self.old.disk)))) }
+        ensures faults { CountsFault (D.faults self.old.disk) (D.faults self.new.disk) result }
     {
         calls_in_turn::<D, D, Brand>(&self.disk);
         self.disk.write_at(0, &[u8::from(!self.is_second)])?;
