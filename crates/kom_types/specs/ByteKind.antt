@@ -12,4 +12,12 @@ is_digit byte = nat_le 48 byte && nat_le byte 57
 
 -- what a byte may be in a line, outside a string's bytes
 abbrev pub kind_of : ℕ → ByteKind
-kind_of byte = if is_blank byte then Blank else if byte == 10 then LineFeed else if is_digit byte then Digit else if byte == 72 then Hollerith else if byte == 123 then Open else if byte == 125 then Close else if byte == 42 then Star else Other
+kind_of byte =
+    if is_blank byte then Blank
+    else if byte == 10 then LineFeed
+    else if is_digit byte then Digit
+    else if byte == 72 then Hollerith
+    else if byte == 123 then Open
+    else if byte == 125 then Close
+    else if byte == 42 then Star
+    else Other

@@ -3,37 +3,38 @@ use Rattle.kom_types.specs.declared.byte_kind.ByteKind.TheVariants as kind
 use Rattle.kom_types.specs.ByteKind.{is_blank, is_digit, kind_of}
 use Rattle.kom_types.specs.Token.{Token, Digits, Text, Open, Close, Star, number_of, is_integer}
 
--- What some bytes are to a rule that reads them from the left: at fault nowhere yet, and more is wanted; exactly
--- the whole of what it asks; or at fault.
+-- What some bytes are to a rule that reads them from the left: at fault nowhere yet, and more is
+-- wanted; exactly the whole of what it asks; or at fault.
 pub data Form (X : Type 0) : Type 0 where
-  Front : Form X
+  Prefix : Form X
   Whole : X → Form X
   Unfit : Form X
 
--- what is left behind the bytes at the front that pass the test
+-- what is left after the bytes at the prefix that pass the test
 abbrev pub drop_while : (ℕ → Bool) → List ℕ → List ℕ
 drop_while test [] = []
-drop_while test (byte ∷ bytes) = elim (test byte) [ true ↦ drop_while test bytes | false ↦ byte ∷ bytes ]
+drop_while test (byte ∷ bytes) =
+    elim (test byte) [ true ↦ drop_while test bytes | false ↦ byte ∷ bytes ]
 
--- a token, and the bytes behind it
+-- a token, and the bytes after it
 pub record Cut : Type 0 where
   pub token : Token
-  pub behind : List ℕ
+  pub tail : List ℕ
 
 -- a Hollerith string of that many bytes
 abbrev pub string_at : ℕ → List ℕ → Form Cut
 string_at count bytes = elim (nat_le count (length bytes)) [
-  | true ↦ Whole (record { token = Text (take count bytes); behind = drop count bytes })
-  | false ↦ Front
+  | true ↦ Whole (record { token = Text (take count bytes); tail = drop count bytes })
+  | false ↦ Prefix
 ]
 
--- a run of 1 to 16 digits with what is behind it: an `H` makes it the length of a string
+-- a run of 1 to 16 digits with what is after it: an `H` makes it the length of a string
 abbrev pub run_at : List ℕ → List ℕ → Form Cut
-run_at digits [] = elim (nat_le (length digits) 16) [ true ↦ Front | false ↦ Unfit ]
-run_at digits (byte ∷ behind) = elim (byte == 72) [
-  | true ↦ elim (is_integer digits) [ true ↦ string_at (number_of digits) behind | false ↦ Unfit ]
+run_at digits [] = elim (nat_le (length digits) 16) [ true ↦ Prefix | false ↦ Unfit ]
+run_at digits (byte ∷ tail) = elim (byte == 72) [
+  | true ↦ elim (is_integer digits) [ true ↦ string_at (number_of digits) tail | false ↦ Unfit ]
   | false ↦ elim (nat_le (length digits) 16) [
-    | true ↦ Whole (record { token = Digits digits; behind = byte ∷ behind })
+    | true ↦ Whole (record { token = Digits digits; tail = byte ∷ tail })
     | false ↦ Unfit
   ]
 ]
@@ -42,9 +43,9 @@ run_at digits (byte ∷ behind) = elim (byte == 72) [
 abbrev pub token_at : ℕ → List ℕ → Form Cut
 token_at byte bytes = elim (kind_of byte) [
   | kind.Digit ↦ run_at (byte ∷ take_while is_digit bytes) (drop_while is_digit bytes)
-  | kind.Open ↦ Whole (record { token = Open; behind = bytes })
-  | kind.Close ↦ Whole (record { token = Close; behind = bytes })
-  | kind.Star ↦ Whole (record { token = Star; behind = bytes })
+  | kind.Open ↦ Whole (record { token = Open; tail = bytes })
+  | kind.Close ↦ Whole (record { token = Close; tail = bytes })
+  | kind.Star ↦ Whole (record { token = Star; tail = bytes })
   | kind.Blank ↦ Unfit
   | kind.LineFeed ↦ Unfit
   | kind.Hollerith ↦ Unfit
@@ -63,7 +64,7 @@ ended (byte ∷ bytes) = Unfit
 
 -- the tokens are these, and then those
 abbrev pub with_token : Token → Form (List Token) → Form (List Token)
-with_token token Front = Front
+with_token token Prefix = Prefix
 with_token token (Whole tokens) = Whole (token ∷ tokens)
 with_token token Unfit = Unfit
 
@@ -71,46 +72,53 @@ with_token token Unfit = Unfit
 abbrev pub tokens_at : ℕ → List ℕ → Form (List Token)
 tokens_at zero bytes = Unfit
 tokens_at (suc most) bytes = elim (drop_while is_blank bytes) [
-  | [] ↦ Front
-  | byte ∷ behind ↦ elim (byte == 10) [
-    | true ↦ ended behind
-    | false ↦ elim (token_at byte behind) [
-      | Front ↦ Front
-      | Whole cut ↦ elim (may_follow cut.behind) [ true ↦ with_token cut.token (tokens_at most cut.behind) | false ↦ Unfit ]
+  | [] ↦ Prefix
+  | byte ∷ tail ↦ elim (byte == 10) [
+    | true ↦ ended tail
+    | false ↦ elim (token_at byte tail) [
+      | Prefix ↦ Prefix
+      | Whole cut ↦ elim (may_follow cut.tail) [
+        | true ↦ with_token cut.token (tokens_at most cut.tail)
+        | false ↦ Unfit
+      ]
       | Unfit ↦ Unfit
     ]
   ]
 ]
 
--- A line: blanks, tokens with at least one blank between two, blanks, and a line feed that is not inside a
--- string. (Protocol A, "Client-Server Protocol".)
+-- A line: blanks, tokens with at least one blank between two, blanks, and a line feed that is not
+-- inside a string. (Protocol A, "Client-Server Protocol".)
 abbrev pub line_form : List ℕ → Form (List Token)
 line_form bytes = tokens_at (length bytes + 1) bytes
 
 -- exactly so many bytes
 abbrev pub exactly : ℕ → List ℕ → Form (List ℕ)
 exactly count bytes = elim (nat_lt (length bytes) count) [
-  | true ↦ Front
+  | true ↦ Prefix
   | false ↦ elim (length bytes == count) [ true ↦ Whole bytes | false ↦ Unfit ]
 ]
 
 -- the length of a user name is a run of 1 to 4 digits that spells at most 1,024
 abbrev pub is_name_length : List ℕ → Bool
-is_name_length digits = nat_le 1 (length digits) && nat_le (length digits) 4 && nat_le (number_of digits) 1024
+is_name_length digits =
+    nat_le 1 (length digits) && nat_le (length digits) 4 && nat_le (number_of digits) 1024
 
--- the user name, whose length is this run of digits with what is behind it
+-- the user name, whose length is this run of digits with what is after it
 abbrev pub name_at : List ℕ → List ℕ → Form (List ℕ)
-name_at digits [] = elim (nat_le (length digits) 4) [ true ↦ Front | false ↦ Unfit ]
-name_at digits (byte ∷ behind) = elim (byte == 72 && is_name_length digits) [
-  | true ↦ exactly (number_of digits) behind
+name_at digits [] = elim (nat_le (length digits) 4) [ true ↦ Prefix | false ↦ Unfit ]
+name_at digits (byte ∷ tail) = elim (byte == 72 && is_name_length digits) [
+  | true ↦ exactly (number_of digits) tail
   | false ↦ Unfit
 ]
 
--- The greeting: the letter `A`, blanks, and the user name as a Hollerith string. The blanks are this
--- server's choice: a client in wide use sends one. (Protocol A, "Connecting to the LysKOM server".)
+-- The greeting: the letter `A`, blanks, and the user name as a Hollerith string. The blanks are
+-- this server's choice: a client in wide use sends one. (Protocol A, "Connecting to the LysKOM
+-- server".)
 abbrev pub greeting_form : List ℕ → Form (List ℕ)
-greeting_form [] = Front
+greeting_form [] = Prefix
 greeting_form (letter ∷ bytes) = elim (letter == 65) [
-  | true ↦ let name = drop_while is_blank bytes in name_at (take_while is_digit name) (drop_while is_digit name)
+  | true ↦
+      let name = drop_while is_blank bytes in
+      name_at (take_while is_digit name) (drop_while is_digit name)
   | false ↦ Unfit
 ]

@@ -4,4 +4,6 @@ pub mod Grammar
 pub mod Stream
 pub mod Reading
 pub mod Printing
+pub mod Sessions
+pub mod calls
 pub mod Rows

@@ -1,6 +1,6 @@
 use Rattle.std.specs.Prelude.{ℕ, ◌+◌, ◌^◌, Bool, true, false, nat_lt, List, [], ◌∷◌, ◌++◌, length, Option, Some, None}
 use Rattle.kom_types.specs.Token.{Token}
-use Rattle.kom_types.specs.Grammar.{Form, Front, Whole, Unfit, line_form, greeting_form}
+use Rattle.kom_types.specs.Grammar.{Form, Prefix, Whole, Unfit, line_form, greeting_form}
 
 -- a line's tokens, of which there is at least one, and the place of its line feed in the stream
 pub record Line : Type 0 where
@@ -12,8 +12,8 @@ pub data Fault : Type 0 where
   Malformed : ℕ → Fault
   LineTooLong : ℕ → Fault
 
--- What a stream is: its greeting if it is complete, its lines that are not blank, the bytes of the unit that
--- has begun, and the first fault.
+-- What a stream is: its greeting if it is complete, its lines that are not blank, the bytes of the
+-- unit that has begun, and the first fault.
 pub record Split : Type 0 where
   pub greeting : Option (List ℕ)
   pub lines : List Line
@@ -28,16 +28,17 @@ longest_line = 2097152
 abbrev pub longest_stream : ℕ
 longest_stream = 2 ^ 62
 
--- what the last byte of a front makes of the unit that it belongs to
+-- what the last byte of a prefix makes of the unit that it belongs to
 pub data Verdict (X : Type 0) : Type 0 where
   GoesOn : Verdict X
   Ends : X → Verdict X
   Fails : Fault → Verdict X
 
--- The byte at this place is the last of a front of this form. A byte that fits nowhere goes before one too many.
+-- The byte at this place is the last of a prefix of this form. A byte that fits nowhere goes before
+-- one too many.
 abbrev pub verdict : {X : Type 0} → ℕ → Bool → Form X → Verdict X
 verdict place too_long Unfit = Fails (Malformed place)
-verdict place too_long Front = elim (nat_lt place longest_stream) [
+verdict place too_long Prefix = elim (nat_lt place longest_stream) [
   | true ↦ elim too_long [ true ↦ Fails (LineTooLong place) | false ↦ GoesOn ]
   | false ↦ Fails (Malformed place)
 ]
@@ -47,22 +48,24 @@ verdict place too_long (Whole unit) = elim (nat_lt place longest_stream) [
 ]
 
 abbrev pub line_verdict : ℕ → List ℕ → Verdict (List Token)
-line_verdict place front = verdict place (nat_lt longest_line (length front)) (line_form front)
+line_verdict place prefix = verdict place (nat_lt longest_line (length prefix)) (line_form prefix)
 
 abbrev pub greeting_verdict : ℕ → List ℕ → Verdict (List ℕ)
-greeting_verdict place front = verdict place false (greeting_form front)
+greeting_verdict place prefix = verdict place false (greeting_form prefix)
 
 -- a line before the others; a blank one is skipped
 abbrev pub with_line : List Token → ℕ → Split → Split
 with_line [] end split = split
-with_line (token ∷ tokens) end split = record split { lines = record { tokens = token ∷ tokens; end = end } ∷ split.lines }
+with_line (token ∷ tokens) end split =
+    record split { lines = record { tokens = token ∷ tokens; end = end } ∷ split.lines }
 
 -- a stream that has come to its end, or to its first fault, within this unit
 abbrev pub stopped_in : List ℕ → Option Fault → Split
 stopped_in text fault = record { greeting = None; lines = []; rest = text; fault = fault }
 
--- The lines of a stream, from the byte at `place` on: each is the shortest front of what is left that is whole.
--- `text` is the front that has been looked at. The first byte that makes a front unfit or too long is the fault.
+-- The lines of a stream, from the byte at `place` on: each is the shortest prefix of what is left
+-- that is whole. `text` is the prefix that has been looked at. The first byte that makes a prefix
+-- unfit or too long is the fault.
 abbrev pub lines_from : ℕ → List ℕ → List ℕ → Split
 lines_from place text [] = stopped_in text None
 lines_from place text (byte ∷ bytes) = elim (line_verdict place (text ++ byte ∷ [])) [
@@ -71,7 +74,8 @@ lines_from place text (byte ∷ bytes) = elim (line_verdict place (text ++ byte 
   | Fails fault ↦ stopped_in text (Some fault)
 ]
 
--- the same of the greeting, which is the shortest front of the stream that is whole, and of the lines behind it
+-- the same of the greeting, which is the shortest prefix of the stream that is whole, and of the
+-- lines after it
 abbrev pub greeting_from : ℕ → List ℕ → List ℕ → Split
 greeting_from place text [] = stopped_in text None
 greeting_from place text (byte ∷ bytes) = elim (greeting_verdict place (text ++ byte ∷ [])) [

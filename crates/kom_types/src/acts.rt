@@ -3,7 +3,7 @@ use crate::lists::Bytes;
 use crate::times::Moment;
 
 /// What happens to the server: one atomic step.
-#[derive(Debug, Drop)]
+#[derive(Drop)]
 pub enum Act {
     /// A greeting was read: a session begins for this user at this host.
     Connect {
@@ -33,7 +33,7 @@ pub enum Act {
 }
 
 /// One act, with the number of the pass that made it and the moment that the pass's clock gave.
-#[derive(Debug, Drop)]
+#[derive(Drop)]
 pub struct Entry {
     pub pass: u32,
     pub moment: Moment,
@@ -41,11 +41,12 @@ pub struct Entry {
 }
 
 /// An entry that was made, as the history keeps it.
-#[derive(Debug, Drop)]
+#[derive(Drop)]
 pub struct Record {
     pub entry: Entry,
     /// The session of the act; the one that it makes at a Connect; 0 at a Flush.
     pub session: u32,
-    /// Whether the act was a call that was answered 39 for want of memory.
+    /// Whether the act was a call that was answered 39, out of memory, or a flush that the store
+    /// refused.
     pub short: bool,
 }

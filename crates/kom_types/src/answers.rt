@@ -14,6 +14,15 @@ pub enum Why {
     Absent,
 }
 
+/// Why an act is not made.
+#[derive(Clone, Copy, Debug, PartialEq, Eq)]
+pub enum Refusal {
+    /// Its session is served no longer, or the server is not.
+    Gone(Why),
+    /// This many were made already.
+    Full(u64),
+}
+
 /// What an act is answered.
 #[derive(Debug, Drop)]
 pub enum Answer {

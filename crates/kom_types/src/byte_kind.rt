@@ -10,11 +10,11 @@ pub enum ByteKind {
     LineFeed,
     /// A decimal digit.
     Digit,
-    /// The letter `H` behind the length of a string.
+    /// The letter `H` after the length of a string.
     Hollerith,
     /// The brace before the elements of an array.
     Open,
-    /// The brace behind the elements of an array.
+    /// The brace after the elements of an array.
     Close,
     /// The contents of an array that are not there.
     Star,

@@ -1,5 +1,5 @@
 /// What a client asks, with its arguments in the order of the protocol.
-#[derive(Clone, Copy, Debug, PartialEq, Eq)]
+#[derive(Drop)]
 pub enum Call {
     /// Call 56: the number of the caller's session.
     WhoAmI,
@@ -7,8 +7,8 @@ pub enum Call {
     Refused(u32, u32),
 }
 
-/// What a call is answered.
-#[derive(Clone, Copy, Debug, PartialEq, Eq)]
+/// What a call is answered. A result that is longer than two numbers stands in a box.
+#[derive(Debug, PartialEq, Eq, Drop)]
 pub enum Reply {
     /// A good reply whose result is one number.
     Number(u32),

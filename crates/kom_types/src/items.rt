@@ -1,7 +1,7 @@
 use crate::calls::Reply;
 
 /// What a session is sent.
-#[derive(Clone, Copy, Debug, Default, PartialEq, Eq)]
+#[derive(Debug, Default, PartialEq, Eq, Drop)]
 pub enum Item {
     /// The greeting's answer.
     #[default]

@@ -1,6 +1,6 @@
 ghost use Rattle.std.specs.Prelude.{◌≡◌, ◌<◌, ◌↔◌, ℕ, List, [], ◌∷◌, ◌++◌, length, IsTrue, IfOk, OnOk, OnErr, slice_get};
 
-use crate::refusal::Memory;
+use crate::shortage::Memory;
 use std::alloc::Global;
 use std::marker::Model;
 

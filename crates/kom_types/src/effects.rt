@@ -1,0 +1,3 @@
+/// One change of the stored rows. No call that is built changes them yet.
+#[derive(Drop)]
+pub enum Effect {}
