@@ -3,7 +3,7 @@ use Rattle.std.proofs.Common.{◌≡◌, ℕ, ◌+◌, ◌-◌, ◌≤◌, List,
 use Rattle.std.specs.Prelude.{option_to_list, option_map}
 use Rattle.std.proofs.lemmas.List.{append-nil, length-append, length-drop, map-append}
 use Rattle.kom_types.specs.Token.{Token}
-use Rattle.kom_types.specs.Grammar.{Form, Front, Whole, Unfit, greeting_form}
+use Rattle.kom_types.specs.Grammar.{Form, Prefix, Whole, Unfit, greeting_form}
 use Rattle.kom_types.specs.Stream.{Line, Fault, Split, Verdict, GoesOn, Ends, Fails, greeting_verdict, stopped_in, longest_stream, lines_from, greeting_from, stream_of}
 use Rattle.kom_framing.specs.declared.fault.Fault.{Fault as CodeFault}
 use Rattle.kom_framing.specs.declared.greeting.Greeting.{Greeting as CodeGreeting}
@@ -21,8 +21,8 @@ use Rattle.kom_framing.specs.BegunGreetings.{greeting_kept, IsBegunGreeting, Gre
 use Rattle.kom_framing.specs.WholeLines.{AreLines}
 use Rattle.kom_framing.specs.Advancing as advancing
 use Rattle.kom_framing.proofs.HearingLaws.{heard-told, told}
-use Rattle.kom_framing.proofs.StreamLaws.{greeted, greeting-append, leaves_front, after_letter}
-use Rattle.kom_framing.proofs.GreetingLaws.{kept_front}
+use Rattle.kom_framing.proofs.StreamLaws.{greeted, greeting-append, leaves_prefix, after_letter}
+use Rattle.kom_framing.proofs.GreetingLaws.{kept_prefix}
 use Rattle.kom_framing.proofs.WholeLinesLaws.{with_line-units, with_line-rest, with_line-fault}
 
 -- ---- the unit that has begun
@@ -35,7 +35,7 @@ in_greeting_by : (greeting : Option (List ℕ)) (rest : List ℕ) (opening : Ope
 in_greeting_by None rest opening e = (refl, cc)
 in_greeting_by (Some name) rest opening e = absurd cc
 
--- a stream, and what came behind it
+-- a stream, and what came after it
 abbrev with_more : Split → Split → Split
 with_more split more = record { greeting = split.greeting; lines = split.lines ++ more.lines; rest = more.rest; fault = more.fault }
 
@@ -63,7 +63,7 @@ units_with_more split more =
 begun_with_name : (split : Split) (name : List ℕ) → split.greeting ≡ Some name → begun_of split ≡ InLine split.rest
 begun_with_name split name has = ap (λ (g : Option (List ℕ)). begun_by g split.rest) has
 
--- ---- behind a line that has begun
+-- ---- after a line that has begun
 
 record FedLine (units : List StreamUnit) (more split : Split) (taken : List StreamUnit) : Type 0 where
   all : units_of split ≡ taken ++ (units ++ map unit.Line more.lines)
@@ -109,7 +109,7 @@ line_goes_wrong units place old new piece found fails = record {
       };
 }
 
--- what is owed behind the end of a unit, by whether there is a fault
+-- what is owed after the end of a unit, by whether there is a fault
 ends_by : (found : Option CodeFault) (units : List StreamUnit) (begun : Begun) (place : ℕ) (fed : List ℕ) (taken : List StreamUnit) → units_of (stream_of fed) ≡ taken ++ units → (stream_of fed).fault ≡ option_map fault_seen found → (found ≡ None → begun ≡ begun_of (stream_of fed)) → place ≡ length fed → advancing.Ends found units begun place fed taken
 ends_by None units begun place fed taken all fault unit count = record { all = all; sound = fault; unit = unit refl; count = count }
 ends_by (Some found) units begun place fed taken all fault unit count = record { all = all; fault = fault }
@@ -121,27 +121,27 @@ lines_early : (place count : ℕ) (piece : List ℕ) → count ≤ length piece 
 lines_early place count piece within early = omega (arith, early, length-drop count piece)
 
 pub line_goes_past : (units : List StreamUnit) (place count : ℕ) (old new : BegunLine) (piece : List ℕ) (lines : Lines) → ScansTo count place old piece new → AreLines lines (place + count) (drop count piece) → advancing.GoesPast units (begun_unit.Line old) (begun_unit.Line new) place piece count lines
-line_goes_past units place count old new piece lines scanned behind =
+line_goes_past units place count old new piece lines scanned tail =
     let tokens : List Token = tokens_of new.text.items new.spans.items in
     let rest : Split = lines_from (place + count) [] (drop count piece) in
     record {
       can_end = scanned.spans_within;
-      line = behind.line;
+      line = tail.line;
       some = scanned.some;
       within = scanned.early;
-      early = λ sound. lines_early place count piece scanned.within (behind.early sound);
+      early = λ sound. lines_early place count piece scanned.within (tail.early sound);
       ends = λ fed taken stands.
           let fed_so = fed_line units old.text.items place piece fed taken stands in
           let added : map unit.Line (lines_from place old.text.items piece).lines ≡ units_at tokens (place + count - 1) ++ lines.whole.items =
-          ap (λ (s : Split). map unit.Line s.lines) scanned.split ∙ with_line-units tokens (place + count - 1) rest ∙ ap (λ (us : List StreamUnit). units_at tokens (place + count - 1) ++ us) (sym behind.whole) in
+          ap (λ (s : Split). map unit.Line s.lines) scanned.split ∙ with_line-units tokens (place + count - 1) rest ∙ ap (λ (us : List StreamUnit). units_at tokens (place + count - 1) ++ us) (sym tail.whole) in
           ends_by lines.fault (units ++ units_at tokens (place + count - 1) ++ lines.whole.items) (InLine lines.begun.text.items) (place + length piece) (fed ++ piece) taken
           (fed_so.all ∙ ap (λ (us : List StreamUnit). taken ++ (units ++ us)) added ∙ regroup taken units (units_at tokens (place + count - 1)) lines.whole.items)
-          (fed_so.fault ∙ ap (λ (s : Split). s.fault) scanned.split ∙ with_line-fault tokens (place + count - 1) rest ∙ sym behind.fault)
-          (λ sound. ap InLine (behind.rest sound) ∙ sym (ap InLine (ap (λ (s : Split). s.rest) scanned.split ∙ with_line-rest tokens (place + count - 1) rest)) ∙ sym fed_so.begun)
+          (fed_so.fault ∙ ap (λ (s : Split). s.fault) scanned.split ∙ with_line-fault tokens (place + count - 1) rest ∙ sym tail.fault)
+          (λ sound. ap InLine (tail.rest sound) ∙ sym (ap InLine (ap (λ (s : Split). s.rest) scanned.split ∙ with_line-rest tokens (place + count - 1) rest)) ∙ sym fed_so.begun)
           (omega (arith, stands.count, length-append fed piece));
     }
 
--- ---- behind a greeting that has begun
+-- ---- after a greeting that has begun
 
 nameless_at : (place : ℕ) (text : List ℕ) (byte : ℕ) (bytes : List ℕ) (judged : Verdict (List ℕ)) → ((greeting_from (place + 1) (text ++ byte ∷ []) bytes).greeting ≡ None → (greeting_from (place + 1) (text ++ byte ∷ []) bytes).lines ≡ []) → (after_letter place text byte bytes judged).greeting ≡ None → (after_letter place text byte bytes judged).lines ≡ []
 nameless_at place text byte bytes GoesOn later none = later none
@@ -169,13 +169,13 @@ fed_greeting units opening place piece fed taken stands =
     let nothing = in_greeting_by split.greeting split.rest opening stands.unit in
     let none : [] ≡ taken ++ units = sym (nameless_units split nothing.0 (nameless 0 [] fed nothing.0)) ∙ stands.all in
     record {
-      heard_is = kept_front split.rest (leaves_front 0 [] fed refl nothing.0 stands.sound) ∙ ap Going nothing.1;
+      heard_is = kept_prefix split.rest (leaves_prefix 0 [] fed refl nothing.0 stands.sound) ∙ ap Going nothing.1;
       split = stream-append fed piece place stands.count ∙ greeted_greeting split place piece stands.sound nothing.0;
       all = λ more. ap (λ (us : List StreamUnit). us ++ more) none ∙ append_assoc taken units more;
     }
 
 opening_is : (form : Form (List ℕ)) (opening kept : Opening) → told form opening ≡ Going kept → opening ≡ kept
-opening_is Front opening kept e = cc
+opening_is Prefix opening kept e = cc
 opening_is (Whole name) opening kept e = absurd cc
 opening_is Unfit opening kept e = absurd cc
 
@@ -210,22 +210,22 @@ greeting_goes_wrong units place old new piece found fails = record {
 }
 
 pub greeting_goes_past : (units : List StreamUnit) (place count : ℕ) (old new : CodeGreeting) (piece : List ℕ) (lines : Lines) → GreetsTo count place old piece new → AreLines lines (place + count) (drop count piece) → advancing.GoesPast units (begun_unit.Greeting old) (begun_unit.Greeting new) place piece count lines
-greeting_goes_past units place count old new piece lines greets behind =
+greeting_goes_past units place count old new piece lines greets tail =
     let more : Split = lines_from (place + count) [] (drop count piece) in
     record {
       can_end = tt;
-      line = behind.line;
+      line = tail.line;
       some = greets.some;
       within = greets.early;
-      early = λ sound. lines_early place count piece greets.within (behind.early sound);
+      early = λ sound. lines_early place count piece greets.within (tail.early sound);
       ends = λ fed taken stands.
           let fed_so = fed_greeting units (greeting_kept old) place piece fed taken stands in
           let split : stream_of (fed ++ piece) ≡ record more { greeting = Some new.name.items } = fed_so.split ∙ greets.split (stream_of fed).rest fed_so.heard_is in
           ends_by lines.fault (units ++ (unit.Hello new.name.items ∷ []) ++ lines.whole.items) (InLine lines.begun.text.items) (place + length piece) (fed ++ piece) taken
-          (ap units_of split ∙ ap (λ (us : List StreamUnit). unit.Hello new.name.items ∷ us) (sym behind.whole) ∙ fed_so.all (unit.Hello new.name.items ∷ lines.whole.items)
+          (ap units_of split ∙ ap (λ (us : List StreamUnit). unit.Hello new.name.items ∷ us) (sym tail.whole) ∙ fed_so.all (unit.Hello new.name.items ∷ lines.whole.items)
           ∙ regroup taken units (unit.Hello new.name.items ∷ []) lines.whole.items)
-          (ap (λ (s : Split). s.fault) split ∙ sym behind.fault)
-          (λ sound. ap InLine (behind.rest sound) ∙ sym (ap begun_of split))
+          (ap (λ (s : Split). s.fault) split ∙ sym tail.fault)
+          (λ sound. ap InLine (tail.rest sound) ∙ sym (ap begun_of split))
           (omega (arith, stands.count, length-append fed piece));
     }
 

@@ -6,7 +6,7 @@ use Rattle.std.proofs.lemmas.List.{append-nil, length-take, length-take-le, leng
 use Rattle.std.proofs.lemmas.List.Sums.{fold-append}
 use Rattle.kom_types.specs.declared.byte_kind.ByteKind.TheVariants as kind
 use Rattle.kom_types.specs.ByteKind.{kind_of}
-use Rattle.kom_types.specs.Grammar.{Form, Front, Whole, Unfit, greeting_form}
+use Rattle.kom_types.specs.Grammar.{Form, Prefix, Whole, Unfit, greeting_form}
 use Rattle.kom_types.specs.Stream.{Malformed, longest_stream, stopped_in, lines_from, greeting_from}
 use Rattle.kom_framing.specs.declared.fault.Fault.TheVariants as found
 use Rattle.kom_framing.specs.declared.greeting.Greeting.{Greeting}
@@ -16,7 +16,7 @@ use Rattle.kom_framing.specs.BegunGreetings.{IsLength, IsGreeting, Lengthens, Is
 use Rattle.kom_framing.proofs.StepLaws.{digit_bounds}
 use Rattle.kom_framing.proofs.HearingLaws.{heard-told, told, onward-stuck}
 use Rattle.kom_framing.proofs.StreamLaws.{greeting_goes_on, greeting_ends, greeting_unfit, greeting_late}
-use Rattle.kom_framing.proofs.LineLaws.{IsWindow, split_at, split_window, whole_window, window_front}
+use Rattle.kom_framing.proofs.LineLaws.{IsWindow, split_at, split_window, whole_window, window_prefix}
 
 -- ---- the length of the name
 
@@ -36,8 +36,8 @@ length_more digits number byte name e fewer kept =
 
 -- ---- the bytes of a greeting
 
-pub onward-append : (state : Greets) (front back : List ℕ) → onward state (front ++ back) ≡ onward (onward state front) back
-onward-append state front back = fold-append next state front back
+pub onward-append : (state : Greets) (prefix back : List ℕ) → onward state (prefix ++ back) ≡ onward (onward state prefix) back
+onward-append state prefix back = fold-append next state prefix back
 
 goes_on_before : (state : Greets) (bytes : List ℕ) → IsGoing (onward state bytes) → IsGoing state
 goes_on_before (Going opening) bytes going = tt
@@ -50,22 +50,22 @@ ends_from (Going opening) byte name e = tt
 ends_from (Ended other) byte name e = absurd cc
 ends_from Stuck byte name e = absurd cc
 
-form_goes : (form : Form (List ℕ)) (opening : Opening) → IsGoing (told form opening) → form ≡ Front
-form_goes Front opening going = refl
+form_goes : (form : Form (List ℕ)) (opening : Opening) → IsGoing (told form opening) → form ≡ Prefix
+form_goes Prefix opening going = refl
 form_goes (Whole name) opening going = absurd going
 form_goes Unfit opening going = absurd going
 
 form_ends : (form : Form (List ℕ)) (opening : Opening) (name : List ℕ) → told form opening ≡ Ended name → form ≡ Whole name
-form_ends Front opening name e = absurd cc
+form_ends Prefix opening name e = absurd cc
 form_ends (Whole other) opening name e = cc
 form_ends Unfit opening name e = absurd cc
 
 form_sticks : (form : Form (List ℕ)) (opening : Opening) → told form opening ≡ Stuck → form ≡ Unfit
-form_sticks Front opening e = absurd cc
+form_sticks Prefix opening e = absurd cc
 form_sticks (Whole name) opening e = absurd cc
 form_sticks Unfit opening e = refl
 
-pub greeting_goes : (bytes : List ℕ) → IsGoing (heard bytes) → greeting_form bytes ≡ Front
+pub greeting_goes : (bytes : List ℕ) → IsGoing (heard bytes) → greeting_form bytes ≡ Prefix
 greeting_goes bytes going = form_goes (greeting_form bytes) (opening_of bytes) (subst IsGoing (heard-told bytes) going)
 
 greeting_is : (bytes name : List ℕ) → heard bytes ≡ Ended name → greeting_form bytes ≡ Whole name
@@ -74,26 +74,26 @@ greeting_is bytes name e = form_ends (greeting_form bytes) (opening_of bytes) na
 greeting_sticks : (bytes : List ℕ) → heard bytes ≡ Stuck → greeting_form bytes ≡ Unfit
 greeting_sticks bytes e = form_sticks (greeting_form bytes) (opening_of bytes) (sym (heard-told bytes) ∙ e)
 
--- what is kept of a greeting's front is all that matters
-pub kept_front : (bytes : List ℕ) → greeting_form bytes ≡ Front → heard bytes ≡ Going (opening_of bytes)
-kept_front bytes e = heard-told bytes ∙ ap (λ (f : Form (List ℕ)). told f (opening_of bytes)) e
+-- what is kept of a greeting's prefix is all that matters
+pub kept_prefix : (bytes : List ℕ) → greeting_form bytes ≡ Prefix → heard bytes ≡ Going (opening_of bytes)
+kept_prefix bytes e = heard-told bytes ∙ ap (λ (f : Form (List ℕ)). told f (opening_of bytes)) e
 
 going_first : (text : List ℕ) (byte : ℕ) (bytes : List ℕ) → IsGoing (heard (text ++ byte ∷ bytes)) → IsGoing (heard (text ++ byte ∷ []))
 going_first text byte bytes going =
     let regrouped : text ++ byte ∷ bytes ≡ (text ++ byte ∷ []) ++ bytes = sym (append_assoc text (byte ∷ []) bytes) in
     goes_on_before (heard (text ++ byte ∷ [])) bytes (subst IsGoing (ap heard regrouped ∙ onward-append (Going Nothing) (text ++ byte ∷ []) bytes) going)
 
-pub greeting_goes_through : (place : ℕ) (text front bytes : List ℕ) → IsGoing (heard (text ++ front)) → place + length front ≤ longest_stream → greeting_from place text (front ++ bytes) ≡ greeting_from (place + length front) (text ++ front) bytes
+pub greeting_goes_through : (place : ℕ) (text prefix bytes : List ℕ) → IsGoing (heard (text ++ prefix)) → place + length prefix ≤ longest_stream → greeting_from place text (prefix ++ bytes) ≡ greeting_from (place + length prefix) (text ++ prefix) bytes
 greeting_goes_through place text [] bytes going early =
     let same : place ≡ place + 0 = omega arith in
     ap (λ (p : ℕ). greeting_from p text bytes) same ∙ ap (λ (t : List ℕ). greeting_from (place + 0) t bytes) (sym (append-nil text))
-greeting_goes_through place text (byte ∷ front) bytes going early =
-    let regrouped : text ++ byte ∷ front ≡ (text ++ byte ∷ []) ++ front = sym (append_assoc text (byte ∷ []) front) in
-    let further : place + 1 + length front ≡ place + length (byte ∷ front) = omega arith in
-    greeting_goes_on place text byte (front ++ bytes) (omega arith) (greeting_goes (text ++ byte ∷ []) (going_first text byte front going))
-    ∙ greeting_goes_through (place + 1) (text ++ byte ∷ []) front bytes (subst (λ (t : List ℕ). IsGoing (heard t)) regrouped going) (omega arith)
-    ∙ ap (λ (p : ℕ). greeting_from p ((text ++ byte ∷ []) ++ front) bytes) further
-    ∙ ap (λ (t : List ℕ). greeting_from (place + length (byte ∷ front)) t bytes) (sym regrouped)
+greeting_goes_through place text (byte ∷ prefix) bytes going early =
+    let regrouped : text ++ byte ∷ prefix ≡ (text ++ byte ∷ []) ++ prefix = sym (append_assoc text (byte ∷ []) prefix) in
+    let further : place + 1 + length prefix ≡ place + length (byte ∷ prefix) = omega arith in
+    greeting_goes_on place text byte (prefix ++ bytes) (omega arith) (greeting_goes (text ++ byte ∷ []) (going_first text byte prefix going))
+    ∙ greeting_goes_through (place + 1) (text ++ byte ∷ []) prefix bytes (subst (λ (t : List ℕ). IsGoing (heard t)) regrouped going) (omega arith)
+    ∙ ap (λ (p : ℕ). greeting_from p ((text ++ byte ∷ []) ++ prefix) bytes) further
+    ∙ ap (λ (t : List ℕ). greeting_from (place + length (byte ∷ prefix)) t bytes) (sym regrouped)
 
 heard_more : (text bytes : List ℕ) (before after : Greets) → heard text ≡ before → onward before bytes ≡ after → heard (text ++ bytes) ≡ after
 heard_more text bytes before after e goes = onward-append (Going Nothing) text bytes ∙ ap (λ (s : Greets). onward s bytes) e ∙ goes
@@ -105,34 +105,34 @@ greeting_to place count text bytes name before so_far hears early =
     let at : ℕ = count - 1 in
     let back : count ≡ at + 1 = omega arith in
     let inside : at < length bytes = omega arith in
-    let front : List ℕ = take at bytes in
+    let prefix : List ℕ = take at bytes in
     let byte : ℕ = get_or bytes at 0 in
-    let front_length : length front ≡ at = length-take-le at bytes (omega arith) in
-    let regrouped : text ++ take count bytes ≡ (text ++ front) ++ byte ∷ [] =
-    ap (λ (n : ℕ). text ++ take n bytes) back ∙ ap (λ (t : List ℕ). text ++ t) (take_more bytes at 0 inside) ∙ sym (append_assoc text front (byte ∷ [])) in
-    let last : heard ((text ++ front) ++ byte ∷ []) ≡ Ended name = sym (ap heard regrouped) ∙ heard_more text (take count bytes) before (Ended name) so_far hears.ended in
-    let going : IsGoing (heard (text ++ front)) = ends_from (heard (text ++ front)) byte name (sym (onward-append (Going Nothing) (text ++ front) (byte ∷ [])) ∙ last) in
+    let prefix_length : length prefix ≡ at = length-take-le at bytes (omega arith) in
+    let regrouped : text ++ take count bytes ≡ (text ++ prefix) ++ byte ∷ [] =
+    ap (λ (n : ℕ). text ++ take n bytes) back ∙ ap (λ (t : List ℕ). text ++ t) (take_more bytes at 0 inside) ∙ sym (append_assoc text prefix (byte ∷ [])) in
+    let last : heard ((text ++ prefix) ++ byte ∷ []) ≡ Ended name = sym (ap heard regrouped) ∙ heard_more text (take count bytes) before (Ended name) so_far hears.ended in
+    let going : IsGoing (heard (text ++ prefix)) = ends_from (heard (text ++ prefix)) byte name (sym (onward-append (Going Nothing) (text ++ prefix) (byte ∷ [])) ∙ last) in
     ap (greeting_from place text) (split_at bytes at inside)
-    ∙ greeting_goes_through place text front (byte ∷ drop (at + 1) bytes) going (omega arith)
-    ∙ greeting_ends (place + length front) (text ++ front) byte (drop (at + 1) bytes) name (omega arith) (greeting_is ((text ++ front) ++ byte ∷ []) name last)
+    ∙ greeting_goes_through place text prefix (byte ∷ drop (at + 1) bytes) going (omega arith)
+    ∙ greeting_ends (place + length prefix) (text ++ prefix) byte (drop (at + 1) bytes) name (omega arith) (greeting_is ((text ++ prefix) ++ byte ∷ []) name last)
     ∙ ap (λ (p : ℕ). record (lines_from p [] (drop (at + 1) bytes)) { greeting = Some name }) (omega arith)
     ∙ ap (λ (n : ℕ). record (lines_from (place + count) [] (drop n bytes)) { greeting = Some name }) (sym back)
 
 greeting_unheard : (place at : ℕ) (text bytes : List ℕ) (before : Greets) → heard text ≡ before → IsUnheardAt at before bytes → place + at ≤ longest_stream → (rest : List ℕ) × (greeting_from place text bytes ≡ stopped_in rest (Some (Malformed (place + at))))
 greeting_unheard place at text bytes before so_far unfit early =
     let inside = unfit.within in
-    let front : List ℕ = take at bytes in
+    let prefix : List ℕ = take at bytes in
     let byte : ℕ = get_or bytes at 0 in
-    let front_length : length front ≡ at = length-take-le at bytes (omega arith) in
-    let regrouped : text ++ take (at + 1) bytes ≡ (text ++ front) ++ byte ∷ [] =
-    ap (λ (t : List ℕ). text ++ t) (take_more bytes at 0 inside) ∙ sym (append_assoc text front (byte ∷ [])) in
-    let last : heard ((text ++ front) ++ byte ∷ []) ≡ Stuck = sym (ap heard regrouped) ∙ heard_more text (take (at + 1) bytes) before Stuck so_far unfit.stuck in
-    let going : IsGoing (heard (text ++ front)) = subst IsGoing (sym (heard_more text front before (onward before front) so_far refl)) unfit.going in (
-      text ++ front,
+    let prefix_length : length prefix ≡ at = length-take-le at bytes (omega arith) in
+    let regrouped : text ++ take (at + 1) bytes ≡ (text ++ prefix) ++ byte ∷ [] =
+    ap (λ (t : List ℕ). text ++ t) (take_more bytes at 0 inside) ∙ sym (append_assoc text prefix (byte ∷ [])) in
+    let last : heard ((text ++ prefix) ++ byte ∷ []) ≡ Stuck = sym (ap heard regrouped) ∙ heard_more text (take (at + 1) bytes) before Stuck so_far unfit.stuck in
+    let going : IsGoing (heard (text ++ prefix)) = subst IsGoing (sym (heard_more text prefix before (onward before prefix) so_far refl)) unfit.going in (
+      text ++ prefix,
       ap (greeting_from place text) (split_at bytes at inside)
-          ∙ greeting_goes_through place text front (byte ∷ drop (at + 1) bytes) going (omega arith)
-          ∙ greeting_unfit (place + length front) (text ++ front) byte (drop (at + 1) bytes) (greeting_sticks ((text ++ front) ++ byte ∷ []) last)
-          ∙ ap (λ (p : ℕ). stopped_in (text ++ front) (Some (Malformed p))) (omega arith),
+          ∙ greeting_goes_through place text prefix (byte ∷ drop (at + 1) bytes) going (omega arith)
+          ∙ greeting_unfit (place + length prefix) (text ++ prefix) byte (drop (at + 1) bytes) (greeting_sticks ((text ++ prefix) ++ byte ∷ []) last)
+          ∙ ap (λ (p : ℕ). stopped_in (text ++ prefix) (Some (Malformed p))) (omega arith),
     )
 
 -- ---- a window, byte by byte
@@ -181,7 +181,7 @@ greets_to count place old new window piece w early lengthens hears =
     let hears_piece : HearsTo count (Going (greeting_kept old)) piece new.name.items = record {
       some = hears.some;
       within = inside;
-      ended = ap (onward (Going (greeting_kept old))) (sym (window_front window piece count w within)) ∙ hears.ended;
+      ended = ap (onward (Going (greeting_kept old))) (sym (window_prefix window piece count w within)) ∙ hears.ended;
     } in
     record {
       some = hears.some;
@@ -196,7 +196,7 @@ greets_unfit at place old window piece w early unfit =
     let within = unfit.within in
     let unfit_piece : IsUnheardAt at (Going (greeting_kept old)) piece = record {
       within = omega (arith, w.within);
-      going = subst (λ (t : List ℕ). IsGoing (onward (Going (greeting_kept old)) t)) (window_front window piece at w (omega arith)) unfit.going;
-      stuck = ap (onward (Going (greeting_kept old))) (sym (window_front window piece (at + 1) w (omega arith))) ∙ unfit.stuck;
+      going = subst (λ (t : List ℕ). IsGoing (onward (Going (greeting_kept old)) t)) (window_prefix window piece at w (omega arith)) unfit.going;
+      stuck = ap (onward (Going (greeting_kept old))) (sym (window_prefix window piece (at + 1) w (omega arith))) ∙ unfit.stuck;
     } in
     record { split = λ bytes so_far. greeting_unheard place at bytes piece (Going (greeting_kept old)) so_far unfit_piece (omega arith) }

@@ -8,9 +8,9 @@ use Rattle.kom_types.specs.declared.byte_kind.ByteKind.{ByteKind}
 use Rattle.kom_types.specs.declared.byte_kind.ByteKind.TheVariants as kind
 use Rattle.kom_types.specs.ByteKind.{is_blank, is_digit, kind_of}
 use Rattle.kom_types.specs.Token.{number_of}
-use Rattle.kom_types.specs.Grammar.{Form, Front, Whole, Unfit, drop_while, exactly, is_name_length, name_at, greeting_form}
+use Rattle.kom_types.specs.Grammar.{Form, Prefix, Whole, Unfit, drop_while, exactly, is_name_length, name_at, greeting_form}
 use Rattle.kom_framing.specs.Splitting.{Opening, Letter, Length, Name, opened, opening_of}
-use Rattle.kom_framing.specs.Hearing.{Greets, Going, Ended, Stuck, name_from, hear_behind_letter, hear_in_length, next, onward, heard}
+use Rattle.kom_framing.specs.Hearing.{Greets, Going, Ended, Stuck, name_from, hear_after_letter, hear_in_length, next, onward, heard}
 use Rattle.kom_framing.proofs.Looks.{look, blank, feed, digit, hollerith, open_brace, close_brace, star, other}
 use Rattle.kom_framing.proofs.Lists.{take_while-yes, take_while-no, drop_while-yes, drop_while-no, HeadFails, head_fails}
 
@@ -20,7 +20,7 @@ choice b x y = elim b [ true ↦ x | false ↦ y ]
 
 -- the state of a greeting of this form, of which this is kept
 abbrev pub told : Form (List ℕ) → Opening → Greets
-told Front opening = Going opening
+told Prefix opening = Going opening
 told (Whole name) opening = Ended name
 told Unfit opening = Stuck
 
@@ -36,15 +36,15 @@ told_name count name = told (exactly count name) (Name count name)
 name_told : (count : ℕ) (name : List ℕ) → name_from count name ≡ told_name count name
 name_told count name = elim (cases_Bool (ltb (length name) count)) [
   | inl e ↦ ap (λ (b : Bool). choice b (Going (Name count name)) (choice (eqb (length name) count) (Ended name) Stuck)) e
-      ∙ sym (ap (λ (b : Bool). told (choice b Front (choice (eqb (length name) count) (Whole name) Unfit)) (Name count name)) e)
+      ∙ sym (ap (λ (b : Bool). told (choice b Prefix (choice (eqb (length name) count) (Whole name) Unfit)) (Name count name)) e)
   | inr e ↦ elim (cases_Bool (eqb (length name) count)) [
     | inl same ↦ ap (λ (b : Bool). choice b (Going (Name count name)) (choice (eqb (length name) count) (Ended name) Stuck)) e
         ∙ ap (λ (b : Bool). choice b (Ended name) Stuck) same
-        ∙ sym (ap (λ (b : Bool). told (choice b Front (choice (eqb (length name) count) (Whole name) Unfit)) (Name count name)) e
+        ∙ sym (ap (λ (b : Bool). told (choice b Prefix (choice (eqb (length name) count) (Whole name) Unfit)) (Name count name)) e
         ∙ ap (λ (b : Bool). told (choice b (Whole name) Unfit) (Name count name)) same)
     | inr same ↦ ap (λ (b : Bool). choice b (Going (Name count name)) (choice (eqb (length name) count) (Ended name) Stuck)) e
         ∙ ap (λ (b : Bool). choice b (Ended name) Stuck) same
-        ∙ sym (ap (λ (b : Bool). told (choice b Front (choice (eqb (length name) count) (Whole name) Unfit)) (Name count name)) e
+        ∙ sym (ap (λ (b : Bool). told (choice b Prefix (choice (eqb (length name) count) (Whole name) Unfit)) (Name count name)) e
         ∙ ap (λ (b : Bool). told (choice b (Whole name) Unfit) (Name count name)) same)
   ]
 ]
@@ -62,7 +62,7 @@ name_short count name byte short = ap (λ (b : Bool). next (choice b (Going (Nam
 
 too_long : (count : ℕ) (name : List ℕ) → count < length name → told_name count name ≡ Stuck
 too_long count name long =
-    ap (λ (b : Bool). told (choice b Front (choice (eqb (length name) count) (Whole name) Unfit)) (Name count name)) (le-ltb (length name) count (omega arith))
+    ap (λ (b : Bool). told (choice b Prefix (choice (eqb (length name) count) (Whole name) Unfit)) (Name count name)) (le-ltb (length name) count (omega arith))
     ∙ ap (λ (b : Bool). told (choice b (Whole name) Unfit) (Name count name)) (ne_eqb (length name) count (λ e. omega arith))
 
 name_onward : (count : ℕ) (name rest : List ℕ) → onward (name_from count name) rest ≡ told_name count (name ++ rest)
@@ -77,14 +77,14 @@ name_onward count name (byte ∷ rest) = elim (cases_lt (length name) count) [
 abbrev told_run : List ℕ → List ℕ → Greets
 told_run digits rest = told (name_at digits rest) (opened digits rest)
 
-run_front : (byte : ℕ) (digits : List ℕ) → length (byte ∷ digits) ≤ 4 → told_run (byte ∷ digits) [] ≡ Going (Length (length (byte ∷ digits)) (number_of (byte ∷ digits)))
-run_front byte digits short = ap (λ (b : Bool). told (choice b Front Unfit) (opened (byte ∷ digits) [])) (le-leb (length (byte ∷ digits)) 4 short)
+run_prefix : (byte : ℕ) (digits : List ℕ) → length (byte ∷ digits) ≤ 4 → told_run (byte ∷ digits) [] ≡ Going (Length (length (byte ∷ digits)) (number_of (byte ∷ digits)))
+run_prefix byte digits short = ap (λ (b : Bool). told (choice b Prefix Unfit) (opened (byte ∷ digits) [])) (le-leb (length (byte ∷ digits)) 4 short)
 
 run_stuck : (digits : List ℕ) (byte : ℕ) (rest : List ℕ) → (eqb byte 72 && is_name_length digits) ≡ false → told_run digits (byte ∷ rest) ≡ Stuck
 run_stuck digits byte rest e = ap (λ (b : Bool). told (choice b (exactly (number_of digits) rest) Unfit) (opened digits (byte ∷ rest))) e
 
 run_long : (digits rest : List ℕ) → 4 < length digits → told_run digits rest ≡ Stuck
-run_long digits [] long = ap (λ (b : Bool). told (choice b Front Unfit) (opened digits [])) (lt-leb (length digits) 4 long)
+run_long digits [] long = ap (λ (b : Bool). told (choice b Prefix Unfit) (opened digits [])) (lt-leb (length digits) 4 long)
 run_long digits (byte ∷ rest) long = run_stuck digits byte rest (and_right _ _ (and_left _ _ (and_right _ _ (lt-leb (length digits) 4 long))))
 
 run_name : (first : ℕ) (digits : List ℕ) (byte : ℕ) (rest : List ℕ) → eqb byte 72 ≡ true → is_name_length (first ∷ digits) ≡ true → told_run (first ∷ digits) (byte ∷ rest) ≡ told_name (number_of (first ∷ digits)) rest
@@ -95,7 +95,7 @@ is_length first digits short =
     ap (λ (b : Bool). b && leb (length (first ∷ digits)) 4 && leb (number_of (first ∷ digits)) 1024) (le-leb 1 (length (first ∷ digits)) (omega arith))
     ∙ ap (λ (b : Bool). b && leb (number_of (first ∷ digits)) 1024) (le-leb (length (first ∷ digits)) 4 short)
 
--- a run with what is behind it, in a greeting that has these digits of it already
+-- a run with what is after it, in a greeting that has these digits of it already
 abbrev told_from : List ℕ → List ℕ → Greets
 told_from digits bytes = told_run (digits ++ take_while is_digit bytes) (drop_while is_digit bytes)
 
@@ -139,7 +139,7 @@ length_ends first digits byte bytes short e h d =
     ]
 
 length_onward : (first : ℕ) (digits bytes : List ℕ) → length (first ∷ digits) ≤ 4 → onward (in_length (first ∷ digits)) bytes ≡ told_from (first ∷ digits) bytes
-length_onward first digits [] short = sym (ap (λ (d : List ℕ). told_run d []) (append-nil (first ∷ digits)) ∙ run_front first digits short)
+length_onward first digits [] short = sym (ap (λ (d : List ℕ). told_run d []) (append-nil (first ∷ digits)) ∙ run_prefix first digits short)
 length_onward first digits (byte ∷ bytes) short = elim (look byte) [
   | blank l ↦ length_stuck first digits byte bytes kind.Blank l.kind_is refl l.hollerith_is l.digit_is
   | feed l ↦ length_stuck first digits byte bytes kind.LineFeed l.kind_is refl l.hollerith_is l.digit_is
@@ -162,10 +162,10 @@ length_onward first digits (byte ∷ bytes) short = elim (look byte) [
   | other l ↦ length_stuck first digits byte bytes kind.Other l.kind_is refl l.hollerith_is l.digit_is
 ]
 
--- ---- behind the letter
+-- ---- after the letter
 
-letter_kind : (byte : ℕ) (bytes : List ℕ) (sort : ByteKind) → kind_of byte ≡ sort → onward (Going Letter) (byte ∷ bytes) ≡ onward (hear_behind_letter byte sort) bytes
-letter_kind byte bytes sort e = ap (λ (k : ByteKind). onward (hear_behind_letter byte k) bytes) e
+letter_kind : (byte : ℕ) (bytes : List ℕ) (sort : ByteKind) → kind_of byte ≡ sort → onward (Going Letter) (byte ∷ bytes) ≡ onward (hear_after_letter byte sort) bytes
+letter_kind byte bytes sort e = ap (λ (k : ByteKind). onward (hear_after_letter byte k) bytes) e
 
 not_skipped : (byte : ℕ) (bytes : List ℕ) → is_blank byte ≡ false → onward (Going Letter) (byte ∷ bytes) ≡ onward (Going Letter) (drop_while is_blank (byte ∷ bytes))
 not_skipped byte bytes e = sym (ap (onward (Going Letter)) (drop_while-no is_blank byte bytes e))
@@ -183,7 +183,7 @@ blanks_skipped (byte ∷ bytes) = elim (look byte) [
   | other l ↦ not_skipped byte bytes l.blank_is
 ]
 
-letter_stuck : (byte : ℕ) (bytes : List ℕ) (sort : ByteKind) → kind_of byte ≡ sort → hear_behind_letter byte sort ≡ Stuck → is_digit byte ≡ false → onward (Going Letter) (byte ∷ bytes) ≡ told_from [] (byte ∷ bytes)
+letter_stuck : (byte : ℕ) (bytes : List ℕ) (sort : ByteKind) → kind_of byte ≡ sort → hear_after_letter byte sort ≡ Stuck → is_digit byte ≡ false → onward (Going Letter) (byte ∷ bytes) ≡ told_from [] (byte ∷ bytes)
 letter_stuck byte bytes sort e stuck d =
     letter_kind byte bytes sort e ∙ ap (λ (s : Greets). onward s bytes) stuck ∙ onward-stuck bytes
     ∙ sym (told_from-ended [] byte bytes d ∙ run_stuck [] byte bytes (and_right (eqb byte 72) (is_name_length []) refl))

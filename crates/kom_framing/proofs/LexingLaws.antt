@@ -8,8 +8,8 @@ use Rattle.kom_types.specs.declared.byte_kind.ByteKind.{ByteKind}
 use Rattle.kom_types.specs.declared.byte_kind.ByteKind.TheVariants as kind
 use Rattle.kom_types.specs.ByteKind.{is_blank, is_digit, kind_of}
 use Rattle.kom_types.specs.Token.{Token, Digits, Text, Open, Close, Star, number_of, is_integer}
-use Rattle.kom_types.specs.Grammar.{Form, Front, Whole, Unfit, Cut, drop_while, string_at, run_at, token_at, may_follow, ended, with_token, tokens_at, line_form}
-use Rattle.kom_framing.specs.Lexing.{Mode, Between, Run, Behind, Move, Goes, Ends, Unfits, string_from, move, move_behind, move_between, move_in_run, State, Going, Ended, Stuck, reached, next, onward, walk}
+use Rattle.kom_types.specs.Grammar.{Form, Prefix, Whole, Unfit, Cut, drop_while, string_at, run_at, token_at, may_follow, ended, with_token, tokens_at, line_form}
+use Rattle.kom_framing.specs.Lexing.{Mode, Between, Run, Past, Move, Goes, Ends, Unfits, string_from, move, move_past, move_between, move_in_run, State, Going, Ended, Stuck, reached, next, onward, walk}
 use Rattle.kom_framing.proofs.Looks.{look, blank, feed, digit, hollerith, open_brace, close_brace, star, other, follows}
 use Rattle.kom_framing.proofs.Lists.{take_while-yes, take_while-no, drop_while-yes, drop_while-no, HeadFails, head_fails, length-drop_while}
 
@@ -19,29 +19,29 @@ choice b x y = elim b [ true ↦ x | false ↦ y ]
 
 -- what a state says of the bytes that led to it
 abbrev pub form_of : State → Form (List Token)
-form_of (Going tokens mode) = Front
+form_of (Going tokens mode) = Prefix
 form_of (Ended tokens) = Whole tokens
 form_of Stuck = Unfit
 
 -- the state with these tokens before its own
 abbrev prefixed : List Token → State → State
-prefixed front (Going tokens mode) = Going (front ++ tokens) mode
-prefixed front (Ended tokens) = Ended (front ++ tokens)
-prefixed front Stuck = Stuck
+prefixed prefix (Going tokens mode) = Going (prefix ++ tokens) mode
+prefixed prefix (Ended tokens) = Ended (prefix ++ tokens)
+prefixed prefix Stuck = Stuck
 
-reached-prefixed : (front tokens : List Token) (moved : Move) → reached (front ++ tokens) moved ≡ prefixed front (reached tokens moved)
-reached-prefixed front tokens (Goes more mode) = ap (λ all. Going all mode) (append_assoc front tokens more)
-reached-prefixed front tokens (Ends more) = ap Ended (append_assoc front tokens more)
-reached-prefixed front tokens Unfits = refl
+reached-prefixed : (prefix tokens : List Token) (moved : Move) → reached (prefix ++ tokens) moved ≡ prefixed prefix (reached tokens moved)
+reached-prefixed prefix tokens (Goes more mode) = ap (λ all. Going all mode) (append_assoc prefix tokens more)
+reached-prefixed prefix tokens (Ends more) = ap Ended (append_assoc prefix tokens more)
+reached-prefixed prefix tokens Unfits = refl
 
-next-prefixed : (front : List Token) (state : State) (byte : ℕ) → next (prefixed front state) byte ≡ prefixed front (next state byte)
-next-prefixed front (Going tokens mode) byte = reached-prefixed front tokens (move mode byte)
-next-prefixed front (Ended tokens) byte = refl
-next-prefixed front Stuck byte = refl
+next-prefixed : (prefix : List Token) (state : State) (byte : ℕ) → next (prefixed prefix state) byte ≡ prefixed prefix (next state byte)
+next-prefixed prefix (Going tokens mode) byte = reached-prefixed prefix tokens (move mode byte)
+next-prefixed prefix (Ended tokens) byte = refl
+next-prefixed prefix Stuck byte = refl
 
-onward-prefixed : (front : List Token) (state : State) (bytes : List ℕ) → onward (prefixed front state) bytes ≡ prefixed front (onward state bytes)
-onward-prefixed front state [] = refl
-onward-prefixed front state (byte ∷ bytes) = ap (λ s. onward s bytes) (next-prefixed front state byte) ∙ onward-prefixed front (next state byte) bytes
+onward-prefixed : (prefix : List Token) (state : State) (bytes : List ℕ) → onward (prefixed prefix state) bytes ≡ prefixed prefix (onward state bytes)
+onward-prefixed prefix state [] = refl
+onward-prefixed prefix state (byte ∷ bytes) = ap (λ s. onward s bytes) (next-prefixed prefix state byte) ∙ onward-prefixed prefix (next state byte) bytes
 
 pub onward-stuck : (bytes : List ℕ) → onward Stuck bytes ≡ Stuck
 onward-stuck [] = refl
@@ -61,8 +61,8 @@ abbrev line_after : List ℕ → Form (List Token)
 line_after bytes = form_of (onward (Going [] Between) bytes)
 
 abbrev cut_then : (List ℕ → Form (List Token)) → Form Cut → Form (List Token)
-cut_then after Front = Front
-cut_then after (Whole cut) = choice (may_follow cut.behind) (with_token cut.token (after cut.behind)) Unfit
+cut_then after Prefix = Prefix
+cut_then after (Whole cut) = choice (may_follow cut.tail) (with_token cut.token (after cut.tail)) Unfit
 cut_then after Unfit = Unfit
 
 stuck_form : (bytes : List ℕ) → form_of (onward Stuck bytes) ≡ Unfit
@@ -73,8 +73,8 @@ stuck_form bytes = ap form_of (onward-stuck bytes)
 between_kind : (byte : ℕ) (bytes : List ℕ) (sort : ByteKind) → kind_of byte ≡ sort → onward (Going [] Between) (byte ∷ bytes) ≡ onward (reached [] (move_between byte sort)) bytes
 between_kind byte bytes sort e = ap (λ (k : ByteKind). onward (reached [] (move_between byte k)) bytes) e
 
-behind_kind : (byte : ℕ) (bytes : List ℕ) (sort : ByteKind) → kind_of byte ≡ sort → onward (Going [] Behind) (byte ∷ bytes) ≡ onward (reached [] (move_behind [] sort)) bytes
-behind_kind byte bytes sort e = ap (λ (k : ByteKind). onward (reached [] (move_behind [] k)) bytes) e
+past_kind : (byte : ℕ) (bytes : List ℕ) (sort : ByteKind) → kind_of byte ≡ sort → onward (Going [] Past) (byte ∷ bytes) ≡ onward (reached [] (move_past [] sort)) bytes
+past_kind byte bytes sort e = ap (λ (k : ByteKind). onward (reached [] (move_past [] k)) bytes) e
 
 run_kind : (digits : List ℕ) (byte : ℕ) (bytes : List ℕ) (sort : ByteKind) → kind_of byte ≡ sort → onward (Going [] (Run digits)) (byte ∷ bytes) ≡ onward (reached [] (move_in_run digits byte sort)) bytes
 run_kind digits byte bytes sort e = ap (λ (k : ByteKind). onward (reached [] (move_in_run digits byte k)) bytes) e
@@ -97,25 +97,25 @@ blanks_skipped (byte ∷ bytes) = elim (look byte) [
   | other l ↦ not_skipped byte bytes l.blank_is
 ]
 
--- ---- behind a token
+-- ---- after a token
 
--- what the grammar makes of a line directly behind a token
-abbrev line_behind : List ℕ → Form (List Token)
-line_behind bytes = choice (may_follow bytes) (line_after bytes) Unfit
+-- what the grammar makes of a line directly after a token
+abbrev line_past : List ℕ → Form (List Token)
+line_past bytes = choice (may_follow bytes) (line_after bytes) Unfit
 
-may_go_on : (byte : ℕ) (bytes : List ℕ) (sort : ByteKind) → kind_of byte ≡ sort → may_follow (byte ∷ bytes) ≡ true → move_behind [] sort ≡ move_between byte sort → form_of (onward (Going [] Behind) (byte ∷ bytes)) ≡ line_behind (byte ∷ bytes)
+may_go_on : (byte : ℕ) (bytes : List ℕ) (sort : ByteKind) → kind_of byte ≡ sort → may_follow (byte ∷ bytes) ≡ true → move_past [] sort ≡ move_between byte sort → form_of (onward (Going [] Past) (byte ∷ bytes)) ≡ line_past (byte ∷ bytes)
 may_go_on byte bytes sort e may same =
-    ap form_of (behind_kind byte bytes sort e) ∙ ap (λ (m : Move). form_of (onward (reached [] m) bytes)) same ∙ sym (ap form_of (between_kind byte bytes sort e))
+    ap form_of (past_kind byte bytes sort e) ∙ ap (λ (m : Move). form_of (onward (reached [] m) bytes)) same ∙ sym (ap form_of (between_kind byte bytes sort e))
     ∙ sym (ap (λ (b : Bool). choice b (line_after (byte ∷ bytes)) Unfit) may)
 
-may_not : (byte : ℕ) (bytes : List ℕ) (sort : ByteKind) → kind_of byte ≡ sort → may_follow (byte ∷ bytes) ≡ false → move_behind [] sort ≡ Unfits → form_of (onward (Going [] Behind) (byte ∷ bytes)) ≡ line_behind (byte ∷ bytes)
+may_not : (byte : ℕ) (bytes : List ℕ) (sort : ByteKind) → kind_of byte ≡ sort → may_follow (byte ∷ bytes) ≡ false → move_past [] sort ≡ Unfits → form_of (onward (Going [] Past) (byte ∷ bytes)) ≡ line_past (byte ∷ bytes)
 may_not byte bytes sort e may same =
-    ap form_of (behind_kind byte bytes sort e) ∙ ap (λ (m : Move). form_of (onward (reached [] m) bytes)) same ∙ stuck_form bytes
+    ap form_of (past_kind byte bytes sort e) ∙ ap (λ (m : Move). form_of (onward (reached [] m) bytes)) same ∙ stuck_form bytes
     ∙ sym (ap (λ (b : Bool). choice b (line_after (byte ∷ bytes)) Unfit) may)
 
-behind_token : (bytes : List ℕ) → form_of (onward (Going [] Behind) bytes) ≡ line_behind bytes
-behind_token [] = refl
-behind_token (byte ∷ bytes) = elim (look byte) [
+past_token : (bytes : List ℕ) → form_of (onward (Going [] Past) bytes) ≡ line_past bytes
+past_token [] = refl
+past_token (byte ∷ bytes) = elim (look byte) [
   | blank l ↦ may_go_on byte bytes kind.Blank l.kind_is (follows byte bytes true false l.blank_is l.feed_is) refl
   | feed l ↦ may_go_on byte bytes kind.LineFeed l.kind_is (follows byte bytes false true l.blank_is l.feed_is) refl
   | digit l ↦ may_not byte bytes kind.Digit l.kind_is (follows byte bytes false false l.blank_is l.feed_is) refl
@@ -130,43 +130,43 @@ with_token-cond : (token : Token) (b : Bool) (form : Form (List Token)) → with
 with_token-cond token true form = refl
 with_token-cond token false form = refl
 
--- a token that has ended, and what is behind it
-token_then : (token : Token) (bytes : List ℕ) → form_of (onward (Going (token ∷ []) Behind) bytes) ≡ cut_then line_after (Whole (record { token = token; behind = bytes }))
-token_then token bytes = with_one token Behind bytes ∙ ap (with_token token) (behind_token bytes) ∙ with_token-cond token (may_follow bytes) (line_after bytes)
+-- a token that has ended, and what is after it
+token_then : (token : Token) (bytes : List ℕ) → form_of (onward (Going (token ∷ []) Past) bytes) ≡ cut_then line_after (Whole (record { token = token; tail = bytes }))
+token_then token bytes = with_one token Past bytes ∙ ap (with_token token) (past_token bytes) ∙ with_token-cond token (may_follow bytes) (line_after bytes)
 
 -- ---- a string
 
 leb-suc : (a b : ℕ) → leb (suc a) (suc b) ≡ leb a b
 leb-suc a b = grind (arith, nat_tests)
 
--- the string that has so many bytes to come, behind these
+-- the string that has so many bytes to come, after these
 abbrev string_cut : ℕ → List ℕ → List ℕ → Form Cut
-string_cut count text bytes = Whole (record { token = Text (text ++ take count bytes); behind = drop count bytes })
+string_cut count text bytes = Whole (record { token = Text (text ++ take count bytes); tail = drop count bytes })
 
-string_then : (count : ℕ) (text bytes : List ℕ) → form_of (onward (reached [] (string_from count text)) bytes) ≡ choice (leb count (length bytes)) (cut_then line_after (string_cut count text bytes)) Front
+string_then : (count : ℕ) (text bytes : List ℕ) → form_of (onward (reached [] (string_from count text)) bytes) ≡ choice (leb count (length bytes)) (cut_then line_after (string_cut count text bytes)) Prefix
 string_then zero text bytes =
     token_then (Text text) bytes
-    ∙ sym (ap (λ (t : List ℕ). cut_then line_after (Whole (record { token = Text t; behind = bytes }))) (append-nil text))
-    ∙ sym (ap (λ (b : Bool). choice b (cut_then line_after (string_cut zero text bytes)) Front) (le-leb zero (length bytes) (omega arith)))
-string_then (suc count) text [] = sym (ap (λ (b : Bool). choice b (cut_then line_after (string_cut (suc count) text [])) Front) (lt-leb (suc count) zero (omega arith)))
+    ∙ sym (ap (λ (t : List ℕ). cut_then line_after (Whole (record { token = Text t; tail = bytes }))) (append-nil text))
+    ∙ sym (ap (λ (b : Bool). choice b (cut_then line_after (string_cut zero text bytes)) Prefix) (le-leb zero (length bytes) (omega arith)))
+string_then (suc count) text [] = sym (ap (λ (b : Bool). choice b (cut_then line_after (string_cut (suc count) text [])) Prefix) (lt-leb (suc count) zero (omega arith)))
 string_then (suc count) text (byte ∷ bytes) =
     string_then count (text ++ byte ∷ []) bytes
-    ∙ ap (λ (t : List ℕ). choice (leb count (length bytes)) (cut_then line_after (Whole (record { token = Text t; behind = drop count bytes }))) Front) (append_assoc text (byte ∷ []) (take count bytes))
-    ∙ sym (ap (λ (b : Bool). choice b (cut_then line_after (string_cut (suc count) text (byte ∷ bytes))) Front) (leb-suc count (length bytes)))
+    ∙ ap (λ (t : List ℕ). choice (leb count (length bytes)) (cut_then line_after (Whole (record { token = Text t; tail = drop count bytes }))) Prefix) (append_assoc text (byte ∷ []) (take count bytes))
+    ∙ sym (ap (λ (b : Bool). choice b (cut_then line_after (string_cut (suc count) text (byte ∷ bytes))) Prefix) (leb-suc count (length bytes)))
 
-cut_then-cond : (b : Bool) (cut : Cut) → cut_then line_after (choice b (Whole cut) Front) ≡ choice b (cut_then line_after (Whole cut)) Front
+cut_then-cond : (b : Bool) (cut : Cut) → cut_then line_after (choice b (Whole cut) Prefix) ≡ choice b (cut_then line_after (Whole cut)) Prefix
 cut_then-cond true cut = refl
 cut_then-cond false cut = refl
 
 string_line : (count : ℕ) (bytes : List ℕ) → form_of (onward (reached [] (string_from count [])) bytes) ≡ cut_then line_after (string_at count bytes)
-string_line count bytes = string_then count [] bytes ∙ sym (cut_then-cond (leb count (length bytes)) (record { token = Text (take count bytes); behind = drop count bytes }))
+string_line count bytes = string_then count [] bytes ∙ sym (cut_then-cond (leb count (length bytes)) (record { token = Text (take count bytes); tail = drop count bytes }))
 
 -- ---- a run of digits
 
-run_front : (digits : List ℕ) → length digits ≤ 16 → run_at digits [] ≡ Front
-run_front digits short = rw (le-leb (length digits) 16 short, run_at) refl
+run_prefix : (digits : List ℕ) → length digits ≤ 16 → run_at digits [] ≡ Prefix
+run_prefix digits short = rw (le-leb (length digits) 16 short, run_at) refl
 
-run_cut : (digits : List ℕ) (byte : ℕ) (bytes : List ℕ) → eqb byte 72 ≡ false → length digits ≤ 16 → run_at digits (byte ∷ bytes) ≡ Whole (record { token = Digits digits; behind = byte ∷ bytes })
+run_cut : (digits : List ℕ) (byte : ℕ) (bytes : List ℕ) → eqb byte 72 ≡ false → length digits ≤ 16 → run_at digits (byte ∷ bytes) ≡ Whole (record { token = Digits digits; tail = byte ∷ bytes })
 run_cut digits byte bytes e short = rw (e, le-leb (length digits) 16 short, run_at) refl
 
 run_string : (digits : List ℕ) (byte : ℕ) (bytes : List ℕ) → eqb byte 72 ≡ true → run_at digits (byte ∷ bytes) ≡ choice (is_integer digits) (string_at (number_of digits) bytes) Unfit
@@ -182,7 +182,7 @@ run_long digits (byte ∷ rest) long = elim (cases_Bool (eqb byte 72)) [
   | inr h ↦ rw (h, lt-leb (length digits) 16 long, run_at) refl
 ]
 
--- a run with what is behind it, in a line that has these digits of it already
+-- a run with what is after it, in a line that has these digits of it already
 abbrev run_from : List ℕ → List ℕ → Form Cut
 run_from digits bytes = run_at (digits ++ take_while is_digit bytes) (drop_while is_digit bytes)
 
@@ -198,11 +198,11 @@ run_from-digit digits byte bytes e =
     ∙ ap (λ (d : List ℕ). run_at d (drop_while is_digit (byte ∷ bytes))) (sym (append_assoc digits (byte ∷ []) (take_while is_digit bytes)))
     ∙ ap (run_at ((digits ++ byte ∷ []) ++ take_while is_digit bytes)) (drop_while-yes is_digit byte bytes e)
 
-run_ends : (digits : List ℕ) (byte : ℕ) (bytes : List ℕ) (sort : ByteKind) → kind_of byte ≡ sort → reached [] (move_in_run digits byte sort) ≡ reached (Digits digits ∷ []) (move_behind [] sort) → eqb byte 72 ≡ false → is_digit byte ≡ false → length digits ≤ 16 → form_of (onward (Going [] (Run digits)) (byte ∷ bytes)) ≡ cut_then line_after (run_from digits (byte ∷ bytes))
+run_ends : (digits : List ℕ) (byte : ℕ) (bytes : List ℕ) (sort : ByteKind) → kind_of byte ≡ sort → reached [] (move_in_run digits byte sort) ≡ reached (Digits digits ∷ []) (move_past [] sort) → eqb byte 72 ≡ false → is_digit byte ≡ false → length digits ≤ 16 → form_of (onward (Going [] (Run digits)) (byte ∷ bytes)) ≡ cut_then line_after (run_from digits (byte ∷ bytes))
 run_ends digits byte bytes sort e same h d short =
     ap form_of (run_kind digits byte bytes sort e)
     ∙ ap (λ (s : State). form_of (onward s bytes)) same
-    ∙ sym (ap (λ (k : ByteKind). form_of (onward (reached (Digits digits ∷ []) (move_behind [] k)) bytes)) e)
+    ∙ sym (ap (λ (k : ByteKind). form_of (onward (reached (Digits digits ∷ []) (move_past [] k)) bytes)) e)
     ∙ token_then (Digits digits) (byte ∷ bytes)
     ∙ sym (ap (cut_then line_after) (run_from-ended digits byte bytes d ∙ run_cut digits byte bytes h short))
 
@@ -220,7 +220,7 @@ run_string_line digits byte bytes e h d =
     ]
 
 run_then : (digits bytes : List ℕ) → length digits ≤ 16 → form_of (onward (Going [] (Run digits)) bytes) ≡ cut_then line_after (run_from digits bytes)
-run_then digits [] short = sym (ap (cut_then line_after) (ap (λ (d : List ℕ). run_at d []) (append-nil digits) ∙ run_front digits short))
+run_then digits [] short = sym (ap (cut_then line_after) (ap (λ (d : List ℕ). run_at d []) (append-nil digits) ∙ run_prefix digits short))
 run_then digits (byte ∷ bytes) short = elim (look byte) [
   | blank l ↦ run_ends digits byte bytes kind.Blank l.kind_is refl l.hollerith_is l.digit_is short
   | feed l ↦ run_ends digits byte bytes kind.LineFeed l.kind_is refl l.hollerith_is l.digit_is short
@@ -246,9 +246,9 @@ run_then digits (byte ∷ bytes) short = elim (look byte) [
 
 abbrev token_of_kind : ℕ → List ℕ → ByteKind → Form Cut
 token_of_kind byte bytes kind.Digit = run_at (byte ∷ take_while is_digit bytes) (drop_while is_digit bytes)
-token_of_kind byte bytes kind.Open = Whole (record { token = Open; behind = bytes })
-token_of_kind byte bytes kind.Close = Whole (record { token = Close; behind = bytes })
-token_of_kind byte bytes kind.Star = Whole (record { token = Star; behind = bytes })
+token_of_kind byte bytes kind.Open = Whole (record { token = Open; tail = bytes })
+token_of_kind byte bytes kind.Close = Whole (record { token = Close; tail = bytes })
+token_of_kind byte bytes kind.Star = Whole (record { token = Star; tail = bytes })
 token_of_kind byte bytes kind.Blank = Unfit
 token_of_kind byte bytes kind.LineFeed = Unfit
 token_of_kind byte bytes kind.Hollerith = Unfit
@@ -271,26 +271,26 @@ token_line byte bytes b f = elim (look byte) [
 
 -- a cut leaves no more than there was
 abbrev LeavesWithin : ℕ → Form Cut → Type 0
-LeavesWithin count Front = Unit {0}
-LeavesWithin count (Whole cut) = length cut.behind ≤ count
+LeavesWithin count Prefix = Unit {0}
+LeavesWithin count (Whole cut) = length cut.tail ≤ count
 LeavesWithin count Unfit = Unit {0}
 
-leaves_cond : (count : ℕ) (b : Bool) (cut : Cut) (rest : Form Cut) → length cut.behind ≤ count → LeavesWithin count rest → LeavesWithin count (choice b (Whole cut) rest)
+leaves_cond : (count : ℕ) (b : Bool) (cut : Cut) (rest : Form Cut) → length cut.tail ≤ count → LeavesWithin count rest → LeavesWithin count (choice b (Whole cut) rest)
 leaves_cond count true cut rest le lo = le
 leaves_cond count false cut rest le lo = lo
 
 string_leaves : (count : ℕ) (bytes : List ℕ) → LeavesWithin (length bytes) (string_at count bytes)
-string_leaves count bytes = leaves_cond (length bytes) (leb count (length bytes)) (record { token = Text (take count bytes); behind = drop count bytes }) Front (omega (arith, length-drop count bytes)) tt
+string_leaves count bytes = leaves_cond (length bytes) (leb count (length bytes)) (record { token = Text (take count bytes); tail = drop count bytes }) Prefix (omega (arith, length-drop count bytes)) tt
 
 leaves_more : (m n : ℕ) (form : Form Cut) → m ≤ n → LeavesWithin m form → LeavesWithin n form
-leaves_more m n Front le h = tt
+leaves_more m n Prefix le h = tt
 leaves_more m n (Whole cut) le h = omega arith
 leaves_more m n Unfit le h = tt
 
 run_leaves : (digits rest : List ℕ) → LeavesWithin (length rest) (run_at digits rest)
 run_leaves digits [] = elim (cases_Bool (leb (length digits) 16)) [
-  | inl e ↦ let P : Form Cut → Type 0 = LeavesWithin 0 in subst (λ (b : Bool). P (choice b Front Unfit)) (sym e) tt
-  | inr e ↦ let P : Form Cut → Type 0 = LeavesWithin 0 in subst (λ (b : Bool). P (choice b Front Unfit)) (sym e) tt
+  | inl e ↦ let P : Form Cut → Type 0 = LeavesWithin 0 in subst (λ (b : Bool). P (choice b Prefix Unfit)) (sym e) tt
+  | inr e ↦ let P : Form Cut → Type 0 = LeavesWithin 0 in subst (λ (b : Bool). P (choice b Prefix Unfit)) (sym e) tt
 ]
 run_leaves digits (byte ∷ rest) = elim (cases_Bool (eqb byte 72)) [
   | inl h ↦ elim (cases_Bool (is_integer digits)) [
@@ -318,8 +318,8 @@ token_leaves byte bytes =
     ]
 
 after_same : (count : ℕ) (f g : List ℕ → Form (List Token)) (form : Form Cut) → LeavesWithin count form → ((bytes : List ℕ) → length bytes ≤ count → f bytes ≡ g bytes) → cut_then f form ≡ cut_then g form
-after_same count f g Front within same = refl
-after_same count f g (Whole cut) within same = ap (λ (form : Form (List Token)). choice (may_follow cut.behind) (with_token cut.token form) Unfit) (same cut.behind within)
+after_same count f g Prefix within same = refl
+after_same count f g (Whole cut) within same = ap (λ (form : Form (List Token)). choice (may_follow cut.tail) (with_token cut.token form) Unfit) (same cut.tail within)
 after_same count f g Unfit within same = refl
 
 ended_line : (byte : ℕ) (bytes : List ℕ) → kind_of byte ≡ kind.LineFeed → line_after (byte ∷ bytes) ≡ ended bytes
@@ -328,19 +328,19 @@ ended_line byte (second ∷ bytes) e = ap form_of (between_kind byte (second ∷
 
 -- a line from its first byte that is no blank
 abbrev unblank : ℕ → List ℕ → Form (List Token)
-unblank most [] = Front
-unblank most (byte ∷ behind) = choice (eqb byte 10) (ended behind) (cut_then (tokens_at most) (token_at byte behind))
+unblank most [] = Prefix
+unblank most (byte ∷ tail) = choice (eqb byte 10) (ended tail) (cut_then (tokens_at most) (token_at byte tail))
 
 feed_kind : (byte : ℕ) → eqb byte 10 ≡ true → kind_of byte ≡ kind.LineFeed
 feed_kind byte e = ap kind_of (eqb-true byte 10 e)
 
 unblank_line : (most : ℕ) (bytes : List ℕ) → HeadFails is_blank bytes → length bytes ≤ most → ((rest : List ℕ) → length rest < most → tokens_at most rest ≡ line_after rest) → unblank most bytes ≡ line_after bytes
 unblank_line most [] head short same = refl
-unblank_line most (byte ∷ behind) head short same = elim (cases_Bool (eqb byte 10)) [
-  | inl e ↦ ap (λ (b : Bool). choice b (ended behind) (cut_then (tokens_at most) (token_at byte behind))) e ∙ sym (ended_line byte behind (feed_kind byte e))
-  | inr e ↦ ap (λ (b : Bool). choice b (ended behind) (cut_then (tokens_at most) (token_at byte behind))) e
-      ∙ after_same (length behind) (tokens_at most) line_after (token_at byte behind) (token_leaves byte behind) (λ rest le. same rest (omega arith))
-      ∙ sym (token_line byte behind head e)
+unblank_line most (byte ∷ tail) head short same = elim (cases_Bool (eqb byte 10)) [
+  | inl e ↦ ap (λ (b : Bool). choice b (ended tail) (cut_then (tokens_at most) (token_at byte tail))) e ∙ sym (ended_line byte tail (feed_kind byte e))
+  | inr e ↦ ap (λ (b : Bool). choice b (ended tail) (cut_then (tokens_at most) (token_at byte tail))) e
+      ∙ after_same (length tail) (tokens_at most) line_after (token_at byte tail) (token_leaves byte tail) (λ rest le. same rest (omega arith))
+      ∙ sym (token_line byte tail head e)
 ]
 
 tokens_line : (most : ℕ) (bytes : List ℕ) → length bytes < most → tokens_at most bytes ≡ line_after bytes

@@ -5,7 +5,7 @@ use Rattle.std.proofs.Math.Seq.{take-add}
 use Rattle.std.proofs.lemmas.List.{append-nil, length-append, length-take, length-take-le, length-drop, take_all, take-append-drop, drop_more, take_more, take-take, take-append-le}
 use Rattle.std.proofs.lemmas.List.Sums.{fold-append}
 use Rattle.kom_types.specs.Token.{Token}
-use Rattle.kom_types.specs.Grammar.{Form, Front, Whole, line_form}
+use Rattle.kom_types.specs.Grammar.{Form, Prefix, Whole, line_form}
 use Rattle.kom_types.specs.Stream.{Malformed, longest_line, longest_stream, with_line, stopped_in, lines_from}
 use Rattle.kom_framing.specs.declared.lexer.Span.{Span}
 use Rattle.kom_framing.specs.declared.lexer.Lexer.{Lexer}
@@ -42,16 +42,16 @@ ends_from (Going more mode) byte tokens e = tt
 ends_from (Ended more) byte tokens e = absurd cc
 ends_from Stuck byte tokens e = absurd cc
 
-going_front : (state : State) → IsGoing state → form_of state ≡ Front
-going_front (Going tokens mode) going = refl
-going_front (Ended tokens) going = absurd going
-going_front Stuck going = absurd going
+going_prefix : (state : State) → IsGoing state → form_of state ≡ Prefix
+going_prefix (Going tokens mode) going = refl
+going_prefix (Ended tokens) going = absurd going
+going_prefix Stuck going = absurd going
 
 form_is : (bytes : List ℕ) (state : State) → walk bytes ≡ state → line_form bytes ≡ form_of state
 form_is bytes state e = line_form-walk bytes ∙ ap form_of e
 
-form_goes_on : (bytes : List ℕ) → IsGoing (walk bytes) → line_form bytes ≡ Front
-form_goes_on bytes going = line_form-walk bytes ∙ going_front (walk bytes) going
+form_goes_on : (bytes : List ℕ) → IsGoing (walk bytes) → line_form bytes ≡ Prefix
+form_goes_on bytes going = line_form-walk bytes ∙ going_prefix (walk bytes) going
 
 -- ---- bytes of a line, as the stream has them
 
@@ -61,19 +61,19 @@ going_first text byte bytes going =
     goes_on_before (walk (text ++ byte ∷ [])) bytes (subst IsGoing (ap walk regrouped ∙ walk-append (text ++ byte ∷ []) bytes) going)
 
 -- a line that goes on with these bytes
-pub lines_go_on : (place : ℕ) (text front bytes : List ℕ) → IsGoing (walk (text ++ front)) → length text + length front ≤ longest_line → place + length front ≤ longest_stream → lines_from place text (front ++ bytes) ≡ lines_from (place + length front) (text ++ front) bytes
+pub lines_go_on : (place : ℕ) (text prefix bytes : List ℕ) → IsGoing (walk (text ++ prefix)) → length text + length prefix ≤ longest_line → place + length prefix ≤ longest_stream → lines_from place text (prefix ++ bytes) ≡ lines_from (place + length prefix) (text ++ prefix) bytes
 lines_go_on place text [] bytes going short early =
     let same : place ≡ place + 0 = omega arith in
     ap (λ (p : ℕ). lines_from p text bytes) same ∙ ap (λ (t : List ℕ). lines_from (place + 0) t bytes) (sym (append-nil text))
-lines_go_on place text (byte ∷ front) bytes going short early =
-    let regrouped : text ++ byte ∷ front ≡ (text ++ byte ∷ []) ++ front = sym (append_assoc text (byte ∷ []) front) in
-    let further : place + 1 + length front ≡ place + length (byte ∷ front) = omega arith in
-    line_goes_on place text byte (front ++ bytes) (omega arith) (omega (arith, length-append text (byte ∷ []))) (form_goes_on (text ++ byte ∷ []) (going_first text byte front going))
-    ∙ lines_go_on (place + 1) (text ++ byte ∷ []) front bytes (subst (λ (t : List ℕ). IsGoing (walk t)) regrouped going) (omega (arith, length-append text (byte ∷ []))) (omega arith)
-    ∙ ap (λ (p : ℕ). lines_from p ((text ++ byte ∷ []) ++ front) bytes) further
-    ∙ ap (λ (t : List ℕ). lines_from (place + length (byte ∷ front)) t bytes) (sym regrouped)
+lines_go_on place text (byte ∷ prefix) bytes going short early =
+    let regrouped : text ++ byte ∷ prefix ≡ (text ++ byte ∷ []) ++ prefix = sym (append_assoc text (byte ∷ []) prefix) in
+    let further : place + 1 + length prefix ≡ place + length (byte ∷ prefix) = omega arith in
+    line_goes_on place text byte (prefix ++ bytes) (omega arith) (omega (arith, length-append text (byte ∷ []))) (form_goes_on (text ++ byte ∷ []) (going_first text byte prefix going))
+    ∙ lines_go_on (place + 1) (text ++ byte ∷ []) prefix bytes (subst (λ (t : List ℕ). IsGoing (walk t)) regrouped going) (omega (arith, length-append text (byte ∷ []))) (omega arith)
+    ∙ ap (λ (p : ℕ). lines_from p ((text ++ byte ∷ []) ++ prefix) bytes) further
+    ∙ ap (λ (t : List ℕ). lines_from (place + length (byte ∷ prefix)) t bytes) (sym regrouped)
 
--- the front of a list before its byte at an index, that byte, and the rest
+-- the prefix of a list before its byte at an index, that byte, and the rest
 pub split_at : (bytes : List ℕ) (at : ℕ) → at < length bytes → bytes ≡ take at bytes ++ (get_or bytes at 0 ∷ drop (at + 1) bytes)
 split_at bytes at within = sym (take-append-drop at bytes) ∙ ap (λ (t : List ℕ). take at bytes ++ t) (drop_more bytes at 0 within)
 
@@ -83,17 +83,17 @@ lines_end place text bytes count tokens some within ended short early =
     let at : ℕ = count - 1 in
     let back : count ≡ at + 1 = omega arith in
     let inside : at < length bytes = omega arith in
-    let front : List ℕ = take at bytes in
+    let prefix : List ℕ = take at bytes in
     let byte : ℕ = get_or bytes at 0 in
-    let front_length : length front ≡ at = length-take-le at bytes (omega arith) in
-    let regrouped : text ++ take count bytes ≡ (text ++ front) ++ byte ∷ [] =
-    ap (λ (n : ℕ). text ++ take n bytes) back ∙ ap (λ (t : List ℕ). text ++ t) (take_more bytes at 0 inside) ∙ sym (append_assoc text front (byte ∷ [])) in
-    let last : walk ((text ++ front) ++ byte ∷ []) ≡ Ended tokens = sym (ap walk regrouped) ∙ ended in
-    let going : IsGoing (walk (text ++ front)) = ends_from (walk (text ++ front)) byte tokens (sym (walk-append (text ++ front) (byte ∷ [])) ∙ last) in
+    let prefix_length : length prefix ≡ at = length-take-le at bytes (omega arith) in
+    let regrouped : text ++ take count bytes ≡ (text ++ prefix) ++ byte ∷ [] =
+    ap (λ (n : ℕ). text ++ take n bytes) back ∙ ap (λ (t : List ℕ). text ++ t) (take_more bytes at 0 inside) ∙ sym (append_assoc text prefix (byte ∷ [])) in
+    let last : walk ((text ++ prefix) ++ byte ∷ []) ≡ Ended tokens = sym (ap walk regrouped) ∙ ended in
+    let going : IsGoing (walk (text ++ prefix)) = ends_from (walk (text ++ prefix)) byte tokens (sym (walk-append (text ++ prefix) (byte ∷ [])) ∙ last) in
     ap (lines_from place text) (split_at bytes at inside)
-    ∙ lines_go_on place text front (byte ∷ drop (at + 1) bytes) going (omega arith) (omega arith)
-    ∙ line_ends (place + length front) (text ++ front) byte (drop (at + 1) bytes) tokens (omega arith) (omega (arith, length-append (text ++ front) (byte ∷ []), length-append text front)) (form_is ((text ++ front) ++ byte ∷ []) (Ended tokens) last)
-    ∙ ap (λ (p : ℕ). with_line tokens p (lines_from (place + length front + 1) [] (drop (at + 1) bytes))) (omega arith)
+    ∙ lines_go_on place text prefix (byte ∷ drop (at + 1) bytes) going (omega arith) (omega arith)
+    ∙ line_ends (place + length prefix) (text ++ prefix) byte (drop (at + 1) bytes) tokens (omega arith) (omega (arith, length-append (text ++ prefix) (byte ∷ []), length-append text prefix)) (form_is ((text ++ prefix) ++ byte ∷ []) (Ended tokens) last)
+    ∙ ap (λ (p : ℕ). with_line tokens p (lines_from (place + length prefix + 1) [] (drop (at + 1) bytes))) (omega arith)
     ∙ ap (λ (p : ℕ). with_line tokens (place + count - 1) (lines_from p [] (drop (at + 1) bytes))) (omega arith)
     ∙ ap (λ (n : ℕ). with_line tokens (place + count - 1) (lines_from (place + count) [] (drop n bytes))) (sym back)
 
@@ -101,18 +101,18 @@ lines_end place text bytes count tokens some within ended short early =
 pub lines_unfit : (place : ℕ) (text bytes : List ℕ) (at : ℕ) → IsUnfitAt text bytes at → length text + at ≤ longest_line → place + at ≤ longest_stream → FailsAt place text bytes (found.Malformed (place + at))
 lines_unfit place text bytes at unfit short early =
     let inside = unfit.within in
-    let front : List ℕ = take at bytes in
+    let prefix : List ℕ = take at bytes in
     let byte : ℕ = get_or bytes at 0 in
-    let front_length : length front ≡ at = length-take-le at bytes (omega arith) in
-    let regrouped : text ++ take (at + 1) bytes ≡ (text ++ front) ++ byte ∷ [] =
-    ap (λ (t : List ℕ). text ++ t) (take_more bytes at 0 inside) ∙ sym (append_assoc text front (byte ∷ [])) in
-    let last : walk ((text ++ front) ++ byte ∷ []) ≡ Stuck = sym (ap walk regrouped) ∙ unfit.stuck in
+    let prefix_length : length prefix ≡ at = length-take-le at bytes (omega arith) in
+    let regrouped : text ++ take (at + 1) bytes ≡ (text ++ prefix) ++ byte ∷ [] =
+    ap (λ (t : List ℕ). text ++ t) (take_more bytes at 0 inside) ∙ sym (append_assoc text prefix (byte ∷ [])) in
+    let last : walk ((text ++ prefix) ++ byte ∷ []) ≡ Stuck = sym (ap walk regrouped) ∙ unfit.stuck in
     record {
-      rest = text ++ front;
+      rest = text ++ prefix;
       split = ap (lines_from place text) (split_at bytes at inside)
-          ∙ lines_go_on place text front (byte ∷ drop (at + 1) bytes) unfit.going (omega arith) (omega arith)
-          ∙ line_unfit (place + length front) (text ++ front) byte (drop (at + 1) bytes) (form_is ((text ++ front) ++ byte ∷ []) Stuck last)
-          ∙ ap (λ (p : ℕ). stopped_in (text ++ front) (Some (Malformed p))) (omega arith);
+          ∙ lines_go_on place text prefix (byte ∷ drop (at + 1) bytes) unfit.going (omega arith) (omega arith)
+          ∙ line_unfit (place + length prefix) (text ++ prefix) byte (drop (at + 1) bytes) (form_is ((text ++ prefix) ++ byte ∷ []) Stuck last)
+          ∙ ap (λ (p : ℕ). stopped_in (text ++ prefix) (Some (Malformed p))) (omega arith);
     }
 
 -- ---- what the lexer keeps
@@ -173,7 +173,7 @@ unfit_in text window at spans lexer inside begun stuck =
       stuck = sym (ap walk regrouped) ∙ walk-append bytes more ∙ ap (λ (s : State). onward s more) begun.walked ∙ stuck (tokens_of bytes spans);
     }
 
--- more spans behind those that were added
+-- more spans after those that were added
 pub extends_more : (old new more : List Span) → Extends old new → Extends old (new ++ more)
 extends_more old new more extends =
     let enough : length old ≤ length new = omega (arith, ap length extends, length-take (length old) new) in
@@ -182,7 +182,7 @@ extends_more old new more extends =
 pub seen_within : (window : List ℕ) (at count : ℕ) → at ≤ length window → count ≤ length (drop at window) → at + count ≤ length window
 seen_within window at count inside within = omega (arith, length-drop at window)
 
--- ---- the byte behind a window that is full
+-- ---- the byte after a window that is full
 
 fits_by : (form other : Form (List Token)) → form ≡ other → Fits other → Fits form
 fits_by form other e fits = subst Fits (sym e) fits
@@ -194,7 +194,7 @@ next_fits (step.Goes count ended after) text rest byte spans lexer fit begun goe
     let all : 0 + count ≡ suc more = omega arith in
     let further = begun_further text (byte ∷ rest) 0 count spans lexer after ended (begun_start text (byte ∷ rest) spans lexer begun) goes in
     let going : IsGoing (walk (text ++ take (suc more) (byte ∷ rest))) = subst (λ (n : ℕ). IsGoing (walk (text ++ take n (byte ∷ rest)))) all (begun_goes _ _ _ further) in
-    fits_by (line_form (text ++ byte ∷ [])) Front (form_goes_on (text ++ byte ∷ []) (going_first text byte (take more rest) going)) tt
+    fits_by (line_form (text ++ byte ∷ [])) Prefix (form_goes_on (text ++ byte ∷ []) (going_first text byte (take more rest) going)) tt
 next_fits (step.Ends ended) text rest byte spans lexer fit begun ends =
     let whole = ends_in text (byte ∷ rest) 0 spans lexer ended (omega arith) (begun_start text (byte ∷ rest) spans lexer begun) ends in
     fits_by (line_form (text ++ byte ∷ [])) (Whole (tokens_of (text ++ byte ∷ []) (spans ++ option_to_list ended))) (form_is (text ++ byte ∷ []) (Ended (tokens_of (text ++ byte ∷ []) (spans ++ option_to_list ended))) whole.ended) tt
@@ -217,19 +217,19 @@ fault_long s place text (byte ∷ rest) spans lexer some fit begun does early lo
 
 -- ---- a piece, of which a window was read
 
--- a window at the front of a piece
+-- a window at the start of a piece
 pub record IsWindow (window piece : List ℕ) : Type 0 where
-  pub front : window ≡ take (length window) piece
+  pub prefix : window ≡ take (length window) piece
   pub within : length window ≤ length piece
 
-pub window_front : (window piece : List ℕ) (count : ℕ) → IsWindow window piece → count ≤ length window → take count window ≡ take count piece
-window_front window piece count w le = ap (take count) w.front ∙ take-take count (length window) piece le
+pub window_prefix : (window piece : List ℕ) (count : ℕ) → IsWindow window piece → count ≤ length window → take count window ≡ take count piece
+window_prefix window piece count w le = ap (take count) w.prefix ∙ take-take count (length window) piece le
 
 pub split_window : (window piece : List ℕ) → IsWindow window piece → piece ≡ window ++ drop (length window) piece
-split_window window piece w = sym (take-append-drop (length window) piece) ∙ ap (λ (t : List ℕ). t ++ drop (length window) piece) (sym w.front)
+split_window window piece w = sym (take-append-drop (length window) piece) ∙ ap (λ (t : List ℕ). t ++ drop (length window) piece) (sym w.prefix)
 
 pub whole_window : (window piece : List ℕ) → IsWindow window piece → length window ≡ length piece → window ≡ piece
-whole_window window piece w same = w.front ∙ take_all (length window) piece (omega arith)
+whole_window window piece w same = w.prefix ∙ take_all (length window) piece (omega arith)
 
 line_goes : (line : BegunLine) → IsLine line → IsGoing (walk line.text.items)
 line_goes line kept = begun_goes line.text.items line.spans.items line.lexer kept.begun
@@ -264,10 +264,10 @@ scans_past place old new window piece f w early taken fails =
 pub scans_to : (count place : ℕ) (old new : BegunLine) (window piece : List ℕ) → IsWindow window piece → place + length window ≤ longest_stream → length old.text.items + length window ≤ longest_line → Grows old new (take count window) × EndsIn old.text.items window new.spans.items count → ScansTo count place old piece new
 scans_to count place old new window piece w early short taken =
     let within = taken.1.within in
-    let front : take count window ≡ take count piece = window_front window piece count w within in
-    let grows : Grows old new (take count piece) = subst (Grows old new) front taken.0 in
+    let prefix : take count window ≡ take count piece = window_prefix window piece count w within in
+    let grows : Grows old new (take count piece) = subst (Grows old new) prefix taken.0 in
     let ended : walk (old.text.items ++ take count piece) ≡ Ended (tokens_of (old.text.items ++ take count piece) new.spans.items) =
-    subst (λ (t : List ℕ). walk (old.text.items ++ t) ≡ Ended (tokens_of (old.text.items ++ t) new.spans.items)) front taken.1.ended in
+    subst (λ (t : List ℕ). walk (old.text.items ++ t) ≡ Ended (tokens_of (old.text.items ++ t) new.spans.items)) prefix taken.1.ended in
     let inside : count ≤ length piece = omega (arith, w.within) in
     record {
       grows = grows;
@@ -285,8 +285,8 @@ scans_unfit at place old window piece w early short unfit =
     let within = unfit.within in
     let unfit_piece : IsUnfitAt old.text.items piece at = record {
       within = omega (arith, w.within);
-      going = subst (λ (t : List ℕ). IsGoing (walk (old.text.items ++ t))) (window_front window piece at w (omega arith)) unfit.going;
-      stuck = sym (ap (λ (t : List ℕ). walk (old.text.items ++ t)) (window_front window piece (at + 1) w (omega arith))) ∙ unfit.stuck;
+      going = subst (λ (t : List ℕ). IsGoing (walk (old.text.items ++ t))) (window_prefix window piece at w (omega arith)) unfit.going;
+      stuck = sym (ap (λ (t : List ℕ). walk (old.text.items ++ t)) (window_prefix window piece (at + 1) w (omega arith))) ∙ unfit.stuck;
     } in
     lines_unfit place old.text.items piece at unfit_piece (omega arith) (omega arith)
 

@@ -1,4 +1,4 @@
--- Fronts of lists that pass a test, and what is behind them.
+-- Prefixes of lists that pass a test, and what is after them.
 use Rattle.std.proofs.Common.{◌≡◌, ℕ, suc, ◌+◌, ◌≤◌, Bool, true, false, List, [], ◌∷◌, length, refl, inl, inr, arith}
 use Rattle.std.specs.List.{take_while, prefix_len}
 use Rattle.std.proofs.lemmas.Bool.{cases_Bool}

@@ -28,9 +28,9 @@ pub are_within_more : (m n : ℕ) (spans : List Span) → m ≤ n → AreWithin 
 are_within_more m n [] le within = tt
 are_within_more m n (first ∷ spans) le within = (within_more m n first le within.0, are_within_more m n spans le within.1)
 
-pub are_within-append : (count : ℕ) (front back : List Span) → AreWithin count front → AreWithin count back → AreWithin count (front ++ back)
+pub are_within-append : (count : ℕ) (prefix back : List Span) → AreWithin count prefix → AreWithin count back → AreWithin count (prefix ++ back)
 are_within-append count [] back f b = b
-are_within-append count (first ∷ front) back f b = (f.0, are_within-append count front back f.1 b)
+are_within-append count (first ∷ prefix) back f b = (f.0, are_within-append count prefix back f.1 b)
 
 range_stays : (bytes more : List ℕ) (start end : ℕ) → start ≤ end → end ≤ length bytes → slice_range (bytes ++ more) start end ≡ slice_range bytes start end
 range_stays bytes more start end le within =
@@ -51,5 +51,5 @@ tokens_stay bytes more (first ∷ spans) within =
     ap (λ (t : Token). t ∷ tokens_of (bytes ++ more) spans) (token_stays bytes more first within.0)
     ∙ ap (λ (ts : List Token). token_of bytes first ∷ ts) (tokens_stay bytes more spans within.1)
 
-pub tokens_of-append : (bytes : List ℕ) (front back : List Span) → tokens_of bytes (front ++ back) ≡ tokens_of bytes front ++ tokens_of bytes back
-tokens_of-append bytes front back = map-append (token_of bytes) front back
+pub tokens_of-append : (bytes : List ℕ) (prefix back : List Span) → tokens_of bytes (prefix ++ back) ≡ tokens_of bytes prefix ++ tokens_of bytes back
+tokens_of-append bytes prefix back = map-append (token_of bytes) prefix back

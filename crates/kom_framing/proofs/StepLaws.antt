@@ -14,7 +14,7 @@ use Rattle.kom_framing.specs.declared.lexer.Lexer.{Lexer}
 use Rattle.kom_framing.specs.declared.lexer.Lexer.TheVariants as lexer
 use Rattle.kom_framing.specs.declared.lexer.Step.{Step}
 use Rattle.kom_framing.specs.declared.lexer.Step.TheVariants as step
-use Rattle.kom_framing.specs.Lexing.{Run, Inside, Behind, Goes, Unfits, move, move_in_run, Going, reached, onward}
+use Rattle.kom_framing.specs.Lexing.{Run, Inside, Past, Goes, Unfits, move, move_in_run, Going, reached, onward}
 use Rattle.kom_framing.specs.Scanning.{IsRun, IsMove, LeadsOn, Does}
 use Rattle.kom_framing.proofs.Looks.{look, blank, feed, digit, hollerith, open_brace, close_brace, star, other}
 
@@ -83,56 +83,56 @@ does_move step.Unfit before bytes byte rest moved = λ tokens. ap (reached token
 
 -- ---- many bytes of a string
 
-inside_goes : (lacking : ℕ) (tokens : List Token) (text front : List ℕ) → length front ≤ lacking → onward (Going tokens (Inside lacking text)) front ≡ Going tokens (Inside (lacking - length front) (text ++ front))
+inside_goes : (lacking : ℕ) (tokens : List Token) (text prefix : List ℕ) → length prefix ≤ lacking → onward (Going tokens (Inside lacking text)) prefix ≡ Going tokens (Inside (lacking - length prefix) (text ++ prefix))
 inside_goes lacking tokens text [] short =
     let none : lacking ≡ lacking - 0 = omega arith in
     ap (λ (n : ℕ). Going tokens (Inside n text)) none ∙ ap (λ (t : List ℕ). Going tokens (Inside (lacking - 0) t)) (sym (append-nil text))
-inside_goes zero tokens text (byte ∷ front) short = absurd (omega arith)
-inside_goes (suc lacking) tokens text (byte ∷ front) short =
-    let fewer : lacking - length front ≡ suc lacking - length (byte ∷ front) = omega arith in
-    ap (λ (t : List Token). onward (Going t (Inside lacking (text ++ byte ∷ []))) front) (append-nil tokens)
-    ∙ inside_goes lacking tokens (text ++ byte ∷ []) front (omega arith)
-    ∙ ap (λ (n : ℕ). Going tokens (Inside n ((text ++ byte ∷ []) ++ front))) fewer
-    ∙ ap (λ (t : List ℕ). Going tokens (Inside (suc lacking - length (byte ∷ front)) t)) (append_assoc text (byte ∷ []) front)
+inside_goes zero tokens text (byte ∷ prefix) short = absurd (omega arith)
+inside_goes (suc lacking) tokens text (byte ∷ prefix) short =
+    let fewer : lacking - length prefix ≡ suc lacking - length (byte ∷ prefix) = omega arith in
+    ap (λ (t : List Token). onward (Going t (Inside lacking (text ++ byte ∷ []))) prefix) (append-nil tokens)
+    ∙ inside_goes lacking tokens (text ++ byte ∷ []) prefix (omega arith)
+    ∙ ap (λ (n : ℕ). Going tokens (Inside n ((text ++ byte ∷ []) ++ prefix))) fewer
+    ∙ ap (λ (t : List ℕ). Going tokens (Inside (suc lacking - length (byte ∷ prefix)) t)) (append_assoc text (byte ∷ []) prefix)
 
-inside_ends : (lacking : ℕ) (tokens : List Token) (text front : List ℕ) → length front ≡ lacking + 1 → onward (Going tokens (Inside lacking text)) front ≡ Going (tokens ++ Text (text ++ front) ∷ []) Behind
+inside_ends : (lacking : ℕ) (tokens : List Token) (text prefix : List ℕ) → length prefix ≡ lacking + 1 → onward (Going tokens (Inside lacking text)) prefix ≡ Going (tokens ++ Text (text ++ prefix) ∷ []) Past
 inside_ends lacking tokens text [] whole = absurd (omega arith)
 inside_ends zero tokens text (byte ∷ []) whole = refl
-inside_ends zero tokens text (byte ∷ second ∷ front) whole = absurd (omega arith)
-inside_ends (suc lacking) tokens text (byte ∷ front) whole =
-    ap (λ (t : List Token). onward (Going t (Inside lacking (text ++ byte ∷ []))) front) (append-nil tokens)
-    ∙ inside_ends lacking tokens (text ++ byte ∷ []) front (omega arith)
-    ∙ ap (λ (t : List ℕ). Going (tokens ++ Text t ∷ []) Behind) (append_assoc text (byte ∷ []) front)
+inside_ends zero tokens text (byte ∷ second ∷ prefix) whole = absurd (omega arith)
+inside_ends (suc lacking) tokens text (byte ∷ prefix) whole =
+    ap (λ (t : List Token). onward (Going t (Inside lacking (text ++ byte ∷ []))) prefix) (append-nil tokens)
+    ∙ inside_ends lacking tokens (text ++ byte ∷ []) prefix (omega arith)
+    ∙ ap (λ (t : List ℕ). Going (tokens ++ Text t ∷ []) Past) (append_assoc text (byte ∷ []) prefix)
 
-pub string_ends : (start lacking place : ℕ) (bytes behind : List ℕ) → 1 ≤ lacking → lacking ≤ length behind → length bytes ≡ place → start ≤ place → LeadsOn lacking (Some (span.Text start (place + lacking))) lexer.Behind (lexer.Inside start lacking) bytes behind
-string_ends start lacking place bytes behind lacks within at begun =
-    let front : List ℕ = take lacking behind in
-    let count : length front ≡ lacking = length-take-le lacking behind within in
-    let grown : drop start (bytes ++ front) ≡ drop start bytes ++ front = drop-append-le start bytes front (omega arith) in
-    let ended : slice_range (bytes ++ front) start (place + lacking) ≡ drop start bytes ++ front =
-    ap (take (place + lacking - start)) grown ∙ take_all (place + lacking - start) (drop start bytes ++ front) (omega (arith, length-append (drop start bytes) front, length-drop start bytes)) in
+pub string_ends : (start lacking place : ℕ) (bytes tail : List ℕ) → 1 ≤ lacking → lacking ≤ length tail → length bytes ≡ place → start ≤ place → LeadsOn lacking (Some (span.Text start (place + lacking))) lexer.Past (lexer.Inside start lacking) bytes tail
+string_ends start lacking place bytes tail lacks within at begun =
+    let prefix : List ℕ = take lacking tail in
+    let count : length prefix ≡ lacking = length-take-le lacking tail within in
+    let grown : drop start (bytes ++ prefix) ≡ drop start bytes ++ prefix = drop-append-le start bytes prefix (omega arith) in
+    let ended : slice_range (bytes ++ prefix) start (place + lacking) ≡ drop start bytes ++ prefix =
+    ap (take (place + lacking - start)) grown ∙ take_all (place + lacking - start) (drop start bytes ++ prefix) (omega (arith, length-append (drop start bytes) prefix, length-drop start bytes)) in
     record {
       some = lacks;
       within = within;
-      onward_is = λ tokens. inside_ends (lacking - 1) tokens (drop start bytes) front (omega arith) ∙ ap (λ (t : List ℕ). Going (tokens ++ Text t ∷ []) Behind) (sym ended);
+      onward_is = λ tokens. inside_ends (lacking - 1) tokens (drop start bytes) prefix (omega arith) ∙ ap (λ (t : List ℕ). Going (tokens ++ Text t ∷ []) Past) (sym ended);
       sound = tt;
       spans = ((omega arith, omega arith), tt);
     }
 
-pub string_goes : (start lacking left place : ℕ) (bytes behind : List ℕ) → 1 ≤ left → left < lacking → length behind ≡ left → length bytes ≡ place → start ≤ place → LeadsOn left None (lexer.Inside start (lacking - left)) (lexer.Inside start lacking) bytes behind
-string_goes start lacking left place bytes behind some fewer whole at begun =
-    let all : take left behind ≡ behind = take_all left behind (omega arith) in
-    let count : length (take left behind) ≡ left = length-take-le left behind (omega arith) in
-    let grown : drop start bytes ++ take left behind ≡ drop start (bytes ++ take left behind) = sym (drop-append-le start bytes (take left behind) (omega arith)) in
-    let less : lacking - 1 - length (take left behind) ≡ lacking - left - 1 = omega arith in
+pub string_goes : (start lacking left place : ℕ) (bytes tail : List ℕ) → 1 ≤ left → left < lacking → length tail ≡ left → length bytes ≡ place → start ≤ place → LeadsOn left None (lexer.Inside start (lacking - left)) (lexer.Inside start lacking) bytes tail
+string_goes start lacking left place bytes tail some fewer whole at begun =
+    let all : take left tail ≡ tail = take_all left tail (omega arith) in
+    let count : length (take left tail) ≡ left = length-take-le left tail (omega arith) in
+    let grown : drop start bytes ++ take left tail ≡ drop start (bytes ++ take left tail) = sym (drop-append-le start bytes (take left tail) (omega arith)) in
+    let less : lacking - 1 - length (take left tail) ≡ lacking - left - 1 = omega arith in
     record {
       some = some;
       within = omega arith;
-      onward_is = λ tokens. inside_goes (lacking - 1) tokens (drop start bytes) (take left behind) (omega arith)
-          ∙ ap (λ (n : ℕ). Going tokens (Inside n (drop start bytes ++ take left behind))) less
+      onward_is = λ tokens. inside_goes (lacking - 1) tokens (drop start bytes) (take left tail) (omega arith)
+          ∙ ap (λ (n : ℕ). Going tokens (Inside n (drop start bytes ++ take left tail))) less
           ∙ ap (λ (t : List ℕ). Going tokens (Inside (lacking - left - 1) t)) grown
-          ∙ sym (ap (λ (t : List Token). Going t (Inside (lacking - left - 1) (drop start (bytes ++ take left behind)))) (append-nil tokens));
-      sound = record { begun = omega (arith, length-append bytes (take left behind)); lacks = omega arith };
+          ∙ sym (ap (λ (t : List Token). Going t (Inside (lacking - left - 1) (drop start (bytes ++ take left tail)))) (append-nil tokens));
+      sound = record { begun = omega (arith, length-append bytes (take left tail)); lacks = omega arith };
       spans = tt;
     }
 

@@ -2,7 +2,7 @@
 use Rattle.std.proofs.Common.{◌≡◌, ℕ, ◌+◌, ◌<◌, ◌≤◌, Bool, true, false, ltb, List, [], ◌∷◌, ◌++◌, length, Option, Some, None, refl, ap, ◌∙◌, arith}
 use Rattle.std.proofs.lemmas.Bool.{lt-ltb, le-ltb}
 use Rattle.kom_types.specs.Token.{Token}
-use Rattle.kom_types.specs.Grammar.{Form, Front, Whole, Unfit, line_form, greeting_form}
+use Rattle.kom_types.specs.Grammar.{Form, Prefix, Whole, Unfit, line_form, greeting_form}
 use Rattle.kom_types.specs.Stream.{Fault, Malformed, LineTooLong, Split, longest_line, longest_stream, Verdict, GoesOn, Ends, Fails, verdict, line_verdict, greeting_verdict, with_line, stopped_in, lines_from, greeting_from}
 
 -- ---- what a verdict makes of a stream
@@ -28,8 +28,8 @@ greeting-cons place text byte bytes judged e = ap (after_letter place text byte 
 abbrev choice : {X : Type 0} → Bool → X → X → X
 choice b x y = elim b [ true ↦ x | false ↦ y ]
 
-front_goes_on : {X : Type 0} (place : ℕ) (form : Form X) → place < longest_stream → form ≡ Front → verdict place false form ≡ GoesOn
-front_goes_on place form early e =
+prefix_goes_on : {X : Type 0} (place : ℕ) (form : Form X) → place < longest_stream → form ≡ Prefix → verdict place false form ≡ GoesOn
+prefix_goes_on place form early e =
     ap (verdict place false) e ∙ ap (λ (b : Bool). choice b GoesOn (Fails (Malformed place))) (lt-ltb place longest_stream early)
 
 whole_ends : {X : Type 0} (place : ℕ) (form : Form X) (x : X) → place < longest_stream → form ≡ Whole x → verdict place false form ≡ Ends x
@@ -40,32 +40,32 @@ pub unfit_fails : {X : Type 0} (place : ℕ) (long : Bool) (form : Form X) → f
 unfit_fails place long form e = ap (verdict place long) e
 
 late_fails : {X : Type 0} (place : ℕ) (long : Bool) (form : Form X) → longest_stream ≤ place → verdict place long form ≡ Fails (Malformed place)
-late_fails place long Front late = ap (λ (b : Bool). choice b (choice long (Fails (LineTooLong place)) GoesOn) (Fails (Malformed place))) (le-ltb place longest_stream late)
+late_fails place long Prefix late = ap (λ (b : Bool). choice b (choice long (Fails (LineTooLong place)) GoesOn) (Fails (Malformed place))) (le-ltb place longest_stream late)
 late_fails place long (Whole x) late = ap (λ (b : Bool). choice b (choice long (Fails (LineTooLong place)) (Ends x)) (Fails (Malformed place))) (le-ltb place longest_stream late)
 late_fails place long Unfit late = refl
 
 -- no rule makes these bytes unfit
 abbrev pub Fits : {X : Type 0} → Form X → Type 0
-Fits Front = Unit {0}
+Fits Prefix = Unit {0}
 Fits (Whole x) = Unit {0}
 Fits Unfit = ⊥
 
 long_fails : {X : Type 0} (place : ℕ) (form : Form X) → place < longest_stream → Fits form → verdict place true form ≡ Fails (LineTooLong place)
-long_fails place Front early fits = ap (λ (b : Bool). choice b (Fails (LineTooLong place)) (Fails (Malformed place))) (lt-ltb place longest_stream early)
+long_fails place Prefix early fits = ap (λ (b : Bool). choice b (Fails (LineTooLong place)) (Fails (Malformed place))) (lt-ltb place longest_stream early)
 long_fails place (Whole x) early fits = ap (λ (b : Bool). choice b (Fails (LineTooLong place)) (Fails (Malformed place))) (lt-ltb place longest_stream early)
 long_fails place Unfit early fits = absurd fits
 
-short_line : (place : ℕ) (front : List ℕ) → length front ≤ longest_line → line_verdict place front ≡ verdict place false (line_form front)
-short_line place front short = ap (λ (b : Bool). verdict place b (line_form front)) (le-ltb longest_line (length front) short)
+short_line : (place : ℕ) (prefix : List ℕ) → length prefix ≤ longest_line → line_verdict place prefix ≡ verdict place false (line_form prefix)
+short_line place prefix short = ap (λ (b : Bool). verdict place b (line_form prefix)) (le-ltb longest_line (length prefix) short)
 
-long_line : (place : ℕ) (front : List ℕ) → longest_line < length front → line_verdict place front ≡ verdict place true (line_form front)
-long_line place front long = ap (λ (b : Bool). verdict place b (line_form front)) (lt-ltb longest_line (length front) long)
+long_line : (place : ℕ) (prefix : List ℕ) → longest_line < length prefix → line_verdict place prefix ≡ verdict place true (line_form prefix)
+long_line place prefix long = ap (λ (b : Bool). verdict place b (line_form prefix)) (lt-ltb longest_line (length prefix) long)
 
 -- ---- one byte of a line
 
-pub line_goes_on : (place : ℕ) (text : List ℕ) (byte : ℕ) (bytes : List ℕ) → place < longest_stream → length (text ++ byte ∷ []) ≤ longest_line → line_form (text ++ byte ∷ []) ≡ Front → lines_from place text (byte ∷ bytes) ≡ lines_from (place + 1) (text ++ byte ∷ []) bytes
+pub line_goes_on : (place : ℕ) (text : List ℕ) (byte : ℕ) (bytes : List ℕ) → place < longest_stream → length (text ++ byte ∷ []) ≤ longest_line → line_form (text ++ byte ∷ []) ≡ Prefix → lines_from place text (byte ∷ bytes) ≡ lines_from (place + 1) (text ++ byte ∷ []) bytes
 line_goes_on place text byte bytes early short e =
-    lines-cons place text byte bytes GoesOn (short_line place (text ++ byte ∷ []) short ∙ front_goes_on place (line_form (text ++ byte ∷ [])) early e)
+    lines-cons place text byte bytes GoesOn (short_line place (text ++ byte ∷ []) short ∙ prefix_goes_on place (line_form (text ++ byte ∷ [])) early e)
 
 pub line_ends : (place : ℕ) (text : List ℕ) (byte : ℕ) (bytes : List ℕ) (tokens : List Token) → place < longest_stream → length (text ++ byte ∷ []) ≤ longest_line → line_form (text ++ byte ∷ []) ≡ Whole tokens → lines_from place text (byte ∷ bytes) ≡ with_line tokens place (lines_from (place + 1) [] bytes)
 line_ends place text byte bytes tokens early short e =
@@ -83,8 +83,8 @@ line_too_long place text byte bytes early long fits =
 
 -- ---- one byte of a greeting
 
-pub greeting_goes_on : (place : ℕ) (text : List ℕ) (byte : ℕ) (bytes : List ℕ) → place < longest_stream → greeting_form (text ++ byte ∷ []) ≡ Front → greeting_from place text (byte ∷ bytes) ≡ greeting_from (place + 1) (text ++ byte ∷ []) bytes
-greeting_goes_on place text byte bytes early e = greeting-cons place text byte bytes GoesOn (front_goes_on place (greeting_form (text ++ byte ∷ [])) early e)
+pub greeting_goes_on : (place : ℕ) (text : List ℕ) (byte : ℕ) (bytes : List ℕ) → place < longest_stream → greeting_form (text ++ byte ∷ []) ≡ Prefix → greeting_from place text (byte ∷ bytes) ≡ greeting_from (place + 1) (text ++ byte ∷ []) bytes
+greeting_goes_on place text byte bytes early e = greeting-cons place text byte bytes GoesOn (prefix_goes_on place (greeting_form (text ++ byte ∷ [])) early e)
 
 pub greeting_ends : (place : ℕ) (text : List ℕ) (byte : ℕ) (bytes name : List ℕ) → place < longest_stream → greeting_form (text ++ byte ∷ []) ≡ Whole name → greeting_from place text (byte ∷ bytes) ≡ record (lines_from (place + 1) [] bytes) { greeting = Some name }
 greeting_ends place text byte bytes name early e = greeting-cons place text byte bytes (Ends name) (whole_ends place (greeting_form (text ++ byte ∷ [])) name early e)
@@ -97,7 +97,7 @@ greeting_late place text byte bytes late = greeting-cons place text byte bytes (
 
 -- ---- a stream that goes on
 
--- what was split, and the lines behind it from its rest on, if it is not at fault
+-- what was split, and the lines after it from its rest on, if it is not at fault
 abbrev extended_by : Option Fault → Split → ℕ → List ℕ → Split
 extended_by None split place bytes = let more = lines_from place split.rest bytes in record { greeting = split.greeting; lines = split.lines ++ more.lines; rest = more.rest; fault = more.fault }
 extended_by (Some fault) split place bytes = split
@@ -125,17 +125,17 @@ with_line-extended (token ∷ tokens) end split place bytes = elim (split.fault)
 ]
 
 -- the lines of a stream that goes on
-pub lines-append : (place : ℕ) (text front bytes : List ℕ) → lines_from place text (front ++ bytes) ≡ extended (lines_from place text front) (place + length front) bytes
+pub lines-append : (place : ℕ) (text prefix bytes : List ℕ) → lines_from place text (prefix ++ bytes) ≡ extended (lines_from place text prefix) (place + length prefix) bytes
 lines-append place text [] bytes =
     let same : place ≡ place + 0 = omega arith in
     ap (λ (p : ℕ). lines_from p text bytes) same
     ∙ ap (λ (g : Option (List ℕ)). let more = lines_from (place + 0) text bytes in record { greeting = g; lines = more.lines; rest = more.rest; fault = more.fault }) (no_greeting (place + 0) text bytes)
-lines-append place text (byte ∷ front) bytes =
-    let next : place + 1 + length front ≡ place + length (byte ∷ front) = omega arith in
-    elim (line_verdict place (text ++ byte ∷ [])) as (λ v. after_byte place text byte (front ++ bytes) v ≡ extended (after_byte place text byte front v) (place + length (byte ∷ front)) bytes) [
-      | GoesOn ↦ lines-append (place + 1) (text ++ byte ∷ []) front bytes ∙ ap (λ (p : ℕ). extended (lines_from (place + 1) (text ++ byte ∷ []) front) p bytes) next
-      | Ends tokens ↦ ap (with_line tokens place) (lines-append (place + 1) [] front bytes ∙ ap (λ (p : ℕ). extended (lines_from (place + 1) [] front) p bytes) next)
-          ∙ with_line-extended tokens place (lines_from (place + 1) [] front) (place + length (byte ∷ front)) bytes
+lines-append place text (byte ∷ prefix) bytes =
+    let next : place + 1 + length prefix ≡ place + length (byte ∷ prefix) = omega arith in
+    elim (line_verdict place (text ++ byte ∷ [])) as (λ v. after_byte place text byte (prefix ++ bytes) v ≡ extended (after_byte place text byte prefix v) (place + length (byte ∷ prefix)) bytes) [
+      | GoesOn ↦ lines-append (place + 1) (text ++ byte ∷ []) prefix bytes ∙ ap (λ (p : ℕ). extended (lines_from (place + 1) (text ++ byte ∷ []) prefix) p bytes) next
+      | Ends tokens ↦ ap (with_line tokens place) (lines-append (place + 1) [] prefix bytes ∙ ap (λ (p : ℕ). extended (lines_from (place + 1) [] prefix) p bytes) next)
+          ∙ with_line-extended tokens place (lines_from (place + 1) [] prefix) (place + length (byte ∷ prefix)) bytes
       | Fails fault ↦ refl
     ]
 
@@ -154,43 +154,43 @@ name_extended name split place bytes = elim (split.fault) as (λ f. record (exte
 ]
 
 -- a stream that goes on
-pub greeting-append : (place : ℕ) (text front bytes : List ℕ) → greeting_from place text (front ++ bytes) ≡ greeted (greeting_from place text front) (place + length front) bytes
+pub greeting-append : (place : ℕ) (text prefix bytes : List ℕ) → greeting_from place text (prefix ++ bytes) ≡ greeted (greeting_from place text prefix) (place + length prefix) bytes
 greeting-append place text [] bytes =
     let same : place ≡ place + 0 = omega arith in
     ap (λ (p : ℕ). greeting_from p text bytes) same
-greeting-append place text (byte ∷ front) bytes =
-    let next : place + 1 + length front ≡ place + length (byte ∷ front) = omega arith in
-    elim (greeting_verdict place (text ++ byte ∷ [])) as (λ v. after_letter place text byte (front ++ bytes) v ≡ greeted (after_letter place text byte front v) (place + length (byte ∷ front)) bytes) [
-      | GoesOn ↦ greeting-append (place + 1) (text ++ byte ∷ []) front bytes ∙ ap (λ (p : ℕ). greeted (greeting_from (place + 1) (text ++ byte ∷ []) front) p bytes) next
-      | Ends name ↦ ap (λ (s : Split). record s { greeting = Some name }) (lines-append (place + 1) [] front bytes ∙ ap (λ (p : ℕ). extended (lines_from (place + 1) [] front) p bytes) next)
-          ∙ name_extended name (lines_from (place + 1) [] front) (place + length (byte ∷ front)) bytes
+greeting-append place text (byte ∷ prefix) bytes =
+    let next : place + 1 + length prefix ≡ place + length (byte ∷ prefix) = omega arith in
+    elim (greeting_verdict place (text ++ byte ∷ [])) as (λ v. after_letter place text byte (prefix ++ bytes) v ≡ greeted (after_letter place text byte prefix v) (place + length (byte ∷ prefix)) bytes) [
+      | GoesOn ↦ greeting-append (place + 1) (text ++ byte ∷ []) prefix bytes ∙ ap (λ (p : ℕ). greeted (greeting_from (place + 1) (text ++ byte ∷ []) prefix) p bytes) next
+      | Ends name ↦ ap (λ (s : Split). record s { greeting = Some name }) (lines-append (place + 1) [] prefix bytes ∙ ap (λ (p : ℕ). extended (lines_from (place + 1) [] prefix) p bytes) next)
+          ∙ name_extended name (lines_from (place + 1) [] prefix) (place + length (byte ∷ prefix)) bytes
       | Fails fault ↦ refl
     ]
 
 -- ---- what is left of a greeting
 
-no_front_chosen : {X : Type 0} (place : ℕ) (x : X) (early long : Bool) → choice early (choice long (Fails (LineTooLong place)) (Ends x)) (Fails (Malformed place)) ≡ GoesOn → ⊥
-no_front_chosen place x true true e = cc
-no_front_chosen place x true false e = cc
-no_front_chosen place x false long e = cc
+no_prefix_chosen : {X : Type 0} (place : ℕ) (x : X) (early long : Bool) → choice early (choice long (Fails (LineTooLong place)) (Ends x)) (Fails (Malformed place)) ≡ GoesOn → ⊥
+no_prefix_chosen place x true true e = cc
+no_prefix_chosen place x true false e = cc
+no_prefix_chosen place x false long e = cc
 
-whole_is_no_front : {X : Type 0} (place : ℕ) (long : Bool) (x : X) → verdict place long (Whole x) ≡ GoesOn → ⊥
-whole_is_no_front place long x e = no_front_chosen place x (ltb place longest_stream) long e
+whole_is_no_prefix : {X : Type 0} (place : ℕ) (long : Bool) (x : X) → verdict place long (Whole x) ≡ GoesOn → ⊥
+whole_is_no_prefix place long x e = no_prefix_chosen place x (ltb place longest_stream) long e
 
-goes_on_front : {X : Type 0} (place : ℕ) (long : Bool) (form : Form X) → verdict place long form ≡ GoesOn → form ≡ Front
-goes_on_front place long Front e = refl
-goes_on_front place long (Whole x) e = absurd (whole_is_no_front place long x e)
-goes_on_front place long Unfit e = absurd cc
+goes_on_prefix : {X : Type 0} (place : ℕ) (long : Bool) (form : Form X) → verdict place long form ≡ GoesOn → form ≡ Prefix
+goes_on_prefix place long Prefix e = refl
+goes_on_prefix place long (Whole x) e = absurd (whole_is_no_prefix place long x e)
+goes_on_prefix place long Unfit e = absurd cc
 
-abbrev LeavesFront : Split → Type 0
-LeavesFront split = split.greeting ≡ None → split.fault ≡ None → greeting_form split.rest ≡ Front
+abbrev LeavesPrefix : Split → Type 0
+LeavesPrefix split = split.greeting ≡ None → split.fault ≡ None → greeting_form split.rest ≡ Prefix
 
-leaves_at : (place : ℕ) (text : List ℕ) (byte : ℕ) (bytes : List ℕ) (judged : Verdict (List ℕ)) → greeting_verdict place (text ++ byte ∷ []) ≡ judged → (greeting_form (text ++ byte ∷ []) ≡ Front → LeavesFront (greeting_from (place + 1) (text ++ byte ∷ []) bytes)) → LeavesFront (after_letter place text byte bytes judged)
-leaves_at place text byte bytes GoesOn e later = later (goes_on_front place false (greeting_form (text ++ byte ∷ [])) e)
+leaves_at : (place : ℕ) (text : List ℕ) (byte : ℕ) (bytes : List ℕ) (judged : Verdict (List ℕ)) → greeting_verdict place (text ++ byte ∷ []) ≡ judged → (greeting_form (text ++ byte ∷ []) ≡ Prefix → LeavesPrefix (greeting_from (place + 1) (text ++ byte ∷ []) bytes)) → LeavesPrefix (after_letter place text byte bytes judged)
+leaves_at place text byte bytes GoesOn e later = later (goes_on_prefix place false (greeting_form (text ++ byte ∷ [])) e)
 leaves_at place text byte bytes (Ends name) e later = λ none sound. absurd cc
 leaves_at place text byte bytes (Fails fault) e later = λ none sound. absurd cc
 
-pub leaves_front : (place : ℕ) (text bytes : List ℕ) → greeting_form text ≡ Front → LeavesFront (greeting_from place text bytes)
-leaves_front place text [] front = λ none sound. front
-leaves_front place text (byte ∷ bytes) front =
-    leaves_at place text byte bytes (greeting_verdict place (text ++ byte ∷ [])) refl (λ f. leaves_front (place + 1) (text ++ byte ∷ []) bytes f)
+pub leaves_prefix : (place : ℕ) (text bytes : List ℕ) → greeting_form text ≡ Prefix → LeavesPrefix (greeting_from place text bytes)
+leaves_prefix place text [] prefix = λ none sound. prefix
+leaves_prefix place text (byte ∷ bytes) prefix =
+    leaves_at place text byte bytes (greeting_verdict place (text ++ byte ∷ [])) refl (λ f. leaves_prefix (place + 1) (text ++ byte ∷ []) bytes f)

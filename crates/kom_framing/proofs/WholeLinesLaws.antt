@@ -13,7 +13,7 @@ use Rattle.kom_framing.specs.Spans.{tokens_of}
 use Rattle.kom_framing.specs.BegunLines.{fault_seen, IsLine, FailsAt, ScansOn, ScansTo, units_at}
 use Rattle.kom_framing.specs.WholeLines.{AreLines, Continues}
 
--- the units of a line and of those behind it
+-- the units of a line and of those after it
 pub with_line-units : (tokens : List Token) (end : ℕ) (split : Split) → map unit.Line (with_line tokens end split).lines ≡ units_at tokens end ++ map unit.Line split.lines
 with_line-units [] end split = refl
 with_line-units (token ∷ tokens) end split = refl

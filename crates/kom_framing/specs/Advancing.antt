@@ -1,6 +1,6 @@
 -- What a splitter keeps of the unit that has begun, and what a piece of the stream makes of it.
 use Rattle.std.specs.Prelude.{◌≡◌, ℕ, ◌+◌, ◌-◌, ◌≤◌, List, [], ◌∷◌, ◌++◌, length, Option, Some, None, Result, Ok, Err}
-use Rattle.kom_types.specs.declared.refusal.Memory.{Memory}
+use Rattle.kom_types.specs.declared.shortage.Memory.{Memory}
 use Rattle.kom_types.specs.Stream as stream
 use Rattle.kom_framing.specs.declared.fault.Fault.{Fault}
 use Rattle.kom_framing.specs.declared.lines.Lines.{Lines}
@@ -62,7 +62,7 @@ pub record GoesWrong (units : List StreamUnit) (old new : BegunUnit) (place : �
   pub kept : IsBegunUnit new
   pub falls : (fed : List ℕ) (taken : List StreamUnit) → Stands units (begun_seen old) place fed taken → Falls units found (fed ++ piece) taken
 
--- the unit ends with the last of so many bytes, and these lines are behind it
+-- the unit ends with the last of so many bytes, and these lines are after it
 pub record GoesPast (units : List StreamUnit) (old new : BegunUnit) (place : ℕ) (piece : List ℕ) (count : ℕ) (lines : Lines) : Type 0 where
   pub can_end : CanEnd new
   pub line : IsLine lines.begun
@@ -77,7 +77,7 @@ pub record IsSame (old new : BegunUnit) : Type 0 where
   pub kept : IsBegunUnit new
   pub seen : begun_seen new ≡ begun_seen old
 
--- how the unit that has begun goes on with a piece that begins at this place, behind these units
+-- how the unit that has begun goes on with a piece that begins at this place, after these units
 abbrev pub Advances : Result Advanced Memory → List StreamUnit → BegunUnit → ℕ → List ℕ → BegunUnit → Type 0
 Advances (Ok advanced.Goes) units old place piece new = GoesOn units old new place piece
 Advances (Ok (advanced.Fails found)) units old place piece new = GoesWrong units old new place piece found

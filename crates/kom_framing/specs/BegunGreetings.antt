@@ -1,6 +1,6 @@
 -- A greeting that has begun, and what a piece of the stream makes of it.
 use Rattle.std.specs.Prelude.{◌≡◌, ℕ, ◌+◌, ◌^◌, ◌<◌, ◌≤◌, List, [], ◌++◌, length, take, drop, Some, None, Result, Ok, Err}
-use Rattle.kom_types.specs.declared.refusal.Memory.{Memory}
+use Rattle.kom_types.specs.declared.shortage.Memory.{Memory}
 use Rattle.kom_types.specs.Stream as stream
 use Rattle.kom_framing.specs.declared.fault.Fault.{Fault}
 use Rattle.kom_framing.specs.declared.greeting.Phase.{Phase}

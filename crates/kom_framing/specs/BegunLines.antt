@@ -1,6 +1,6 @@
 -- A line that has begun, and what a piece of the stream makes of it.
 use Rattle.std.specs.Prelude.{◌≡◌, ℕ, ◌+◌, ◌-◌, ◌<◌, ◌≤◌, List, [], ◌∷◌, ◌++◌, length, take, drop, Some, None, Result, Ok, Err}
-use Rattle.kom_types.specs.declared.refusal.Memory.{Memory}
+use Rattle.kom_types.specs.declared.shortage.Memory.{Memory}
 use Rattle.kom_types.specs.Token.{Token}
 use Rattle.kom_types.specs.Stream as stream
 use Rattle.kom_framing.specs.declared.fault.Fault.{Fault}
@@ -31,7 +31,7 @@ IsGoing (Going tokens mode) = Unit {0}
 IsGoing (Ended tokens) = ⊥
 IsGoing Stuck = ⊥
 
--- spans were added behind the old ones, and none was changed
+-- spans were added after the old ones, and none was changed
 abbrev pub Extends : List Span → List Span → Type 0
 Extends old new = take (length old) new ≡ old
 
@@ -48,7 +48,7 @@ pub record IsUnfitAt (text window : List ℕ) (at : ℕ) : Type 0 where
   pub going : IsGoing (walk (text ++ take at window))
   pub stuck : walk (text ++ take (at + 1) window) ≡ Stuck
 
--- how a window was read behind these bytes of the line
+-- how a window was read after these bytes of the line
 abbrev pub Reads : Result Reading Memory → List ℕ → List ℕ → List Span → Type 0
 Reads (Ok (reading.Goes after)) text window spans = IsBegun (text ++ window) spans after
 Reads (Ok (reading.Ends count)) text window spans = EndsIn text window spans count

@@ -18,18 +18,18 @@ name_from count name = elim (nat_lt (length name) count) [
   | false ↦ elim (length name == count) [ true ↦ Ended name | false ↦ Stuck ]
 ]
 
--- a byte behind the letter
-abbrev pub hear_behind_letter : ℕ → ByteKind → Greets
-hear_behind_letter byte kind.Blank = Going Letter
-hear_behind_letter byte kind.Digit = Going (Length 1 (byte - 48))
-hear_behind_letter byte kind.LineFeed = Stuck
-hear_behind_letter byte kind.Hollerith = Stuck
-hear_behind_letter byte kind.Open = Stuck
-hear_behind_letter byte kind.Close = Stuck
-hear_behind_letter byte kind.Star = Stuck
-hear_behind_letter byte kind.Other = Stuck
+-- a byte after the letter
+abbrev pub hear_after_letter : ℕ → ByteKind → Greets
+hear_after_letter byte kind.Blank = Going Letter
+hear_after_letter byte kind.Digit = Going (Length 1 (byte - 48))
+hear_after_letter byte kind.LineFeed = Stuck
+hear_after_letter byte kind.Hollerith = Stuck
+hear_after_letter byte kind.Open = Stuck
+hear_after_letter byte kind.Close = Stuck
+hear_after_letter byte kind.Star = Stuck
+hear_after_letter byte kind.Other = Stuck
 
--- a byte behind so many digits, at least one, that spell this number
+-- a byte after so many digits, at least one, that spell this number
 abbrev pub hear_in_length : ℕ → ℕ → ℕ → ByteKind → Greets
 hear_in_length count number byte kind.Digit = elim (nat_lt count 4) [ true ↦ Going (Length (count + 1) (10 * number + (byte - 48))) | false ↦ Stuck ]
 hear_in_length count number byte kind.Hollerith = elim (nat_le number 1024) [ true ↦ name_from number [] | false ↦ Stuck ]
@@ -42,7 +42,7 @@ hear_in_length count number byte kind.Other = Stuck
 
 abbrev pub hear : Opening → ℕ → Greets
 hear Nothing byte = elim (byte == 65) [ true ↦ Going Letter | false ↦ Stuck ]
-hear Letter byte = hear_behind_letter byte (kind_of byte)
+hear Letter byte = hear_after_letter byte (kind_of byte)
 hear (Length count number) byte = hear_in_length count number byte (kind_of byte)
 hear (Name count name) byte = name_from count (name ++ byte ∷ [])
 

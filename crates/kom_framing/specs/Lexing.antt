@@ -6,12 +6,12 @@ use Rattle.kom_types.specs.ByteKind.{kind_of}
 use Rattle.kom_types.specs.Token.{Token, Digits, Text, Open, Close, Star, number_of, is_integer}
 
 -- how far a line has come: between two tokens, in a run of these digits, in a string of which these bytes have
--- come and one more than so many are to come, or directly behind a token
+-- come and one more than so many are to come, or directly after a token
 pub data Mode : Type 0 where
   Between : Mode
   Run : List ℕ → Mode
   Inside : ℕ → List ℕ → Mode
-  Behind : Mode
+  Past : Mode
 
 -- what a byte does: tokens end with it and the line goes on, the line ends, or the byte fits nowhere
 pub data Move : Type 0 where
@@ -21,19 +21,19 @@ pub data Move : Type 0 where
 
 -- a string of which these bytes have come and so many are to come
 abbrev pub string_from : ℕ → List ℕ → Move
-string_from zero text = Goes (Text text ∷ []) Behind
+string_from zero text = Goes (Text text ∷ []) Past
 string_from (suc lacking) text = Goes [] (Inside lacking text)
 
--- a byte behind a token, which it may have ended
-abbrev pub move_behind : List Token → ByteKind → Move
-move_behind tokens kind.Blank = Goes tokens Between
-move_behind tokens kind.LineFeed = Ends tokens
-move_behind tokens kind.Digit = Unfits
-move_behind tokens kind.Hollerith = Unfits
-move_behind tokens kind.Open = Unfits
-move_behind tokens kind.Close = Unfits
-move_behind tokens kind.Star = Unfits
-move_behind tokens kind.Other = Unfits
+-- a byte after a token, which it may have ended
+abbrev pub move_past : List Token → ByteKind → Move
+move_past tokens kind.Blank = Goes tokens Between
+move_past tokens kind.LineFeed = Ends tokens
+move_past tokens kind.Digit = Unfits
+move_past tokens kind.Hollerith = Unfits
+move_past tokens kind.Open = Unfits
+move_past tokens kind.Close = Unfits
+move_past tokens kind.Star = Unfits
+move_past tokens kind.Other = Unfits
 
 -- a byte where a token may begin
 abbrev pub move_between : ℕ → ByteKind → Move
@@ -41,17 +41,17 @@ move_between byte kind.Blank = Goes [] Between
 move_between byte kind.LineFeed = Ends []
 move_between byte kind.Digit = Goes [] (Run (byte ∷ []))
 move_between byte kind.Hollerith = Unfits
-move_between byte kind.Open = Goes (Open ∷ []) Behind
-move_between byte kind.Close = Goes (Close ∷ []) Behind
-move_between byte kind.Star = Goes (Star ∷ []) Behind
+move_between byte kind.Open = Goes (Open ∷ []) Past
+move_between byte kind.Close = Goes (Close ∷ []) Past
+move_between byte kind.Star = Goes (Star ∷ []) Past
 move_between byte kind.Other = Unfits
 
--- a byte behind digits
+-- a byte after digits
 abbrev pub move_in_run : List ℕ → ℕ → ByteKind → Move
 move_in_run digits byte kind.Digit = elim (nat_lt (length digits) 16) [ true ↦ Goes [] (Run (digits ++ byte ∷ [])) | false ↦ Unfits ]
 move_in_run digits byte kind.Hollerith = elim (is_integer digits) [ true ↦ string_from (number_of digits) [] | false ↦ Unfits ]
-move_in_run digits byte kind.Blank = move_behind (Digits digits ∷ []) kind.Blank
-move_in_run digits byte kind.LineFeed = move_behind (Digits digits ∷ []) kind.LineFeed
+move_in_run digits byte kind.Blank = move_past (Digits digits ∷ []) kind.Blank
+move_in_run digits byte kind.LineFeed = move_past (Digits digits ∷ []) kind.LineFeed
 move_in_run digits byte kind.Open = Unfits
 move_in_run digits byte kind.Close = Unfits
 move_in_run digits byte kind.Star = Unfits
@@ -61,7 +61,7 @@ abbrev pub move : Mode → ℕ → Move
 move Between byte = move_between byte (kind_of byte)
 move (Run digits) byte = move_in_run digits byte (kind_of byte)
 move (Inside lacking text) byte = string_from lacking (text ++ byte ∷ [])
-move Behind byte = move_behind [] (kind_of byte)
+move Past byte = move_past [] (kind_of byte)
 
 -- a line's bytes so far: they go on with these tokens whole, they are a line, or no line begins so
 pub data State : Type 0 where

@@ -9,14 +9,14 @@ use Rattle.kom_framing.specs.declared.lexer.Lexer.TheVariants as lexer
 use Rattle.kom_framing.specs.declared.lexer.Step.{Step}
 use Rattle.kom_framing.specs.declared.lexer.Step.TheVariants as step
 use Rattle.kom_framing.specs.Spans.{tokens_of, AreWithin}
-use Rattle.kom_framing.specs.Lexing.{Mode, Between, Run, Inside, Behind, Goes, Ends, Unfits, move, Going, Ended, Stuck, onward, walk}
+use Rattle.kom_framing.specs.Lexing.{Mode, Between, Run, Inside, Past, Goes, Ends, Unfits, move, Going, Ended, Stuck, onward, walk}
 
 -- how far a line of these bytes has come, by what the lexer knows
 abbrev pub mode_of : Lexer → List ℕ → Mode
 mode_of lexer.Between bytes = Between
 mode_of (lexer.Run start number) bytes = Run (drop start bytes)
 mode_of (lexer.Inside start lacking) bytes = Inside (lacking - 1) (drop start bytes)
-mode_of lexer.Behind bytes = Behind
+mode_of lexer.Past bytes = Past
 
 -- the lexer's numbers are those of a run of digits at the end of these bytes
 pub record IsRun (start number : ℕ) (bytes : List ℕ) : Type 0 where
@@ -25,7 +25,7 @@ pub record IsRun (start number : ℕ) (bytes : List ℕ) : Type 0 where
   pub spells : number_of (drop start bytes) ≡ number
   pub small : number < 10 ^ (length bytes - start)
 
--- the lexer's numbers are those of a string that lacks bytes behind these
+-- the lexer's numbers are those of a string that lacks bytes after these
 pub record IsInside (start lacking : ℕ) (bytes : List ℕ) : Type 0 where
   pub begun : start ≤ length bytes
   pub lacks : 1 ≤ lacking
@@ -34,13 +34,13 @@ abbrev pub IsLexer : Lexer → List ℕ → Type 0
 IsLexer lexer.Between bytes = Unit {0}
 IsLexer (lexer.Run start number) bytes = IsRun start number bytes
 IsLexer (lexer.Inside start lacking) bytes = IsInside start lacking bytes
-IsLexer lexer.Behind bytes = Unit {0}
+IsLexer lexer.Past bytes = Unit {0}
 
 -- the tokens that end with a step
 abbrev pub tokens_ended : List ℕ → Option Span → List Token
 tokens_ended bytes span = tokens_of bytes (option_to_list span)
 
--- the step over a byte of this kind behind a token, or behind digits that it makes a token
+-- the step over a byte of this kind after a token, or after digits that it makes a token
 abbrev pub step_by : Option Span → ByteKind → Step
 step_by span kind.Blank = step.Goes 1 span lexer.Between
 step_by span kind.LineFeed = step.Ends span
@@ -58,24 +58,24 @@ IsMove (step.Goes count span after) before bytes byte = (count ≡ 1) × (move (
 IsMove (step.Ends span) before bytes byte = (move (mode_of before bytes) byte ≡ Ends (tokens_ended (bytes ++ byte ∷ []) span)) × AreWithin (length bytes + 1) (option_to_list span)
 IsMove step.Unfit before bytes byte = move (mode_of before bytes) byte ≡ Unfits
 
--- so many bytes of those behind lead on, with these tokens
-pub record LeadsOn (count : ℕ) (span : Option Span) (after before : Lexer) (bytes behind : List ℕ) : Type 0 where
+-- so many bytes of those after lead on, with these tokens
+pub record LeadsOn (count : ℕ) (span : Option Span) (after before : Lexer) (bytes tail : List ℕ) : Type 0 where
   pub some : 1 ≤ count
-  pub within : count ≤ length behind
-  pub onward_is : (tokens : List Token) → onward (Going tokens (mode_of before bytes)) (take count behind) ≡ Going (tokens ++ tokens_ended (bytes ++ take count behind) span) (mode_of after (bytes ++ take count behind))
-  pub sound : IsLexer after (bytes ++ take count behind)
+  pub within : count ≤ length tail
+  pub onward_is : (tokens : List Token) → onward (Going tokens (mode_of before bytes)) (take count tail) ≡ Going (tokens ++ tokens_ended (bytes ++ take count tail) span) (mode_of after (bytes ++ take count tail))
+  pub sound : IsLexer after (bytes ++ take count tail)
   pub spans : AreWithin (length bytes + count) (option_to_list span)
 
 -- the line ends with the next byte, and with these tokens
-pub record EndsLine (span : Option Span) (before : Lexer) (bytes behind : List ℕ) : Type 0 where
-  pub onward_is : (tokens : List Token) → onward (Going tokens (mode_of before bytes)) (take 1 behind) ≡ Ended (tokens ++ tokens_ended (bytes ++ take 1 behind) span)
+pub record EndsLine (span : Option Span) (before : Lexer) (bytes tail : List ℕ) : Type 0 where
+  pub onward_is : (tokens : List Token) → onward (Going tokens (mode_of before bytes)) (take 1 tail) ≡ Ended (tokens ++ tokens_ended (bytes ++ take 1 tail) span)
   pub spans : AreWithin (length bytes + 1) (option_to_list span)
 
--- a step is what the bytes behind these do to the line
+-- a step is what the bytes after these do to the line
 abbrev pub Does : Step → Lexer → List ℕ → List ℕ → Type 0
-Does (step.Goes count span after) before bytes behind = LeadsOn count span after before bytes behind
-Does (step.Ends span) before bytes behind = EndsLine span before bytes behind
-Does step.Unfit before bytes behind = (tokens : List Token) → onward (Going tokens (mode_of before bytes)) (take 1 behind) ≡ Stuck
+Does (step.Goes count span after) before bytes tail = LeadsOn count span after before bytes tail
+Does (step.Ends span) before bytes tail = EndsLine span before bytes tail
+Does step.Unfit before bytes tail = (tokens : List Token) → onward (Going tokens (mode_of before bytes)) (take 1 tail) ≡ Stuck
 
 -- what is kept of the bytes of a line that goes on
 pub record IsBegun (bytes : List ℕ) (spans : List Span) (lexer : Lexer) : Type 0 where

@@ -61,7 +61,7 @@ pub record IsAt (splitting : Splitting) (fed : List ℕ) (taken : List StreamUni
   pub begun : splitting.fault ≡ None → splitting.begun ≡ begun_of (stream.stream_of fed)
   pub place : splitting.fault ≡ None → splitting.place ≡ length fed
 
--- what a feed answers that meets this fault, and each one behind it
+-- what a feed answers that meets this fault, and each one after it
 abbrev pub refusal_at : stream.Fault → FeedRefusal
 refusal_at (stream.Malformed place) = refusal.Malformed place
 refusal_at (stream.LineTooLong place) = refusal.LineTooLong place

@@ -7,7 +7,7 @@ pub record Written : Type 0 where
   pub bytes : List ℕ
   pub joined : Bool
 
--- with this word at the end; the word behind it follows without a space where this one is a sign before a reference
+-- with this word at the end; the word after it follows without a space where this one is a sign before a reference
 abbrev pub put : List ℕ → Bool → Written → Written
 put word sign written = record { bytes = (if written.joined then written.bytes else written.bytes ++ 32 ∷ []) ++ word; joined = sign }
 

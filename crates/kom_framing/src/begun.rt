@@ -27,7 +27,7 @@ pub enum BegunUnit {
 pub enum Advanced {
     /// It took the whole piece.
     Goes,
-    /// It ends with the last of so many bytes, and these lines are behind it.
+    /// It ends with the last of so many bytes, and these lines are after it.
     Ends(usize, Lines),
     /// It is at fault.
     Fails(Fault),
@@ -95,7 +95,7 @@ fn advance_greeting(
         Scan::Goes => Ok(Advanced::Goes),
         Scan::Fails(found) => Ok(Advanced::Fails(found)),
         Scan::Ends(count) => {
-            match lines_behind(units, place + count as u64, &piece[count..]) {
+            match lines_after(units, place + count as u64, &piece[count..]) {
                 Ok(lines) => Ok(Advanced::Ends(count, lines)),
                 Err(Memory) => {
                     greeting.name.truncate(known);
@@ -126,7 +126,7 @@ fn advance_line(
         Scan::Goes => Ok(Advanced::Goes),
         Scan::Fails(found) => Ok(Advanced::Fails(found)),
         Scan::Ends(count) => {
-            match lines_behind(units, place + count as u64, &piece[count..]) {
+            match lines_after(units, place + count as u64, &piece[count..]) {
                 Ok(lines) => Ok(Advanced::Ends(count, lines)),
                 Err(Memory) => {
                     line.text.truncate(known);
@@ -139,8 +139,8 @@ fn advance_line(
     }
 }
 
-// The lines behind the end of a unit, with room for them and for the unit.
-fn lines_behind(units: &mut VecDeque<Unit>, place: u64, rest: &[u8]) -> Result<Lines, Memory>
+// The lines after the end of a unit, with room for them and for the unit.
+fn lines_after(units: &mut VecDeque<Unit>, place: u64, rest: &[u8]) -> Result<Lines, Memory>
     requires { place ≤ stream.longest_stream }
     ensures lines { IfOk result (λ lines. AreLines lines place rest.now) }
     ensures room { IfOk result (λ lines. deque_len units.new + (deque_len lines.whole + 1) ≤ deque_capacity units.new) }

@@ -89,10 +89,10 @@ impl Greeting {
     }
 }
 
-// The bytes at the front of a piece that a stream may have.
+// The bytes at the start of a piece that a stream may have.
 fn window_of(place: u64, piece: &[u8]) -> &[u8]
     requires { place ≤ stream.longest_stream }
-    ensures front { result.now ≡ take (length result.now) piece.now }
+    ensures prefix { result.now ≡ take (length result.now) piece.now }
     ensures within { length result.now ≤ length piece.now }
     ensures place { place + length result.now ≤ stream.longest_stream }
     ensures full { length result.now ≢ length piece.now → place + length result.now ≡ stream.longest_stream }
@@ -132,7 +132,7 @@ fn hear_byte(phase: Phase, byte: u8, name: &mut Vec<u8>) -> Result<Turn, Memory>
 {
     match phase {
         Phase::Nothing => Ok(turn_at_start(byte)),
-        Phase::Letter => Ok(turn_behind_letter(byte)),
+        Phase::Letter => Ok(turn_after_letter(byte)),
         Phase::Length { digits, number } => Ok(turn_in_length(digits, number, byte)),
         Phase::Name { length } => {
             name.push(byte)?;
@@ -156,8 +156,8 @@ fn turn_at_start(byte: u8) -> Turn
     }
 }
 
-// A byte behind the letter, and perhaps blanks.
-fn turn_behind_letter(byte: u8) -> Turn
+// A byte after the letter, and perhaps blanks.
+fn turn_after_letter(byte: u8) -> Turn
     ensures { (turned : List ℕ) → turned ≡ [] → Turns (Ok result) Phase.Letter turned byte turned }
 {
     match kind_of_byte(byte) {
@@ -170,7 +170,7 @@ fn turn_behind_letter(byte: u8) -> Turn
     }
 }
 
-// A byte behind digits of the name's length.
+// A byte after digits of the name's length.
 fn turn_in_length(digits: usize, number: usize, byte: u8) -> Turn
     requires few { digits ≤ 4 }
     requires small { number < 10 ^ digits }

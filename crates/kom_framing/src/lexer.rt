@@ -4,7 +4,7 @@ ghost use Rattle.kom_framing.specs.Scanning.{IsLexer, IsRun, IsMove, Does, step_
 
 use kom_types::{ByteKind, kind_of_byte};
 
-/// A token, by the bytes of its line that it has: the first, and the first behind it.
+/// A token, by the bytes of its line that it has: the first, and the first after it.
 #[derive(Clone, Copy, Debug)]
 pub enum Span {
     Digits(usize, usize),
@@ -23,8 +23,8 @@ pub enum Lexer {
     Run { start: usize, number: u64 },
     /// In a string from `start` on that lacks so many bytes.
     Inside { start: usize, lacking: usize },
-    /// Directly behind a token.
-    Behind,
+    /// Directly after a token.
+    Past,
 }
 
 /// What the next bytes are to a line.
@@ -39,7 +39,7 @@ pub enum Step {
 }
 
 impl Lexer {
-    /// Looks at the bytes of a window from `at` on, behind the bytes of the line that came before the window.
+    /// Looks at the bytes of a window from `at` on, after the bytes of the line that came before the window.
     pub fn step(self, text: &[u8], window: &[u8], at: usize) -> Step
         requires lexer { IsLexer self (text.now ++ take at window.now) }
         requires some { at < length window.now }
@@ -53,13 +53,13 @@ impl Lexer {
             Lexer::Inside { start, lacking } => {
                 step_inside(start, lacking, place, window.len() - at)
             }
-            Lexer::Behind => step_behind(None, window[at]),
+            Lexer::Past => step_after(None, window[at]),
         }
     }
 }
 
-// A byte behind a token, or behind the digits that it ends.
-fn step_behind(span: Option<Span>, byte: u8) -> Step
+// A byte after a token, or after the digits that it ends.
+fn step_after(span: Option<Span>, byte: u8) -> Step
     ensures { result ≡ step_by span (kind_of byte) }
 {
     match kind_of_byte(byte) {
@@ -69,7 +69,7 @@ fn step_behind(span: Option<Span>, byte: u8) -> Step
     }
 }
 
-// A byte where a token may begin, behind so many bytes.
+// A byte where a token may begin, after so many bytes.
 fn step_between(place: usize, byte: u8) -> Step
     ensures { (bytes : List ℕ) → length bytes ≡ place → IsMove result Lexer.Between bytes byte }
 {
@@ -81,14 +81,14 @@ fn step_between(place: usize, byte: u8) -> Step
             let start = place;
             Step::Goes(1, None, Lexer::Run { start, number })
         }
-        ByteKind::Open => Step::Goes(1, Some(Span::Open), Lexer::Behind),
-        ByteKind::Close => Step::Goes(1, Some(Span::Close), Lexer::Behind),
-        ByteKind::Star => Step::Goes(1, Some(Span::Star), Lexer::Behind),
+        ByteKind::Open => Step::Goes(1, Some(Span::Open), Lexer::Past),
+        ByteKind::Close => Step::Goes(1, Some(Span::Close), Lexer::Past),
+        ByteKind::Star => Step::Goes(1, Some(Span::Star), Lexer::Past),
         ByteKind::Hollerith | ByteKind::Other => Step::Unfit,
     }
 }
 
-// A byte behind digits, behind so many bytes.
+// A byte after digits, after so many bytes.
 fn step_in_run(start: usize, number: u64, place: usize, byte: u8) -> Step
     requires begun { start < place }
     requires short { place ≤ start + 16 }
@@ -112,17 +112,17 @@ fn step_in_run(start: usize, number: u64, place: usize, byte: u8) -> Step
                 Step::Unfit
             }
         }
-        _ => step_behind(Some(Span::Digits(start, place)), byte),
+        _ => step_after(Some(Span::Digits(start, place)), byte),
     }
 }
 
 // The `H` before a string of that many bytes.
 fn step_into(start: usize, lacking: usize) -> Step
-    ensures none { lacking ≡ 0 → result ≡ Step.Goes 1 (Some (Span.Text start start)) Lexer.Behind }
+    ensures none { lacking ≡ 0 → result ≡ Step.Goes 1 (Some (Span.Text start start)) Lexer.Past }
     ensures some { 0 < lacking → result ≡ Step.Goes 1 None (Lexer.Inside start lacking) }
 {
     if lacking == 0 {
-        Step::Goes(1, Some(Span::Text(start, start)), Lexer::Behind)
+        Step::Goes(1, Some(Span::Text(start, start)), Lexer::Past)
     } else {
         Step::Goes(1, None, Lexer::Inside { start, lacking })
     }
@@ -133,13 +133,13 @@ fn step_inside(start: usize, lacking: usize, place: usize, left: usize) -> Step
     requires lacks { 1 ≤ lacking }
     requires some { 1 ≤ left }
     requires room { place + left < 2 ^ 64 }
-    ensures { (bytes behind : List ℕ) → length bytes ≡ place → length behind ≡ left → start ≤ place → Does result (Lexer.Inside start lacking) bytes behind }
+    ensures { (bytes tail : List ℕ) → length bytes ≡ place → length tail ≡ left → start ≤ place → Does result (Lexer.Inside start lacking) bytes tail }
 {
     if lacking <= left {
         Step::Goes(
             lacking,
             Some(Span::Text(start, place + lacking)),
-            Lexer::Behind,
+            Lexer::Past,
         )
     } else {
         let lacking = lacking - left;

@@ -47,7 +47,7 @@ pub enum Reading {
     Unfit(usize),
 }
 
-/// The lines behind the end of a unit, and what came behind them.
+/// The lines after the end of a unit, and what came after them.
 #[derive(Debug, Drop)]
 pub struct Lines {
     pub whole: VecDeque<Unit>,
@@ -156,11 +156,11 @@ impl BegunLine {
     }
 }
 
-// The bytes at the front of a piece that a line of so many bytes may have.
+// The bytes at the start of a piece that a line of so many bytes may have.
 fn window_of(begun: usize, place: u64, piece: &[u8]) -> &[u8]
     requires begun { begun ≤ stream.longest_line }
     requires early { place ≤ stream.longest_stream }
-    ensures front { result.now ≡ take (length result.now) piece.now }
+    ensures prefix { result.now ≡ take (length result.now) piece.now }
     ensures within { length result.now ≤ length piece.now }
     ensures short { begun + length result.now ≤ stream.longest_line }
     ensures place { place + length result.now ≤ stream.longest_stream }

@@ -27,7 +27,7 @@ const fn faulty(stream: &'static [u8], units: &'static [u8], place: u64) -> Row 
     }
 }
 
-// A unit as bytes: the name behind `A`, or the tokens of a line and the place of its line feed.
+// A unit as bytes: the name after `A`, or the tokens of a line and the place of its line feed.
 fn show(shown: &mut Vec<u8>, unit: &Unit) -> Result<(), AllocError> {
     match unit {
         Unit::Hello(name) => {
@@ -184,7 +184,7 @@ fn a_name_has_at_most_1024_bytes(rt: HostRuntime) -> Result<(), Fail> {
     Ok(())
 }
 
-// A greeting, and behind it a line of one string of so many bytes that begins with these bytes.
+// A greeting, and after it a line of one string of so many bytes that begins with these bytes.
 fn long_line(alloc: Global, begin: &[u8], count: usize, end: &[u8]) -> Result<Vec<u8>, AllocError> {
     let mut stream = b"A0H".to_vec(alloc)?;
     stream.extend_from_slice(begin)?;

@@ -7,7 +7,7 @@ pub enum Token<'a> {
     Text(&'a [u8]),
     /// The brace before the elements of an array.
     Open,
-    /// The brace behind the elements of an array.
+    /// The brace after the elements of an array.
     Close,
     /// The star in place of an array's elements.
     Star,

@@ -150,7 +150,7 @@ fn space_before(joined: bool) -> &'static [u8]
     if joined { b"" } else { b" " }
 }
 
-// The last `width` bits of a number as digits, and anything behind them.
+// The last `width` bits of a number as digits, and anything after them.
 fn digits_of(bits: u16, width: u8) -> [u8; 16]
     requires { width ≤ 16 }
     ensures { take width result ≡ bit_string bits width }
@@ -164,12 +164,12 @@ fn digits_of(bits: u16, width: u8) -> [u8; 16]
 }
 
 // Adds both parts at the end, or nothing.
-fn append(out: &mut Vec<u8>, front: &[u8], back: &[u8]) -> Result<(), Memory>
-    ensures ok { OnOk result (out.new.items ≡ out.old.items ++ front.now ++ back.now) }
+fn append(out: &mut Vec<u8>, prefix: &[u8], back: &[u8]) -> Result<(), Memory>
+    ensures ok { OnOk result (out.new.items ≡ out.old.items ++ prefix.now ++ back.now) }
     ensures err { OnErr result (out.new.items ≡ out.old.items) }
 {
     let start = out.len();
-    out.extend_from_slice(front)?;
+    out.extend_from_slice(prefix)?;
     if out.extend_from_slice(back).is_err() {
         out.truncate(start);
         return Err(Memory);

@@ -9,7 +9,7 @@ one_more bits width place digits before within told =
     let next : width - (place + 1) ≡ width - 1 - place = omega arith in
     let this : width - place ≡ suc (width - 1 - place) = omega arith in
     let so_far = rw this at told in
-    ap (λ front. front ++ bit_string bits (width - (place + 1))) (take_more_set digits place _ within)
+    ap (λ prefix. prefix ++ bit_string bits (width - (place + 1))) (take_more_set digits place _ within)
     ∙ append_assoc (take place digits) _ _
     ∙ ap (λ left. take place digits ++ ((48 + bits / 2 ^ (width - 1 - place) % 2) ∷ bit_string bits left)) next
     ∙ so_far
