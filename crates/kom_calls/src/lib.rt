@@ -3,6 +3,7 @@
 
 mod integer;
 mod reader;
+mod sessions;
 #[cfg(test)]
 mod tests;
 

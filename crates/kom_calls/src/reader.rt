@@ -1,10 +1,9 @@
-ghost use Rattle.std.specs.Prelude.{◌≡◌, ◌≢◌, IfOk, IfErr, length};
-ghost use Rattle.kom_types.specs.declared.calls.Call.TheVariants as calls;
-ghost use Rattle.kom_types.specs.Reading.{reading_of};
-ghost use Rattle.kom_calls.specs.declared.reader.CallFault.TheVariants as faults;
-ghost use Rattle.kom_calls.specs.Reads.{reading_told, IsKnown};
+ghost use Rattle.std.specs.Prelude.{◌≡◌, ◌≤◌, IfOk, IfErr, length, drop};
+ghost use Rattle.kom_types.specs.Reading.{reading_of, call_of};
+ghost use Rattle.kom_calls.specs.Reads.{reading_told, call_told, IsKnown, Tells};
 
 use crate::integer::integer;
+use crate::sessions::who_am_i;
 use kom_framing::Line;
 use kom_types::Call;
 
@@ -18,6 +17,7 @@ pub enum CallFault {
 }
 
 /// The reference of a line, and its call with the arguments.
+#[tactic(auto, unfolding(kom_types::specs::Reading::reading_of))]
 pub fn read_call(line: &Line) -> Result<(u32, Call), CallFault>
     ensures reading { reading_of line.now.tokens ≡ reading_told result }
     ensures known { IfOk result (λ read. IsKnown read.1) }
@@ -28,21 +28,22 @@ pub fn read_call(line: &Line) -> Result<(u32, Call), CallFault>
     let Some(reference) = integer(line.token(0)) else {
         return Err(CallFault::Malformed);
     };
-    match integer(line.token(1)) {
-        Some(56) => Ok((reference, who_am_i(line)?)),
-        Some(_) => Err(CallFault::Unknown(reference)),
-        None => Err(CallFault::Malformed),
-    }
+    let Some(number) = integer(line.token(1)) else {
+        return Err(CallFault::Malformed);
+    };
+    let call = read_by_number(number, reference, line)?;
+    Ok((reference, call))
 }
 
-/// Call 56, which has no arguments.
-fn who_am_i(line: &Line) -> Result<Call, CallFault>
-    ensures call { IfOk result (λ call. (call ≡ calls.WhoAmI) × (length line.now.tokens ≡ 2)) }
-    ensures fault { IfErr result (λ fault. (fault ≡ faults.Malformed) × (length line.now.tokens ≢ 2)) }
+/// The call of a number, with the arguments that stand after it in the line.
+fn read_by_number(number: u32, reference: u32, line: &Line) -> Result<Call, CallFault>
+    requires { 2 ≤ length line.now.tokens }
+    ensures call { call_of number (drop 2 line.now.tokens) ≡ call_told result }
+    ensures known { IfOk result IsKnown }
+    ensures told { IfErr result (Tells reference) }
 {
-    if line.len() == 2 {
-        Ok(Call::WhoAmI)
-    } else {
-        Err(CallFault::Malformed)
+    match number {
+        56 => who_am_i(line).ok_or(CallFault::Malformed),
+        _ => Err(CallFault::Unknown(reference)),
     }
 }

@@ -4,18 +4,18 @@ use kom_types::Call;
 use std::alloc::{AllocError, Global};
 use std::test::Fail;
 
-// A line of tokens, and what it reads as.
+// A line of tokens, and the reference of the who-am-i that it reads as, or its fault.
 #[derive(Clone, Copy)]
 struct Row {
     line: &'static [u8],
-    read: Option<(u32, Call)>,
+    who_am_i: Option<u32>,
     fault: Option<CallFault>,
 }
 
 const fn call(line: &'static [u8], reference: u32) -> Row {
     Row {
         line,
-        read: Some((reference, Call::WhoAmI)),
+        who_am_i: Some(reference),
         fault: None,
     }
 }
@@ -23,16 +23,13 @@ const fn call(line: &'static [u8], reference: u32) -> Row {
 const fn refused(line: &'static [u8], fault: CallFault) -> Row {
     Row {
         line,
-        read: None,
+        who_am_i: None,
         fault: Some(fault),
     }
 }
 
-// How the first line behind a greeting reads.
-fn read(
-    alloc: Global,
-    line: &[u8],
-) -> Result<(Option<(u32, Call)>, Option<CallFault>), AllocError> {
+// How the first line after a greeting reads.
+fn read(alloc: Global, line: &[u8]) -> Result<(Option<u32>, Option<CallFault>), AllocError> {
     let mut splitter = Splitter::new(alloc);
     for piece in [b"A1Ha".as_slice(), line] {
         if splitter.feed(piece).is_err() {
@@ -42,7 +39,8 @@ fn read(
     let _greeting = splitter.next_unit();
     match splitter.next_unit() {
         Some(Unit::Line(line)) => match read_call(&line) {
-            Ok(read) => Ok((Some(read), None)),
+            Ok((reference, Call::WhoAmI)) => Ok((Some(reference), None)),
+            Ok((_, Call::Refused(_, _))) => Ok((None, None)),
             Err(fault) => Ok((None, Some(fault))),
         },
         Some(Unit::Hello(_)) | None => Ok((None, None)),
@@ -73,8 +71,8 @@ fn lines_read_as_their_calls(rt: HostRuntime) -> Result<(), Fail> {
     ];
     for row in &rows {
         let line = row.line;
-        let (read, fault) = read(rt.alloc(), line)?;
-        assert_eq!(rt; read, row.read, "of {line:?}");
+        let (who_am_i, fault) = read(rt.alloc(), line)?;
+        assert_eq!(rt; who_am_i, row.who_am_i, "of {line:?}");
         assert_eq!(rt; fault, row.fault, "of {line:?}");
     }
     Ok(())

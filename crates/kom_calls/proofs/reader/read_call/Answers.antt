@@ -1,23 +1,19 @@
-use Rattle.std.proofs.Common.{◌≡◌, Some, sym, ap, ◌∙◌, arith}
+use Rattle.std.proofs.Common.{ap, ◌∙◌}
 use Rattle.std.proofs.lemmas.Result.{err_from_is_err_and}
-use Rattle.kom_types.specs.declared.calls.Call.{Call}
-use Rattle.kom_types.specs.Reading.{Request}
-use Rattle.kom_calls.proofs.Readings.{reads_alone, reads_not}
+use Rattle.kom_calls.proofs.Readings.{with_reference, reads_call, told_err}
 use Rattle.kom_calls.proofs.reader.read_call.Goals as goal
 
-pub returns-in_err-who_am_i-in-Some-eq56-clause-reading :
-    goal.returns-in_err-who_am_i-in-Some-eq56-clause-reading
-returns-in_err-who_am_i-in-Some-eq56-clause-reading c =
-    let number : c.in-Some-eq56.field-0 ≡ 56 = omega (arith, c.in-Some-eq56.field-0-test) in
-    let p = err_from_is_err_and c.from_residual.result c.from_residual.ensures.1 in
-    let h = c.in_err-who_am_i-in-Some-eq56.ensures.fault in
-    rw (p.1, p.2, h.0)
-    (reads_not c.args.line.now.tokens _ _ c.in-Some.reference c.token.ensures c.token-2.ensures (sym c.in-Some.ensures) (sym c.in-Some-eq56.ensures ∙ ap Some number) h.1)
+pub returns-in_err-call-clause-reading : goal.returns-in_err-call-clause-reading
+returns-in_err-call-clause-reading c =
+    let told = err_from_is_err_and c.from_residual.result c.from_residual.ensures.1 in
+    let fault = c.in_err-call.ensures in
+    rw (told.1, told.2)
+    (reads_call c.args.line.now.tokens _ _ c.in-Some.reference c.in-Some-integer.number c.token.ensures
+    c.token-2.ensures c.in-Some.ensures c.in-Some-integer.ensures
+    ∙ ap (with_reference c.in-Some.reference) fault.call ∙ told_err c.in-Some.reference _ fault.told)
 
-pub returns-in_ok-who_am_i-in-Some-eq56-clause-reading :
-    goal.returns-in_ok-who_am_i-in-Some-eq56-clause-reading
-returns-in_ok-who_am_i-in-Some-eq56-clause-reading c =
-    let number : c.in-Some-eq56.field-0 ≡ 56 = omega (arith, c.in-Some-eq56.field-0-test) in
-    let h = c.in_ok-who_am_i-in-Some-eq56.ensures.call in
-    reads_alone c.args.line.now.tokens _ _ c.in-Some.reference c.token.ensures c.token-2.ensures (sym c.in-Some.ensures) (sym c.in-Some-eq56.ensures ∙ ap Some number) h.1
-    ∙ ap (λ (call : Call). Some (let request : Request = record { reference = c.in-Some.reference; call = call } in request)) (sym h.0)
+pub returns-clause-reading : goal.returns-clause-reading
+returns-clause-reading c =
+    reads_call c.args.line.now.tokens _ _ c.in-Some.reference c.in-Some-integer.number c.token.ensures
+    c.token-2.ensures c.in-Some.ensures c.in-Some-integer.ensures
+    ∙ ap (with_reference c.in-Some.reference) c.in_ok-call.ensures.call
