@@ -1,0 +1,5 @@
+pub mod Counting
+pub mod Keeping
+pub mod Places
+pub mod Searching
+pub mod Taking

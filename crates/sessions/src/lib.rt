@@ -1,0 +1,13 @@
+//! The rows of the sessions: the seat of each, and the items that wait for it in a ring.
+#![tactic(auto)]
+
+mod changing;
+mod outbox;
+mod queued;
+mod row;
+mod table;
+#[cfg(test)]
+mod tests;
+
+pub use row::SessionRow;
+pub use table::Sessions;

@@ -1,0 +1,133 @@
+ghost use Rattle.std.specs.Prelude.{◌≡◌, ◌^◌, ◌-◌, ◌++◌, ◌∷◌, [], not, false, None, min, map, filter, find, length, take, option_copied, IfSome, OnOk, OnErr, IsSome, IsTrue, ◌↔◌, MatchOption};
+ghost use Rattle.kom_types.specs.Printing.{print_of};
+ghost use Rattle.kom_types.specs.Sessions.{is_session, waiting_limits, queued, drained_count, drained, changed_session, is_stop, changed};
+ghost use Rattle.sessions.specs.Rows.{AllBelow, IsRising, IsAt, with_row, takes};
+
+use crate::changing::session_of;
+use crate::row::SessionRow;
+use arrayvec::ArrayVec;
+use kom_types::{Item, Memory, Moment, SessionChange};
+use std::alloc::Global;
+use std::marker::Model;
+
+/// The rows of the sessions, in the order of their numbers.
+#[derive(Drop)]
+pub struct Sessions {
+    rows: Vec<SessionRow>,
+}
+
+impl Model for Sessions {
+    ghost use Rattle.std.specs.Prelude.{List};
+    ghost use Rattle.kom_types.specs.Sessions.{Session};
+    ghost use Rattle.sessions.specs.Rows.{IsRising};
+
+    ghost Value = { List Session };
+
+    ghost view = { λ s. s.rows.items };
+
+    ghost invariant = { λ s. IsRising s.rows.items };
+}
+
+impl Sessions {
+    pub fn new(alloc: Global) -> Sessions
+        ensures { result ≡ [] }
+    {
+        Sessions {
+            rows: Vec::new(alloc),
+        }
+    }
+
+    pub fn len(&self) -> usize
+        ensures len { result ≡ length self.now }
+        ensures rising { IsRising self.now }
+    {
+        self.rows.len()
+    }
+
+    pub fn is_empty(&self) -> bool
+        ensures { IsTrue result ↔ (self.now ≡ []) }
+    {
+        self.rows.is_empty()
+    }
+
+    /// Adds a row after the others, whose numbers are below its own.
+    pub fn connect(&mut self, row: SessionRow) -> Result<(), Memory>
+        requires { AllBelow row.seat.number self.old }
+        ensures ok { OnOk result (self.new ≡ self.old ++ row ∷ []) }
+        ensures err { OnErr result (self.new ≡ self.old) }
+    {
+        self.rows.push(row)?;
+        Ok(())
+    }
+
+    /// The row of a session, if it is there.
+    pub fn get(&self, session: u32) -> Option<&SessionRow>
+        ensures { option_copied result ≡ find (is_session session) self.now }
+    {
+        let place = self.search(session)?;
+        Some(&self.rows[place])
+    }
+
+    /// Takes the row of a session out, if it is there.
+    pub fn close(&mut self, session: u32) -> Option<SessionRow>
+        ensures row { result ≡ find (is_session session) self.old }
+        ensures rest { self.new ≡ filter (λ row. not (is_session session row)) self.old }
+    {
+        let place = self.search(session)?;
+        Some(self.rows.remove(place))
+    }
+
+    /// Queues an item that prints to so many bytes for a session, by the entry at this place in the
+    /// history, and says whether it waits now. Takes no memory.
+    pub fn queue(&mut self, session: u32, item: Item, len: u64, entry: u64) -> bool
+        requires there { IsSome (find (is_session session) self.old) }
+        requires len { len ≡ min (length (print_of item)) (2 ^ 64 - 1) }
+        ensures taken { IfSome (find (is_session session) self.old)
+            (λ row. result ≡ takes item row) }
+        ensures rows { self.new ≡ with_row session (queued waiting_limits entry item) self.old }
+    {
+        let place = self.place(session);
+        self.rows[place].queue(item, len, entry)
+    }
+
+    /// Moves the first items that wait for a session, 64 at most, of entries below this one into an
+    /// array. Takes no memory.
+    pub fn drain_into(&mut self, session: u32, below: u64, into: &mut ArrayVec<Item, 64>)
+        requires there { IsSome (find (is_session session) self.old) }
+        requires empty { into.old.items ≡ [] }
+        ensures given { IfSome (find (is_session session) self.old) (λ row. into.new.items
+            ≡ map (λ one. one.item) (take (drained_count below row.waiting) row.waiting)) }
+        ensures rest { self.new ≡ with_row session (drained below) self.old }
+    {
+        let place = self.place(session);
+        self.rows[place].drain_into(below, into);
+    }
+
+    /// Makes a change of a session, at this moment. Takes no memory.
+    pub fn change(&mut self, change: SessionChange, at: Moment)
+        requires of_session { is_stop change ≡ false }
+        requires there { IsSome (find (is_session (changed_session change)) self.old) }
+        ensures { self.new ≡ with_row (changed_session change) (changed change at) self.old }
+    {
+        let place = self.place(session_of(&change));
+        self.rows[place].change(change, at);
+    }
+
+    /// The place of the row of a session that is there.
+    fn place(&self, session: u32) -> usize
+        requires { IsSome (find (is_session session) self.now) }
+        ensures { IsAt self.now session result }
+    {
+        self.search(session).unwrap()
+    }
+
+    /// The place of a session's row, if it is there.
+    fn search(&self, session: u32) -> Option<usize>
+        ensures { MatchOption result (find (is_session session) self.now ≡ None)
+            (IsAt self.now session) }
+    {
+        self.rows
+            .binary_search_by_key(&session, |row| row.seat().number)
+            .ok()
+    }
+}
