@@ -1,6 +1,14 @@
 pub mod Finding
+pub mod Order
+pub mod Keeping
 pub mod Numbers
+pub mod Queueing
+pub mod Changing
+pub mod Soundness
 pub mod Draining
-pub mod Sending
-pub mod Over
-pub mod Fronts
+pub mod Flushing
+pub mod Moving
+pub mod Closing
+pub mod Along
+pub mod Prefixes
+pub mod Complete

@@ -1,31 +1,23 @@
 -- One step of the server.
-use Rattle.std.specs.Prelude.{◌≡◌, ℕ, ◌+◌, ◌<◌, max, not, nat_lt, Bool, false, IsSome, List, [], ◌∷◌, ◌++◌, length, map, filter, take, drop, take_while, Option, Some, None, if◌then◌else◌}
+use Rattle.std.specs.Prelude.{◌≡◌, ℕ, ◌+◌, max, not, ◌||◌, Bool, true, false, List, [], ◌∷◌, ◌++◌, map, filter, if◌then◌else◌}
 use Rattle.kom_types.specs.declared.acts.Act.{Act}
 use Rattle.kom_types.specs.declared.acts.Act.TheVariants as act
 use Rattle.kom_types.specs.declared.acts.Record.{Record}
-use Rattle.kom_types.specs.declared.items.Item.{Item}
+use Rattle.kom_types.specs.declared.calls.Call.{Call}
+use Rattle.kom_types.specs.declared.calls.Reply.{Reply}
+use Rattle.kom_types.specs.declared.calls.Reply.TheVariants as reply
+use Rattle.kom_types.specs.declared.decisions.Decision.{Decision}
+use Rattle.kom_types.specs.declared.effects.Effect.{Effect}
 use Rattle.kom_types.specs.declared.items.Item.TheVariants as item
-use Rattle.kom_model.specs.State.{Waiting, Session, State, is_session, session_of}
-use Rattle.kom_model.specs.Decide.{Decision, decision_of, out_of_memory}
+use Rattle.kom_types.specs.declared.session_changes.SessionChange.{SessionChange}
+use Rattle.kom_types.specs.Sessions.{Session, Limits, waiting_limits, fresh_session, is_session, queued, drained, changed_session, changed, is_stop}
+use Rattle.kom_model.specs.State.{Db, State}
+use Rattle.kom_model.specs.Decide.{asked_in, decision_of, is_firm}
+use Rattle.kom_model.specs.Refusal.{IsPossible}
+use Rattle.kom_model.specs.ToWhom.{Delivery, messages_of}
 
--- how many sessions a run has at most
-abbrev pub most_sessions : ℕ
-most_sessions = 4294967295
-
--- how many items a drain takes at most
-abbrev pub most_drained : ℕ
-most_drained = 64
-
--- An act may be made: a Connect while numbers are left, a flush always, and any other of a session that is there.
-abbrev pub IsPossible : State → Act → Type 0
-IsPossible state (act.Connect user host) = state.connects < most_sessions
-IsPossible state (act.Call session reference call) = IsSome (session_of session state)
-IsPossible state (act.Broken session) = IsSome (session_of session state)
-IsPossible state (act.Drain session) = IsSome (session_of session state)
-IsPossible state act.Flush = Unit {0}
-IsPossible state (act.Close session) = IsSome (session_of session state)
-
--- the session that the record of an act names: that of the act; at a Connect the one that it makes; at a flush 0
+-- the session that the record of an act names: that of the act; at a Connect the one that it makes;
+-- at a flush 0
 abbrev pub session_in : State → Act → ℕ
 session_in state (act.Connect user host) = state.connects + 1
 session_in state (act.Call session reference call) = session
@@ -34,86 +26,135 @@ session_in state (act.Drain session) = session
 session_in state act.Flush = 0
 session_in state (act.Close session) = session
 
--- a call alone may be short
-abbrev pub MayBeShort : Act → Bool → Type 0
-MayBeShort (act.Call session reference call) short = Unit {0}
-MayBeShort (act.Connect user host) short = short ≡ false
-MayBeShort (act.Broken session) short = short ≡ false
-MayBeShort (act.Drain session) short = short ≡ false
-MayBeShort act.Flush short = short ≡ false
-MayBeShort (act.Close session) short = short ≡ false
+-- the moment of an entry: the one handed in, or that of the entry before it where that is later
+abbrev pub moment_of : State → ℕ → ℕ
+moment_of state given = max state.moment given
+
+-- A call that is not firm may be answered that memory ran out, and a flush may be refused by the
+-- store. The record of no other act is short.
+abbrev pub MayBeShort : State → ℕ → Act → Bool → Type 0
+MayBeShort state moment what false = Unit {0}
+MayBeShort state moment (act.Call session reference call) true =
+    is_firm (asked_in state (moment_of state moment) session reference) call ≡ false
+MayBeShort state moment act.Flush true = Unit {0}
+MayBeShort state moment (act.Connect user host) true = ⊥
+MayBeShort state moment (act.Broken session) true = ⊥
+MayBeShort state moment (act.Drain session) true = ⊥
+MayBeShort state moment (act.Close session) true = ⊥
 
 -- a record may follow in a history that led to this state
 pub record MayFollow (state : State) (made : Record) : Type 0 where
   pub possible : IsPossible state made.entry.act
   pub session : made.session ≡ session_in state made.entry.act
-  pub short : MayBeShort made.entry.act made.short
-
--- the moment of an entry: the one handed in, or that of the entry before it where that is later
-abbrev pub moment_of : State → Record → ℕ
-moment_of state made = max state.moment made.entry.moment
+  pub short : MayBeShort state made.entry.moment made.entry.act made.short
 
 -- with this change in the row of a session
 abbrev pub with_session : ℕ → (Session → Session) → State → State
-with_session number change state = record state { sessions = map (λ session. if is_session number session then change session else session) state.sessions }
-
--- with this item waiting behind the others; it is queued by the entry that is made
-abbrev pub queued : Item → State → Session → Session
-queued item state session = record session { waiting = session.waiting ++ record { item = item; entry = state.entries } ∷ [] }
-
-abbrev pub queue : ℕ → Item → State → State
-queue number item state = with_session number (queued item state) state
-
--- the call has come to this, which is told to the caller
-abbrev pub answered : ℕ → ℕ → Decision → State → State
-answered session reference decision state = queue session (item.Reply reference decision.reply) state
-
--- the session that a Connect makes: the greeting's answer waits for it
-abbrev pub connected : State → Record → List ℕ → List ℕ → Session
-connected state made user host = record {
-  number = state.connects + 1;
-  pass = made.entry.pass;
-  user = user;
-  host = host;
-  connected = moment_of state made;
-  waiting = record { item = item.Hello; entry = state.entries } ∷ [];
+with_session number change state = record state {
+  sessions = map (λ row. if is_session number row then change row else row) state.sessions;
 }
 
--- how many items a drain takes of those that wait: the first, 64 at most, whose entries stand below the stable number
-abbrev pub drained_count : State → List Waiting → ℕ
-drained_count state waiting = length (take most_drained (take_while (λ one. nat_lt one.entry state.stable) waiting))
+-- Items are queued one by one for their sessions, by the entry that is made, under these limits.
+abbrev pub queue_all : Limits → List Delivery → State → State
+queue_all limits [] state = state
+queue_all limits (delivery ∷ deliveries) state =
+    queue_all limits deliveries
+    (with_session delivery.session (queued limits state.entries delivery.item) state)
 
-abbrev pub drained : State → Session → Session
-drained state session = record session { waiting = drop (drained_count state session.waiting) session.waiting }
+-- what a call comes to at this moment
+abbrev pub decision_at : State → ℕ → ℕ → ℕ → Call → Decision
+decision_at state moment session reference call =
+    decision_of (asked_in state (moment_of state moment) session reference) call
 
--- what an act changes, beside the history's length and moment
-abbrev pub changed : State → Record → State
-changed state made = elim made.entry.act [
-  | act.Connect user host ↦ record state { sessions = state.sessions ++ connected state made user host ∷ []; connects = state.connects + 1 }
-  | act.Call session reference call ↦ answered session reference (if made.short then out_of_memory else decision_of state session call) state
-  | act.Broken session ↦ queue session item.Fault state
-  | act.Drain session ↦ with_session session (drained state) state
-  | act.Flush ↦ record state { stable = state.entries }
-  | act.Close session ↦ record state { sessions = filter (λ row. not (is_session session row)) state.sessions }
+-- the reply to a call, for its session
+abbrev pub reply_to : ℕ → ℕ → Reply → Delivery
+reply_to session reference body = record { session = session; item = item.Reply reference body }
+
+-- the messages of a call, and then its reply; a short one is answered 39 alone, out of memory
+abbrev pub call_deliveries : State → ℕ → ℕ → ℕ → Call → Bool → List Delivery
+call_deliveries state moment session reference call true =
+    reply_to session reference (reply.Refused 39 0) ∷ []
+call_deliveries state moment session reference call false =
+    let decision = decision_at state moment session reference call in
+    messages_of (asked_in state (moment_of state moment) session reference) call decision
+    ++ reply_to session reference decision.reply ∷ []
+
+-- What an act sends, in order.
+abbrev pub deliveries : State → Record → List Delivery
+deliveries state made = elim made.entry.act [
+  | act.Connect user host ↦ record { session = state.connects + 1; item = item.Hello } ∷ []
+  | act.Call session reference call ↦ call_deliveries state made.entry.moment session reference
+      call made.short
+  | act.Broken session ↦ record { session = session; item = item.Fault } ∷ []
+  | act.Drain session ↦ []
+  | act.Flush ↦ []
+  | act.Close session ↦ []
 ]
+
+-- What an effect makes of the stored rows: there are no effects yet.
+abbrev pub apply : Effect → Db → Db
+apply effect db = db
+
+abbrev pub apply_all : List Effect → Db → Db
+apply_all [] db = db
+apply_all (effect ∷ effects) db = apply_all effects (apply effect db)
+
+-- what a change of a session makes of the server, at a moment
+abbrev pub make_change : ℕ → SessionChange → State → State
+make_change moment change state =
+    record (with_session (changed_session change) (changed change moment) state)
+    { stopped = state.stopped || is_stop change }
+
+abbrev pub make_changes : ℕ → List SessionChange → State → State
+make_changes moment [] state = state
+make_changes moment (change ∷ changes) state =
+    make_changes moment changes (make_change moment change state)
+
+-- what a decision changes: the stored rows by its effects, and the sessions by its changes
+abbrev pub carry_out : ℕ → Decision → State → State
+carry_out moment decision state =
+    make_changes moment decision.changes (record state { db = apply_all decision.effects state.db })
+
+-- the session that a Connect makes is added
+abbrev pub with_connected : ℕ → ℕ → List ℕ → List ℕ → State → State
+with_connected pass moment user host state = record state {
+  sessions = state.sessions ++ fresh_session (state.connects + 1) pass user host moment ∷ [];
+  connects = state.connects + 1;
+}
+
+-- a flush makes all entries before it stable, unless the store refuses it
+abbrev pub flushed : Bool → State → State
+flushed true state = record state { store_refused = true }
+flushed false state = record state { stable = state.entries }
+
+-- a session is there no more
+abbrev pub without : ℕ → State → State
+without session state = record state {
+  sessions = filter (λ row. not (is_session session row)) state.sessions;
+}
+
+-- What an act changes, beside what it sends and the history's length and moment.
+abbrev pub acted : State → Record → State
+acted state made = let moment = moment_of state made.entry.moment in elim made.entry.act [
+  | act.Connect user host ↦ with_connected made.entry.pass moment user host state
+  | act.Call session reference call ↦ elim made.short [
+    | true ↦ state
+    | false ↦ carry_out moment (decision_at state made.entry.moment session reference call) state
+  ]
+  | act.Broken session ↦ state
+  | act.Drain session ↦ with_session session (drained state.stable) state
+  | act.Flush ↦ flushed made.short state
+  | act.Close session ↦ without session state
+]
+
+-- the same, with what it sends
+abbrev pub sent : State → Record → State
+sent state made = queue_all waiting_limits (deliveries state made) (acted state made)
 
 -- The state that follows a record.
 abbrev pub after : State → Record → State
-after state made = record (changed state made) { entries = state.entries + 1; moment = moment_of state made }
-
--- what waits in a row, if there is one
-abbrev pub waiting_in : Option Session → List Waiting
-waiting_in None = []
-waiting_in (Some session) = session.waiting
-
--- what waits for a session
-abbrev pub waiting_for : ℕ → State → List Waiting
-waiting_for number state = waiting_in (session_of number state)
-
--- what a drain of the session takes
-abbrev pub drained_from : ℕ → State → List Waiting
-drained_from number state = take (drained_count state (waiting_for number state)) (waiting_for number state)
-
--- the items that a drain of the session gives
-abbrev pub given_from : ℕ → State → List Item
-given_from number state = map (λ one. one.item) (drained_from number state)
+after state made =
+    record (sent state made) {
+      entries = state.entries + 1;
+      moment = moment_of state made.entry.moment;
+    }

@@ -1,28 +1,47 @@
--- What a call is answered. (Protocol A, "Protocol Requests".)
-use Rattle.std.specs.Prelude.{ℕ}
+-- What a call is answered and changes. (Protocol A, "Protocol Requests".)
+use Rattle.std.specs.Prelude.{ℕ, Bool, true, false, ◌==◌, ◌||◌, ◌&&◌, not, is_some, Some, None}
 use Rattle.kom_types.specs.declared.calls.Call.{Call}
 use Rattle.kom_types.specs.declared.calls.Call.TheVariants as call
-use Rattle.kom_types.specs.declared.calls.Reply.{Reply}
-use Rattle.kom_types.specs.declared.calls.Reply.TheVariants as reply
-use Rattle.kom_model.specs.State.{State}
+use Rattle.kom_types.specs.declared.decisions.Decision.{Decision}
+use Rattle.kom_types.specs.calls.Numbers.{number_of_call}
+use Rattle.kom_model.specs.State.{State, seats_of}
+use Rattle.kom_model.specs.Kinds.{firm_numbers, accept_async, is_among}
+use Rattle.kom_model.specs.calls.Call.{Asked, Definition, refuse}
+use Rattle.kom_model.specs.calls.Sessions as Sessions
 
--- what a call comes to
-pub record Decision : Type 0 where
-  pub reply : Reply
+-- what a call in this state may read, at this moment
+abbrev pub asked_in : State → ℕ → ℕ → ℕ → Asked
+asked_in state moment session reference =
+    record {
+      db = state.db;
+      seats = seats_of state;
+      moment = moment;
+      session = session;
+      reference = reference;
+    }
 
--- call 56, who-am-i: the caller's session number
-abbrev pub who_am_i : State → ℕ → Decision
-who_am_i state session = record { reply = reply.Number session }
+-- The definition of each call.
+abbrev pub definition_of : Asked → Call → Definition
+definition_of asked call.WhoAmI = Sessions.who_am_i asked
+definition_of asked (call.Refused code status) = Sessions.refused code status
 
--- what the reader refused is answered so
-abbrev pub refused : ℕ → ℕ → Decision
-refused code status = record { reply = reply.Refused code status }
+-- what a definition comes to
+abbrev pub decided : Definition → Decision
+decided definition =
+    elim definition.early [ Some refused ↦ refuse refused | None ↦ definition.rest ]
 
--- What a session's call comes to in a state.
-abbrev pub decision_of : State → ℕ → Call → Decision
-decision_of state session call.WhoAmI = who_am_i state session
-decision_of state session (call.Refused code status) = refused code status
+-- What a session's call comes to.
+unfoldable pub decision_of : Asked → Call → Decision
+decision_of asked call = decided (definition_of asked call)
 
--- the answer to a call for which there was no memory
-abbrev pub out_of_memory : Decision
-out_of_memory = record { reply = reply.Refused 39 0 }
+-- whether the reader refused the call
+abbrev pub was_refused : Call → Bool
+was_refused call.WhoAmI = false
+was_refused (call.Refused code status) = true
+
+-- A firm call is never answered that memory ran out: it is of those that take none, or the reader
+-- refused it, or an early guard does, unless it makes a change all the same.
+unfoldable pub is_firm : Asked → Call → Bool
+is_firm asked call = let number = number_of_call call in
+    is_among firm_numbers number || was_refused call
+    || (not (number == accept_async) && is_some (definition_of asked call).early)

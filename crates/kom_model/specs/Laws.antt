@@ -1,22 +1,70 @@
 -- What holds of every legal history.
-use Rattle.std.specs.Prelude.{◌≡◌, ℕ, ◌<◌, List, ◌++◌, flat_map}
+use Rattle.std.specs.Prelude.{◌≡◌, ℕ, ◌+◌, ◌<◌, ◌≤◌, false, List, [], ◌∷◌, ◌++◌, length, flat_map, Some, IsTrue, ◌↔◌}
 use Rattle.std.specs.List.{AllByRecursion}
+use Rattle.kom_types.specs.declared.acts.Act.TheVariants as act
 use Rattle.kom_types.specs.declared.acts.Record.{Record}
+use Rattle.kom_types.specs.declared.answers.Refusal.TheVariants.{Gone}
+use Rattle.kom_types.specs.declared.answers.Why.TheVariants.{Dropped}
 use Rattle.kom_types.specs.declared.items.Item.{Item}
+use Rattle.kom_types.specs.Printing.{print_of}
+use Rattle.kom_types.specs.Sessions.{Waiting, waiting_limits, fits, printed_bytes}
 use Rattle.kom_model.specs.State.{State, IsSound}
-use Rattle.kom_model.specs.After.{drained_from}
+use Rattle.kom_model.specs.After.{MayFollow}
 use Rattle.kom_model.specs.Legal.{IsLegal, state_after}
-use Rattle.kom_model.specs.Out.{out_of, given_along}
+use Rattle.kom_model.specs.Out.{out_of, given_along, given_from, drained_from}
+use Rattle.kom_model.specs.Refusal.{refusal_of}
 
--- What the drains of a session give, one behind the other, is a front of what it is to be sent.
-abbrev pub GivesFronts : Type 0
-GivesFronts = (state : State) (number : ℕ) (history : List Record) → IsSound state → IsLegal state history →
-    (more : List Item) × (flat_map (λ items. items) (given_along state number history) ++ more ≡ out_of state number history)
+-- the first list is a prefix of the second
+abbrev pub IsPrefix : List Item → List Item → Type 0
+IsPrefix prefix whole = (more : List Item) × (prefix ++ more ≡ whole)
+
+-- all that the drains of a session gave along a history
+abbrev pub all_given : State → ℕ → List Record → List Item
+all_given state number history = flat_map (λ items. items) (given_along state number history)
+
+-- What the drains of a session give, one after the other, is a prefix of what it is to be sent.
+abbrev pub GivesPrefixes : Type 0
+GivesPrefixes =
+    (state : State) (number : ℕ) (history : List Record) → IsSound state → IsLegal state history →
+    IsPrefix (all_given state number history) (out_of state number history)
 
 -- A drain takes items of entries below the stable number alone.
 abbrev pub GivesStable : Type 0
-GivesStable = (state : State) (number : ℕ) → AllByRecursion (λ one. one.entry < state.stable) (drained_from number state)
+GivesStable = (state : State) (number : ℕ) →
+    AllByRecursion (λ one. one.entry < state.stable) (drained_from number state)
 
--- A legal history keeps the numbers of sessions apart.
+-- a drain of the session that gives nothing may follow after this history
+abbrev pub GivesNothing : State → ℕ → List Record → Record → Type 0
+GivesNothing state number history drain =
+    (drain.entry.act ≡ act.Drain number) × MayFollow (state_after state history) drain
+    × (given_from number (state_after state history) ≡ [])
+
+-- Once a drain after a flush that the store took gives nothing, all was given that was to be sent
+-- before the flush.
+abbrev pub GivesAllBefore : Type 0
+GivesAllBefore =
+    (state : State) (number : ℕ) (before between : List Record) (flush drain : Record) →
+    IsSound state →
+    IsLegal state (before ++ flush ∷ between) → flush.entry.act ≡ act.Flush → flush.short ≡ false →
+    GivesNothing state number (before ++ flush ∷ between) drain →
+    IsPrefix (out_of state number before) (all_given state number (before ++ flush ∷ between))
+
+-- A drain is refused as dropped only where all was given that the session was to be sent.
+abbrev pub GivesAllToDropped : Type 0
+GivesAllToDropped =
+    (state : State) (number : ℕ) (history : List Record) → IsSound state → IsLegal state history →
+    refusal_of (state_after state history) (act.Drain number) ≡ Some (Gone Dropped) →
+    all_given state number history ≡ out_of state number history
+
+-- A legal history keeps a sound state sound.
 abbrev pub StaysSound : Type 0
-StaysSound = (state : State) (history : List Record) → IsSound state → IsLegal state history → IsSound (state_after state history)
+StaysSound =
+    (state : State) (history : List Record) → IsSound state → IsLegal state history →
+    IsSound (state_after state history)
+
+-- An item still fits exactly where it is not the 4,097th that waits, and all of them print to
+-- 33,554,432 bytes at most.
+abbrev pub FitsWithin : Type 0
+FitsWithin = (waiting : List Waiting) (item : Item) →
+    IsTrue (fits waiting_limits waiting item)
+    ↔ ((length waiting < 4096) × (printed_bytes waiting + length (print_of item) ≤ 33554432))

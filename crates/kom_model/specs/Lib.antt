@@ -1,5 +1,9 @@
 pub mod State
+pub mod Kinds
+pub mod calls
 pub mod Decide
+pub mod ToWhom
+pub mod Refusal
 pub mod After
 pub mod Legal
 pub mod Out

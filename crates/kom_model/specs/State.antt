@@ -1,45 +1,61 @@
 -- What the server is, as plain rows.
-use Rattle.std.specs.Prelude.{ℕ, ◌≤◌, ◌==◌, Bool, nat_eq, List, [], map, find, Option}
+use Rattle.std.specs.Prelude.{ℕ, ◌≤◌, ◌<◌, Bool, false, nat_eq, List, [], ◌∷◌, map, find, Option}
 use Rattle.std.specs.List.{AllByRecursion, IsDistinct}
-use Rattle.kom_types.specs.declared.items.Item.{Item}
+use Rattle.kom_types.specs.declared.seats.Seat.{Seat}
+use Rattle.kom_types.specs.Sessions.{Waiting, Session, is_session}
 
--- an item that waits for a session, and the place in the history of the entry that queued it
-pub record Waiting : Type 0 where
-  pub item : Item
-  pub entry : ℕ
+-- The stored rows. There are none yet.
+pub data Db : Type 0 where
+  NoRows : Db
 
--- A session: its number, the pass of its Connect, the user name of its greeting, where its client is, when it was
--- connected, and what waits for it.
-pub record Session : Type 0 where
-  pub number : ℕ
-  pub pass : ℕ
-  pub user : List ℕ
-  pub host : List ℕ
-  pub connected : ℕ
-  pub waiting : List Waiting
-
--- The rows of the server: its sessions, how many were connected, the stable number, how many entries its history
--- has, and the moment of the last one.
+-- The server: its stored rows; its sessions; how many were connected; the stable number; how many
+-- entries its history has, and the moment of the last one; whether it was shut down; and whether
+-- its store refused a flush.
 pub record State : Type 0 where
+  pub db : Db
   pub sessions : List Session
   pub connects : ℕ
   pub stable : ℕ
   pub entries : ℕ
   pub moment : ℕ
+  pub stopped : Bool
+  pub store_refused : Bool
 
 -- before the first entry
 abbrev pub empty : State
-empty = record { sessions = []; connects = 0; stable = 0; entries = 0; moment = 0 }
-
--- whether a row is that of the session of this number
-abbrev pub is_session : ℕ → Session → Bool
-is_session number session = session.number == number
+empty = record {
+  db = NoRows;
+  sessions = [];
+  connects = 0;
+  stable = 0;
+  entries = 0;
+  moment = 0;
+  stopped = false;
+  store_refused = false;
+}
 
 -- the session of a number
 abbrev pub session_of : ℕ → State → Option Session
 session_of number state = find (is_session number) state.sessions
 
--- each session has a number of its own, which a Connect drew
+-- all that a call may read of the sessions
+abbrev pub seats_of : State → List Seat
+seats_of state = map (λ session. session.seat) state.sessions
+
+-- the places of the entries that queued what waits never fall, from this one on
+abbrev pub NeverFalls : ℕ → List Waiting → Type 0
+NeverFalls place [] = Unit {0}
+NeverFalls place (one ∷ waiting) = (place ≤ one.entry) × NeverFalls one.entry waiting
+
+-- what waits was queued in the order of the history, by entries that it has
+abbrev pub IsInOrder : ℕ → List Waiting → Type 0
+IsInOrder entries waiting =
+    NeverFalls 0 waiting × AllByRecursion (λ one. one.entry < entries) waiting
+
+-- Each session has a number of its own, which a Connect drew; what waits for it is in order; and
+-- what is stable is in the history.
 pub record IsSound (state : State) : Type 0 where
-  pub drawn : AllByRecursion (λ session. session.number ≤ state.connects) state.sessions
-  pub distinct : IsDistinct nat_eq (map (λ session. session.number) state.sessions)
+  pub drawn : AllByRecursion (λ session. session.seat.number ≤ state.connects) state.sessions
+  pub distinct : IsDistinct nat_eq (map (λ session. session.seat.number) state.sessions)
+  pub ordered : AllByRecursion (λ session. IsInOrder state.entries session.waiting) state.sessions
+  pub stable : state.stable ≤ state.entries

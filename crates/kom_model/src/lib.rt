@@ -1,8 +1,9 @@
-//! What the server is: its rows, the step of each act, its legal histories, and what its sessions are sent.
+//! What the server is: its rows, the step of each act, its legal histories, and what its sessions
+//! are sent.
 #![tactic(auto)]
 
 mod laws;
 mod rows;
 
-pub use laws::drains_give_fronts;
+pub use laws::drains_give_all;
 pub use rows::worked_histories;

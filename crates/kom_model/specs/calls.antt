@@ -1,0 +1,3 @@
+-- what each call comes to, by topic
+pub mod Call
+pub mod Sessions
