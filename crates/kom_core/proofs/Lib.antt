@@ -1,5 +1,4 @@
-pub mod Taking
-pub mod Places
-pub mod Searching
-pub mod Soundness
+pub mod Rows
+pub mod Sending
 pub mod Making
+pub mod Soundness

@@ -1,86 +1,77 @@
--- What a change of the rows is to the act that makes it.
-use Rattle.std.proofs.Common.{◌≡◌, ℕ, true, false, not, is_some, List, [], map, Option, Some, None, refl, sym, ap, ◌∙◌, subst}
-use Rattle.std.specs.List.{find, filter}
+-- What the parts of a step come to.
+use Rattle.std.proofs.Common.{◌≡◌, ℕ, Bool, true, false, Option, Some, None, Result, Ok, Err, refl, sym, subst}
 use Rattle.kom_types.specs.declared.acts.Act.{Act}
 use Rattle.kom_types.specs.declared.acts.Act.TheVariants as act
 use Rattle.kom_types.specs.declared.acts.Entry.{Entry}
-use Rattle.kom_core.specs.declared.answer_kind.AnswerKind.TheVariants as kind
-use Rattle.kom_types.specs.declared.answers.Why.TheVariants as why
-use Rattle.kom_types.specs.declared.calls.Call.{Call}
-use Rattle.kom_types.specs.declared.calls.Reply.{Reply}
-use Rattle.kom_types.specs.declared.items.Item.{Item}
-use Rattle.kom_types.specs.declared.items.Item.TheVariants as item
-use Rattle.kom_model.specs.State.{Session, State, is_session, session_of}
-use Rattle.kom_model.specs.Decide.{decision_of}
-use Rattle.kom_model.specs.After.{queue, queued, drained}
-use Rattle.kom_model.proofs.Finding.{changed_row}
-use Rattle.kom_core.specs.Acts.{absent}
-use Rattle.kom_core.specs.Rows.{at_entry, stable_at}
-use Rattle.kom_core.specs.Steps.{Changes, ChangesBy, Queues}
-use Rattle.kom_core.specs.declared.step.Step.{Step}
-use Rattle.kom_core.specs.declared.step.Step.TheVariants as step
-use Rattle.kom_core.proofs.Places.{map-none, filter-none, none_found}
+use Rattle.kom_types.specs.declared.acts.Record.{Record}
+use Rattle.kom_types.specs.declared.answers.Refusal.{Refusal}
+use Rattle.kom_model.specs.State.{State, IsSound}
+use Rattle.kom_model.specs.After.{MayBeShort, MayFollow}
+use Rattle.kom_model.proofs.Soundness.{IsSound-after}
+use Rattle.kom_core.specs.declared.server_state.Made.{Made}
+use Rattle.kom_core.specs.Acts.{Kinded, Held, IsMade}
+use Rattle.kom_core.specs.Steps.{Changes, ChangesBy, Steps, IsShort, Tells, made_of}
 
 -- the act of an entry, whatever its pass and moment
-pub Changes-by : (old new : State) (entry : Entry) (what : Act) (came : Step) → entry.act ≡ what → ChangesBy old what new came → Changes old entry new came
-Changes-by old new entry what came same by =
-    let P : Act → Type 0 = λ one. Changes old (record entry { act = one }) new came in
+pub Changes-by : (old new : State) (entry : Entry) (what : Act) (made : Made) → entry.act ≡ what →
+    ChangesBy old what new made → Changes old entry new made
+Changes-by old new entry what made same by =
+    let P : Act → Type 0 = λ one. Changes old (record entry { act = one }) new made in
     subst P (sym same) (by entry.pass entry.moment)
 
-none_from : {A : Type 0} (found : Option A) → is_some found ≡ false → found ≡ None
-none_from None absent = refl
-none_from (Some one) absent = cc
+may_be_short : (state : State) (moment : ℕ) (what : Act) (short : Bool) → IsShort state moment what short →
+    MayBeShort state moment what short
+may_be_short state moment what false is = tt
+may_be_short state moment (act.Call session reference call) true is = is
+may_be_short state moment act.Flush true is = tt
+may_be_short state moment (act.Connect user host) true is = is
+may_be_short state moment (act.Broken session) true is = is
+may_be_short state moment (act.Drain session) true is = is
+may_be_short state moment (act.Close session) true is = is
 
-pub absent-there : (session : ℕ) (state : State) → true ≡ is_some (session_of session state) → absent session state ≡ None
-absent-there session state there = rw (← there, absent) refl
+flush_is_whole : (state : State) (moment : ℕ) (short : Bool) → IsShort state moment act.Flush short → short ≡ false
+flush_is_whole state moment false is = refl
+flush_is_whole state moment true is = absurd is
 
-pub absent-gone : (session : ℕ) (state : State) → false ≡ is_some (session_of session state) → absent session state ≡ Some (kind.Gone why.Absent)
-absent-gone session state gone = rw (← gone, absent) refl
+-- what a step to an act that was made comes to
+abbrev Stepped : State → Entry → State → Made → Type 0
+Stepped old entry new made = Steps old entry new (Ok made)
 
--- a change of the row of a session that is not there
-pub map-gone : (session : ℕ) (change : Session → Session) (rows : List Session) → false ≡ is_some (find (is_session session) rows) → map (changed_row session change) rows ≡ rows
-map-gone session change rows gone = map-none session change rows (none_found session rows (none_from _ (sym gone)))
+stepped : (old new : State) (entry : Entry) (came : Result Made Refusal) (made : Made) → came ≡ Ok made →
+    Steps old entry new came → Stepped old entry new made
+stepped old new entry came made is steps =
+    let P : Result Made Refusal → Type 0 = Steps old entry new in subst P is steps
 
--- a removal of the row of a session that is not there
-pub filter-gone : (session : ℕ) (rows : List Session) → false ≡ is_some (find (is_session session) rows) → filter (λ row. not (is_session session row)) rows ≡ rows
-filter-gone session rows gone = filter-none session rows (none_found session rows (none_from _ (sym gone)))
+-- a step keeps a server sound
+pub IsSound-made : (old new : State) (entry : Entry) (came : Result Made Refusal) (made : Made) → came ≡ Ok made →
+    IsSound old → Steps old entry new came → IsSound new
+IsSound-made old new entry came made is sound steps =
+    let made_step : Stepped old entry new made = stepped old new entry came made is steps in
+    rw made_step.2 (IsSound-after old (made_of old entry made.short) sound)
 
--- a state with other rows
-abbrev pub with_rows : State → List Session → State
-with_rows state rows = record state { sessions = rows }
+-- the record that a core keeps of an act that was made
+abbrev pub kept : Entry → Made → Record
+kept entry made = record { entry = entry; session = made.session; short = made.short }
 
--- a session that is there was drained
-pub drain-there : (old : State) (session : ℕ) (rows : List Session) (came : Step) → came ≡ step.Made session kind.Items → true ≡ is_some (session_of session old) →
-    rows ≡ map (changed_row session (drained (stable_at [] old.stable))) old.sessions → ChangesBy old (act.Drain session) (with_rows old rows) came
-drain-there old session rows came is there rest pass moment = rw is (absent-there session old there, refl, refl, ap (with_rows old) rest)
-
-pub drain-gone : (old : State) (session : ℕ) (rows : List Session) (came : Step) → came ≡ step.Refused (kind.Gone why.Absent) → false ≡ is_some (session_of session old) →
-    rows ≡ map (changed_row session (drained (stable_at [] old.stable))) old.sessions → ChangesBy old (act.Drain session) (with_rows old rows) came
-drain-gone old session rows came is gone rest pass moment =
-    rw is (absent-gone session old gone, ap (with_rows old) (rest ∙ map-gone session (drained (stable_at [] old.stable)) old.sessions gone))
-
--- a session that is there was closed
-pub close-there : (old : State) (session : ℕ) (rows : List Session) (came : Step) → came ≡ step.Made session kind.Taken → true ≡ is_some (session_of session old) →
-    rows ≡ filter (λ row. not (is_session session row)) old.sessions → ChangesBy old (act.Close session) (with_rows old rows) came
-close-there old session rows came is there removed pass moment = rw is (absent-there session old there, refl, refl, ap (with_rows old) removed)
-
-pub close-gone : (old : State) (session : ℕ) (rows : List Session) (came : Step) → came ≡ step.Refused (kind.Gone why.Absent) → false ≡ is_some (session_of session old) →
-    rows ≡ filter (λ row. not (is_session session row)) old.sessions → ChangesBy old (act.Close session) (with_rows old rows) came
-close-gone old session rows came is gone removed pass moment = rw is (absent-gone session old gone, ap (with_rows old) (removed ∙ filter-gone session old.sessions gone))
-
--- an item was queued for a session that is there
-pub queue-there : (old : State) (session : ℕ) (one : Item) (rows : List Session) → true ≡ is_some (session_of session old) →
-    rows ≡ map (changed_row session (queued one (at_entry old.entries))) old.sessions → Queues session one old (with_rows old rows) (step.Made session kind.Taken)
-queue-there old session one rows there ok = (absent-there session old there, refl, refl, ap (with_rows old) ok)
-
-pub queue-gone : (old : State) (session : ℕ) (one : Item) (rows : List Session) → false ≡ is_some (session_of session old) →
-    rows ≡ map (changed_row session (queued one (at_entry old.entries))) old.sessions → Queues session one old (with_rows old rows) (step.Refused (kind.Gone why.Absent))
-queue-gone old session one rows gone ok =
-    (absent-gone session old gone, ap (with_rows old) (ok ∙ map-gone session (queued one (at_entry old.entries)) old.sessions gone))
-
--- a call is made by queueing its reply
-pub call-queues : (old new : State) (session reference : ℕ) (asked : Call) (body : Reply) (came : Step) → ((state : State) → body ≡ (decision_of state session asked).reply) →
-    Queues session (item.Reply reference body) old new came → ChangesBy old (act.Call session reference asked) new came
-call-queues old new session reference asked body (step.Made named given) decided (there, same, taken, made) pass moment =
-    (there, same, taken, made ∙ ap (λ reply. queue session (item.Reply reference reply) old) (decided old))
-call-queues old new session reference asked body (step.Refused why) decided (gone, made) pass moment = (gone, made)
+pub Kinded-made : (old new : State) (entry : Entry) (came : Result Made Refusal) (made : Made) → came ≡ Ok made →
+    Steps old entry new came → Kinded old entry (record { state = new; last = Some (kept entry made) }) made.answer
+Kinded-made old new entry came made is steps =
+    let made_step : Stepped old entry new made = stepped old new entry came made is steps in
+    let tells : Tells old entry made = made_step.1 in
+    rw (Kinded, made_step.0) (
+      tells.answer,
+      (
+        kept entry made,
+        record {
+          entry_made = refl;
+          follows = record {
+            possible = made_step.0;
+            session = tells.session;
+            short = may_be_short old entry.moment entry.act made.short tells.short;
+          };
+          flushed = λ flush. flush_is_whole old entry.moment made.short (rw flush at tells.short);
+          handed = refl;
+          state = made_step.2;
+        },
+      ),
+    )

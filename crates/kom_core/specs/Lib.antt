@@ -1,3 +1,3 @@
 pub mod Acts
-pub mod Rows
+pub mod Deciding
 pub mod Steps

@@ -1,38 +1,87 @@
 -- What a step of the server comes to.
-use Rattle.std.specs.Prelude.{◌≡◌, ℕ, false, Some, None}
+use Rattle.std.specs.Prelude.{◌≡◌, ℕ, ◌+◌, Bool, true, false, List, [], ◌∷◌, ◌++◌, Option, Some, None, Result, Ok, Err}
 use Rattle.kom_types.specs.declared.acts.Act.{Act}
+use Rattle.kom_types.specs.declared.acts.Act.TheVariants as act
 use Rattle.kom_types.specs.declared.acts.Entry.{Entry}
 use Rattle.kom_types.specs.declared.acts.Record.{Record}
-use Rattle.kom_core.specs.declared.answer_kind.AnswerKind.TheVariants as kinds
-use Rattle.kom_types.specs.declared.items.Item.{Item}
+use Rattle.kom_types.specs.declared.answers.Refusal.{Refusal}
+use Rattle.kom_types.specs.declared.calls.Reply.TheVariants as reply
+use Rattle.kom_types.specs.declared.decisions.Decision.{Decision}
+use Rattle.kom_types.specs.declared.items.Item.TheVariants as item
+use Rattle.kom_types.specs.declared.session_changes.SessionChange.{SessionChange}
+use Rattle.kom_types.specs.declared.session_changes.SessionChange.TheVariants.{Stop}
+use Rattle.kom_types.specs.Sessions.{waiting_limits, changed_session, is_stop}
 use Rattle.kom_model.specs.State.{State}
-use Rattle.kom_model.specs.After.{changed, after, session_in, queue}
-use Rattle.kom_core.specs.Acts.{absent, refusal_of, kind_of}
-use Rattle.kom_core.specs.declared.step.Step.{Step}
-use Rattle.kom_core.specs.declared.step.Step.TheVariants as step
+use Rattle.kom_model.specs.Refusal.{refusal_of}
+use Rattle.kom_model.specs.Decide.{asked_in, is_firm}
+use Rattle.kom_model.specs.ToWhom.{Delivery}
+use Rattle.kom_model.specs.After.{session_in, moment_of, queue_all, reply_to, carry_out, sent, after}
+use Rattle.kom_core.specs.declared.server_state.Made.{Made}
+use Rattle.kom_core.specs.Acts.{kind_of}
+use Rattle.kom_core.specs.Deciding.{Decides, DecidesFirm, SendsMessages}
 
--- the record of an entry that was made, a call with its decision
-abbrev pub made_of : State → Entry → Record
-made_of state entry = record { entry = entry; session = session_in state entry.act; short = false }
+-- the record of an entry that was made
+abbrev pub made_of : State → Entry → Bool → Record
+made_of state entry short =
+    record { entry = entry; session = session_in state entry.act; short = short }
 
--- an act was made, but for the count of entries and the moment, or refused for its reason
-abbrev pub Changes : State → Entry → State → Step → Type 0
-Changes old entry new (step.Made session answer) =
-    (refusal_of old entry.act ≡ None) × (session ≡ session_in old entry.act) × (answer ≡ kind_of old entry.act) × (new ≡ changed old (made_of old entry))
-Changes old entry new (step.Refused why) = (refusal_of old entry.act ≡ Some why) × (new ≡ old)
+-- with one entry more, at this moment
+abbrev pub counted : ℕ → State → State
+counted moment state = record state { entries = state.entries + 1; moment = moment_of state moment }
 
--- an act was made, or refused for its reason
-abbrev pub Steps : State → Entry → State → Step → Type 0
-Steps old entry new (step.Made session answer) =
-    (refusal_of old entry.act ≡ None) × (session ≡ session_in old entry.act) × (answer ≡ kind_of old entry.act) × (new ≡ after old (made_of old entry))
-Steps old entry new (step.Refused why) = (refusal_of old entry.act ≡ Some why) × (new ≡ old)
+-- a core answers a call that is not firm that memory ran out; no other record of its is short
+abbrev pub IsShort : State → ℕ → Act → Bool → Type 0
+IsShort state moment what false = Unit {0}
+IsShort state moment (act.Call session reference call) true =
+    is_firm (asked_in state (moment_of state moment) session reference) call ≡ false
+IsShort state moment (act.Connect user host) true = ⊥
+IsShort state moment (act.Broken session) true = ⊥
+IsShort state moment (act.Drain session) true = ⊥
+IsShort state moment act.Flush true = ⊥
+IsShort state moment (act.Close session) true = ⊥
+
+-- what an act that is made tells of its record
+pub record Tells (old : State) (entry : Entry) (made : Made) : Type 0 where
+  pub session : made.session ≡ session_in old entry.act
+  pub answer : made.answer ≡ kind_of old entry.act
+  pub short : IsShort old entry.moment entry.act made.short
+
+-- an act was made, but for the count of entries and the moment
+abbrev pub Changes : State → Entry → State → Made → Type 0
+Changes old entry new made = Tells old entry made × (new ≡ sent old (made_of old entry made.short))
 
 -- the same, whatever the pass and the moment of the entry
-abbrev pub ChangesBy : State → Act → State → Step → Type 0
-ChangesBy old what new step = (pass moment : ℕ) → Changes old (record { pass = pass; moment = moment; act = what }) new step
+abbrev pub ChangesBy : State → Act → State → Made → Type 0
+ChangesBy old what new made =
+    (pass moment : ℕ) → Changes old (record { pass = pass; moment = moment; act = what }) new made
 
--- an item was queued for a session, or the session is not there
-abbrev pub Queues : ℕ → Item → State → State → Step → Type 0
-Queues session one old new (step.Made named answer) =
-    (absent session old ≡ None) × (named ≡ session) × (answer ≡ kinds.Taken) × (new ≡ queue session one old)
-Queues session one old new (step.Refused why) = (absent session old ≡ Some why) × (new ≡ old)
+-- an act was made, or refused
+abbrev pub Steps : State → Entry → State → Result Made Refusal → Type 0
+Steps old entry new (Ok made) =
+    (refusal_of old entry.act ≡ None) × Tells old entry made
+    × (new ≡ after old (made_of old entry made.short))
+Steps old entry new (Err refusal) = (refusal_of old entry.act ≡ Some refusal) × (new ≡ old)
+
+-- what an entry's call comes to, and the messages that it sends
+abbrev pub ComesTo : State → Entry → Decision → List Delivery → Type 0
+ComesTo state entry decision messages =
+    Decides state entry decision × SendsMessages state entry decision messages
+
+-- A call was carried out and answered; or memory ran out, of which its reply tells, and it is not
+-- firm.
+abbrev pub Answers : State → Entry → ℕ → ℕ → Bool → State → Type 0
+Answers old entry session reference true new = (DecidesFirm old entry → ⊥)
+    × (new ≡ queue_all waiting_limits (reply_to session reference (reply.Refused 39 0) ∷ []) old)
+Answers old entry session reference false new =
+    (decision : Decision) × (messages : List Delivery) × ComesTo old entry decision messages
+    × (new ≡ queue_all waiting_limits (messages ++ reply_to session reference decision.reply ∷ [])
+    (carry_out (moment_of old entry.moment) decision old))
+
+-- whose change it is
+abbrev pub IsOf : Option ℕ → SessionChange → Type 0
+IsOf (Some session) change = (session ≡ changed_session change) × (is_stop change ≡ false)
+IsOf None change = change ≡ Stop
+
+-- the act of a greeting, by this pass at this moment
+abbrev pub greeting : ℕ → ℕ → List ℕ → List ℕ → Entry
+greeting pass moment user host = record { pass = pass; moment = moment; act = act.Connect user host }

@@ -2,7 +2,7 @@ ghost use Rattle.std.specs.Prelude.{◌≡◌};
 ghost use Rattle.kom_core.specs.Acts.{answer_of};
 
 use arrayvec::ArrayVec;
-use kom_types::{Answer, Item, Why};
+use kom_types::{Answer, Item, Refusal};
 
 /// What an act is answered, without the items that a drain takes.
 #[derive(Clone, Copy, Debug, PartialEq, Eq)]
@@ -13,10 +13,8 @@ pub enum AnswerKind {
     Taken,
     /// The act was a drain; the items that it took stand beside the answer.
     Items,
-    /// The act was not made, since its session is served no longer.
-    Gone(Why),
-    /// The act was not made, since this many were made already.
-    Full(u64),
+    /// The act was not made.
+    Refused(Refusal),
 }
 
 impl AnswerKind {
@@ -28,8 +26,8 @@ impl AnswerKind {
             AnswerKind::Connected(number) => Answer::Connected(number),
             AnswerKind::Taken => Answer::Taken,
             AnswerKind::Items => Answer::Items(items),
-            AnswerKind::Gone(why) => Answer::Gone(why),
-            AnswerKind::Full(number) => Answer::Full(number),
+            AnswerKind::Refused(Refusal::Gone(why)) => Answer::Gone(why),
+            AnswerKind::Refused(Refusal::Full(number)) => Answer::Full(number),
         }
     }
 }

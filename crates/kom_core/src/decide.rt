@@ -1,22 +1,35 @@
-ghost use Rattle.std.specs.Prelude.{◌≡◌};
-ghost use Rattle.kom_model.specs.State.{State};
-ghost use Rattle.kom_model.specs.Decide.{decision_of, who_am_i as who_am_i_decision};
+ghost use Rattle.std.specs.Prelude.{◌≡◌, [], IfOk, IsOk};
+ghost use Rattle.kom_core.specs.Deciding.{IsCall, Decides, DecidesFirm};
 
-use kom_types::{Call, Reply};
+use crate::calls::on_sessions;
+use crate::server_state::State;
+use kom_types::{Act, Call, Decision, Entry, Memory, Reply, Sequence};
+use std::alloc::Global;
 
-/// What a session's call is answered.
-pub fn decide(session: u32, call: Call) -> Reply
-    ensures { (state : State) → result ≡ (decision_of state session call).reply }
+/// What the call of an entry comes to. A firm call takes no memory.
+#[tactic(auto, unfolding(kom_model::specs::Decide::decision_of))]
+pub(crate) fn decide(state: &State, entry: &Entry) -> Result<Decision, Memory>
+    requires { IsCall entry.now.act }
+    ensures decided { IfOk result (Decides state.now entry.now) }
+    ensures firm { DecidesFirm state.now entry.now → IsOk result }
 {
-    match call {
-        Call::WhoAmI => who_am_i(session),
-        Call::Refused(code, status) => Reply::Refused(code, status),
+    let alloc = state.allocator();
+    match &entry.act {
+        Act::Call { session, call, .. } => match call {
+            Call::WhoAmI => Ok(on_sessions::who_am_i(alloc, *session)),
+            Call::Refused(code, status) => Ok(answer(alloc, Reply::Refused(*code, *status))),
+        },
+        _ => unreachable!(),
     }
 }
 
-/// Call 56: the number of the caller's session.
-fn who_am_i(session: u32) -> Reply
-    ensures { (state : State) → result ≡ (who_am_i_decision state session).reply }
+/// A call that changes nothing is answered so.
+pub(crate) fn answer(alloc: Global, reply: Reply) -> Decision
+    ensures { result ≡ record { reply = reply; effects = []; changes = [] } }
 {
-    Reply::Number(session)
+    Decision {
+        reply,
+        effects: Sequence::new(alloc),
+        changes: Sequence::new(alloc),
+    }
 }

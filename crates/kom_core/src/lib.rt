@@ -2,13 +2,11 @@
 #![tactic(auto)]
 
 mod answer_kind;
+mod calls;
 mod decide;
-mod queued;
-mod server;
+mod fan_out;
 mod server_core;
-mod session_row;
-mod sessions;
-mod step;
+mod server_state;
 
 pub use answer_kind::AnswerKind;
 pub use server_core::Core;

@@ -1,10 +1,23 @@
-use Rattle.kom_core.proofs.Soundness.{IsSound-made}
+use Rattle.std.proofs.Common.{◌≡◌, Some, ap, subst}
+use Rattle.kom_model.specs.State.{State}
+use Rattle.kom_core.specs.Acts.{Kinded}
+use Rattle.kom_core.proofs.Making.{IsSound-made, Kinded-made, kept}
 use Rattle.kom_core.proofs.server_core.Core.make.Goals as goal
 
-pub invariant_of-self-in-Made : goal.invariant_of-self-in-Made
-invariant_of-self-in-Made c =
-    IsSound-made c.self.inside.server c.make.new.self c.args.entry c.in_ok-session.field-0 c.in-Made.session c.in-Made.answer c.in-Made.is c.self.invariant c.in_ok-session.ensures.step
+pub invariant_of-self-in-Ok : goal.invariant_of-self-in-Ok
+invariant_of-self-in-Ok c =
+    IsSound-made c.self.inside.server c.make.new.self c.args.entry c.in_ok-made.field-0 c.in-Ok.made c.in-Ok.is
+    c.self.invariant c.in_ok-made.ensures.step
 
-pub returns-in-Made-clause-sound : goal.returns-in-Made-clause-sound
-returns-in-Made-clause-sound c =
-    IsSound-made c.self.inside.server c.make.new.self c.args.entry c.in_ok-session.field-0 c.in-Made.session c.in-Made.answer c.in-Made.is c.self.invariant c.in_ok-session.ensures.step
+pub returns-in-Ok-clause-answered : goal.returns-in-Ok-clause-answered
+returns-in-Ok-clause-answered c =
+    let P : State → Type 0 = λ old. Kinded old c.args.entry
+    (record { state = c.make.new.self; last = Some (kept c.args.entry c.in-Ok.made) }) c.in-Ok.made.answer in
+    subst P (ap (λ held. held.state) c.self.view_is)
+    (Kinded-made c.self.inside.server c.make.new.self c.args.entry c.in_ok-made.field-0 c.in-Ok.made c.in-Ok.is
+    c.in_ok-made.ensures.step)
+
+pub returns-in-Ok-clause-sound : goal.returns-in-Ok-clause-sound
+returns-in-Ok-clause-sound c =
+    IsSound-made c.self.inside.server c.make.new.self c.args.entry c.in_ok-made.field-0 c.in-Ok.made c.in-Ok.is
+    c.self.invariant c.in_ok-made.ensures.step

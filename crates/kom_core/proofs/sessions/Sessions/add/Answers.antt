@@ -1,5 +1,0 @@
-use Rattle.kom_core.proofs.Places.{IsRising-push}
-use Rattle.kom_core.proofs.sessions.Sessions.add.Goals as goal
-
-pub invariant_of-self-2 : goal.invariant_of-self-2
-invariant_of-self-2 c = rw c.in_ok-push.ensures.items (IsRising-push c.args.row c.self.inside.rows.items (rw c.self.view_is c.requires) c.self.invariant)

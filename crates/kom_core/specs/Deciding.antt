@@ -1,0 +1,60 @@
+-- What a call of an entry comes to.
+use Rattle.std.specs.Prelude.{◌≡◌, true, false, List, None}
+use Rattle.kom_types.specs.declared.acts.Act.{Act}
+use Rattle.kom_types.specs.declared.acts.Act.TheVariants as act
+use Rattle.kom_types.specs.declared.acts.Entry.{Entry}
+use Rattle.kom_types.specs.declared.decisions.Decision.{Decision}
+use Rattle.kom_model.specs.State.{State}
+use Rattle.kom_model.specs.calls.Call.{Definition}
+use Rattle.kom_model.specs.Decide.{asked_in, decided, is_firm}
+use Rattle.kom_model.specs.ToWhom.{Delivery, messages_of}
+use Rattle.kom_model.specs.After.{moment_of, decision_at}
+
+-- the act is a call
+abbrev pub IsCall : Act → Type 0
+IsCall (act.Connect user host) = ⊥
+IsCall (act.Call session reference call) = Unit {0}
+IsCall (act.Broken session) = ⊥
+IsCall (act.Drain session) = ⊥
+IsCall act.Flush = ⊥
+IsCall (act.Close session) = ⊥
+
+-- a call of this definition comes to this
+abbrev pub Defines : Definition → Decision → Type 0
+Defines definition decision = decision ≡ decided definition
+
+-- the call of an entry comes to this in a state
+abbrev pub Decides : State → Entry → Decision → Type 0
+Decides state entry decision = elim entry.act [
+  | act.Connect user host ↦ Unit {0}
+  | act.Call session reference call ↦ decision
+      ≡ decision_at state entry.moment session reference call
+  | act.Broken session ↦ Unit {0}
+  | act.Drain session ↦ Unit {0}
+  | act.Flush ↦ Unit {0}
+  | act.Close session ↦ Unit {0}
+]
+
+-- the call of an entry is firm
+abbrev pub DecidesFirm : State → Entry → Type 0
+DecidesFirm state entry = elim entry.act [
+  | act.Connect user host ↦ ⊥
+  | act.Call session reference call ↦ is_firm
+      (asked_in state (moment_of state entry.moment) session reference) call ≡ true
+  | act.Broken session ↦ ⊥
+  | act.Drain session ↦ ⊥
+  | act.Flush ↦ ⊥
+  | act.Close session ↦ ⊥
+]
+
+-- the messages of an entry's call that came to this
+abbrev pub SendsMessages : State → Entry → Decision → List Delivery → Type 0
+SendsMessages state entry decision deliveries = elim entry.act [
+  | act.Connect user host ↦ Unit {0}
+  | act.Call session reference call ↦ deliveries
+      ≡ messages_of (asked_in state (moment_of state entry.moment) session reference) call decision
+  | act.Broken session ↦ Unit {0}
+  | act.Drain session ↦ Unit {0}
+  | act.Flush ↦ Unit {0}
+  | act.Close session ↦ Unit {0}
+]

@@ -1,0 +1,131 @@
+ghost use Rattle.std.specs.Prelude.{◌≡◌, ◌+◌, ◌^◌, ◌<◌, ◌||◌, [], false, max, None, IfOk, OnErr, IsOk};
+ghost use Rattle.kom_types.specs.Sessions.{waiting_limits, queued};
+ghost use Rattle.kom_model.specs.State.{IsSound, empty as empty_state};
+ghost use Rattle.kom_model.specs.Refusal.{refusal_of as refusal_of_act};
+ghost use Rattle.kom_model.specs.After.{moment_of};
+ghost use Rattle.kom_core.specs.Acts.{items_of, TakesNone};
+ghost use Rattle.kom_core.specs.Steps.{Changes, Steps, counted};
+
+mod acting;
+mod calling;
+mod queueing;
+mod refusing;
+
+use crate::answer_kind::AnswerKind;
+use arrayvec::ArrayVec;
+use kom_types::{Entry, Item, Memory, Moment, Refusal};
+use sessions::Sessions;
+use std::alloc::Global;
+use std::marker::Model;
+
+/// The server: its sessions, how many were connected, the stable number, how many entries its
+/// history has, the moment of the last one, whether it was shut down, and whether its store refused
+/// a flush.
+#[derive(Drop)]
+pub(crate) struct State {
+    sessions: Sessions,
+    connects: u32,
+    stable: u64,
+    entries: u64,
+    moment: Moment,
+    stopped: bool,
+    store_refused: bool,
+    alloc: Global,
+}
+
+impl Model for State {
+    ghost use Rattle.kom_model.specs.State.{State as Server, NoRows};
+
+    ghost Value = { Server };
+
+    ghost view = { λ s. record {
+      db = NoRows;
+      sessions = s.sessions;
+      connects = s.connects;
+      stable = s.stable;
+      entries = s.entries;
+      moment = s.moment;
+      stopped = s.stopped;
+      store_refused = s.store_refused;
+    } };
+}
+
+/// An act that was made: the session of its record, its answer, and whether its record is short.
+#[derive(Clone, Copy, Debug)]
+pub(crate) struct Made {
+    pub(crate) session: u32,
+    pub(crate) answer: AnswerKind,
+    pub(crate) short: bool,
+}
+
+impl State {
+    /// A server before its first entry.
+    pub(crate) fn empty(alloc: Global) -> State
+        ensures { result ≡ empty_state }
+    {
+        State {
+            sessions: Sessions::new(alloc),
+            connects: 0,
+            stable: 0,
+            entries: 0,
+            moment: Moment(0),
+            stopped: false,
+            store_refused: false,
+            alloc,
+        }
+    }
+
+    pub(crate) fn allocator(&self) -> Global {
+        self.alloc
+    }
+
+    /// Whether it was shut down or its store refused a flush.
+    pub(crate) fn is_stopped(&self) -> bool
+        ensures { result ≡ (self.now.stopped || self.now.store_refused) }
+    {
+        self.stopped || self.store_refused
+    }
+
+    /// Makes the act of an entry, or returns why it is not made. A drain moves its items into an
+    /// array.
+    pub(crate) fn make(
+        &mut self,
+        entry: &Entry,
+        items: &mut ArrayVec<Item, 64>,
+    ) -> Result<Result<Made, Refusal>, Memory>
+        requires sound { IsSound self.old }
+        requires room { self.old.entries < 2 ^ 62 }
+        requires none { items.old.items ≡ [] }
+        ensures step { IfOk result (Steps self.old entry.now self.new) }
+        ensures err { OnErr result (self.new ≡ self.old) }
+        ensures none_taken { TakesNone self.old entry.now.act → IsOk result }
+        ensures given { items.new.items ≡ items_of self.old entry.now.act }
+    {
+        if let Some(refusal) = self.refusal(&entry.act) {
+            return Ok(Err(refusal));
+        }
+        let made = self.change(entry, items)?;
+        self.advance(entry.moment);
+        Ok(Ok(made))
+    }
+
+    /// Counts an entry that was made.
+    fn advance(&mut self, moment: Moment)
+        requires { self.old.entries < 2 ^ 62 }
+        ensures { self.new ≡ counted moment self.old }
+    {
+        self.entries += 1;
+        self.moment = later(self.moment, moment);
+    }
+}
+
+/// The later of two moments.
+fn later(one: Moment, other: Moment) -> Moment
+    ensures { result ≡ max one other }
+{
+    if one.seconds() < other.seconds() {
+        other
+    } else {
+        one
+    }
+}

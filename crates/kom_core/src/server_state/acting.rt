@@ -1,0 +1,119 @@
+ghost use Rattle.std.specs.Prelude.{◌≡◌, [], None, IfOk, OnErr, IsOk};
+ghost use Rattle.kom_types.specs.declared.acts.Act.TheVariants as act;
+ghost use Rattle.kom_model.specs.State.{IsSound};
+ghost use Rattle.kom_model.specs.Refusal.{refusal_of};
+ghost use Rattle.kom_model.specs.Out.{given_from};
+ghost use Rattle.kom_core.specs.Acts.{items_of, TakesNone};
+ghost use Rattle.kom_core.specs.Steps.{Changes, ChangesBy, greeting};
+
+use super::{Made, State, later};
+use crate::answer_kind::AnswerKind;
+use arrayvec::ArrayVec;
+use kom_types::{Act, Bytes, Entry, Item, Memory, Moment};
+use sessions::SessionRow;
+
+impl State {
+    /// Makes the act of an entry that nothing refuses, but for the count of entries and the moment.
+    pub(super) fn change(
+        &mut self,
+        entry: &Entry,
+        items: &mut ArrayVec<Item, 64>,
+    ) -> Result<Made, Memory>
+        requires sound { IsSound self.old }
+        requires possible { refusal_of self.old entry.now.act ≡ None }
+        requires none { items.old.items ≡ [] }
+        ensures step { IfOk result (Changes self.old entry.now self.new) }
+        ensures err { OnErr result (self.new ≡ self.old) }
+        ensures none_taken { TakesNone self.old entry.now.act → IsOk result }
+        ensures given { items.new.items ≡ items_of self.old entry.now.act }
+    {
+        match &entry.act {
+            Act::Connect { user, host } => self.connect(entry.pass, entry.moment, user, host),
+            Act::Call {
+                session,
+                reference,
+                ..
+            } => {
+                let short = self.call(entry, *session, *reference);
+                Ok(taken(*session, short))
+            }
+            Act::Broken { session } => {
+                self.queue(*session, Item::Fault);
+                Ok(taken(*session, false))
+            }
+            Act::Drain { session } => Ok(self.drain(*session, items)),
+            Act::Flush => Ok(self.flush()),
+            Act::Close { session } => Ok(self.close(*session)),
+        }
+    }
+
+    /// Begins a session, for which the greeting's answer waits.
+    fn connect(
+        &mut self,
+        pass: u32,
+        moment: Moment,
+        user: &Bytes,
+        host: &Bytes,
+    ) -> Result<Made, Memory>
+        requires sound { IsSound self.old }
+        requires possible { refusal_of self.old (act.Connect user.now host.now) ≡ None }
+        ensures step { IfOk result (
+            Changes self.old (greeting pass moment user.now host.now) self.new) }
+        ensures err { OnErr result (self.new ≡ self.old) }
+    {
+        let number = self.connects + 1;
+        let connected = later(self.moment, moment);
+        let row = SessionRow::new(self.alloc, number, pass, user, host, connected)?;
+        self.sessions.connect(row)?;
+        self.connects = number;
+        self.queue(number, Item::Hello);
+        Ok(Made {
+            session: number,
+            answer: AnswerKind::Connected(number),
+            short: false,
+        })
+    }
+
+    /// Moves the first items that wait for a session, 64 at most, of entries below the stable
+    /// number, into an array.
+    fn drain(&mut self, session: u32, items: &mut ArrayVec<Item, 64>) -> Made
+        requires possible { refusal_of self.old (act.Drain session) ≡ None }
+        requires none { items.old.items ≡ [] }
+        ensures step { ChangesBy self.old (act.Drain session) self.new result }
+        ensures given { items.new.items ≡ given_from session self.old }
+    {
+        self.sessions.drain_into(session, self.stable, items);
+        Made {
+            session,
+            answer: AnswerKind::Items,
+            short: false,
+        }
+    }
+
+    /// Makes all entries so far stable.
+    fn flush(&mut self) -> Made
+        ensures { ChangesBy self.old act.Flush self.new result }
+    {
+        self.stable = self.entries;
+        taken(0, false)
+    }
+
+    /// Ends a session.
+    fn close(&mut self, session: u32) -> Made
+        ensures { ChangesBy self.old (act.Close session) self.new result }
+    {
+        self.sessions.close(session);
+        taken(session, false)
+    }
+}
+
+/// An act of this session was made.
+fn taken(session: u32, short: bool) -> Made
+    ensures { result ≡ record { session = session; answer = AnswerKind.Taken; short = short } }
+{
+    Made {
+        session,
+        answer: AnswerKind::Taken,
+        short,
+    }
+}

@@ -1,0 +1,97 @@
+ghost use Rattle.std.specs.Prelude.{◌≡◌, ℕ, IfOk, IsOk, Some, None};
+ghost use Rattle.kom_model.specs.After.{make_change, make_changes};
+ghost use Rattle.kom_core.specs.Deciding.{IsCall, DecidesFirm};
+ghost use Rattle.kom_core.specs.Steps.{ComesTo, Answers, IsOf};
+
+use super::{State, later};
+use crate::decide::decide;
+use crate::fan_out::{Delivery, fan_out};
+use kom_types::{ChangeList, Decision, Entry, Item, Memory, Moment, Reply, SessionChange};
+
+impl State {
+    /// Carries out the call of an entry, sends its messages, and queues its reply; where memory ran
+    /// out before, only the reply that says so. Whether it did is returned.
+    pub(super) fn call(&mut self, entry: &Entry, session: u32, reference: u32) -> bool
+        requires { IsCall entry.now.act }
+        ensures { Answers self.old entry.now session reference result self.new }
+    {
+        match self.comes_to(entry) {
+            Ok((decision, messages)) => {
+                self.make_changes(decision.changes, later(self.moment, entry.moment));
+                self.queue_all(messages);
+                let body = decision.reply;
+                self.queue(session, Item::Reply { reference, body });
+                false
+            }
+            Err(Memory) => {
+                let body = Reply::Refused(39, 0);
+                self.queue(session, Item::Reply { reference, body });
+                true
+            }
+        }
+    }
+
+    /// What the call of an entry comes to, and the messages that it sends. Nothing is changed yet.
+    fn comes_to(&self, entry: &Entry) -> Result<(Decision, Vec<Delivery>), Memory>
+        requires { IsCall entry.now.act }
+        ensures comes_to { IfOk result (λ both. ComesTo self.now entry.now both.0 both.1.items) }
+        ensures firm { DecidesFirm self.now entry.now → IsOk result }
+    {
+        let decision = decide(self, entry)?;
+        let messages = fan_out(self, entry, &decision)?;
+        Ok((decision, messages))
+    }
+
+    /// Makes the changes of sessions, in order.
+    fn make_changes(&mut self, changes: ChangeList, moment: Moment)
+        ensures { self.new ≡ make_changes moment changes self.old }
+    {
+        for change in changes.into_vec() {
+            self.make_change(change, moment);
+        }
+    }
+
+    fn make_change(&mut self, change: SessionChange, moment: Moment)
+        ensures { self.new ≡ make_change moment change self.old }
+    {
+        match changed_session(&change) {
+            Some(session) => self.change_session(session, change, moment),
+            None => self.stop(change),
+        }
+    }
+
+    /// Makes a change of a session, if that is there.
+    fn change_session(&mut self, session: u32, change: SessionChange, moment: Moment)
+        requires { IsOf (Some session) change }
+        ensures { self.new ≡ make_change moment change self.old }
+    {
+        if self.sessions.get(session).is_some() {
+            self.sessions.change(change, moment);
+        }
+    }
+
+    /// Makes the change that shuts the server down.
+    fn stop(&mut self, _change: SessionChange)
+        requires { IsOf None _change }
+        ensures { (moment : ℕ) → self.new ≡ make_change moment _change self.old }
+    {
+        self.stopped = true;
+    }
+}
+
+/// The session that a change is of; a stop is of none.
+fn changed_session(change: &SessionChange) -> Option<u32>
+    ensures { IsOf result change.now }
+{
+    match change {
+        SessionChange::Person(session, _, _) => Some(*session),
+        SessionChange::Level(session, _) => Some(*session),
+        SessionChange::Working(session, _) => Some(*session),
+        SessionChange::Doing(session, _) => Some(*session),
+        SessionChange::Client(session, _, _) => Some(*session),
+        SessionChange::Accept(session, _) => Some(*session),
+        SessionChange::Active(session) => Some(*session),
+        SessionChange::Ended(session) => Some(*session),
+        SessionChange::Stop => None,
+    }
+}

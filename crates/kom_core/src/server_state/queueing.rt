@@ -1,0 +1,31 @@
+ghost use Rattle.std.specs.Prelude.{◌≡◌};
+ghost use Rattle.kom_types.specs.Sessions.{waiting_limits, queued};
+ghost use Rattle.kom_model.specs.After.{with_session, queue_all};
+
+use super::State;
+use crate::fan_out::Delivery;
+use kom_replies::printed_len;
+use kom_types::Item;
+
+impl State {
+    /// Queues items one by one for their sessions.
+    pub(super) fn queue_all(&mut self, deliveries: Vec<Delivery>)
+        ensures { self.new ≡ queue_all waiting_limits deliveries.items self.old }
+    {
+        for delivery in deliveries {
+            let Delivery { session, item } = delivery;
+            self.queue(session, item);
+        }
+    }
+
+    /// Queues an item for a session, if that is there.
+    pub(super) fn queue(&mut self, session: u32, item: Item)
+        ensures { self.new
+            ≡ with_session session (queued waiting_limits self.old.entries item) self.old }
+    {
+        if self.sessions.get(session).is_some() {
+            let len = printed_len(&item);
+            self.sessions.queue(session, item, len, self.entries);
+        }
+    }
+}
