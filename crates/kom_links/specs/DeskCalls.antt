@@ -1,51 +1,52 @@
 -- What the calls of a desk say.
-use Rattle.std.specs.Prelude.{◌≡◌, ℕ, ◌^◌, ◌⊎◌, nat_le, Bool, true, false, List, [], ◌∷◌, ◌++◌, Option, Some, None, Result, Ok, Err}
+use Rattle.std.specs.Prelude.{◌≡◌, ◌≢◌, ℕ, ◌≤◌, ◌^◌, ◌==◌, ◌||◌, ◌⊎◌, nat_le, Bool, true, false, List, [], ◌∷◌, ◌++◌, Option, Some, None, Result, Ok, Err, IfOk, IfErr, OnOk, OnErr, if◌then◌else◌}
 use Rattle.kom_types.specs.declared.acts.Act.{Act}
 use Rattle.kom_types.specs.declared.acts.Act.TheVariants as act
 use Rattle.kom_types.specs.declared.acts.Record.{Record}
 use Rattle.kom_types.specs.declared.answers.Why.TheVariants as why
+use Rattle.kom_types.specs.declared.items.Item.{Item}
 use Rattle.kom_links.specs.declared.desk.DeskFault.{DeskFault}
 use Rattle.kom_links.specs.declared.desk.DeskFault.TheVariants as fault
+use Rattle.kom_links.specs.Records.{has_session, is_open}
+
+-- What contracts see of a desk: the number of its pass; the records of the acts that it made; for each session the lists of
+-- items that its drains gave, one for each drain, and the first fault that it was answered, where 0 stands for no session;
+-- and whether it answered that no turn of the server's lock is left.
+pub record DeskView : Type 0 where
+  pub pass : ℕ
+  pub mine : List Record
+  pub gave_to : ℕ → List (List Item)
+  pub fault_to : ℕ → Option DeskFault
+  pub lock_full : Bool
+
+-- what is kept for each session stays as it was, but for this one
+abbrev pub StaysBut : {X : Type 0} → ℕ → (ℕ → X) → (ℕ → X) → Type 0
+StaysBut session old new = (number : ℕ) → number ≢ session → new number ≡ old number
+
+-- what is kept for each session stays as it was
+abbrev pub StaysForAll : {X : Type 0} → (ℕ → X) → (ℕ → X) → Type 0
+StaysForAll old new = (number : ℕ) → new number ≡ old number
+
+-- what is kept for this session becomes this, and for all others stays as it was
+abbrev pub ChangesAt : {X : Type 0} → ℕ → X → (ℕ → X) → (ℕ → X) → Type 0
+ChangesAt session value old new = (new session ≡ value) × StaysBut session old new
 
 -- the record of an act of this session, made by this pass at this moment
 abbrev pub record_of : ℕ → ℕ → Act → ℕ → Bool → Record
 record_of pass moment act session short = record { entry = record { pass = pass; moment = moment; act = act }; session = session; short = short }
 
--- the desk's own records gain the one of this act
-abbrev pub Adds : List Record → List Record → ℕ → ℕ → Act → ℕ → Type 0
-Adds old new pass moment act session = new ≡ old ++ record_of pass moment act session false ∷ []
-
--- the same of a call, which may have been answered 39 for want of memory
-abbrev pub AddsCall : List Record → List Record → ℕ → ℕ → Act → ℕ → Type 0
-AddsCall old new pass moment act session = (short : Bool) × (new ≡ old ++ record_of pass moment act session short ∷ [])
-
--- Nothing was added; or, at a flush that the store refused, its short record.
-abbrev pub AddsNoneOrShort : List Record → List Record → ℕ → ℕ → Type 0
-AddsNoneOrShort old new pass moment = (new ≡ old) ⊎ (new ≡ old ++ record_of pass moment act.Flush 0 true ∷ [])
-
--- the first fault since the last connect, when this was answered
+-- the first fault, after this was answered
 abbrev pub first_fault : {X : Type 0} → Option DeskFault → Result X DeskFault → Option DeskFault
 first_fault (Some first) answer = Some first
 first_fault None (Ok value) = None
 first_fault None (Err fault) = Some fault
 
--- a session that is not there: no desk answers so
-abbrev pub IsNotAbsent : DeskFault → Type 0
-IsNotAbsent (fault.Gone why.Absent) = ⊥
-IsNotAbsent (fault.Gone why.Dropped) = Unit {0}
-IsNotAbsent (fault.Gone why.Overrun) = Unit {0}
-IsNotAbsent (fault.Gone why.Stopped) = Unit {0}
-IsNotAbsent (fault.Full number) = Unit {0}
-IsNotAbsent fault.Memory = Unit {0}
-
--- why a connect may be refused: the server was shut down or its store refused a flush, the numbers are used up, or memory is
-abbrev pub IsConnectFault : DeskFault → Type 0
-IsConnectFault (fault.Gone why.Absent) = ⊥
-IsConnectFault (fault.Gone why.Dropped) = ⊥
-IsConnectFault (fault.Gone why.Overrun) = ⊥
-IsConnectFault (fault.Gone why.Stopped) = Unit {0}
-IsConnectFault (fault.Full number) = Unit {0}
-IsConnectFault fault.Memory = Unit {0}
+-- that the desk is stopped counts as a fault
+abbrev pub first_stop : Option DeskFault → Result Bool DeskFault → Option DeskFault
+first_stop (Some first) answer = Some first
+first_stop None (Ok false) = None
+first_stop None (Ok true) = Some (fault.Gone why.Stopped)
+first_stop None (Err fault) = Some fault
 
 -- an answer says that no turn of the server's lock is left
 abbrev pub is_lock_full : {X : Type 0} → Result X DeskFault → Bool
@@ -54,9 +55,127 @@ is_lock_full (Err (fault.Gone why)) = false
 is_lock_full (Err (fault.Full number)) = nat_le (2 ^ 62) number
 is_lock_full (Err fault.Memory) = false
 
--- that the desk is stopped counts as a fault
-abbrev pub first_stop : Option DeskFault → Result Bool DeskFault → Option DeskFault
-first_stop (Some first) answer = Some first
-first_stop None (Ok false) = None
-first_stop None (Ok true) = Some (fault.Gone why.Stopped)
-first_stop None (Err fault) = Some fault
+-- how many sessions a run has at most
+abbrev pub most_sessions : ℕ
+most_sessions = 4294967295
+
+-- Why a connect may be refused: the server was shut down or its store refused a flush; the numbers of sessions are used up,
+-- or the turns of the lock; or memory ran out.
+abbrev pub IsConnectFault : DeskFault → Type 0
+IsConnectFault (fault.Gone why.Absent) = ⊥
+IsConnectFault (fault.Gone why.Dropped) = ⊥
+IsConnectFault (fault.Gone why.Overrun) = ⊥
+IsConnectFault (fault.Gone why.Stopped) = Unit {0}
+IsConnectFault (fault.Full number) = (number ≡ most_sessions) ⊎ (2 ^ 62 ≤ number)
+IsConnectFault fault.Memory = Unit {0}
+
+-- Why an act of an open session may be refused. That the session is not there is no reason.
+abbrev pub IsActFault : DeskFault → Type 0
+IsActFault (fault.Gone why.Absent) = ⊥
+IsActFault (fault.Gone why.Dropped) = Unit {0}
+IsActFault (fault.Gone why.Overrun) = Unit {0}
+IsActFault (fault.Gone why.Stopped) = Unit {0}
+IsActFault (fault.Full number) = 2 ^ 62 ≤ number
+IsActFault fault.Memory = Unit {0}
+
+-- why a flush may be refused
+abbrev pub IsFlushFault : DeskFault → Type 0
+IsFlushFault (fault.Gone why.Absent) = ⊥
+IsFlushFault (fault.Gone why.Dropped) = ⊥
+IsFlushFault (fault.Gone why.Overrun) = ⊥
+IsFlushFault (fault.Gone why.Stopped) = Unit {0}
+IsFlushFault (fault.Full number) = 2 ^ 62 ≤ number
+IsFlushFault fault.Memory = Unit {0}
+
+-- no turn of the lock is left, which alone keeps a session from being closed
+abbrev pub IsLockFault : DeskFault → Type 0
+IsLockFault (fault.Gone why) = ⊥
+IsLockFault (fault.Full number) = 2 ^ 62 ≤ number
+IsLockFault fault.Memory = ⊥
+
+-- A session was connected, by a number that no record of the desk has: nothing was given to it, and it has no fault. Or the
+-- desk refused, which is noted where no session is meant.
+pub record Connects (old : DeskView) (moment : ℕ) (user host : List ℕ) (answer : Result ℕ DeskFault) (new : DeskView) : Type 0 where
+  pub added : IfOk answer (λ session. new.mine ≡ old.mine ++ record_of old.pass moment (act.Connect user host) session false ∷ [])
+  pub new_number : IfOk answer (λ session. (session ≢ 0) × (has_session session old.mine ≡ false))
+  pub given : IfOk answer (λ session. ChangesAt session [] old.gave_to new.gave_to)
+  pub fault : IfOk answer (λ session. ChangesAt session None old.fault_to new.fault_to)
+  pub none_added : OnErr answer (new.mine ≡ old.mine)
+  pub none_given : OnErr answer (StaysForAll old.gave_to new.gave_to)
+  pub noted : OnErr answer (ChangesAt 0 (first_fault (old.fault_to 0) answer) old.fault_to new.fault_to)
+  pub why : IfErr answer IsConnectFault
+  pub lock_full : new.lock_full ≡ (old.lock_full || is_lock_full answer)
+  pub pass : new.pass ≡ old.pass
+
+-- What an act of a session leaves: a fault is noted at that session, and nothing else changes.
+pub record NotesAt {X : Type 0} (old : DeskView) (session : ℕ) (answer : Result X DeskFault) (new : DeskView) : Type 0 where
+  pub none_added : OnErr answer (new.mine ≡ old.mine)
+  pub noted : ChangesAt session (first_fault (old.fault_to session) answer) old.fault_to new.fault_to
+  pub lock_full : new.lock_full ≡ (old.lock_full || is_lock_full answer)
+  pub pass : new.pass ≡ old.pass
+
+-- An act of a session was made, and its record was added; or the desk refused.
+pub record Acts {X : Type 0} (old : DeskView) (moment : ℕ) (act : Act) (session : ℕ) (answer : Result X DeskFault) (new : DeskView) : Type 0 where
+  pub added : OnOk answer (new.mine ≡ old.mine ++ record_of old.pass moment act session false ∷ [])
+  pub given : StaysForAll old.gave_to new.gave_to
+  pub why : IfErr answer IsActFault
+  pub rest : NotesAt old session answer new
+
+-- The same of a call, which may have been answered that memory ran out.
+pub record Calls {X : Type 0} (old : DeskView) (moment : ℕ) (act : Act) (session : ℕ) (answer : Result X DeskFault) (new : DeskView) : Type 0 where
+  pub added : OnOk answer ((short : Bool) × (new.mine ≡ old.mine ++ record_of old.pass moment act session short ∷ []))
+  pub given : StaysForAll old.gave_to new.gave_to
+  pub why : IfErr answer IsActFault
+  pub rest : NotesAt old session answer new
+
+-- A session was drained of these items, which were given to it; or the desk refused, and there are none.
+pub record Drains {X : Type 0} (old : DeskView) (moment session : ℕ) (items : List Item) (answer : Result X DeskFault) (new : DeskView) : Type 0 where
+  pub added : OnOk answer (new.mine ≡ old.mine ++ record_of old.pass moment (act.Drain session) session false ∷ [])
+  pub given : OnOk answer (ChangesAt session (old.gave_to session ++ items ∷ []) old.gave_to new.gave_to)
+  pub none_given : OnErr answer (StaysForAll old.gave_to new.gave_to × (items ≡ []))
+  pub why : IfErr answer IsActFault
+  pub rest : NotesAt old session answer new
+
+-- whether a fault that is of no session is noted at this number: at 0, and at each open session
+abbrev pub is_noted : List Record → ℕ → Bool
+is_noted records session = session == 0 || is_open session records
+
+-- a fault that is of no session is noted so
+abbrev pub NotesEverywhere : (Option DeskFault → Option DeskFault) → DeskView → DeskView → Type 0
+NotesEverywhere note old new = (session : ℕ) →
+    new.fault_to session ≡ (if is_noted old.mine session then note (old.fault_to session) else old.fault_to session)
+
+-- A flush that is refused adds nothing; one that the store refuses, for which the desk is stopped, may add its short record.
+abbrev pub AddsNoneOrShort : DeskView → ℕ → DeskFault → DeskView → Type 0
+AddsNoneOrShort old moment (fault.Gone why.Stopped) new = (new.mine ≡ old.mine) ⊎ (new.mine ≡ old.mine ++ record_of old.pass moment act.Flush 0 true ∷ [])
+AddsNoneOrShort old moment (fault.Gone why.Absent) new = new.mine ≡ old.mine
+AddsNoneOrShort old moment (fault.Gone why.Dropped) new = new.mine ≡ old.mine
+AddsNoneOrShort old moment (fault.Gone why.Overrun) new = new.mine ≡ old.mine
+AddsNoneOrShort old moment (fault.Full number) new = new.mine ≡ old.mine
+AddsNoneOrShort old moment fault.Memory new = new.mine ≡ old.mine
+
+-- What was done so far was made stable; or the desk refused.
+pub record Flushes {X : Type 0} (old : DeskView) (moment : ℕ) (answer : Result X DeskFault) (new : DeskView) : Type 0 where
+  pub added : OnOk answer (new.mine ≡ old.mine ++ record_of old.pass moment act.Flush 0 false ∷ [])
+  pub none_added : IfErr answer (λ fault. AddsNoneOrShort old moment fault new)
+  pub given : StaysForAll old.gave_to new.gave_to
+  pub noted : NotesEverywhere (λ first. first_fault first answer) old new
+  pub why : IfErr answer IsFlushFault
+  pub lock_full : new.lock_full ≡ (old.lock_full || is_lock_full answer)
+  pub pass : new.pass ≡ old.pass
+
+-- A session was closed, unless no turn of the lock is left.
+pub record Closes {X : Type 0} (old : DeskView) (moment session : ℕ) (answer : Result X DeskFault) (new : DeskView) : Type 0 where
+  pub added : OnOk answer (new.mine ≡ old.mine ++ record_of old.pass moment (act.Close session) session false ∷ [])
+  pub given : StaysForAll old.gave_to new.gave_to
+  pub why : IfErr answer IsLockFault
+  pub rest : NotesAt old session answer new
+
+-- The desk was asked whether it is stopped, which makes no act.
+pub record AsksStopped (old : DeskView) (answer : Result Bool DeskFault) (new : DeskView) : Type 0 where
+  pub mine : new.mine ≡ old.mine
+  pub given : StaysForAll old.gave_to new.gave_to
+  pub noted : NotesEverywhere (λ first. first_stop first answer) old new
+  pub why : IfErr answer IsLockFault
+  pub lock_full : new.lock_full ≡ (old.lock_full || is_lock_full answer)
+  pub pass : new.pass ≡ old.pass

@@ -1,10 +1,32 @@
--- What gates, clocks, sinks and worlds say of their calls.
-use Rattle.std.specs.Prelude.{◌≡◌, ℕ, Bool, true, false, List, [], ◌∷◌, ◌++◌, Option, Some, None, Result, Ok, Err}
+-- What contracts see of gates, sinks and worlds, and what their calls and those of clocks say.
+use Rattle.std.specs.Prelude.{◌≡◌, ℕ, ◌+◌, ◌≤◌, ◌||◌, Bool, true, false, List, [], ◌∷◌, ◌++◌, length, take, Option, Some, None, option_map, IfSome, Result, Ok, Err, OnOk, OnErr}
+use Rattle.kom_links.specs.declared.asked.Asked.{Asked}
 use Rattle.kom_links.specs.declared.gate.Next.{Next}
 use Rattle.kom_links.specs.declared.gate.Next.TheVariants as next
+use Rattle.kom_links.specs.declared.served.Served.{Served}
 use Rattle.kom_links.specs.declared.world.WorldFault.{WorldFault}
 use Rattle.kom_links.specs.declared.world.WorldFault.TheVariants as world
-use Rattle.kom_links.specs.Outside.{Rose}
+use Rattle.kom_links.specs.Outside.{Rose, grown, IsNothing}
+
+-- What contracts see of a gate: how many links it gave so far, and those that were given back, in
+-- order, each with how it was served, both if the gate tells them; whether it returned Ended;
+-- and how often it failed.
+pub record GateView (L : Type 0) : Type 0 where
+  pub given : Option ℕ
+  pub returned : Option (List (L × Served))
+  pub ended : Bool
+  pub faults : ℕ
+
+-- what contracts see of a sink: the bytes that were put to it so far, if it tells them, and how
+-- often it failed
+pub record SinkView : Type 0 where
+  pub put : Option (List ℕ)
+  pub faults : ℕ
+
+-- what contracts see of a world: how often it was asked for what it has, and how often it failed
+pub record WorldView : Type 0 where
+  pub asked : Asked
+  pub faults : ℕ
 
 -- a fact of the link that a gate gives, if it gives one
 abbrev pub IfLink : {L : Type 0} → Next L → (L → Type 0) → Type 0
@@ -13,7 +35,7 @@ IfLink next.NotYet P = Unit {0}
 IfLink next.Ended P = Unit {0}
 IfLink next.Failed P = Unit {0}
 
--- a gate that answers Failed has counted it
+-- a gate that returns Failed has counted it
 abbrev pub MayNext : {L : Type 0} → ℕ → ℕ → Next L → Type 0
 MayNext before after (next.Link link) = Unit {0}
 MayNext before after next.NotYet = Unit {0}
@@ -26,19 +48,20 @@ is_ended next.NotYet = false
 is_ended next.Ended = true
 is_ended next.Failed = false
 
--- how many links an answer gives
+-- how many links a call gives
 abbrev pub links_in : {L : Type 0} → Next L → ℕ
 links_in (next.Link link) = 1
 links_in next.NotYet = 0
 links_in next.Ended = 0
 links_in next.Failed = 0
 
--- Where a list is told after a call, it is what was told before it, and this one more at its end.
+-- If a list is told after a call, it is what was told before it, and this one more at its end.
 abbrev pub Gains : {X : Type 0} → Option (List X) → X → Option (List X) → Type 0
 Gains {X} before one None = Unit {0}
-Gains {X} before one (Some after) = (earlier : List X) × (before ≡ Some earlier) × (after ≡ earlier ++ one ∷ [])
+Gains {X} before one (Some after) =
+    (earlier : List X) × (before ≡ Some earlier) × (after ≡ earlier ++ one ∷ [])
 
--- a world answers Failed where it has counted that
+-- a world returns Failed if it has counted that
 abbrev pub MayRefuse : {X : Type 0} → ℕ → ℕ → Result X WorldFault → Type 0
 MayRefuse before after (Ok value) = Unit {0}
 MayRefuse before after (Err world.Failed) = Rose before after
@@ -49,3 +72,40 @@ abbrev pub has_failed : {X : Type 0} → Result X WorldFault → Bool
 has_failed (Ok value) = false
 has_failed (Err world.Failed) = true
 has_failed (Err world.Memory) = false
+
+-- A gate was asked for a link, and gave one or none.
+pub record Admits {L : Type 0} (old : GateView L) (answer : Next L)
+    (new : GateView L) : Type 0 where
+  pub may : MayNext old.faults new.faults answer
+  pub given : new.given ≡ option_map (λ n. n + links_in answer) old.given
+  pub returned : new.returned ≡ old.returned
+  pub ended : new.ended ≡ (old.ended || is_ended answer)
+  pub faults : old.faults ≤ new.faults
+
+-- A link was given back to a gate, served so.
+pub record TakesBack {L : Type 0} (old : GateView L) (link : L) (served : Served)
+    (new : GateView L) : Type 0 where
+  pub given : new.given ≡ old.given
+  pub returned : Gains old.returned (link, served) new.returned
+  pub ended : new.ended ≡ old.ended
+  pub faults : old.faults ≤ new.faults
+
+-- A gate that has given no link yet, if it tells that.
+pub record IsNewGate {L : Type 0} (gate : GateView L) : Type 0 where
+  pub no_fault : gate.faults ≡ 0
+  pub none_given : IfSome gate.given (λ n. n ≡ 0)
+  pub none_back : IfSome gate.returned (λ links. links ≡ [])
+  pub not_ended : gate.ended ≡ false
+
+-- All bytes were put to a sink; or some of the first of them were, and it has counted a fault.
+pub record Puts {X E : Type 0} (old : SinkView) (from : List ℕ) (answer : Result X E)
+    (new : SinkView) : Type 0 where
+  pub all : OnOk answer (new.put ≡ grown from old.put)
+  pub some : OnErr answer ((n : ℕ) × (n ≤ length from) × (new.put ≡ grown (take n from) old.put))
+  pub failed : OnErr answer (Rose old.faults new.faults)
+  pub faults : old.faults ≤ new.faults
+
+-- A sink to which nothing was put yet, if it tells that.
+pub record IsNewSink (sink : SinkView) : Type 0 where
+  pub no_fault : sink.faults ≡ 0
+  pub nothing_put : IsNothing sink.put

@@ -1,5 +1,6 @@
--- What contracts see of the objects in memory: what each was made with, how far it has come, and what a link gives and takes by its plan.
-use Rattle.std.specs.Prelude.{◌≡◌, ◌≤◌, ◌+◌, ◌==◌, ◌⊎◌, ℕ, min, if◌then◌else◌, Bool, true, false, List, ◌∷◌, length, drop, Option, Some}
+-- What contracts see of the objects in memory: what each was made with, how far it has come, and
+-- what a link gives and takes by its plan.
+use Rattle.std.specs.Prelude.{◌≡◌, ◌≤◌, ◌+◌, ◌==◌, ◌⊎◌, ℕ, min, if◌then◌else◌, Bool, true, false, List, [], ◌∷◌, length, take, drop, map, Option, Some, option_map, codes}
 use Rattle.std.specs.List.{AllByRecursion}
 use Rattle.kom_links.specs.declared.gate.Next.{Next}
 use Rattle.kom_links.specs.declared.gate.Next.TheVariants as next
@@ -8,6 +9,7 @@ use Rattle.kom_links.specs.declared.link.Got.TheVariants as got
 use Rattle.kom_links.specs.declared.link.Took.{Took}
 use Rattle.kom_links.specs.declared.link.Took.TheVariants as took
 use Rattle.kom_links.specs.declared.memory_link.LinkPlan.{LinkPlan}
+use Rattle.kom_links.specs.declared.read_log.ReadMark.{ReadMark}
 use Rattle.kom_links.specs.declared.memory_link.Script.{Script}
 use Rattle.kom_links.specs.declared.memory_link.MemoryLink.{MemoryLink}
 use Rattle.kom_links.specs.declared.memory_gate.Client.{Client}
@@ -16,6 +18,7 @@ use Rattle.kom_links.specs.declared.memory_sink.MemorySink.{MemorySink}
 use Rattle.kom_links.specs.declared.memory_clock.MemoryClock.{MemoryClock}
 use Rattle.kom_links.specs.declared.memory_world.GatePlan.{GatePlan}
 use Rattle.kom_links.specs.declared.memory_world.MemoryWorld.{MemoryWorld}
+use Rattle.kom_links.specs.Outside.{Look, LinkView}
 
 -- how a link gives and takes its bytes
 abbrev pub plan_of : MemoryLink → LinkPlan
@@ -33,11 +36,24 @@ writes_of link = link.writes
 abbrev pub place_of : MemoryLink → ℕ
 place_of link = link.taken
 
+-- the read that a mark of a link in memory stands for
+abbrev pub look_of : List ℕ → List ℕ → ReadMark → Look
+look_of input output mark = record {
+  taken = take mark.taken input;
+  put = take mark.put output;
+  waited = mark.waited;
+}
+
+-- the reads that a link in memory tells
+abbrev pub told_reads : MemoryLink → Option (List Look)
+told_reads link = option_map (map (look_of link.input.items link.output.items)) link.log
+
 -- how many bytes a link's reads have yet to give
 abbrev pub left_of : MemoryLink → ℕ
 left_of link = length (drop link.taken link.input.items)
 
--- a read that gives so many bytes from a place keeps to the plan: to its limit, where it sets one, and with no cut strictly inside
+-- a read that gives so many bytes from a place keeps to the plan: to its limit, where it sets one,
+-- and with no cut strictly inside
 abbrev pub KeepsTo : LinkPlan → ℕ → ℕ → Type 0
 KeepsTo plan place count = ((plan.most_read ≡ 0) ⊎ (count ≤ plan.most_read))
     × AllByRecursion (λ cut. (cut ≤ place) ⊎ (place + count ≤ cut)) plan.cuts.items
@@ -124,12 +140,26 @@ world_moments_of world = world.moments.items
 abbrev pub sink_fails_of : MemoryWorld → List ℕ
 sink_fails_of world = world.sink_fails.items
 
--- A link, of which this is left, is that of the first of these clients: it stands at its input's start, it was not called yet, and the other clients remain.
-abbrev pub IsLinkOfFirst : Option (List ℕ) → MemoryLink → List Client → List Client → Type 0
-IsLinkOfFirst left link clients others = (client : Client) × (clients ≡ client ∷ others) × (left ≡ Some client.input.items)
-    × (plan_of link ≡ client.plan) × (place_of link ≡ 0) × (reads_of link ≡ 0) × (writes_of link ≡ 0)
+-- what contracts see of a new link in memory whose client sends these bytes
+abbrev pub new_link : List ℕ → LinkView
+new_link input = record {
+  host = codes "memory";
+  taken = Some [];
+  left = Some input;
+  put = Some [];
+  ended = false;
+  faults = 0;
+  reads = Some [];
+}
 
--- where no link is given, the clients stay
+-- A link that is seen so is that of the first of these clients, and nothing was done on it yet; the
+-- other clients remain.
+abbrev pub IsLinkOfFirst : LinkView → MemoryLink → List Client → List Client → Type 0
+IsLinkOfFirst view link clients others = (client : Client) × (clients ≡ client ∷ others)
+    × (view ≡ new_link client.input.items) × (plan_of link ≡ client.plan)
+    × (place_of link ≡ 0) × (reads_of link ≡ 0) × (writes_of link ≡ 0)
+
+-- if no link is given, the clients stay
 abbrev pub StaysWithNoLink : {L : Type 0} → Next L → List Client → List Client → Type 0
 StaysWithNoLink (next.Link link) old new = Unit {0}
 StaysWithNoLink next.NotYet old new = new ≡ old

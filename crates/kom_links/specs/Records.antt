@@ -35,5 +35,8 @@ abbrev pub has_session : ℕ → List Record → Bool
 has_session session records = list_any (λ made. made.session == session) records
 
 -- the session was connected by these records and not closed
+abbrev pub is_open : ℕ → List Record → Bool
+is_open session records = has_connect session records && not (has_close session records)
+
 abbrev pub IsOpen : ℕ → List Record → Type 0
-IsOpen session records = IsTrue (has_connect session records && not (has_close session records))
+IsOpen session records = IsTrue (is_open session records)

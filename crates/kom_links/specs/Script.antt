@@ -7,7 +7,8 @@ use Rattle.kom_links.specs.declared.memory_link.Script.{Script}
 abbrev pub next_call : ℕ → ℕ
 next_call made = min (made + 1) (2 ^ 64 - 1)
 
--- the count of faults after a call, by whether it failed and by the count before it; the count stands still at 2^64 - 1
+-- the count of faults after a call, by whether it failed and by the count before it; the count
+-- stands still at 2^64 - 1
 abbrev pub faults_after : Bool → ℕ → ℕ
 faults_after failed faults = if failed then next_call faults else faults
 
@@ -21,9 +22,11 @@ Fails fails made = IsTrue (is_next_in fails made)
 
 -- the next call is one of those that are to wait, and none of those that are to fail
 abbrev pub Waits : Script → ℕ → Type 0
-Waits script made = IsTrue (is_next_in script.waits.items made && not (is_next_in script.fails.items made))
+Waits script made =
+    IsTrue (is_next_in script.waits.items made && not (is_next_in script.fails.items made))
 
--- the moment that a script has for a reading, counted from 0; its last one serves all that come later
+-- the moment that a script has for a reading, counted from 0; its last one serves all that come
+-- later
 abbrev pub moment_at : List ℕ → ℕ → ℕ
 moment_at script reading = slice_index script (min reading (length script - 1))
 

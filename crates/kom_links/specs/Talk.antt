@@ -1,5 +1,5 @@
--- What a link is to the records that its bytes led to. (Protocol A, "Client-Server Protocol", and this server's
--- own rule on when replies are sent.)
+-- What a link is to the records that its bytes led to. (Protocol A, "Client-Server Protocol", and
+-- this server's own rule on when replies are sent.)
 use Rattle.std.specs.Prelude.{◌≡◌, ◌≢◌, ℕ, ◌+◌, ◌==◌, ◌⊎◌, Bool, true, false, IsTrue, nat_lt, List, [], ◌∷◌, ◌++◌, length, map, filter, flat_map, take, Option, Some, None, IsSome}
 use Rattle.std.specs.List.{list_all}
 use Rattle.kom_types.specs.declared.acts.Act.TheVariants as act
@@ -35,13 +35,16 @@ abbrev pub own_step : Bool → Step → List Step → List Step
 own_step true step steps = step ∷ steps
 own_step false step steps = steps
 
--- The steps of a session in the records of one pass, whose flushes count too; `given` is what its drains gave, a
--- list for each.
+-- The steps of a session in the records of one pass, whose flushes count too; `given` is what its
+-- drains gave, a list for each.
 abbrev pub steps_of : ℕ → List Record → List (List Item) → List Step
 steps_of session [] given = []
 steps_of session (made ∷ records) given = elim made.entry.act [
-  | act.Connect user host ↦ own_step (made.session == session) (Connects user host) (steps_of session records given)
-  | act.Call caller reference call ↦ own_step (made.session == session) (Asks (record { reference = reference; call = call })) (steps_of session records given)
+  | act.Connect user host ↦
+      own_step (made.session == session) (Connects user host) (steps_of session records given)
+  | act.Call caller reference call ↦
+      own_step (made.session == session) (Asks (record { reference = reference; call = call }))
+      (steps_of session records given)
   | act.Broken caller ↦ own_step (made.session == session) Breaks (steps_of session records given)
   | act.Drain caller ↦ elim (made.session == session) [
     | true ↦ Drains (first_given given) ∷ steps_of session records (other_given given)
@@ -53,7 +56,8 @@ steps_of session (made ∷ records) given = elim made.entry.act [
 
 -- the records of a session; number 0 is no session
 abbrev pub records_of : ℕ → List Record → List Record
-records_of session records = elim (session == 0) [ true ↦ [] | false ↦ filter (λ made. made.session == session) records ]
+records_of session records =
+    elim (session == 0) [ true ↦ [] | false ↦ filter (λ made. made.session == session) records ]
 
 -- how many drains there are, and which calls
 abbrev pub drains_in : List Step → ℕ
@@ -87,11 +91,14 @@ breaks_in (Closes ∷ steps) = breaks_in steps
 -- it begins with the Connect of the greeting's user at this host
 abbrev pub Begins : List ℕ → Option (List ℕ) → List Record → Type 0
 Begins host greeting [] = Unit {0}
-Begins host greeting (made ∷ records) = (user : List ℕ) × (greeting ≡ Some user) × (made.entry.act ≡ act.Connect user host)
+Begins host greeting (made ∷ records) =
+    (user : List ℕ) × (greeting ≡ Some user) × (made.entry.act ≡ act.Connect user host)
 
 -- the session's last record is its Close
 abbrev pub EndsClosed : List Record → Type 0
-EndsClosed records = (before : List Record) × (last : Record) × (closed : ℕ) × (records ≡ before ++ last ∷ []) × (last.entry.act ≡ act.Close closed)
+EndsClosed records =
+    (before : List Record) × (last : Record) × (closed : ℕ) × (records ≡ before ++ last ∷ [])
+    × (last.entry.act ≡ act.Close closed)
 
 -- the ends at which a link may have been served without a Connect though its greeting had come
 abbrev pub IsCutShort : SessionEnd → Type 0
@@ -108,16 +115,17 @@ IsCutShort end.Dropped = ⊥
 abbrev pub lines_before : ℕ → List Line → ℕ
 lines_before place lines = length (filter (λ line. nat_lt line.end place) lines)
 
--- the items of all drains, printed one behind the other
+-- the items of all drains, printed one after the other
 abbrev pub printed : List (List Item) → List ℕ
 printed given = flat_map (flat_map print_of) given
 
-abbrev pub IsFront : List ℕ → List ℕ → Type 0
-IsFront front whole = (more : List ℕ) × (front ++ more ≡ whole)
+abbrev pub IsPrefix : List ℕ → List ℕ → Type 0
+IsPrefix prefix whole = (more : List ℕ) × (prefix ++ more ≡ whole)
 
--- a flush, and behind it a drain that gave nothing
+-- a flush, and after it a drain that gave nothing
 abbrev pub Settles : List Step → Type 0
-Settles steps = (before between behind : List Step) × (steps ≡ before ++ Flushes ∷ between ++ Drains [] ∷ behind)
+Settles steps =
+    (before between rest : List Step) × (steps ≡ before ++ Flushes ∷ between ++ Drains [] ∷ rest)
 
 -- neither a Connect nor a call
 abbrev pub is_quiet : Step → Bool
@@ -128,43 +136,56 @@ is_quiet Flushes = true
 is_quiet (Drains items) = true
 is_quiet Closes = true
 
--- The last drain gave nothing and comes after a flush that comes after the session's Connect and its last call.
+-- The last drain gave nothing and comes after a flush that comes after the session's Connect and
+-- its last call.
 abbrev pub IsDrained : List Step → Type 0
-IsDrained steps = (before between behind : List Step) × (steps ≡ before ++ Flushes ∷ between ++ Drains [] ∷ behind)
-    × IsTrue (list_all is_quiet between) × IsTrue (list_all is_quiet behind) × (drains_in behind ≡ 0)
+IsDrained steps =
+    (before between rest : List Step) × (steps ≡ before ++ Flushes ∷ between ++ Drains [] ∷ rest)
+    × IsTrue (list_all is_quiet between) × IsTrue (list_all is_quiet rest) × (drains_in rest ≡ 0)
 
--- One Broken stands behind the last call, and behind it a flush and then a drain that gave nothing.
+-- One Broken stands after the last call, and after it a flush and then a drain that gave nothing.
 abbrev pub IsBroken : List Step → Type 0
-IsBroken steps = (before behind : List Step) × (steps ≡ before ++ Breaks ∷ behind)
-    × (breaks_in before ≡ 0) × (breaks_in behind ≡ 0) × (requests_in behind ≡ []) × Settles behind
+IsBroken steps = (before rest : List Step) × (steps ≡ before ++ Breaks ∷ rest)
+    × (breaks_in before ≡ 0) × (breaks_in rest ≡ 0) × (requests_in rest ≡ []) × Settles rest
 
--- A Broken comes at most once, behind all calls, and only where the stream is at fault and all its lines before the fault were called.
+-- A Broken comes at most once, after all calls, and only if the stream is at fault and all its
+-- lines before the fault were called.
 abbrev pub MayBreak : List ℕ → List Step → Type 0
-MayBreak input steps = (before behind : List Step) → steps ≡ before ++ Breaks ∷ behind →
-    (breaks_in before ≡ 0) × (breaks_in behind ≡ 0) × (requests_in behind ≡ [])
-    × (place : ℕ) × (fault_of input ≡ Some place) × (length (requests_in steps) ≡ lines_before place (stream_of input).lines)
+MayBreak input steps = (before rest : List Step) → steps ≡ before ++ Breaks ∷ rest →
+    (breaks_in before ≡ 0) × (breaks_in rest ≡ 0) × (requests_in rest ≡ [])
+    × (place : ℕ) × (fault_of input ≡ Some place)
+    × (length (requests_in steps) ≡ lines_before place (stream_of input).lines)
 
--- Between each call and the fourth call after it there is a flush, and then a drain that gave nothing.
+-- Between each call and the fourth call after it there is a flush, and then a drain that gave
+-- nothing.
 abbrev pub IsSpaced : List Step → Type 0
-IsSpaced steps = (before between behind : List Step) (first fourth : Request) →
-    steps ≡ before ++ Asks first ∷ between ++ Asks fourth ∷ behind → length (requests_in between) ≡ 3 → Settles between
+IsSpaced steps = (before between rest : List Step) (first fourth : Request) →
+    steps ≡ before ++ Asks first ∷ between ++ Asks fourth ∷ rest →
+    length (requests_in between) ≡ 3 → Settles between
 
--- What was written: a front of what the drains gave, printed; without a Connect nothing, or a front of the line
--- that says that the stream is at fault, where it is so within the greeting.
+-- What was written: a prefix of what the drains gave, printed; without a Connect nothing, or a
+-- prefix of the line that says that the stream is at fault, where it is so within the greeting.
 abbrev pub Written : List ℕ → List ℕ → List Record → List (List Item) → Type 0
-Written input output (made ∷ records) given = IsFront output (printed given)
-Written input output [] given = (output ≡ []) ⊎ (((stream_of input).greeting ≡ None) × IsSome (fault_of input) × IsFront output (print_of item.Fault))
+Written input output (made ∷ records) given = IsPrefix output (printed given)
+Written input output [] given =
+    (output ≡ [])
+    ⊎ (((stream_of input).greeting ≡ None) × IsSome (fault_of input)
+    × IsPrefix output (print_of item.Fault))
 
--- At End the link has ended, its stream has no fault, all its lines were called, and all that the drains gave was written.
-pub record AtEnd (input output : List ℕ) (ended : Bool) (records : List Record) (steps : List Step) (given : List (List Item)) : Type 0 where
+-- At End the link has ended, its stream has no fault, all its lines were called, and all that the
+-- drains gave was written.
+pub record AtEnd (input output : List ℕ) (ended : Bool) (records : List Record) (steps : List Step)
+    (given : List (List Item)) : Type 0 where
   pub has_ended : ended ≡ true
   pub no_fault : fault_of input ≡ None
   pub all_lines : length (requests_in steps) ≡ length (stream_of input).lines
   pub all_written : output ≡ printed given
   pub drained : records ≢ [] → IsDrained steps
 
--- At Broken the stream is at fault at that place, all lines before it were called, and all was written.
-pub record AtBroken (place : ℕ) (input output : List ℕ) (records : List Record) (steps : List Step) (given : List (List Item)) : Type 0 where
+-- At Broken the stream is at fault at that place, all lines before it were called, and all was
+-- written.
+pub record AtBroken (place : ℕ) (input output : List ℕ) (records : List Record) (steps : List Step)
+    (given : List (List Item)) : Type 0 where
   pub fault : fault_of input ≡ Some place
   pub all_lines : length (requests_in steps) ≡ lines_before place (stream_of input).lines
   pub greeting_line : records ≡ [] → output ≡ print_of item.Fault
@@ -172,9 +193,12 @@ pub record AtBroken (place : ℕ) (input output : List ℕ) (records : List Reco
   pub broken : records ≢ [] → IsBroken steps
 
 -- what each end says beside
-abbrev pub AtItsEnd : SessionEnd → List ℕ → List ℕ → Bool → List Record → List Step → List (List Item) → Type 0
-AtItsEnd end.End input output ended records steps given = AtEnd input output ended records steps given
-AtItsEnd (end.Broken place) input output ended records steps given = AtBroken place input output records steps given
+abbrev pub AtItsEnd : SessionEnd → List ℕ → List ℕ → Bool → List Record → List Step →
+    List (List Item) → Type 0
+AtItsEnd end.End input output ended records steps given =
+    AtEnd input output ended records steps given
+AtItsEnd (end.Broken place) input output ended records steps given =
+    AtBroken place input output records steps given
 AtItsEnd end.Dropped input output ended records steps given = output ≡ printed given
 AtItsEnd end.Overrun input output ended records steps given = output ≡ printed given
 AtItsEnd end.Stopped input output ended records steps given = output ≡ printed given
@@ -182,17 +206,20 @@ AtItsEnd (end.Full number) input output ended records steps given = output ≡ p
 AtItsEnd end.LinkFault input output ended records steps given = Unit {0}
 AtItsEnd end.Memory input output ended records steps given = Unit {0}
 
--- A link at this host, of which `input` was taken and to which `output` was put, is served by the records of one
--- pass as this session, whose drains gave `given`, a list for each, and so ends.
-pub record IsTalk (host input output : List ℕ) (ended : Bool) (pass : List Record) (session : ℕ) (given : List (List Item)) (end : SessionEnd) (full : Bool) : Type 0 where
+-- A link at this host, of which `input` was taken and to which `output` was put, is served by the
+-- records of one pass as this session, whose drains gave `given`, a list for each, and so ends.
+pub record IsTalk (host input output : List ℕ) (ended : Bool) (pass : List Record) (session : ℕ)
+    (given : List (List Item)) (end : SessionEnd) (full : Bool) : Type 0 where
   pub begins : Begins host (stream_of input).greeting (records_of session pass)
   pub silent : records_of session pass ≡ [] → ((stream_of input).greeting ≡ None) ⊎ IsCutShort end
   pub drains : drains_in (steps_of session pass given) ≡ length given
   pub calls : let requests = requests_in (steps_of session pass given) in
-      map Some requests ≡ map (λ line. reading_of line.tokens) (take (length requests) (stream_of input).lines)
+      map Some requests
+      ≡ map (λ line. reading_of line.tokens) (take (length requests) (stream_of input).lines)
   pub breaks : MayBreak input (steps_of session pass given)
   pub written : Written input output (records_of session pass) given
-  pub at_end : AtItsEnd end input output ended (records_of session pass) (steps_of session pass given) given
+  pub at_end : AtItsEnd end input output ended (records_of session pass)
+      (steps_of session pass given) given
   pub closed : full ≡ false → (records_of session pass ≡ []) ⊎ EndsClosed (records_of session pass)
   pub spaced : IsSpaced (steps_of session pass given)
 
@@ -200,11 +227,13 @@ pub record IsTalk (host input output : List ℕ) (ended : Bool) (pass : List Rec
 abbrev pub IsChosen : List ℕ → List ℕ → Type 0
 IsChosen [] readings = Unit {0}
 IsChosen (moment ∷ moments) [] = ⊥
-IsChosen (moment ∷ moments) (reading ∷ readings) = ((moment ≡ reading) × IsChosen moments readings) ⊎ IsChosen (moment ∷ moments) readings
+IsChosen (moment ∷ moments) (reading ∷ readings) =
+    ((moment ≡ reading) × IsChosen moments readings) ⊎ IsChosen (moment ∷ moments) readings
 
--- Where it is told which moments a clock gave, those of these records are, in order, readings that it gave between
--- the two, no reading used twice.
+-- Where it is told which moments a clock gave, those of these records are, in order, readings that
+-- it gave between the two, no reading used twice.
 abbrev pub AreTimed : Option (List ℕ) → Option (List ℕ) → List Record → Type 0
 AreTimed before None records = Unit {0}
-AreTimed before (Some after) records = (earlier readings : List ℕ) × (before ≡ Some earlier) × (after ≡ earlier ++ readings)
+AreTimed before (Some after) records =
+    (earlier readings : List ℕ) × (before ≡ Some earlier) × (after ≡ earlier ++ readings)
     × IsChosen (map (λ made. made.entry.moment) records) readings

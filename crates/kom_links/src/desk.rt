@@ -1,10 +1,8 @@
-ghost use Rattle.std.specs.Prelude.{◌≡◌, ◌≢◌, ◌≤◌, ◌||◌, ◌++◌, ◌∷◌, [], ℕ, Bool, true, false, List, Option, None, length, IfOk, IfErr, OnOk, OnErr};
+ghost use Rattle.std.specs.Prelude.{◌≡◌, ◌≤◌, List, length, IfOk};
+ghost use Rattle.kom_types.specs.declared.items.Item.{Item as Taken};
 ghost use Rattle.kom_types.specs.declared.acts.Act.TheVariants as act;
-ghost use Rattle.kom_types.specs.declared.acts.Record.{Record};
-ghost use Rattle.kom_types.specs.declared.items.Item.{Item as WaitingItem};
-ghost use Rattle.kom_links.specs.declared.desk.DeskFault.{DeskFault as Fault};
-ghost use Rattle.kom_links.specs.Records.{has_session, IsOpen};
-ghost use Rattle.kom_links.specs.DeskCalls.{Adds, AddsCall, AddsNoneOrShort, IsConnectFault, IsNotAbsent, is_lock_full, first_fault, first_stop};
+ghost use Rattle.kom_links.specs.Records.{IsOpen};
+ghost use Rattle.kom_links.specs.DeskCalls.{DeskView, Connects, Acts, Calls, Drains, Flushes, Closes, AsksStopped};
 
 use arrayvec::ArrayVec;
 use kom_types::{Call, Item, Moment, Why};
@@ -12,43 +10,23 @@ use kom_types::{Call, Item, Moment, Why};
 /// Why a desk did not make an act.
 #[derive(Clone, Copy, Debug, PartialEq, Eq)]
 pub enum DeskFault {
-    /// The session is served no longer.
+    /// The session is served no longer, or the server is not.
     Gone(Why),
     /// This many were made already: sessions, or turns of the server's lock.
     Full(u64),
-    /// Memory was wanted and could not be had.
+    /// Memory ran out.
     Memory,
 }
 
-/// Where one pass hands in the acts of the sessions that it serves.
+/// Where one pass hands in the acts of the sessions that it serves. Each call but `stopped` makes one act, at the moment that
+/// it is handed.
 pub trait Desk {
-    /// The number of the desk's pass.
-    ghost pass_of: { Self → ℕ };
+    ghost view: { Self → DeskView };
 
-    /// The records of the acts that this desk made.
-    ghost mine: { Self → List Record };
-
-    /// The lists of items that its drains gave since its last connect, one for each drain.
-    ghost given_items: { Self → List (List WaitingItem) };
-
-    /// The first fault that it answered since then; that it is stopped counts as one.
-    ghost fault: { Self → Option Fault };
-
-    /// Whether it answered that no turn of the server's lock is left.
-    ghost lock_full: { Self → Bool };
-
-    /// Begins a session for the user of a greeting, and answers its number.
+    /// Begins a session for the user of a greeting, and returns its number.
     fn connect(&mut self, moment: Moment, user: &[u8], host: &[u8]) -> Result<u32, DeskFault>
         requires { length user.now ≤ 1024 }
-        ensures added { IfOk result (λ session. Adds (mine self.old) (mine self.new) (pass_of self.old) moment (act.Connect user.now host.now) session) }
-        ensures new_number { IfOk result (λ session. (session ≢ 0) × (has_session session (mine self.old) ≡ false)) }
-        ensures given { OnOk result (given_items self.new ≡ []) }
-        ensures fault { OnOk result (fault self.new ≡ None) }
-        ensures err { OnErr result ((mine self.new ≡ mine self.old) × (given_items self.new ≡ given_items self.old)) }
-        ensures refused { OnErr result (fault self.new ≡ first_fault (fault self.old) result) }
-        ensures lock_full { lock_full self.new ≡ (lock_full self.old || is_lock_full result) }
-        ensures why { IfErr result IsConnectFault }
-        ensures pass { pass_of self.new ≡ pass_of self.old };
+        ensures { Connects (view self.old) moment user.now host.now result (view self.new) };
 
     /// Makes a call for a session.
     fn call(
@@ -58,64 +36,45 @@ pub trait Desk {
         reference: u32,
         call: Call,
     ) -> Result<(), DeskFault>
-        requires { IsOpen session (mine self.old) }
-        ensures added { OnOk result (AddsCall (mine self.old) (mine self.new) (pass_of self.old) moment (act.Call session reference call) session) }
-        ensures err { OnErr result (mine self.new ≡ mine self.old) }
-        ensures given { given_items self.new ≡ given_items self.old }
-        ensures fault { fault self.new ≡ first_fault (fault self.old) result }
-        ensures lock_full { lock_full self.new ≡ (lock_full self.old || is_lock_full result) }
-        ensures present { IfErr result IsNotAbsent }
-        ensures pass { pass_of self.new ≡ pass_of self.old };
+        requires { IsOpen session (view self.old).mine }
+        ensures { Calls (view self.old) moment (act.Call session reference call) session result (view self.new) };
 
     /// Says that a session's stream is at fault.
     fn broken(&mut self, moment: Moment, session: u32) -> Result<(), DeskFault>
-        requires { IsOpen session (mine self.old) }
-        ensures added { OnOk result (Adds (mine self.old) (mine self.new) (pass_of self.old) moment (act.Broken session) session) }
-        ensures err { OnErr result (mine self.new ≡ mine self.old) }
-        ensures given { given_items self.new ≡ given_items self.old }
-        ensures fault { fault self.new ≡ first_fault (fault self.old) result }
-        ensures lock_full { lock_full self.new ≡ (lock_full self.old || is_lock_full result) }
-        ensures present { IfErr result IsNotAbsent }
-        ensures pass { pass_of self.new ≡ pass_of self.old };
+        requires { IsOpen session (view self.old).mine }
+        ensures { Acts (view self.old) moment (act.Broken session) session result (view self.new) };
 
-    /// Takes items that wait for a session, 64 at most.
+    /// Takes items that wait for a session, in place of what stood in the array.
+    fn drain_into(
+        &mut self,
+        moment: Moment,
+        session: u32,
+        into: &mut ArrayVec<Item, 64>,
+    ) -> Result<(), DeskFault>
+        requires { IsOpen session (view self.old).mine }
+        ensures { Drains (view self.old) moment session into.new.items result (view self.new) };
+
+    /// The same, with the items by value.
     fn drain(&mut self, moment: Moment, session: u32) -> Result<ArrayVec<Item, 64>, DeskFault>
-        requires { IsOpen session (mine self.old) }
-        ensures added { OnOk result (Adds (mine self.old) (mine self.new) (pass_of self.old) moment (act.Drain session) session) }
-        ensures given { IfOk result (λ items. given_items self.new ≡ given_items self.old ++ items.items ∷ []) }
-        ensures err { OnErr result ((mine self.new ≡ mine self.old) × (given_items self.new ≡ given_items self.old)) }
-        ensures fault { fault self.new ≡ first_fault (fault self.old) result }
-        ensures lock_full { lock_full self.new ≡ (lock_full self.old || is_lock_full result) }
-        ensures present { IfErr result IsNotAbsent }
-        ensures pass { pass_of self.new ≡ pass_of self.old };
+        requires { IsOpen session (view self.old).mine }
+        ensures { (items : List Taken) × IfOk result (λ given. given.items ≡ items)
+            × Drains (view self.old) moment session items result (view self.new) }
+    {
+        let mut items = ArrayVec::new();
+        self.drain_into(moment, session, &mut items)?;
+        Ok(items)
+    }
 
     /// Makes stable what was done so far.
     fn flush(&mut self, moment: Moment) -> Result<(), DeskFault>
-        ensures added { OnOk result (Adds (mine self.old) (mine self.new) (pass_of self.old) moment act.Flush 0) }
-        ensures err { OnErr result (AddsNoneOrShort (mine self.old) (mine self.new) (pass_of self.old) moment) }
-        ensures given { given_items self.new ≡ given_items self.old }
-        ensures fault { fault self.new ≡ first_fault (fault self.old) result }
-        ensures lock_full { lock_full self.new ≡ (lock_full self.old || is_lock_full result) }
-        ensures present { IfErr result IsNotAbsent }
-        ensures pass { pass_of self.new ≡ pass_of self.old };
+        ensures { Flushes (view self.old) moment result (view self.new) };
 
     /// Ends a session.
     fn close(&mut self, moment: Moment, session: u32) -> Result<(), DeskFault>
-        requires { IsOpen session (mine self.old) }
-        ensures added { OnOk result (Adds (mine self.old) (mine self.new) (pass_of self.old) moment (act.Close session) session) }
-        ensures err { OnErr result (mine self.new ≡ mine self.old) }
-        ensures given { given_items self.new ≡ given_items self.old }
-        ensures fault { fault self.new ≡ first_fault (fault self.old) result }
-        ensures lock_full { lock_full self.new ≡ (lock_full self.old || is_lock_full result) }
-        ensures full_alone { OnErr result (lock_full self.new ≡ true) }
-        ensures pass { pass_of self.new ≡ pass_of self.old };
+        requires { IsOpen session (view self.old).mine }
+        ensures { Closes (view self.old) moment session result (view self.new) };
 
-    /// Whether the server was shut down or its store refused a flush. It makes no act.
+    /// Whether the server was shut down or its store refused a flush.
     fn stopped(&mut self) -> Result<bool, DeskFault>
-        ensures mine { mine self.new ≡ mine self.old }
-        ensures given { given_items self.new ≡ given_items self.old }
-        ensures fault { fault self.new ≡ first_stop (fault self.old) result }
-        ensures lock_full { lock_full self.new ≡ (lock_full self.old || is_lock_full result) }
-        ensures present { IfErr result IsNotAbsent }
-        ensures pass { pass_of self.new ≡ pass_of self.old };
+        ensures { AsksStopped (view self.old) result (view self.new) };
 }

@@ -1,5 +1,5 @@
-//! The doors to the outside, each a trait with a written meaning and a count of faults; their forms in memory;
-//! and the adapters over standard input, standard output and the system's clock.
+//! The doors to the outside, each a trait with a written meaning and a count of faults; their forms
+//! in memory; and the adapters over standard input, standard output and the system's clock.
 #![tactic(auto)]
 
 mod asked;
@@ -12,12 +12,16 @@ mod memory_gate;
 mod memory_link;
 mod memory_sink;
 mod memory_world;
+mod read_log;
 mod served;
 mod sink;
 mod std_gate;
 mod std_link;
 mod std_sink;
+#[cfg(test)]
+mod std_tests;
 mod std_world;
+mod streams;
 mod system_clock;
 #[cfg(test)]
 mod tests;

@@ -28,7 +28,8 @@ impl MemoryClock {
 
     /// How many moments the clock gave; the count stands still at 2^64 - 1.
     pub fn made(&self) -> u64
-        ensures { IfSome (⟦<MemoryClock as Clock>⟧.gave self.now) (λ moments. result ≡ length moments) }
+        ensures { IfSome (⟦<MemoryClock as Clock>⟧.gave self.now) (λ moments.
+            result ≡ length moments) }
     {
         self.made
     }
@@ -37,10 +38,12 @@ impl MemoryClock {
 impl Clock for MemoryClock {
     ghost use Rattle.kom_links.specs.Memories.{moments_of, readings_of};
 
-    ghost gave = { λ clock. if clock.made == 2 ^ 64 - 1 then None else Some (readings clock.script.items clock.made) };
+    ghost gave = { λ clock.
+        if clock.made == 2 ^ 64 - 1 then None else Some (readings clock.script.items clock.made) };
 
     fn now(&mut self) -> Moment
-        ensures gave { Gains (⟦<MemoryClock as Clock>⟧.gave self.old) result (⟦<MemoryClock as Clock>⟧.gave self.new) }
+        ensures gave { Gains (⟦<MemoryClock as Clock>⟧.gave self.old) result
+            (⟦<MemoryClock as Clock>⟧.gave self.new) }
 
         // what the script says of this reading
         ensures moment { result ≡ moment_at (moments_of self.old) (readings_of self.old) }

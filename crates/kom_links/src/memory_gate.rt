@@ -1,7 +1,7 @@
 ghost use Rattle.std.specs.VecDeque.{deque_len};
-ghost use Rattle.std.specs.Prelude.{◌≡◌, ◌+◌, ◌-◌, ◌≤◌, ◌<◌, ◌↔◌, ◌||◌, ℕ, false, [], ◌∷◌, ◌++◌, Some, None, length, option_map, vec_len, vec_capacity, IfOk, IfSome, if◌then◌else◌};
-ghost use Rattle.kom_links.specs.Outside.{IsNothing};
-ghost use Rattle.kom_links.specs.Doors.{Gains, IfLink, MayNext, is_ended, links_in};
+ghost use Rattle.std.specs.Prelude.{◌≡◌, ◌-◌, ◌≤◌, ◌<◌, ◌↔◌, false, [], ◌∷◌, ◌++◌, Some, None, length, vec_capacity, IfOk, IfSome, if◌then◌else◌};
+ghost use Rattle.kom_links.specs.Outside.{IsFresh};
+ghost use Rattle.kom_links.specs.Doors.{IfLink, Admits, TakesBack};
 ghost use Rattle.kom_links.specs.Script.{next_call, faults_after, Fails, Waits};
 
 use crate::gate::{Gate, Next};
@@ -12,7 +12,8 @@ use kom_types::Memory;
 use std::alloc::Global;
 use std::collections::VecDeque;
 
-/// A client that is known beforehand: the bytes that it sends, and how its link gives and takes bytes.
+/// A client that is known beforehand: the bytes that it sends, and how its link gives and takes
+/// bytes.
 #[derive(Debug, Drop)]
 pub struct Client {
     pub input: Vec<u8>,
@@ -39,16 +40,15 @@ pub struct MemoryGate {
 impl MemoryGate {
     ghost use Rattle.kom_links.specs.Memories.{clients_of, script_of, calls_of};
 
-    /// A gate that gives the links of these clients, in order, and then ends. The room for all that will be given back is taken now.
+    /// A gate that gives the links of these clients, in order, and then ends. The room for all that
+    /// will be given back is taken now.
     pub fn make(
         alloc: Global,
         clients: VecDeque<Client>,
         plan: Script,
     ) -> Result<MemoryGate, Memory>
-        ensures none_given { IfOk result (λ gate. ⟦<MemoryGate as Gate>⟧.given gate ≡ Some 0) }
-        ensures none_back { IfOk result (λ gate. ⟦<MemoryGate as Gate>⟧.returned gate ≡ Some []) }
-        ensures not_ended { IfOk result (λ gate. ⟦<MemoryGate as Gate>⟧.gate_ended gate ≡ false) }
-        ensures no_fault { IfOk result (λ gate. ⟦<MemoryGate as Gate>⟧.gate_faults gate ≡ 0) }
+        ensures empty { IfOk result (λ gate. ⟦<MemoryGate as Gate>⟧.view gate
+            ≡ record { given = Some 0; returned = Some []; ended = false; faults = 0 }) }
         ensures clients { IfOk result (λ gate. clients_of gate ≡ clients.items) }
         ensures script { IfOk result (λ gate. script_of gate ≡ plan) }
         ensures no_call { IfOk result (λ gate. calls_of gate ≡ 0) }
@@ -69,7 +69,8 @@ impl MemoryGate {
 
     /// The links that were given back, in order, each with how it was served.
     pub fn returned(&self) -> &[(MemoryLink, Served)]
-        ensures { IfSome (⟦<MemoryGate as Gate>⟧.returned self.now) (λ links. result.now ≡ links) }
+        ensures { IfSome (⟦<MemoryGate as Gate>⟧.view self.now).returned (λ links.
+            result.now ≡ links) }
     {
         self.returned.as_slice()
     }
@@ -80,38 +81,35 @@ impl Gate for MemoryGate {
 
     type Link = MemoryLink;
 
-    ghost given = { λ gate. Some (gate.total - deque_len gate.clients) };
-
-    ghost returned = { λ gate. if gate.lost then None else Some gate.returned.items };
-
-    ghost gate_ended = { λ gate. gate.has_ended };
-
-    ghost gate_faults = { λ gate. gate.faults };
+    ghost view = { λ gate. record {
+      given = Some (gate.total - deque_len gate.clients);
+      returned = if gate.lost then None else Some gate.returned.items;
+      ended = gate.has_ended;
+      faults = gate.faults;
+    } };
 
     fn faults(&self) -> u64 {
         self.faults
     }
 
     fn next(&mut self) -> Next<MemoryLink>
-        ensures answer { MayNext (⟦<MemoryGate as Gate>⟧.gate_faults self.old) (⟦<MemoryGate as Gate>⟧.gate_faults self.new) result }
-        ensures fresh { IfLink result (λ link. ⟦<MemoryLink as Link>⟧.fault_count link ≡ 0) }
-        ensures nothing_taken { IfLink result (λ link. IsNothing (⟦<MemoryLink as Link>⟧.taken link)) }
-        ensures nothing_put { IfLink result (λ link. IsNothing (⟦<MemoryLink as Link>⟧.put link)) }
-        ensures not_ended { IfLink result (λ link. ⟦<MemoryLink as Link>⟧.ended link ≡ false) }
-        ensures given { ⟦<MemoryGate as Gate>⟧.given self.new ≡ option_map (λ n. n + links_in result) (⟦<MemoryGate as Gate>⟧.given self.old) }
-        ensures returned { ⟦<MemoryGate as Gate>⟧.returned self.new ≡ ⟦<MemoryGate as Gate>⟧.returned self.old }
-        ensures ended { ⟦<MemoryGate as Gate>⟧.gate_ended self.new ≡ (⟦<MemoryGate as Gate>⟧.gate_ended self.old || is_ended result) }
-        ensures faults { ⟦<MemoryGate as Gate>⟧.gate_faults self.old ≤ ⟦<MemoryGate as Gate>⟧.gate_faults self.new }
+        ensures admits { Admits (⟦<MemoryGate as Gate>⟧.view self.old) result
+            (⟦<MemoryGate as Gate>⟧.view self.new) }
+        ensures fresh { IfLink result (λ link. IsFresh (⟦<MemoryLink as Link>⟧.view link)) }
 
         // what the script says of this call
-        ensures failed { (result ≡ Next.Failed) ↔ Fails (script_of self.old).fails.items (calls_of self.old) }
+        ensures failed { (result ≡ Next.Failed)
+            ↔ Fails (script_of self.old).fails.items (calls_of self.old) }
         ensures not_yet { (result ≡ Next.NotYet) ↔ Waits (script_of self.old) (calls_of self.old) }
         ensures counted { calls_of self.new ≡ next_call (calls_of self.old) }
         ensures script { script_of self.new ≡ script_of self.old }
-        ensures fault { ⟦<MemoryGate as Gate>⟧.gate_faults self.new ≡ faults_after (next_failed result) (⟦<MemoryGate as Gate>⟧.gate_faults self.old) }
+        ensures fault { (⟦<MemoryGate as Gate>⟧.view self.new).faults
+            ≡ faults_after (next_failed result) (⟦<MemoryGate as Gate>⟧.view self.old).faults }
 
         // whose link is given
-        ensures first { IfLink result (λ link. IsLinkOfFirst (⟦<MemoryLink as Link>⟧.left link) link (clients_of self.old) (clients_of self.new)) }
+        ensures first { IfLink result (λ link.
+            IsLinkOfFirst (⟦<MemoryLink as Link>⟧.view link) link (clients_of self.old)
+            (clients_of self.new)) }
         ensures clients { StaysWithNoLink result (clients_of self.old) (clients_of self.new) }
         ensures none_left { (result ≡ Next.Ended) → clients_of self.old ≡ [] }
     {
@@ -133,17 +131,19 @@ impl Gate for MemoryGate {
     }
 
     fn give_back(&mut self, link: MemoryLink, served: Served)
-        ensures given { ⟦<MemoryGate as Gate>⟧.given self.new ≡ ⟦<MemoryGate as Gate>⟧.given self.old }
-        ensures returned { Gains (⟦<MemoryGate as Gate>⟧.returned self.old) (link, served) (⟦<MemoryGate as Gate>⟧.returned self.new) }
-        ensures ended { ⟦<MemoryGate as Gate>⟧.gate_ended self.new ≡ ⟦<MemoryGate as Gate>⟧.gate_ended self.old }
-        ensures faults { ⟦<MemoryGate as Gate>⟧.gate_faults self.old ≤ ⟦<MemoryGate as Gate>⟧.gate_faults self.new }
+        ensures takes_back { TakesBack (⟦<MemoryGate as Gate>⟧.view self.old) link served
+            (⟦<MemoryGate as Gate>⟧.view self.new) }
 
         // It is kept while fewer were given back than were given.
-        ensures kept { IfSome (⟦<MemoryGate as Gate>⟧.given self.old) (λ n. IfSome (⟦<MemoryGate as Gate>⟧.returned self.old) (λ links.
-            length links < n → ⟦<MemoryGate as Gate>⟧.returned self.new ≡ Some (links ++ (link, served) ∷ []))) }
+        ensures kept { IfSome (⟦<MemoryGate as Gate>⟧.view self.old).given (λ n.
+            IfSome (⟦<MemoryGate as Gate>⟧.view self.old).returned (λ links.
+            length links < n →
+            (⟦<MemoryGate as Gate>⟧.view self.new).returned
+            ≡ Some (links ++ (link, served) ∷ []))) }
 
         // the calls for a link go on as before
-        ensures no_fault { ⟦<MemoryGate as Gate>⟧.gate_faults self.new ≡ ⟦<MemoryGate as Gate>⟧.gate_faults self.old }
+        ensures no_fault { (⟦<MemoryGate as Gate>⟧.view self.new).faults
+            ≡ (⟦<MemoryGate as Gate>⟧.view self.old).faults }
         ensures clients { clients_of self.new ≡ clients_of self.old }
         ensures script { script_of self.new ≡ script_of self.old }
         ensures calls { calls_of self.new ≡ calls_of self.old }

@@ -1,14 +1,17 @@
-ghost use Rattle.std.specs.Prelude.{◌≡◌, ◌<◌, ◌≤◌, ◌+◌, ◌||◌, ◌↔◌, ℕ, false, [], Some, IsTrue, take, drop, length, vec_len, codes};
-ghost use Rattle.kom_links.specs.Outside.{MayRead, MayWrite, read_bytes, written_bytes, is_end, grown, Shrinks, IsNothing};
+ghost use Rattle.std.specs.Prelude.{◌≡◌, ◌<◌, ◌≤◌, ◌+◌, ◌==◌, ◌&&◌, ◌↔◌, [], Some, All, not, is_some, take, drop, length, vec_len, codes};
+ghost use Rattle.std.specs.List.{list_any};
+ghost use Rattle.std.specs.Option.{ForSome};
+ghost use Rattle.kom_links.specs.Outside.{Reads, Writes, read_bytes};
 ghost use Rattle.kom_links.specs.Script.{next_call, faults_after, Fails, Waits};
 
 use crate::link::{Got, Link, Took};
+use crate::read_log::{ReadLog, ReadMark};
 use std::alloc::Global;
 
 /// Which calls of an object in memory are not served, by their numbers, counted from 1.
 #[derive(Debug, Drop)]
 pub struct Script {
-    /// The calls that answer `NotYet`.
+    /// The calls that return `NotYet`.
     pub waits: Vec<u64>,
     /// The calls that fail.
     pub fails: Vec<u64>,
@@ -24,6 +27,14 @@ impl Script {
             waits: Vec::new(alloc),
             fails: Vec::new(alloc),
         }
+    }
+
+    /// Whether the call of this number is to wait, and not to fail.
+    fn waits_at(&self, number: u64) -> bool
+        ensures { result ≡ (list_any (λ wait. wait == number) self.now.waits.items
+            && not (list_any (λ fail. fail == number) self.now.fails.items)) }
+    {
+        self.waits.contains(&number) && !self.fails.contains(&number)
     }
 }
 
@@ -47,7 +58,8 @@ impl LinkPlan {
         ensures no_most_read { result.most_read ≡ 0 }
         ensures no_most_written { result.most_written ≡ 0 }
         ensures reads_served { (result.reads.waits.items ≡ []) × (result.reads.fails.items ≡ []) }
-        ensures writes_served { (result.writes.waits.items ≡ []) × (result.writes.fails.items ≡ []) }
+        ensures writes_served { (result.writes.waits.items ≡ [])
+            × (result.writes.fails.items ≡ []) }
     {
         LinkPlan {
             cuts: Vec::new(alloc),
@@ -70,19 +82,17 @@ pub struct MemoryLink {
     writes: u64,
     has_ended: bool,
     faults: u64,
+    log: ReadLog,
     ghost within: { taken ≤ vec_len input },
+    ghost told: { ForSome log (λ marks. All (λ mark. mark.put ≤ length output.items) marks) },
 }
 
 impl MemoryLink {
-    ghost use Rattle.kom_links.specs.Memories.{plan_of, reads_of, writes_of, place_of, left_of, IsMost};
+    ghost use Rattle.kom_links.specs.Memories.{plan_of, reads_of, writes_of, place_of, left_of, IsMost, new_link};
 
     /// A link whose client sends these bytes and then ends its stream.
     pub fn new(alloc: Global, input: Vec<u8>, plan: LinkPlan) -> MemoryLink
-        ensures nothing_taken { ⟦<MemoryLink as Link>⟧.taken result ≡ Some [] }
-        ensures left { ⟦<MemoryLink as Link>⟧.left result ≡ Some input.items }
-        ensures nothing_put { ⟦<MemoryLink as Link>⟧.put result ≡ Some [] }
-        ensures not_ended { ⟦<MemoryLink as Link>⟧.ended result ≡ false }
-        ensures no_fault { ⟦<MemoryLink as Link>⟧.fault_count result ≡ 0 }
+        ensures fresh { ⟦<MemoryLink as Link>⟧.view result ≡ new_link input.items }
         ensures plan { plan_of result ≡ plan }
         ensures no_read { reads_of result ≡ 0 }
         ensures no_write { writes_of result ≡ 0 }
@@ -97,14 +107,22 @@ impl MemoryLink {
             writes: 0,
             has_ended: false,
             faults: 0,
+            log: ReadLog::new(alloc),
         }
     }
 
     /// What was put so far.
     pub fn output(&self) -> &[u8]
-        ensures { ⟦<MemoryLink as Link>⟧.put self.now ≡ Some result.now }
+        ensures { (⟦<MemoryLink as Link>⟧.view self.now).put ≡ Some result.now }
     {
         self.output.as_slice()
+    }
+
+    /// Whether it tells its reads, which it does while memory suffices for them.
+    pub fn tells_reads(&self) -> bool
+        ensures { result ≡ is_some (⟦<MemoryLink as Link>⟧.view self.now).reads }
+    {
+        self.log.is_whole()
     }
 
     /// How many bytes a read gives into so much room.
@@ -113,7 +131,8 @@ impl MemoryLink {
         ensures fits { result ≤ room }
         ensures there { self.now.taken + result ≤ vec_len self.now.input }
         ensures none { (result ≡ 0) ↔ (self.now.taken ≡ vec_len self.now.input) }
-        ensures most { IsMost room (left_of self.now) (plan_of self.now) (place_of self.now) result }
+        ensures most { IsMost room (left_of self.now) (plan_of self.now)
+            (place_of self.now) result }
     {
         let mut count = room.min(self.input.len() - self.taken);
         if 0 < self.plan.most_read {
@@ -128,8 +147,8 @@ impl MemoryLink {
     }
 }
 
-/// Copies bytes to the front of a buffer.
-fn copy_front(into: &mut [u8], from: &[u8])
+/// Copies bytes to a buffer's start.
+fn copy_to_start(into: &mut [u8], from: &[u8])
     requires { length from.now ≤ length into.old }
     ensures { take (length from.now) into.new ≡ from.now }
 {
@@ -137,19 +156,17 @@ fn copy_front(into: &mut [u8], from: &[u8])
 }
 
 impl Link for MemoryLink {
-    ghost use Rattle.kom_links.specs.Memories.{plan_of, reads_of, writes_of, place_of, left_of, read_failed, write_failed, GivesMost, TakesMost};
+    ghost use Rattle.kom_links.specs.Memories.{plan_of, reads_of, writes_of, place_of, left_of, read_failed, write_failed, GivesMost, TakesMost, told_reads};
 
-    ghost host_of = { λ link. codes "memory" };
-
-    ghost taken = { λ link. Some (take link.taken link.input.items) };
-
-    ghost left = { λ link. Some (drop link.taken link.input.items) };
-
-    ghost put = { λ link. Some link.output.items };
-
-    ghost ended = { λ link. link.has_ended };
-
-    ghost fault_count = { λ link. link.faults };
+    ghost view = { λ link. record {
+      host = codes "memory";
+      taken = Some (take link.taken link.input.items);
+      left = Some (drop link.taken link.input.items);
+      put = Some link.output.items;
+      ended = link.has_ended;
+      faults = link.faults;
+      reads = told_reads link;
+    } };
 
     fn host(&self) -> &[u8] {
         b"memory"
@@ -161,31 +178,38 @@ impl Link for MemoryLink {
 
     fn read(&mut self, into: &mut [u8]) -> Got
         requires { 0 < length into.old }
-        ensures answer { MayRead (length into.new) (⟦<MemoryLink as Link>⟧.fault_count self.old) (⟦<MemoryLink as Link>⟧.fault_count self.new) result }
-        ensures taken { ⟦<MemoryLink as Link>⟧.taken self.new ≡ grown (read_bytes result into.new) (⟦<MemoryLink as Link>⟧.taken self.old) }
-        ensures left { Shrinks (⟦<MemoryLink as Link>⟧.left self.old) (read_bytes result into.new) (⟦<MemoryLink as Link>⟧.left self.new) }
-        ensures all { IsTrue (is_end result) → IsNothing (⟦<MemoryLink as Link>⟧.left self.new) }
-        ensures put { ⟦<MemoryLink as Link>⟧.put self.new ≡ ⟦<MemoryLink as Link>⟧.put self.old }
-        ensures ended { ⟦<MemoryLink as Link>⟧.ended self.new ≡ (⟦<MemoryLink as Link>⟧.ended self.old || is_end result) }
-        ensures host { ⟦<MemoryLink as Link>⟧.host_of self.new ≡ ⟦<MemoryLink as Link>⟧.host_of self.old }
-        ensures faults { ⟦<MemoryLink as Link>⟧.fault_count self.old ≤ ⟦<MemoryLink as Link>⟧.fault_count self.new }
+        ensures reads { Reads (⟦<MemoryLink as Link>⟧.view self.old) into.new result
+            (⟦<MemoryLink as Link>⟧.view self.new) }
 
         // what the plan says of this read
-        ensures failed { (result ≡ Got.Failed) ↔ Fails (plan_of self.old).reads.fails.items (reads_of self.old) }
-        ensures not_yet { (result ≡ Got.NotYet) ↔ Waits (plan_of self.old).reads (reads_of self.old) }
-        ensures gives { GivesMost (length into.new) (left_of self.old) (plan_of self.old) (place_of self.old) result }
-        ensures place { place_of self.new ≡ place_of self.old + length (read_bytes result into.new) }
-        ensures fault { ⟦<MemoryLink as Link>⟧.fault_count self.new ≡ faults_after (read_failed result) (⟦<MemoryLink as Link>⟧.fault_count self.old) }
+        ensures failed { (result ≡ Got.Failed)
+            ↔ Fails (plan_of self.old).reads.fails.items (reads_of self.old) }
+        ensures not_yet { (result ≡ Got.NotYet)
+            ↔ Waits (plan_of self.old).reads (reads_of self.old) }
+        ensures gives { GivesMost (length into.new) (left_of self.old) (plan_of self.old)
+            (place_of self.old) result }
+        ensures place { place_of self.new
+            ≡ place_of self.old + length (read_bytes result into.new) }
+        ensures fault { (⟦<MemoryLink as Link>⟧.view self.new).faults
+            ≡ faults_after (read_failed result) (⟦<MemoryLink as Link>⟧.view self.old).faults }
         ensures counted { reads_of self.new ≡ next_call (reads_of self.old) }
-        ensures writes { writes_of self.new ≡ writes_of self.old }
+        ensures no_write { writes_of self.new ≡ writes_of self.old }
         ensures plan { plan_of self.new ≡ plan_of self.old }
     {
         self.reads = self.reads.saturating_add(1);
-        if self.plan.reads.fails.contains(&self.reads) {
+        let fails = self.plan.reads.fails.contains(&self.reads);
+        let waits = self.plan.reads.waits_at(self.reads);
+        let mark = ReadMark {
+            taken: self.taken,
+            put: self.output().len(),
+            waited: waits,
+        };
+        self.log.add(mark);
+        if fails {
             self.faults = self.faults.saturating_add(1);
             return Got::Failed;
         }
-        if self.plan.reads.waits.contains(&self.reads) {
+        if waits {
             return Got::NotYet;
         }
         let count = self.ready(into.len());
@@ -193,29 +217,27 @@ impl Link for MemoryLink {
             self.has_ended = true;
             return Got::End;
         }
-        copy_front(into, &self.input[self.taken..][..count]);
+        copy_to_start(into, &self.input[self.taken..][..count]);
         self.taken += count;
         Got::Some(count)
     }
 
     fn write(&mut self, from: &[u8]) -> Took
         requires { 0 < length from.now }
-        ensures answer { MayWrite (length from.now) (⟦<MemoryLink as Link>⟧.fault_count self.old) (⟦<MemoryLink as Link>⟧.fault_count self.new) result }
-        ensures put { ⟦<MemoryLink as Link>⟧.put self.new ≡ grown (written_bytes result from.now) (⟦<MemoryLink as Link>⟧.put self.old) }
-        ensures taken { ⟦<MemoryLink as Link>⟧.taken self.new ≡ ⟦<MemoryLink as Link>⟧.taken self.old }
-        ensures left { ⟦<MemoryLink as Link>⟧.left self.new ≡ ⟦<MemoryLink as Link>⟧.left self.old }
-        ensures ended { ⟦<MemoryLink as Link>⟧.ended self.new ≡ ⟦<MemoryLink as Link>⟧.ended self.old }
-        ensures host { ⟦<MemoryLink as Link>⟧.host_of self.new ≡ ⟦<MemoryLink as Link>⟧.host_of self.old }
-        ensures faults { ⟦<MemoryLink as Link>⟧.fault_count self.old ≤ ⟦<MemoryLink as Link>⟧.fault_count self.new }
+        ensures writes { Writes (⟦<MemoryLink as Link>⟧.view self.old) from.now result
+            (⟦<MemoryLink as Link>⟧.view self.new) }
 
         // What the plan says of this write. One that finds no room fails too.
-        ensures failed { Fails (plan_of self.old).writes.fails.items (writes_of self.old) → result ≡ Took.Failed }
-        ensures not_yet { (result ≡ Took.NotYet) ↔ Waits (plan_of self.old).writes (writes_of self.old) }
+        ensures failed { Fails (plan_of self.old).writes.fails.items (writes_of self.old) →
+            result ≡ Took.Failed }
+        ensures not_yet { (result ≡ Took.NotYet)
+            ↔ Waits (plan_of self.old).writes (writes_of self.old) }
         ensures takes { TakesMost (length from.now) (plan_of self.old) result }
         ensures place { place_of self.new ≡ place_of self.old }
-        ensures fault { ⟦<MemoryLink as Link>⟧.fault_count self.new ≡ faults_after (write_failed result) (⟦<MemoryLink as Link>⟧.fault_count self.old) }
+        ensures fault { (⟦<MemoryLink as Link>⟧.view self.new).faults
+            ≡ faults_after (write_failed result) (⟦<MemoryLink as Link>⟧.view self.old).faults }
         ensures counted { writes_of self.new ≡ next_call (writes_of self.old) }
-        ensures reads { reads_of self.new ≡ reads_of self.old }
+        ensures no_read { reads_of self.new ≡ reads_of self.old }
         ensures plan { plan_of self.new ≡ plan_of self.old }
     {
         self.writes = self.writes.saturating_add(1);

@@ -1,5 +1,5 @@
-ghost use Rattle.std.specs.Prelude.{◌≡◌, ◌≤◌, ℕ, [], Some, IsErr, is_err, OnOk, OnErr, length, take};
-ghost use Rattle.kom_links.specs.Outside.{Rose, grown};
+ghost use Rattle.std.specs.Prelude.{◌≡◌, [], Some, IsErr, is_err};
+ghost use Rattle.kom_links.specs.Doors.{Puts};
 ghost use Rattle.kom_links.specs.Script.{next_call, faults_after, Fails};
 ghost use Rattle.kom_links.specs.Memories.{fails_of, sink_writes_of};
 
@@ -18,8 +18,7 @@ pub struct MemorySink {
 impl MemorySink {
     /// A sink whose writes of these numbers, counted from 1, fail.
     pub fn new(alloc: Global, fails: Vec<u64>) -> MemorySink
-        ensures nothing_put { ⟦<MemorySink as Sink>⟧.put result ≡ Some [] }
-        ensures no_fault { ⟦<MemorySink as Sink>⟧.sink_faults result ≡ 0 }
+        ensures empty { ⟦<MemorySink as Sink>⟧.view result ≡ record { put = Some []; faults = 0 } }
         ensures fails { fails_of result ≡ fails.items }
         ensures no_write { sink_writes_of result ≡ 0 }
     {
@@ -33,30 +32,27 @@ impl MemorySink {
 
     /// What was put so far.
     pub fn output(&self) -> &[u8]
-        ensures { ⟦<MemorySink as Sink>⟧.put self.now ≡ Some result.now }
+        ensures { (⟦<MemorySink as Sink>⟧.view self.now).put ≡ Some result.now }
     {
         self.output.as_slice()
     }
 }
 
 impl Sink for MemorySink {
-    ghost put = { λ sink. Some sink.output.items };
-
-    ghost sink_faults = { λ sink. sink.faults };
+    ghost view = { λ sink. record { put = Some sink.output.items; faults = sink.faults } };
 
     fn faults(&self) -> u64 {
         self.faults
     }
 
     fn write(&mut self, from: &[u8]) -> Result<(), Failed>
-        ensures ok { OnOk result (⟦<MemorySink as Sink>⟧.put self.new ≡ grown from.now (⟦<MemorySink as Sink>⟧.put self.old)) }
-        ensures err { OnErr result ((n : ℕ) × (n ≤ length from.now) × (⟦<MemorySink as Sink>⟧.put self.new ≡ grown (take n from.now) (⟦<MemorySink as Sink>⟧.put self.old))) }
-        ensures failed { OnErr result (Rose (⟦<MemorySink as Sink>⟧.sink_faults self.old) (⟦<MemorySink as Sink>⟧.sink_faults self.new)) }
-        ensures faults { ⟦<MemorySink as Sink>⟧.sink_faults self.old ≤ ⟦<MemorySink as Sink>⟧.sink_faults self.new }
+        ensures puts { Puts (⟦<MemorySink as Sink>⟧.view self.old) from.now result
+            (⟦<MemorySink as Sink>⟧.view self.new) }
 
         // what its numbers say of this write
         ensures scripted { Fails (fails_of self.old) (sink_writes_of self.old) → IsErr result }
-        ensures fault { ⟦<MemorySink as Sink>⟧.sink_faults self.new ≡ faults_after (is_err result) (⟦<MemorySink as Sink>⟧.sink_faults self.old) }
+        ensures fault { (⟦<MemorySink as Sink>⟧.view self.new).faults
+            ≡ faults_after (is_err result) (⟦<MemorySink as Sink>⟧.view self.old).faults }
         ensures counted { sink_writes_of self.new ≡ next_call (sink_writes_of self.old) }
         ensures fails { fails_of self.new ≡ fails_of self.old }
     {

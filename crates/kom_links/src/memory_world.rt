@@ -1,6 +1,6 @@
-ghost use Rattle.std.specs.Prelude.{◌≡◌, ◌<◌, ◌≤◌, ◌↔◌, false, [], None, is_ok, IfOk, IfSome, vec_len};
+ghost use Rattle.std.specs.Prelude.{◌≡◌, ◌<◌, ◌≤◌, ◌↔◌, [], None, is_ok, IfOk, IfSome, vec_len};
 ghost use Rattle.kom_links.specs.Outside.{IsNothing};
-ghost use Rattle.kom_links.specs.Doors.{MayRefuse, has_failed};
+ghost use Rattle.kom_links.specs.Doors.{MayRefuse, has_failed, IsNewGate, IsNewSink};
 ghost use Rattle.kom_links.specs.Script.{faults_after};
 ghost use Rattle.kom_links.specs.Asking.{with_gate, with_clock, with_sink};
 
@@ -25,7 +25,8 @@ pub struct GatePlan {
     pub script: Script,
 }
 
-/// A world in memory. It has one gate, over standard input and output: a second one is refused, which is counted.
+/// A world in memory. It has one gate, over standard input and output: a second one is refused,
+/// which is counted.
 #[derive(Debug, Drop)]
 pub struct MemoryWorld {
     alloc: Global,
@@ -40,8 +41,8 @@ pub struct MemoryWorld {
 impl MemoryWorld {
     ghost use Rattle.kom_links.specs.Memories.{gate_plan_of, world_moments_of, sink_fails_of};
 
-    /// A world whose gate has this plan or is refused, whose clocks give these moments, and whose sink fails at
-    /// the writes of these numbers, counted from 1.
+    /// A world whose gate has this plan or is refused, whose clocks give these moments, and whose
+    /// sink fails at the writes of these numbers, counted from 1.
     pub fn new(
         alloc: Global,
         gate: Option<GatePlan>,
@@ -49,7 +50,7 @@ impl MemoryWorld {
         sink_fails: Vec<u64>,
     ) -> MemoryWorld
         requires { 0 < vec_len moments }
-        ensures no_fault { ⟦<MemoryWorld as World>⟧.world_faults result ≡ 0 }
+        ensures no_fault { (⟦<MemoryWorld as World>⟧.view result).faults ≡ 0 }
         ensures gate { gate_plan_of result ≡ gate }
         ensures moments { world_moments_of result ≡ moments.items }
         ensures sink_fails { sink_fails_of result ≡ sink_fails.items }
@@ -74,28 +75,31 @@ impl World for MemoryWorld {
 
     type Sink = MemorySink;
 
-    ghost world_faults = { λ world. world.faults };
-
-    ghost asked = { λ world. world.asked };
+    ghost view = { λ world. record { asked = world.asked; faults = world.faults } };
 
     fn faults(&self) -> u64 {
         self.faults
     }
 
     fn std_gate(&mut self) -> Result<MemoryGate, WorldFault>
-        ensures answer { MayRefuse (⟦<MemoryWorld as World>⟧.world_faults self.old) (⟦<MemoryWorld as World>⟧.world_faults self.new) result }
-        ensures fresh { IfOk result (λ gate. ⟦<MemoryGate as Gate>⟧.gate_faults gate ≡ 0) }
-        ensures none_given { IfOk result (λ gate. IfSome (⟦<MemoryGate as Gate>⟧.given gate) (λ n. n ≡ 0)) }
-        ensures none_back { IfOk result (λ gate. IfSome (⟦<MemoryGate as Gate>⟧.returned gate) (λ links. links ≡ [])) }
-        ensures not_ended { IfOk result (λ gate. ⟦<MemoryGate as Gate>⟧.gate_ended gate ≡ false) }
-        ensures asked { ⟦<MemoryWorld as World>⟧.asked self.new ≡ with_gate (is_ok result) (⟦<MemoryWorld as World>⟧.asked self.old) }
-        ensures faults { ⟦<MemoryWorld as World>⟧.world_faults self.old ≤ ⟦<MemoryWorld as World>⟧.world_faults self.new }
-        ensures counted { ⟦<MemoryWorld as World>⟧.world_faults self.new ≡ faults_after (has_failed result) (⟦<MemoryWorld as World>⟧.world_faults self.old) }
+        ensures may { MayRefuse (⟦<MemoryWorld as World>⟧.view self.old).faults
+            (⟦<MemoryWorld as World>⟧.view self.new).faults result }
+        ensures fresh { IfOk result (λ gate. IsNewGate (⟦<MemoryGate as Gate>⟧.view gate)) }
+        ensures asked { (⟦<MemoryWorld as World>⟧.view self.new).asked
+            ≡ with_gate (is_ok result) (⟦<MemoryWorld as World>⟧.view self.old).asked }
+        ensures faults { (⟦<MemoryWorld as World>⟧.view self.old).faults
+            ≤ (⟦<MemoryWorld as World>⟧.view self.new).faults }
+
+        // what it counts
+        ensures counted { (⟦<MemoryWorld as World>⟧.view self.new).faults
+            ≡ faults_after (has_failed result) (⟦<MemoryWorld as World>⟧.view self.old).faults }
 
         // which gate is given
         ensures failed { (result ≡ Err WorldFault.Failed) ↔ (gate_plan_of self.old ≡ None) }
-        ensures clients { IfOk result (λ gate. IfSome (gate_plan_of self.old) (λ plan. clients_of gate ≡ plan.clients.items)) }
-        ensures script { IfOk result (λ gate. IfSome (gate_plan_of self.old) (λ plan. script_of gate ≡ plan.script)) }
+        ensures clients { IfOk result (λ gate.
+            IfSome (gate_plan_of self.old) (λ plan. clients_of gate ≡ plan.clients.items)) }
+        ensures script { IfOk result (λ gate.
+            IfSome (gate_plan_of self.old) (λ plan. script_of gate ≡ plan.script)) }
         ensures no_call { IfOk result (λ gate. calls_of gate ≡ 0) }
 
         // what is left
@@ -119,9 +123,12 @@ impl World for MemoryWorld {
 
     fn clock(&mut self) -> Result<MemoryClock, Memory>
         ensures fresh { IfOk result (λ clock. IsNothing (⟦<MemoryClock as Clock>⟧.gave clock)) }
-        ensures asked { ⟦<MemoryWorld as World>⟧.asked self.new ≡ with_clock (⟦<MemoryWorld as World>⟧.asked self.old) }
-        ensures faults { ⟦<MemoryWorld as World>⟧.world_faults self.old ≤ ⟦<MemoryWorld as World>⟧.world_faults self.new }
-        ensures no_more { ⟦<MemoryWorld as World>⟧.world_faults self.new ≡ ⟦<MemoryWorld as World>⟧.world_faults self.old }
+        ensures asked { (⟦<MemoryWorld as World>⟧.view self.new).asked
+            ≡ with_clock (⟦<MemoryWorld as World>⟧.view self.old).asked }
+        ensures faults { (⟦<MemoryWorld as World>⟧.view self.old).faults
+            ≤ (⟦<MemoryWorld as World>⟧.view self.new).faults }
+        ensures no_more { (⟦<MemoryWorld as World>⟧.view self.new).faults
+            ≡ (⟦<MemoryWorld as World>⟧.view self.old).faults }
 
         // which clock is given
         ensures script { IfOk result (λ clock. moments_of clock ≡ world_moments_of self.old) }
@@ -137,11 +144,13 @@ impl World for MemoryWorld {
     }
 
     fn out(&mut self) -> MemorySink
-        ensures fresh { ⟦<MemorySink as Sink>⟧.sink_faults result ≡ 0 }
-        ensures nothing_put { IsNothing (⟦<MemorySink as Sink>⟧.put result) }
-        ensures asked { ⟦<MemoryWorld as World>⟧.asked self.new ≡ with_sink (⟦<MemoryWorld as World>⟧.asked self.old) }
-        ensures faults { ⟦<MemoryWorld as World>⟧.world_faults self.old ≤ ⟦<MemoryWorld as World>⟧.world_faults self.new }
-        ensures no_more { ⟦<MemoryWorld as World>⟧.world_faults self.new ≡ ⟦<MemoryWorld as World>⟧.world_faults self.old }
+        ensures fresh { IsNewSink (⟦<MemorySink as Sink>⟧.view result) }
+        ensures asked { (⟦<MemoryWorld as World>⟧.view self.new).asked
+            ≡ with_sink (⟦<MemoryWorld as World>⟧.view self.old).asked }
+        ensures faults { (⟦<MemoryWorld as World>⟧.view self.old).faults
+            ≤ (⟦<MemoryWorld as World>⟧.view self.new).faults }
+        ensures no_more { (⟦<MemoryWorld as World>⟧.view self.new).faults
+            ≡ (⟦<MemoryWorld as World>⟧.view self.old).faults }
 
         // which sink is given
         ensures fails { fails_of result ≡ sink_fails_of self.old }

@@ -15,7 +15,7 @@ pub enum SessionEnd {
     LinkFault,
     /// This many were made already: sessions of the run, or turns of its lock.
     Full(u64),
-    /// Memory was wanted and could not be had.
+    /// Memory ran out.
     Memory,
 }
 

@@ -3,17 +3,20 @@ ghost use Rattle.std.specs.Prelude.{◌≡◌, false, None};
 use crate::gate::{Gate, Next};
 use crate::served::Served;
 use crate::std_link::StdLink;
-use std::io::Input;
+use std::io;
+use std::io::{Input, Printer};
+use std::rt::Clock;
 
-/// The gate that gives one link, over standard input and output, and then ends. It tells nothing of links.
+/// The gate that gives one link, over standard input and output, and then ends. It tells nothing of
+/// links.
 #[derive(Drop)]
-pub struct StdGate<R: Input + Print + Drop> {
-    rt: Option<R>,
+pub struct StdGate<'a, R: Input + Print + Clock> {
+    rt: Option<&'a R>,
     has_ended: bool,
 }
 
-impl<R: Input + Print + Drop> StdGate<R> {
-    pub(crate) fn new(rt: R) -> StdGate<R>
+impl<'a, R: Input + Print + Clock> StdGate<'a, R> {
+    pub(crate) fn new(rt: &'a R) -> StdGate<'a, R>
         ensures { result.has_ended ≡ false }
     {
         StdGate {
@@ -23,24 +26,23 @@ impl<R: Input + Print + Drop> StdGate<R> {
     }
 }
 
-impl<R: Input + Print + Drop> Gate for StdGate<R> {
-    type Link = StdLink<R>;
+impl<'a, R: Input + Print + Clock> Gate for StdGate<'a, R> {
+    type Link = StdLink<R::Reader, Printer<'a, R>, &'a R>;
 
-    ghost given = { λ _. None };
-
-    ghost returned = { λ _. None };
-
-    ghost gate_ended = { λ gate. gate.has_ended };
-
-    ghost gate_faults = { λ _. 0 };
+    ghost view = { λ gate. record {
+      given = None;
+      returned = None;
+      ended = gate.has_ended;
+      faults = 0;
+    } };
 
     fn faults(&self) -> u64 {
         0
     }
 
-    fn next(&mut self) -> Next<StdLink<R>> {
+    fn next(&mut self) -> Next<StdLink<R::Reader, Printer<'a, R>, &'a R>> {
         match self.rt.take() {
-            Some(rt) => Next::Link(StdLink::new(rt)),
+            Some(rt) => Next::Link(StdLink::new(rt.reader(), io::writer(rt), rt)),
             None => {
                 self.has_ended = true;
                 Next::Ended
@@ -48,5 +50,5 @@ impl<R: Input + Print + Drop> Gate for StdGate<R> {
         }
     }
 
-    fn give_back(&mut self, _link: StdLink<R>, _served: Served) {}
+    fn give_back(&mut self, _link: StdLink<R::Reader, Printer<'a, R>, &'a R>, _served: Served) {}
 }

@@ -2,27 +2,30 @@ ghost use Rattle.std.specs.Prelude.{◌≡◌, ◌≤◌, false, None, codes};
 ghost use Rattle.kom_links.specs.Outside.{Rose};
 
 use crate::link::{Got, Link, Took};
-use std::io;
-use std::io::{ErrorKind, Input, Read, Write};
+use crate::streams::{read_soon, write_soon};
+use std::io::{Read, Write};
+use std::rt::Clock;
 
-/// Standard input and output as a link. It tells nothing of what it gives and takes.
+/// A link over the process's own input and output. It tells nothing of what it gives and takes. If
+/// nothing is ready a call waits for it, for some 20 milliseconds at most.
 #[derive(Drop)]
-pub struct StdLink<R: Input + Print + Drop> {
-    rt: R,
-    reader: R::Reader,
+pub struct StdLink<I: Read + Drop, O: Write + Drop, C: Clock + Drop> {
+    reader: I,
+    writer: O,
+    clock: C,
     has_ended: bool,
     faults: u64,
 }
 
-impl<R: Input + Print + Drop> StdLink<R> {
-    pub(crate) fn new(rt: R) -> StdLink<R>
+impl<I: Read + Drop, O: Write + Drop, C: Clock + Drop> StdLink<I, O, C> {
+    pub(crate) fn new(reader: I, writer: O, clock: C) -> StdLink<I, O, C>
         ensures not_ended { result.has_ended ≡ false }
         ensures no_fault { result.faults ≡ 0 }
     {
-        let reader = rt.reader();
         StdLink {
-            rt,
             reader,
+            writer,
+            clock,
             has_ended: false,
             faults: 0,
         }
@@ -37,18 +40,16 @@ impl<R: Input + Print + Drop> StdLink<R> {
     }
 }
 
-impl<R: Input + Print + Drop> Link for StdLink<R> {
-    ghost host_of = { λ _. codes "localhost" };
-
-    ghost taken = { λ _. None };
-
-    ghost left = { λ _. None };
-
-    ghost put = { λ _. None };
-
-    ghost ended = { λ link. link.has_ended };
-
-    ghost fault_count = { λ link. link.faults };
+impl<I: Read + Drop, O: Write + Drop, C: Clock + Drop> Link for StdLink<I, O, C> {
+    ghost view = { λ link. record {
+      host = codes "localhost";
+      taken = None;
+      left = None;
+      put = None;
+      ended = link.has_ended;
+      faults = link.faults;
+      reads = None;
+    } };
 
     fn host(&self) -> &[u8] {
         b"localhost"
@@ -59,41 +60,26 @@ impl<R: Input + Print + Drop> Link for StdLink<R> {
     }
 
     fn read(&mut self, into: &mut [u8]) -> Got {
-        match self.reader.read(into) {
-            Ok(0) => {
+        match read_soon(&mut self.reader, &self.clock, into) {
+            Got::End => {
                 self.has_ended = true;
                 Got::End
             }
-            Ok(count) => Got::Some(count),
-            Err(error) => {
-                if is_not_ready(error.kind()) {
-                    return Got::NotYet;
-                }
+            Got::Failed => {
                 self.fail();
                 Got::Failed
             }
+            got => got,
         }
     }
 
     fn write(&mut self, from: &[u8]) -> Took {
-        match io::writer(&self.rt).write(from) {
-            Ok(0) => {
+        match write_soon(&mut self.writer, &self.clock, from) {
+            Took::Failed => {
                 self.fail();
                 Took::Failed
             }
-            Ok(count) => Took::Some(count),
-            Err(error) => {
-                if is_not_ready(error.kind()) {
-                    return Took::NotYet;
-                }
-                self.fail();
-                Took::Failed
-            }
+            took => took,
         }
     }
-}
-
-/// Whether a call that failed so may be made again.
-fn is_not_ready(kind: ErrorKind) -> bool {
-    kind == ErrorKind::Interrupted || kind == ErrorKind::WouldBlock
 }

@@ -4,7 +4,8 @@ use crate::std_sink::StdSink;
 use crate::system_clock::SystemClock;
 use crate::world::{World, WorldFault};
 use kom_types::Memory;
-use std::io::Input;
+use std::io;
+use std::io::{Input, Printer};
 use std::rt::Clock as Time;
 
 /// The process's own outside: its standard input and output, and the system's clock.
@@ -25,21 +26,19 @@ impl<'a, R: Input + Print + Time> StdWorld<'a, R> {
 }
 
 impl<'a, R: Input + Print + Time> World for StdWorld<'a, R> {
-    type Gate = StdGate<&'a R>;
+    type Gate = StdGate<'a, R>;
 
     type Clock = SystemClock<&'a R>;
 
-    type Sink = StdSink<&'a R>;
+    type Sink = StdSink<Printer<'a, R>>;
 
-    ghost world_faults = { λ _. 0 };
-
-    ghost asked = { λ world. world.asked };
+    ghost view = { λ world. record { asked = world.asked; faults = 0 } };
 
     fn faults(&self) -> u64 {
         0
     }
 
-    fn std_gate(&mut self) -> Result<StdGate<&'a R>, WorldFault> {
+    fn std_gate(&mut self) -> Result<StdGate<'a, R>, WorldFault> {
         self.asked.count_gate(true);
         Ok(StdGate::new(self.rt))
     }
@@ -49,8 +48,8 @@ impl<'a, R: Input + Print + Time> World for StdWorld<'a, R> {
         Ok(SystemClock::new(self.rt))
     }
 
-    fn out(&mut self) -> StdSink<&'a R> {
+    fn out(&mut self) -> StdSink<Printer<'a, R>> {
         self.asked.count_sink();
-        StdSink::new(self.rt)
+        StdSink::new(io::writer(self.rt))
     }
 }

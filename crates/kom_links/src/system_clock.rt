@@ -5,8 +5,8 @@ use kom_types::Moment;
 use std::rt;
 use std::time::{SystemTime, UNIX_EPOCH};
 
-/// The system's clock. Where the system does not tell the time, it gives the moment again that it gave last. It
-/// tells nothing of its moments.
+/// The system's clock. If the system does not tell the time, it gives the moment again that it
+/// gave last. It tells nothing of its moments.
 #[derive(Drop)]
 pub struct SystemClock<R: rt::Clock + Drop> {
     rt: R,

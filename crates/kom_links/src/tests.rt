@@ -43,6 +43,7 @@ fn a_link_keeps_to_its_plan(rt: HostRuntime) -> Result<(), Fail> {
     for answer in [Took::NotYet, Took::Some(2), Took::Failed, Took::Some(2)] {
         assert_eq!(rt; link.write(b"xyz"), answer);
     }
+    assert!(rt; link.tells_reads());
     assert_eq!(rt; link.output(), b"xyxy".as_slice());
     assert_eq!(rt; link.faults(), 2);
     assert_eq!(rt; link.host(), b"memory".as_slice());
@@ -113,8 +114,9 @@ fn a_world_has_one_gate(rt: HostRuntime) -> Result<(), Fail> {
     Ok(())
 }
 
-// What of a world answers: its clock tells a moment past 2023, its sink and its gate's link take what is written.
-fn answers<W: World>(world: &mut W) -> usize {
+// How much of a world works: its clock tells a moment past 2023, its sink and its gate's link take
+// what is written.
+fn count_working<W: World>(world: &mut W) -> usize {
     let mut count = 0;
     if let Ok(mut clock) = world.clock() {
         if 1_700_000_000 < clock.now().seconds() {
@@ -138,6 +140,6 @@ fn answers<W: World>(world: &mut W) -> usize {
 }
 
 #[test]
-fn the_real_world_answers(rt: HostRuntime) {
-    assert_eq!(rt; answers(&mut StdWorld::new(&rt)), 4);
+fn the_real_world_works(rt: HostRuntime) {
+    assert_eq!(rt; count_working(&mut StdWorld::new(&rt)), 4);
 }

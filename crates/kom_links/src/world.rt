@@ -1,7 +1,6 @@
-ghost use Rattle.std.specs.Prelude.{◌≡◌, ◌≤◌, ℕ, [], Some, false, is_ok, IfOk, IfSome};
+ghost use Rattle.std.specs.Prelude.{◌≡◌, ◌≤◌, is_ok, IfOk};
 ghost use Rattle.kom_links.specs.Outside.{IsNothing};
-ghost use Rattle.kom_links.specs.Doors.{MayRefuse};
-ghost use Rattle.kom_links.specs.declared.asked.Asked.{Asked};
+ghost use Rattle.kom_links.specs.Doors.{WorldView, MayRefuse, IsNewGate, IsNewSink};
 ghost use Rattle.kom_links.specs.Asking.{with_gate, with_clock, with_sink};
 
 use crate::clock::Clock;
@@ -14,7 +13,7 @@ use kom_types::Memory;
 pub enum WorldFault {
     /// The world failed, which was counted.
     Failed,
-    /// Memory was wanted and could not be had.
+    /// Memory ran out.
     Memory,
 }
 
@@ -26,37 +25,28 @@ pub trait World {
 
     type Sink: Sink;
 
-    /// How often the world failed.
-    ghost world_faults: { Self → ℕ };
-
-    /// How often the world was asked for what it has.
-    ghost asked: { Self → Asked };
+    ghost view: { Self → WorldView };
 
     /// How often the world failed; it stands still at 2^64 - 1.
     fn faults(&self) -> u64
-        ensures { result ≡ world_faults self.now };
+        ensures { result ≡ (view self.now).faults };
 
-    /// The gate that gives one link, over standard input and output. It has no faults; where it tells that, it
-    /// has given no link and has not ended.
+    /// The gate that gives one link, over standard input and output. It has given none yet.
     fn std_gate(&mut self) -> Result<Self::Gate, WorldFault>
-        ensures answer { MayRefuse (world_faults self.old) (world_faults self.new) result }
-        ensures fresh { IfOk result (λ gate. Self.Gate.gate_faults gate ≡ 0) }
-        ensures none_given { IfOk result (λ gate. IfSome (Self.Gate.given gate) (λ n. n ≡ 0)) }
-        ensures none_back { IfOk result (λ gate. IfSome (Self.Gate.returned gate) (λ links. links ≡ [])) }
-        ensures not_ended { IfOk result (λ gate. Self.Gate.gate_ended gate ≡ false) }
-        ensures asked { asked self.new ≡ with_gate (is_ok result) (asked self.old) }
-        ensures faults { world_faults self.old ≤ world_faults self.new };
+        ensures may { MayRefuse (view self.old).faults (view self.new).faults result }
+        ensures fresh { IfOk result (λ gate. IsNewGate (Self.Gate.view gate)) }
+        ensures asked { (view self.new).asked ≡ with_gate (is_ok result) (view self.old).asked }
+        ensures faults { (view self.old).faults ≤ (view self.new).faults };
 
     /// A clock that has given no moment yet.
     fn clock(&mut self) -> Result<Self::Clock, Memory>
         ensures fresh { IfOk result (λ clock. IsNothing (Self.Clock.gave clock)) }
-        ensures asked { asked self.new ≡ with_clock (asked self.old) }
-        ensures faults { world_faults self.old ≤ world_faults self.new };
+        ensures asked { (view self.new).asked ≡ with_clock (view self.old).asked }
+        ensures faults { (view self.old).faults ≤ (view self.new).faults };
 
-    /// The sink of the program's report. It has no faults; where it tells that, nothing was put to it.
+    /// The sink of the program's report. Nothing was put to it yet.
     fn out(&mut self) -> Self::Sink
-        ensures fresh { Self.Sink.sink_faults result ≡ 0 }
-        ensures nothing_put { IsNothing (Self.Sink.put result) }
-        ensures asked { asked self.new ≡ with_sink (asked self.old) }
-        ensures faults { world_faults self.old ≤ world_faults self.new };
+        ensures fresh { IsNewSink (Self.Sink.view result) }
+        ensures asked { (view self.new).asked ≡ with_sink (view self.old).asked }
+        ensures faults { (view self.old).faults ≤ (view self.new).faults };
 }

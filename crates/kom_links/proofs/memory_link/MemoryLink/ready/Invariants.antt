@@ -8,5 +8,6 @@ invariant-loop-cut l = record {
   fits : l.count ≤ l.room;
   there : l.self.taken + l.count ≤ vec_len l.self.input;
   some : l.self.taken < vec_len l.self.input → 0 < l.count;
-  most : IsMostOf l.room (length (drop l.self.taken l.self.input.items)) l.self.plan.most_read (take l.cut-index l.self.plan.cuts.items) l.self.taken l.count;
+  most : IsMostOf l.room (length (drop l.self.taken l.self.input.items)) l.self.plan.most_read
+      (take l.cut-index l.self.plan.cuts.items) l.self.taken l.count;
 }
