@@ -1,11 +1,11 @@
 -- Why the service of a link ended.
-use Rattle.std.specs.Prelude.{◌≡◌, ℕ, ◌⊎◌, ◌==◌, Bool, true, false, List, [], Option, Some, None}
+use Rattle.std.specs.Prelude.{◌≡◌, ℕ, ◌⊎◌, ◌==◌, Bool, true, false, List, [], Option, Some, None, IfSome}
 use Rattle.kom_types.specs.declared.acts.Act.TheVariants as act
 use Rattle.kom_types.specs.declared.acts.Record.{Record}
 use Rattle.kom_types.specs.declared.answers.Why.TheVariants as why
 use Rattle.kom_types.specs.declared.items.Item.{Item}
 use Rattle.kom_types.specs.Reading.{fault_of}
-use Rattle.kom_links.specs.Outside.{Rose}
+use Rattle.kom_links.specs.Outside.{Rose, LinkView, IsNothing}
 use Rattle.kom_links.specs.declared.desk.DeskFault.{DeskFault}
 use Rattle.kom_links.specs.declared.desk.DeskFault.TheVariants as fault
 use Rattle.kom_links.specs.declared.served.SessionEnd.{SessionEnd}
@@ -28,16 +28,33 @@ IsEndOf (Some (fault.Gone why.Stopped)) ending = (ending ≡ end.Stopped) ⊎ (e
 IsEndOf (Some (fault.Full number)) ending = (ending ≡ end.Full number) ⊎ (ending ≡ end.Memory)
 IsEndOf (Some fault.Memory) ending = ending ≡ end.Memory
 
--- The cause of an end: a fault of the link goes before all; then the desk's first fault; want of memory is free.
-pub record HasCause (before after : ℕ) (fault : Option DeskFault) (ended : Bool) (ending : SessionEnd) : Type 0 where
+-- The cause of an end: a fault of the link goes before all; then the desk's first fault; want of
+-- memory is free.
+pub record HasCause (before after : ℕ) (fault : Option DeskFault) (ended : Bool)
+    (ending : SessionEnd) : Type 0 where
   pub link_fault : ending ≡ end.LinkFault → Rose before after
   pub rose : Rose before after → ending ≡ end.LinkFault
   pub desk : (Rose before after → ⊥) → IsEndOf fault ending
   pub has_ended : ending ≡ end.End → ended ≡ true
 
--- A stream at fault is answered so, unless the link failed, the desk answered a fault, or memory was wanted.
+-- A stream at fault is answered so, unless the link failed, the desk answered a fault, or memory
+-- was wanted.
 abbrev pub TellsFault : ℕ → ℕ → Option DeskFault → List ℕ → SessionEnd → Type 0
-TellsFault before after fault input ending = (place : ℕ) → fault_of input ≡ Some place → (Rose before after → ⊥) → fault ≡ None → (ending ≡ end.Broken place) ⊎ (ending ≡ end.Memory)
+TellsFault before after fault input ending =
+    (place : ℕ) → fault_of input ≡ Some place → (Rose before after → ⊥) → fault ≡ None
+    → (ending ≡ end.Broken place) ⊎ (ending ≡ end.Memory)
+
+-- A link that was not read and to which nothing was put, where it tells that.
+pub record IsUntouched (link : LinkView) : Type 0 where
+  pub nothing_taken : IsNothing link.taken
+  pub nothing_put : IsNothing link.put
+  pub not_ended : link.ended ≡ false
+  pub no_read : IfSome link.reads (λ looks. looks ≡ [])
+
+-- these bytes were read, and these put, where the link tells that
+abbrev pub Tells : LinkView → List ℕ → List ℕ → Type 0
+Tells link input output =
+    IfSome link.taken (λ bytes. bytes ≡ input) × IfSome link.put (λ bytes. bytes ≡ output)
 
 -- a record of the session, or a flush
 abbrev pub IsOwn : ℕ → Record → Type 0
@@ -56,7 +73,8 @@ end_at (fault.Gone why.Stopped) = end.Stopped
 end_at (fault.Full number) = end.Full number
 end_at fault.Memory = end.Memory
 
--- the end of a service that was to end so: the desk's first fault goes before all but want of memory
+-- the end of a service that was to end so: the desk's first fault goes before all but want of
+-- memory
 abbrev pub ending_of : SessionEnd → Option DeskFault → SessionEnd
 ending_of planned None = planned
 ending_of end.Memory (Some fault) = end.Memory

@@ -1,4 +1,6 @@
 pub mod Course
-pub mod Parts
 pub mod Ends
+pub mod Flows
+pub mod Known
 pub mod Serving
+pub mod Waits

@@ -13,8 +13,8 @@ pub(crate) fn has_risen(before: u64, after: u64) -> bool
     before < after || after == u64::MAX
 }
 
-/// The end of a service that was to end so: a fault of the link goes before all, and the desk's first fault before
-/// all but want of memory.
+/// The end of a service that was to end so: a fault of the link goes before all, and the desk's
+/// first fault before all but out of memory.
 pub(crate) fn end_of(risen: bool, planned: SessionEnd, cause: Option<DeskFault>) -> SessionEnd
     ensures { result ≡ ending risen planned cause }
 {

@@ -1,7 +1,46 @@
 ghost use Rattle.std.specs.Prelude.{◌≡◌};
-ghost use Rattle.kom_session.specs.Serving.{broken_after, next_after};
+ghost use Rattle.kom_session.specs.Flows.{ended_by};
 
-use kom_links::{DeskFault, SessionEnd};
+use kom_links::SessionEnd;
+
+/// How far a session is settled, which is to be flushed and then drained until nothing is given.
+#[derive(Clone, Copy, Debug, PartialEq, Eq)]
+pub(crate) enum Phase {
+    /// It is settled.
+    Calm,
+    /// It is to be settled, and so many lines were called since it last was.
+    Due(u8),
+    /// It was flushed, and is drained until nothing is given.
+    Draining,
+}
+
+/// What a turn of a conversation came to.
+#[derive(Clone, Copy, Debug)]
+pub(crate) enum Turn {
+    /// No unit was complete.
+    Idle,
+    /// The unit's act was made.
+    Made,
+    /// What waits is to be sent, and then the service so ends.
+    Last(SessionEnd),
+    /// The service so ends.
+    Ends(SessionEnd),
+}
+
+/// What a try to send came to.
+#[derive(Clone, Copy, Debug, PartialEq, Eq)]
+pub(crate) enum Sent {
+    /// Nothing is left to be sent.
+    All,
+    /// Something was printed or written.
+    Some,
+    /// The link took nothing in this call's own step.
+    NotYet,
+    /// The link failed.
+    Failed,
+    /// Memory ran out.
+    NoMemory,
+}
 
 /// Whether a link can be served further.
 #[derive(Clone, Copy, Debug, PartialEq, Eq)]
@@ -10,7 +49,7 @@ pub(crate) enum Flow {
     Open,
     /// The link failed.
     Lost,
-    /// Memory was wanted and could not be had.
+    /// Memory ran out.
     NoMemory,
 }
 
@@ -21,27 +60,13 @@ pub(crate) enum Next {
     Ends(SessionEnd),
 }
 
-/// The service goes on unless the link or memory failed or the desk answered a fault, which then gives the end.
-pub(crate) fn next_of(flow: Flow, cause: &Option<DeskFault>) -> Next
-    ensures { result ≡ next_after flow cause.now }
+/// The end, unless the link or memory failed before it.
+pub(crate) fn ended_by(flow: Flow, end: SessionEnd) -> SessionEnd
+    ensures { result ≡ ended_by flow end }
 {
     match flow {
-        Flow::Lost => Next::Ends(SessionEnd::LinkFault),
-        Flow::NoMemory => Next::Ends(SessionEnd::Memory),
-        Flow::Open => match cause {
-            Some(_) => Next::Ends(SessionEnd::End),
-            None => Next::GoesOn,
-        },
-    }
-}
-
-/// The end behind what tells a client that its stream is at fault at this place.
-pub(crate) fn broken_of(flow: Flow, place: u64) -> Next
-    ensures { result ≡ broken_after flow place }
-{
-    match flow {
-        Flow::Lost => Next::Ends(SessionEnd::LinkFault),
-        Flow::NoMemory => Next::Ends(SessionEnd::Memory),
-        Flow::Open => Next::Ends(SessionEnd::Broken(place)),
+        Flow::Open => end,
+        Flow::Lost => SessionEnd::LinkFault,
+        Flow::NoMemory => SessionEnd::Memory,
     }
 }

@@ -1,97 +1,84 @@
-ghost use Rattle.std.specs.Prelude.{◌≡◌, ◌≤◌, List, None};
-ghost use Rattle.kom_types.specs.declared.acts.Record.{Record};
-ghost use Rattle.kom_types.specs.declared.items.Item.{Item as Given};
-ghost use Rattle.kom_links.specs.Records.{IsOpen};
+ghost use Rattle.std.specs.Prelude.{◌≡◌, ◌≤◌, [], None};
 ghost use Rattle.kom_session.specs.declared.flow.Flow.TheVariants as flow;
-ghost use Rattle.kom_session.specs.Parts.{AddsDrains, AddsSettling, HaveSettled, IsEmptyLast};
-ghost use Rattle.kom_session.specs.Serving.{Climbs};
+ghost use Rattle.kom_session.specs.declared.flow.Phase.TheVariants as phase;
+ghost use Rattle.kom_session.specs.Known.{known, seen, HasSession, Keeps};
+ghost use Rattle.kom_session.specs.Serving.{ServesOn, Climbs};
 
-use crate::cause::note;
-use crate::flow::Flow;
-use crate::writing::write_items;
-use kom_framing::Writer;
-use kom_links::{Clock, Desk, DeskFault, Link};
+use crate::conversation::Conversation;
+use crate::flow::{Flow, Sent};
+use kom_links::{Clock, Desk, Link};
 use std::sync::Wait;
 
-/// Drains a session until nothing is given, and writes each item whole. It ends before that where the desk answers
-/// a fault, or where it is stopped while items are written and had no fault before.
-pub(crate) fn drain_all<R: Wait, K: Desk, L: Link, C: Clock>(
+/// Sends what was drained, each item whole. Where the link takes nothing yet, the desk is asked
+/// whether it is stopped, if there is a session, and the write is tried again.
+pub(crate) fn send<R: Wait, K: Desk, L: Link, C: Clock>(
     rt: &R,
+    talk: &mut Conversation,
     desk: &mut K,
     link: &mut L,
-    clock: &mut C,
-    cause: &mut Option<DeskFault>,
-    writer: &mut Writer,
-    session: u32,
+    clock: &C,
 ) -> Flow
-    requires open { IsOpen session (K.mine desk.old) }
-    requires cause { K.fault desk.old ≡ cause.old }
-    ensures drains { (more : List Record) × (lists : List (List Given)) ×
-        AddsDrains (K.pass_of desk.old) session result (K.mine desk.old) (K.mine desk.new) (K.given_items desk.old) (K.given_items desk.new) (L.put link.old) (L.put link.new) (C.gave clock.old) (C.gave clock.new) more lists
-        × (result ≡ flow.Open → cause.new ≡ None → IsEmptyLast lists) }
-    ensures cause { K.fault desk.new ≡ cause.new }
-    ensures first { cause.new ≡ None → cause.old ≡ None }
-    ensures pass { K.pass_of desk.new ≡ K.pass_of desk.old }
-    ensures open { IsOpen session (K.mine desk.new) }
-    ensures taken { L.taken link.new ≡ L.taken link.old }
-    ensures ended { L.ended link.new ≡ L.ended link.old }
-    ensures host { L.host_of link.new ≡ L.host_of link.old }
-    ensures faults { L.fault_count link.old ≤ L.fault_count link.new }
-    ensures lost { result ≡ flow.Lost → Climbs (L.fault_count link.old) (L.fault_count link.new) }
+    ensures serves { ServesOn (known talk.old)
+        (seen (K.view desk.old) (L.view link.old) (C.gave clock.now)) (known talk.new)
+        (seen (K.view desk.new) (L.view link.new) (C.gave clock.now)) }
+    ensures keeps { Keeps (known talk.old) (known talk.new) }
+    ensures mine { (K.view desk.new).mine ≡ (K.view desk.old).mine }
+    ensures phase { (known talk.new).phase ≡ (known talk.old).phase }
+    ensures silent { (known talk.old).session ≡ 0
+        → (known talk.new).cause ≡ (known talk.old).cause }
+    ensures open { result ≡ flow.Open → (known talk.new).pending ≡ [] }
+    ensures lost { result ≡ flow.Lost → Climbs (L.view link.old).faults (L.view link.new).faults }
+    ensures faults { (L.view link.old).faults ≤ (L.view link.new).faults }
 {
-    let faulty = cause.is_some();
     for _ in rt.forever() {
-        match desk.drain(clock.now(), session) {
-            Ok(items) => {
-                if items.is_empty() {
-                    return Flow::Open;
-                }
-                match write_items(rt, desk, link, cause, writer, items.as_slice()) {
-                    Flow::Open => {}
-                    Flow::Lost => return Flow::Lost,
-                    Flow::NoMemory => return Flow::NoMemory,
-                }
-                if !faulty && cause.is_some() {
-                    return Flow::Open;
+        match talk.send(link) {
+            Sent::All => return Flow::Open,
+            Sent::Some => {}
+            Sent::NotYet => {
+                if talk.session() != 0 {
+                    talk.ask_stopped(desk);
                 }
             }
-            Err(fault) => {
-                note(cause, fault);
-                return Flow::Open;
-            }
+            Sent::Failed => return Flow::Lost,
+            Sent::NoMemory => return Flow::NoMemory,
         }
     }
     unreachable!()
 }
 
-/// Flushes, and then drains a session until nothing is given.
+/// Flushes, and then drains the session until nothing is given, and sends what was given.
 pub(crate) fn settle<R: Wait, K: Desk, L: Link, C: Clock>(
     rt: &R,
+    talk: &mut Conversation,
     desk: &mut K,
     link: &mut L,
     clock: &mut C,
-    cause: &mut Option<DeskFault>,
-    writer: &mut Writer,
-    session: u32,
 ) -> Flow
-    requires open { IsOpen session (K.mine desk.old) }
-    requires cause { K.fault desk.old ≡ cause.old }
-    ensures settles { (more : List Record) × (lists : List (List Given)) ×
-        AddsSettling (K.pass_of desk.old) session result (K.mine desk.old) (K.mine desk.new) (K.given_items desk.old) (K.given_items desk.new) (L.put link.old) (L.put link.new) (C.gave clock.old) (C.gave clock.new) more lists
-        × (result ≡ flow.Open → cause.new ≡ None → HaveSettled more lists) }
-    ensures cause { K.fault desk.new ≡ cause.new }
-    ensures first { cause.new ≡ None → cause.old ≡ None }
-    ensures pass { K.pass_of desk.new ≡ K.pass_of desk.old }
-    ensures open { IsOpen session (K.mine desk.new) }
-    ensures taken { L.taken link.new ≡ L.taken link.old }
-    ensures ended { L.ended link.new ≡ L.ended link.old }
-    ensures host { L.host_of link.new ≡ L.host_of link.old }
-    ensures faults { L.fault_count link.old ≤ L.fault_count link.new }
-    ensures lost { result ≡ flow.Lost → Climbs (L.fault_count link.old) (L.fault_count link.new) }
+    requires session { HasSession (known talk.old) (K.view desk.old) }
+    requires nothing { (known talk.old).pending ≡ [] }
+    ensures serves { ServesOn (known talk.old)
+        (seen (K.view desk.old) (L.view link.old) (C.gave clock.old)) (known talk.new)
+        (seen (K.view desk.new) (L.view link.new) (C.gave clock.new)) }
+    ensures keeps { Keeps (known talk.old) (known talk.new) }
+    ensures session { HasSession (known talk.new) (K.view desk.new) }
+    ensures open { result ≡ flow.Open → (known talk.new).pending ≡ [] }
+    ensures calm { result ≡ flow.Open → (known talk.new).cause ≡ None
+        → (known talk.new).phase ≡ phase.Calm }
+    ensures lost { result ≡ flow.Lost → Climbs (L.view link.old).faults (L.view link.new).faults }
+    ensures faults { (L.view link.old).faults ≤ (L.view link.new).faults }
 {
-    if let Err(fault) = desk.flush(clock.now()) {
-        note(cause, fault);
+    if !talk.flush(desk, clock) {
         return Flow::Open;
     }
-    drain_all(rt, desk, link, clock, cause, writer, session)
+    for _ in rt.forever() {
+        if !talk.drain(desk, clock) {
+            return Flow::Open;
+        }
+        match send(rt, talk, desk, link, clock) {
+            Flow::Open => {}
+            Flow::Lost => return Flow::Lost,
+            Flow::NoMemory => return Flow::NoMemory,
+        }
+    }
+    unreachable!()
 }

@@ -1,77 +1,215 @@
-use Rattle.std.proofs.Common.{◌≡◌, ◌<◌, ◌^◌, Bool, true, false, Option, None, List, ℕ, sym, subst, subst₂, arith}
+use Rattle.std.proofs.Common.{◌≡◌, ◌<◌, ◌^◌, ◌∙◌, Bool, true, false, Option, None, [], List, ℕ, sym, subst, subst₂, arith}
 use Rattle.std.specs.Prelude.{IfSome}
 use Rattle.kom_links.specs.declared.desk.DeskFault.{DeskFault}
-use Rattle.kom_links.specs.declared.served.SessionEnd.{SessionEnd}
 use Rattle.kom_links.specs.declared.served.SessionEnd.TheVariants as end
 use Rattle.kom_links.specs.Outside.{Rose}
-use Rattle.kom_links.specs.Talk.{IsTalk}
-use Rattle.kom_session.specs.Ends.{TellsFault, given_to}
-use Rattle.kom_session.specs.Serving.{seen}
-use Rattle.kom_session.proofs.EndLaws.{Leaves, if_told, lost_risen, none_before, over_tells, tells_fault}
+use Rattle.kom_session.specs.Ends.{HasCause, TellsFault, ending}
+use Rattle.kom_session.specs.Known.{known, seen}
+use Rattle.kom_session.proofs.Ends.{IsClosed, begun_between, over_told, none_before, heard_lost, heard_ended, lost_risen, over_planned, has_cause, tells_fault, told_so}
+use Rattle.kom_session.proofs.Served.{served_open}
 use Rattle.kom_session.proofs.serving.serve_link.Goals as goal
+
+pub serve_stream-planned-requires : goal.serve_stream-planned-requires
+serve_stream-planned-requires g c =
+    let start =
+    seen (g.K.Desk.view c.args.desk.now) (g.L.Link.view c.args.link.now)
+    (g.C.Clock.gave c.args.clock.now) in (
+      start,
+      _,
+      [],
+      begun_between start (known c.new-talk.result) c.requires.untouched
+          c.requires.no_fault c.new-talk.ensures.at c.new-talk.ensures.known,
+    )
+
+pub close-requires : goal.close-requires
+close-requires g c = λ some.
+    let start =
+    seen (g.K.Desk.view c.args.desk.now) (g.L.Link.view c.args.link.now)
+    (g.C.Clock.gave c.args.clock.now) in
+    let over =
+    c.serve_stream-planned.ensures start _ []
+    (begun_between start (known c.new-talk.result) c.requires.untouched c.requires.no_fault
+    c.new-talk.ensures.at c.new-talk.ensures.known) in
+    served_open over.1.served some
 
 pub returns-clause-talk : goal.returns-clause-talk
 returns-clause-talk g c =
     let s = c.serve_stream-planned in
-    let closed = c.close_session in
-    let risen : Bool = c.has_risen-risen.result in
-    let over = s.ensures.over in
-    let before : ℕ = g.L.Link.fault_count c.args.link.now in
-    let after : ℕ = g.L.Link.fault_count s.new.link in
-    let leaves : Leaves s.new.session (g.K.Desk.pass_of s.new.desk) (seen (g.K.Desk.mine s.new.desk) (g.K.Desk.given_items s.new.desk) (g.L.Link.put s.new.link) (g.C.Clock.gave s.new.clock))
-    (g.K.Desk.mine closed.new.desk) (g.K.Desk.given_items closed.new.desk) s.new.cause closed.new.cause (g.K.Desk.lock_full closed.new.desk) (g.C.Clock.gave closed.new.clock)
-    = record { silent = closed.ensures.silent; closed = closed.ensures.closed; given_is = closed.ensures.given } in
-    let still : risen ≡ false → Rose before after → ⊥ = subst₂ (λ (a b : ℕ). risen ≡ false → Rose a b → ⊥) c.faults-faults.ensures c.faults.ensures c.has_risen-risen.ensures.still in
+    let start =
+    seen (g.K.Desk.view c.args.desk.now) (g.L.Link.view c.args.link.now)
+    (g.C.Clock.gave c.args.clock.now) in
+    let b =
+    begun_between start (known c.new-talk.result) c.requires.untouched c.requires.no_fault
+    c.new-talk.ensures.at c.new-talk.ensures.known in
+    let over = s.ensures start _ [] b in
+    let risen : Bool = c.has_risen.result in
+    let before : ℕ = (g.L.Link.view c.args.link.now).faults in
+    let after : ℕ = (g.L.Link.view s.new.link).faults in
+    let still : risen ≡ false → Rose before after → ⊥ =
+    subst₂ (λ (a b : ℕ). risen ≡ false → Rose a b → ⊥) c.faults-faults.ensures c.faults.ensures
+    c.has_risen.ensures.still in
+    let rises : risen ≡ true → Rose before after =
+    subst₂ (λ (a b : ℕ). risen ≡ true → Rose a b) c.faults-faults.ensures c.faults.ensures
+    c.has_risen.ensures.risen in
     let fits : after < 2 ^ 64 = omega (arith, c.faults.type_inv, c.faults.ensures) in
-    let lost : s.result ≡ end.LinkFault → risen ≡ true = λ e. lost_risen risen before after still (s.ensures.lost e) fits in
-    let has_ended : s.result ≡ end.End → closed.new.cause ≡ None → g.L.Link.ended s.new.link ≡ true = λ e none. s.ensures.ended e (none_before leaves none) in
-    let tells = over_tells over.2 risen (g.L.Link.ended s.new.link) (g.K.Desk.lock_full closed.new.desk) (g.K.Desk.pass_of s.new.desk) (g.K.Desk.mine closed.new.desk) (g.K.Desk.given_items closed.new.desk) (g.C.Clock.gave closed.new.clock) closed.new.cause leaves lost has_ended in
-    let given : List _ = given_to s.new.session (g.K.Desk.given_items closed.new.desk) in
-    let talk = subst (λ (final : SessionEnd). IsTalk (g.L.Link.host_of c.args.link.now) over.0 tells.bytes (g.L.Link.ended s.new.link) tells.added s.new.session given final (g.K.Desk.lock_full closed.new.desk)) (sym c.end_of.ensures) tells.talk in (
-      tells.added,
-      tells.mine_is,
-      tells.own,
-      tells.timed,
-      if_told (λ (input : List ℕ). IfSome (g.L.Link.put s.new.link) (λ output. IsTalk (g.L.Link.host_of c.args.link.now) input output (g.L.Link.ended s.new.link) tells.added s.new.session given c.end_of.result (g.K.Desk.lock_full closed.new.desk)))
-          over.0 (g.L.Link.taken c.args.link.now) (g.L.Link.taken s.new.link) c.requires.nothing_taken over.1
-          (if_told (λ (output : List ℕ). IsTalk (g.L.Link.host_of c.args.link.now) over.0 output (g.L.Link.ended s.new.link) tells.added s.new.session given c.end_of.result (g.K.Desk.lock_full closed.new.desk))
-          tells.bytes (g.L.Link.put c.args.link.now) (g.L.Link.put s.new.link) c.requires.nothing_put tells.put_is talk),
+    let lost : s.result ≡ end.LinkFault → risen ≡ true =
+    λ e. lost_risen risen before after still (heard_lost over.1 e) fits in
+    let close : IsClosed (known s.new.talk)
+    (seen (g.K.Desk.view s.new.desk) (g.L.Link.view s.new.link) (g.C.Clock.gave s.new.clock))
+    (known c.close.new.self) (g.K.Desk.view c.close.new.desk) (g.C.Clock.gave c.close.new.clock)
+    = record { silent = c.close.ensures.silent; closed = c.close.ensures.closed } in
+    let told =
+    over_told over.1 risen (known c.close.new.self) (g.K.Desk.view c.close.new.desk)
+    (g.C.Clock.gave c.close.new.clock) close lost in
+    rw (c.end_of.ensures, c.session.ensures, c.cause.ensures) (
+      told.added,
+      told.mine_is,
+      told.own,
+      told.timed,
+      over.0.fed,
+      told.bytes,
+      (
+        told_so over.0.fed (g.L.Link.view c.args.link.now).taken (g.L.Link.view s.new.link).taken
+            c.requires.untouched.nothing_taken over.1.served.taken,
+        told_so told.bytes (g.L.Link.view c.args.link.now).put (g.L.Link.view s.new.link).put
+            c.requires.untouched.nothing_put told.put_is,
+      ),
+      subst (λ (cause : Option DeskFault). TellsFault before after cause over.0.fed
+          (ending risen s.result (known c.close.new.self).cause)) (sym told.cause_is)
+          (tells_fault over.1 risen before after (known c.close.new.self).cause rises lost
+          (none_before close)),
+      told.talk,
     )
 
 pub returns-clause-session : goal.returns-clause-session
 returns-clause-session g c =
     let s = c.serve_stream-planned in
-    let closed = c.close_session in
-    let risen : Bool = c.has_risen-risen.result in
-    let over = s.ensures.over in
-    let before : ℕ = g.L.Link.fault_count c.args.link.now in
-    let after : ℕ = g.L.Link.fault_count s.new.link in
-    let leaves : Leaves s.new.session (g.K.Desk.pass_of s.new.desk) (seen (g.K.Desk.mine s.new.desk) (g.K.Desk.given_items s.new.desk) (g.L.Link.put s.new.link) (g.C.Clock.gave s.new.clock))
-    (g.K.Desk.mine closed.new.desk) (g.K.Desk.given_items closed.new.desk) s.new.cause closed.new.cause (g.K.Desk.lock_full closed.new.desk) (g.C.Clock.gave closed.new.clock)
-    = record { silent = closed.ensures.silent; closed = closed.ensures.closed; given_is = closed.ensures.given } in
-    let still : risen ≡ false → Rose before after → ⊥ = subst₂ (λ (a b : ℕ). risen ≡ false → Rose a b → ⊥) c.faults-faults.ensures c.faults.ensures c.has_risen-risen.ensures.still in
+    let start =
+    seen (g.K.Desk.view c.args.desk.now) (g.L.Link.view c.args.link.now)
+    (g.C.Clock.gave c.args.clock.now) in
+    let b =
+    begun_between start (known c.new-talk.result) c.requires.untouched c.requires.no_fault
+    c.new-talk.ensures.at c.new-talk.ensures.known in
+    let over = s.ensures start _ [] b in
+    let risen : Bool = c.has_risen.result in
+    let before : ℕ = (g.L.Link.view c.args.link.now).faults in
+    let after : ℕ = (g.L.Link.view s.new.link).faults in
+    let still : risen ≡ false → Rose before after → ⊥ =
+    subst₂ (λ (a b : ℕ). risen ≡ false → Rose a b → ⊥) c.faults-faults.ensures c.faults.ensures
+    c.has_risen.ensures.still in
+    let rises : risen ≡ true → Rose before after =
+    subst₂ (λ (a b : ℕ). risen ≡ true → Rose a b) c.faults-faults.ensures c.faults.ensures
+    c.has_risen.ensures.risen in
     let fits : after < 2 ^ 64 = omega (arith, c.faults.type_inv, c.faults.ensures) in
-    let lost : s.result ≡ end.LinkFault → risen ≡ true = λ e. lost_risen risen before after still (s.ensures.lost e) fits in
-    let has_ended : s.result ≡ end.End → closed.new.cause ≡ None → g.L.Link.ended s.new.link ≡ true = λ e none. s.ensures.ended e (none_before leaves none) in
-    let tells = over_tells over.2 risen (g.L.Link.ended s.new.link) (g.K.Desk.lock_full closed.new.desk) (g.K.Desk.pass_of s.new.desk) (g.K.Desk.mine closed.new.desk) (g.K.Desk.given_items closed.new.desk) (g.C.Clock.gave closed.new.clock) closed.new.cause leaves lost has_ended in
-    (tells.added, tells.mine_is, tells.connects)
+    let lost : s.result ≡ end.LinkFault → risen ≡ true =
+    λ e. lost_risen risen before after still (heard_lost over.1 e) fits in
+    let close : IsClosed (known s.new.talk)
+    (seen (g.K.Desk.view s.new.desk) (g.L.Link.view s.new.link) (g.C.Clock.gave s.new.clock))
+    (known c.close.new.self) (g.K.Desk.view c.close.new.desk) (g.C.Clock.gave c.close.new.clock)
+    = record { silent = c.close.ensures.silent; closed = c.close.ensures.closed } in
+    let told =
+    over_told over.1 risen (known c.close.new.self) (g.K.Desk.view c.close.new.desk)
+    (g.C.Clock.gave c.close.new.clock) close lost in
+    rw c.session.ensures
+    (told.added, told.mine_is, told.connects)
 
-pub returns-clause-fault : goal.returns-clause-fault
-returns-clause-fault g c =
+pub returns-clause-waits : goal.returns-clause-waits
+returns-clause-waits g c =
     let s = c.serve_stream-planned in
-    let closed = c.close_session in
-    let risen : Bool = c.has_risen-risen.result in
-    let over = s.ensures.over in
-    let before : ℕ = g.L.Link.fault_count c.args.link.now in
-    let after : ℕ = g.L.Link.fault_count s.new.link in
-    let leaves : Leaves s.new.session (g.K.Desk.pass_of s.new.desk) (seen (g.K.Desk.mine s.new.desk) (g.K.Desk.given_items s.new.desk) (g.L.Link.put s.new.link) (g.C.Clock.gave s.new.clock))
-    (g.K.Desk.mine closed.new.desk) (g.K.Desk.given_items closed.new.desk) s.new.cause closed.new.cause (g.K.Desk.lock_full closed.new.desk) (g.C.Clock.gave closed.new.clock)
-    = record { silent = closed.ensures.silent; closed = closed.ensures.closed; given_is = closed.ensures.given } in
-    let still : risen ≡ false → Rose before after → ⊥ = subst₂ (λ (a b : ℕ). risen ≡ false → Rose a b → ⊥) c.faults-faults.ensures c.faults.ensures c.has_risen-risen.ensures.still in
+    let start =
+    seen (g.K.Desk.view c.args.desk.now) (g.L.Link.view c.args.link.now)
+    (g.C.Clock.gave c.args.clock.now) in
+    let b =
+    begun_between start (known c.new-talk.result) c.requires.untouched c.requires.no_fault
+    c.new-talk.ensures.at c.new-talk.ensures.known in
+    let over = s.ensures start _ [] b in
+    let risen : Bool = c.has_risen.result in
+    let before : ℕ = (g.L.Link.view c.args.link.now).faults in
+    let after : ℕ = (g.L.Link.view s.new.link).faults in
+    let still : risen ≡ false → Rose before after → ⊥ =
+    subst₂ (λ (a b : ℕ). risen ≡ false → Rose a b → ⊥) c.faults-faults.ensures c.faults.ensures
+    c.has_risen.ensures.still in
+    let rises : risen ≡ true → Rose before after =
+    subst₂ (λ (a b : ℕ). risen ≡ true → Rose a b) c.faults-faults.ensures c.faults.ensures
+    c.has_risen.ensures.risen in
     let fits : after < 2 ^ 64 = omega (arith, c.faults.type_inv, c.faults.ensures) in
-    let lost : s.result ≡ end.LinkFault → risen ≡ true = λ e. lost_risen risen before after still (s.ensures.lost e) fits in
-    let rises : risen ≡ true → Rose before after = subst₂ (λ (a b : ℕ). risen ≡ true → Rose a b) c.faults-faults.ensures c.faults.ensures c.has_risen-risen.ensures.risen in
-    let told = tells_fault over.2 risen before after closed.new.cause rises lost (none_before leaves) in
-    if_told (λ (input : List ℕ). TellsFault before after (g.K.Desk.fault closed.new.desk) input c.end_of.result)
-    over.0 (g.L.Link.taken c.args.link.now) (g.L.Link.taken s.new.link) c.requires.nothing_taken over.1
-    (subst₂ (λ (fault : Option DeskFault) (final : SessionEnd). TellsFault before after fault over.0 final) (sym closed.ensures.fault) (sym c.end_of.ensures) told)
+    let lost : s.result ≡ end.LinkFault → risen ≡ true =
+    λ e. lost_risen risen before after still (heard_lost over.1 e) fits in
+    let close : IsClosed (known s.new.talk)
+    (seen (g.K.Desk.view s.new.desk) (g.L.Link.view s.new.link) (g.C.Clock.gave s.new.clock))
+    (known c.close.new.self) (g.K.Desk.view c.close.new.desk) (g.C.Clock.gave c.close.new.clock)
+    = record { silent = c.close.ensures.silent; closed = c.close.ensures.closed } in
+    let told =
+    over_told over.1 risen (known c.close.new.self) (g.K.Desk.view c.close.new.desk)
+    (g.C.Clock.gave c.close.new.clock) close lost in
+    rw c.session.ensures
+    (told.added, told.mine_is, told.waits)
+
+pub returns-clause-cause : goal.returns-clause-cause
+returns-clause-cause g c =
+    let s = c.serve_stream-planned in
+    let start =
+    seen (g.K.Desk.view c.args.desk.now) (g.L.Link.view c.args.link.now)
+    (g.C.Clock.gave c.args.clock.now) in
+    let b =
+    begun_between start (known c.new-talk.result) c.requires.untouched c.requires.no_fault
+    c.new-talk.ensures.at c.new-talk.ensures.known in
+    let over = s.ensures start _ [] b in
+    let risen : Bool = c.has_risen.result in
+    let before : ℕ = (g.L.Link.view c.args.link.now).faults in
+    let after : ℕ = (g.L.Link.view s.new.link).faults in
+    let still : risen ≡ false → Rose before after → ⊥ =
+    subst₂ (λ (a b : ℕ). risen ≡ false → Rose a b → ⊥) c.faults-faults.ensures c.faults.ensures
+    c.has_risen.ensures.still in
+    let rises : risen ≡ true → Rose before after =
+    subst₂ (λ (a b : ℕ). risen ≡ true → Rose a b) c.faults-faults.ensures c.faults.ensures
+    c.has_risen.ensures.risen in
+    let fits : after < 2 ^ 64 = omega (arith, c.faults.type_inv, c.faults.ensures) in
+    let lost : s.result ≡ end.LinkFault → risen ≡ true =
+    λ e. lost_risen risen before after still (heard_lost over.1 e) fits in
+    let close : IsClosed (known s.new.talk)
+    (seen (g.K.Desk.view s.new.desk) (g.L.Link.view s.new.link) (g.C.Clock.gave s.new.clock))
+    (known c.close.new.self) (g.K.Desk.view c.close.new.desk) (g.C.Clock.gave c.close.new.clock)
+    = record { silent = c.close.ensures.silent; closed = c.close.ensures.closed } in
+    let told =
+    over_told over.1 risen (known c.close.new.self) (g.K.Desk.view c.close.new.desk)
+    (g.C.Clock.gave c.close.new.clock) close lost in
+    rw (c.end_of.ensures, c.session.ensures, c.cause.ensures)
+    (subst (λ (cause : Option DeskFault). HasCause before after cause
+    (g.L.Link.view s.new.link).ended (ending risen s.result (known c.close.new.self).cause))
+    (sym told.cause_is)
+    (has_cause risen s.result (known c.close.new.self).cause before after
+    (g.L.Link.view s.new.link).ended (over_planned over.1) rises still lost
+    (λ e none. heard_ended over.1 e (none_before close none))))
+
+pub returns-clause-others : goal.returns-clause-others
+returns-clause-others g c =
+    let s = c.serve_stream-planned in
+    let start =
+    seen (g.K.Desk.view c.args.desk.now) (g.L.Link.view c.args.link.now)
+    (g.C.Clock.gave c.args.clock.now) in
+    let b =
+    begun_between start (known c.new-talk.result) c.requires.untouched c.requires.no_fault
+    c.new-talk.ensures.at c.new-talk.ensures.known in
+    let over = s.ensures start _ [] b in
+    let risen : Bool = c.has_risen.result in
+    let before : ℕ = (g.L.Link.view c.args.link.now).faults in
+    let after : ℕ = (g.L.Link.view s.new.link).faults in
+    let still : risen ≡ false → Rose before after → ⊥ =
+    subst₂ (λ (a b : ℕ). risen ≡ false → Rose a b → ⊥) c.faults-faults.ensures c.faults.ensures
+    c.has_risen.ensures.still in
+    let rises : risen ≡ true → Rose before after =
+    subst₂ (λ (a b : ℕ). risen ≡ true → Rose a b) c.faults-faults.ensures c.faults.ensures
+    c.has_risen.ensures.risen in
+    let fits : after < 2 ^ 64 = omega (arith, c.faults.type_inv, c.faults.ensures) in
+    let lost : s.result ≡ end.LinkFault → risen ≡ true =
+    λ e. lost_risen risen before after still (heard_lost over.1 e) fits in
+    let close : IsClosed (known s.new.talk)
+    (seen (g.K.Desk.view s.new.desk) (g.L.Link.view s.new.link) (g.C.Clock.gave s.new.clock))
+    (known c.close.new.self) (g.K.Desk.view c.close.new.desk) (g.C.Clock.gave c.close.new.clock)
+    = record { silent = c.close.ensures.silent; closed = c.close.ensures.closed } in
+    let told =
+    over_told over.1 risen (known c.close.new.self) (g.K.Desk.view c.close.new.desk)
+    (g.C.Clock.gave c.close.new.clock) close lost in
+    rw c.session.ensures
+    told.others

@@ -1,0 +1,752 @@
+-- From the end that the loop gives to the end of the service.
+use Rattle.std.proofs.Common.{◌≡◌, ◌≢◌, ℕ, zero, suc, ◌^◌, ◌<◌, ◌≤◌, ◌⊎◌, ◌==◌, ◌&&◌, ◌||◌, not, Bool, true, false, inl, inr, List, [], ◌∷◌, ◌++◌, length, Option, Some, None, Result, Ok, Err, refl, sym, ◌∙◌, ap, ap₂, subst, subst₂, append-nil, append_assoc, ne_eqb, le-leb, arith}
+use Rattle.std.specs.Prelude.{⊤, IfSome, IsSome, IsTrue}
+use Rattle.std.specs.List.{AllByRecursion}
+use Rattle.std.proofs.lemmas.List.Folds.{list_any-append}
+use Rattle.kom_types.specs.declared.acts.Act.TheVariants as act
+use Rattle.kom_types.specs.declared.acts.Record.{Record}
+use Rattle.kom_types.specs.declared.answers.Why.TheVariants as why
+use Rattle.kom_types.specs.declared.items.Item.{Item}
+use Rattle.kom_types.specs.declared.items.Item.TheVariants as item
+use Rattle.kom_types.specs.Printing.{print_of}
+use Rattle.kom_types.specs.Stream.{stream_of}
+use Rattle.kom_types.specs.Reading.{Request, fault_of}
+use Rattle.kom_framing.specs.Splitting.{IsAt}
+use Rattle.kom_links.specs.declared.desk.DeskFault.{DeskFault}
+use Rattle.kom_links.specs.declared.desk.DeskFault.TheVariants as fault
+use Rattle.kom_links.specs.declared.served.SessionEnd.{SessionEnd}
+use Rattle.kom_links.specs.declared.served.SessionEnd.TheVariants as end
+use Rattle.kom_links.specs.Outside.{Look, Rose, grown, IsNothing}
+use Rattle.kom_links.specs.Doors.{Gains}
+use Rattle.kom_links.specs.Records.{is_connect, is_open, has_connect, has_close, IsOpen}
+use Rattle.kom_links.specs.DeskCalls.{DeskView, record_of, first_fault, is_lock_full, IsLockFault, IsConnectFault, Closes as ClosesOf}
+use Rattle.kom_links.specs.Talk.{Step, Closes, steps_of, printed, lines_before, IsPrefix, AreTimed, IsTalk}
+use Rattle.kom_session.specs.declared.flow.Phase.TheVariants as phase
+use Rattle.kom_session.specs.Course.{IsSettled}
+use Rattle.kom_session.specs.Ends.{IsEndOf, HasCause, TellsFault, IsOwn, IsUntouched, given_to, end_at, ending_of, ending}
+use Rattle.kom_session.specs.Known.{Known, Seen, seen, LeavesOthers}
+use Rattle.kom_session.specs.Serving.{Party, Nobody, Somebody, Past, owed_to, IsFaultAfter, IsNobody, IsSomebody, IsParty, IsPhase, IsServed, IsServing, IsBetween, IsRefused, Climbs, Plans, IsHeard, IsOver}
+use Rattle.kom_session.specs.Waits.{AreAnswered, NoneWaits}
+use Rattle.kom_session.proofs.Times.{timed_none, timed_more, timed_skip}
+use Rattle.kom_session.proofs.Talks.{EndFacts, SilentFacts, talk_closed, talk_open, talk_silent}
+use Rattle.kom_session.proofs.Courses.{and_left, or_true, own_step-same}
+use Rattle.kom_session.proofs.Others.{others_trans, others_none, others_open, act_leaves}
+use Rattle.kom_session.proofs.Stepped.{first_nil, ok_fault}
+use Rattle.kom_session.proofs.Steps.{steps_push, steps_connected}
+
+-- ---- the facts of the end
+
+silent_at_fault : (why : DeskFault) (fed bytes : List ℕ) (ended : Bool) → bytes ≡ []
+    → ((stream_of fed).greeting ≡ None) ⊎ IsConnectFault why
+    → SilentFacts (end_at why) fed bytes ended
+silent_at_fault (fault.Gone why.Absent) fed bytes ended nil known = inl nil
+silent_at_fault (fault.Gone why.Dropped) fed bytes ended nil (inl none) = (none, nil)
+silent_at_fault (fault.Gone why.Dropped) fed bytes ended nil (inr known) = absurd known
+silent_at_fault (fault.Gone why.Overrun) fed bytes ended nil (inl none) = (none, nil)
+silent_at_fault (fault.Gone why.Overrun) fed bytes ended nil (inr known) = absurd known
+silent_at_fault (fault.Gone why.Stopped) fed bytes ended nil known = nil
+silent_at_fault (fault.Full number) fed bytes ended nil known = nil
+silent_at_fault fault.Memory fed bytes ended nil known = inl nil
+
+-- without a session, some of what may be told
+abbrev MayPut : List ℕ → List ℕ → Type 0
+MayPut fed bytes =
+    (bytes ≡ []) ⊎ (((stream_of fed).greeting ≡ None) × IsSome (fault_of fed)
+    × IsPrefix bytes (print_of item.Fault))
+
+may_put : (fed told bytes pending : List ℕ) → bytes ++ pending ≡ told → (told ≡ [])
+    ⊎ (((stream_of fed).greeting ≡ None) × IsSome (fault_of fed) × (told ≡ print_of item.Fault))
+    → MayPut fed bytes
+may_put fed told bytes pending e (inl none) = inl (first_nil bytes pending (e ∙ none))
+may_put fed told bytes pending e (inr (none, fault, all)) = inr (none, fault, (pending, e ∙ all))
+
+all_put : (told bytes pending : List ℕ) → bytes ++ pending ≡ told → pending ≡ [] → bytes ≡ told
+all_put told bytes pending e none =
+    sym (append-nil bytes) ∙ ap (λ rest. bytes ++ rest) (sym none) ∙ e
+
+silent_facts : (risen : Bool) (planned : SessionEnd) (cause : Option DeskFault)
+    (fed told bytes : List ℕ) (ended : Bool) (known : Known) → bytes ++ known.pending ≡ told
+    → MayPut fed bytes →
+    Plans planned cause (record { fed = fed; party = Nobody told }) known →
+    (planned ≡ end.LinkFault → risen ≡ true) → (planned ≡ end.End → cause ≡ None → ended ≡ true)
+    → SilentFacts (ending risen planned cause) fed bytes ended
+silent_facts true planned cause fed told bytes ended known e may plan lost has_ended = may
+silent_facts false end.End None fed told bytes ended known e may
+    (none, (greeting, sound, nothing)) lost
+    has_ended = (
+      greeting,
+      has_ended refl refl,
+      sound,
+      all_put told bytes known.pending e none
+          ∙ nothing,
+    )
+silent_facts false end.End (Some reason) fed told bytes ended known e may
+    (none, (nothing, which)) lost has_ended = silent_at_fault reason fed bytes ended
+    (all_put told bytes known.pending e none ∙ nothing) which
+silent_facts false (end.Broken place) None fed told bytes ended known e may
+    (none, (greeting, fault, all)) lost
+    has_ended = (greeting, fault, all_put told bytes known.pending e none ∙ all)
+silent_facts false (end.Broken place) (Some reason) fed told bytes ended known e may
+    (none, (nothing, which)) lost has_ended = silent_at_fault reason fed bytes ended
+    (all_put told bytes known.pending e none ∙ nothing) which
+silent_facts false end.LinkFault cause fed told bytes ended known e may plan lost has_ended =
+    absurd (cc (lost refl))
+silent_facts false end.Memory None fed told bytes ended known e may plan lost has_ended = may
+silent_facts false end.Memory (Some reason) fed told bytes ended known e may plan lost has_ended =
+    may
+silent_facts false end.Overrun cause fed told bytes ended known e may plan lost has_ended =
+    absurd plan
+silent_facts false end.Dropped cause fed told bytes ended known e may plan lost has_ended =
+    absurd plan
+silent_facts false end.Stopped cause fed told bytes ended known e may plan lost has_ended =
+    absurd plan
+silent_facts false (end.Full number) cause fed told bytes ended known e may plan lost has_ended =
+    absurd plan
+
+session_at_fault : (why : DeskFault) (fed bytes : List ℕ) (ended : Bool) (requests : List Request)
+    (broken : Bool) (steps : List Step) (given : List (List Item)) → bytes ≡ printed given
+    → EndFacts (end_at why) fed bytes ended requests broken steps given
+session_at_fault (fault.Gone why.Absent) fed bytes ended requests broken steps given all = tt
+session_at_fault (fault.Gone why.Dropped) fed bytes ended requests broken steps given all = all
+session_at_fault (fault.Gone why.Overrun) fed bytes ended requests broken steps given all = all
+session_at_fault (fault.Gone why.Stopped) fed bytes ended requests broken steps given all = all
+session_at_fault (fault.Full number) fed bytes ended requests broken steps given all = all
+session_at_fault fault.Memory fed bytes ended requests broken steps given all = tt
+
+session_facts : (risen : Bool) (planned : SessionEnd) (cause : Option DeskFault)
+    (fed user bytes : List ℕ) (ended : Bool) (requests : List Request) (broken : Bool)
+    (known : Known) (steps : List Step) (given : List (List Item)) →
+    bytes ++ known.pending ≡ printed given → (known.phase ≡ phase.Calm → IsSettled steps)
+    → Plans planned cause (record { fed = fed; party = Somebody user requests broken }) known →
+    (planned ≡ end.LinkFault → risen ≡ true) → (planned ≡ end.End → cause ≡ None → ended ≡ true)
+    → EndFacts (ending risen planned cause) fed bytes ended requests broken steps given
+session_facts true planned cause fed user bytes ended requests broken known steps given e settled
+    plan lost has_ended = tt
+session_facts false end.End None fed user bytes ended requests broken known steps given e settled
+    (none, (sound, count, calm)) lost has_ended = (
+      has_ended refl refl,
+      sound,
+      count,
+      all_put (printed given) bytes known.pending e none,
+      settled
+          calm,
+    )
+session_facts false end.End (Some reason) fed user bytes ended requests broken known steps given e
+    settled (none, done) lost has_ended =
+    session_at_fault reason fed bytes ended requests broken steps given
+    (all_put (printed given) bytes known.pending e none)
+session_facts false (end.Broken place) None fed user bytes ended requests broken known steps given e
+    settled (none, (told, fault, calm)) lost has_ended =
+    (told, fault.0, fault.1, all_put (printed given) bytes known.pending e none, settled calm)
+session_facts false (end.Broken place) (Some reason) fed user bytes ended requests broken known
+    steps given e settled (none, done) lost has_ended =
+    session_at_fault reason fed bytes ended requests broken steps given
+    (all_put (printed given) bytes known.pending e none)
+session_facts false end.LinkFault cause fed user bytes ended requests broken known steps given e
+    settled plan lost has_ended = absurd (cc (lost refl))
+session_facts false end.Memory None fed user bytes ended requests broken known steps given e settled
+    plan lost has_ended = tt
+session_facts false end.Memory (Some reason) fed user bytes ended requests broken known steps given
+    e settled plan lost has_ended = tt
+session_facts false end.Overrun cause fed user bytes ended requests broken known steps given e
+    settled plan lost has_ended = absurd plan
+session_facts false end.Dropped cause fed user bytes ended requests broken known steps given e
+    settled plan lost has_ended = absurd plan
+session_facts false end.Stopped cause fed user bytes ended requests broken known steps given e
+    settled plan lost has_ended = absurd plan
+session_facts false (end.Full number) cause fed user bytes ended requests broken known steps given e
+    settled plan lost has_ended = absurd plan
+
+-- a fault that the Close met counts too
+plan_later : (planned : SessionEnd) (cause : Option DeskFault) (reason : DeskFault)
+    (fed user : List ℕ) (requests : List Request) (broken : Bool) (known : Known) →
+    Plans planned cause (record { fed = fed; party = Somebody user requests broken }) known
+    → Plans planned (first_fault {X = ⊤} cause (Err reason))
+    (record { fed = fed; party = Somebody user requests broken }) known
+plan_later planned (Some first) reason fed user requests broken known plan = plan
+plan_later end.End None reason fed user requests broken known plan = (plan.0, tt)
+plan_later (end.Broken place) None reason fed user requests broken known plan = (plan.0, tt)
+plan_later end.LinkFault None reason fed user requests broken known plan = tt
+plan_later end.Memory None reason fed user requests broken known plan = tt
+plan_later end.Overrun None reason fed user requests broken known plan = plan
+plan_later end.Dropped None reason fed user requests broken known plan = plan
+plan_later end.Stopped None reason fed user requests broken known plan = plan
+plan_later (end.Full number) None reason fed user requests broken known plan = plan
+
+-- a session that is open over these records was connected by them, whatever comes after
+connected_more : (session : ℕ) (added : List Record) (last : Record) → IsOpen session added
+    → has_connect session (added ++ last ∷ []) ≡ true
+connected_more session added last is_open =
+    list_any-append (λ made. is_connect made.entry.act && made.session == session) added (last ∷ [])
+    ∙ or_true (has_connect session added) (has_connect session (last ∷ []))
+    (and_left (has_connect session added) (not (has_close session added)) is_open)
+
+of_some : (none : Bool) (given : List (List Item)) → none ≡ false
+    → elim none [ true ↦ [] | false ↦ given ] ≡ given
+of_some true given e = absurd (cc)
+of_some false given e = refl
+
+given_some : (session : ℕ) (given : List (List Item)) → session ≢ 0 → given_to session given ≡ given
+given_some session given some = of_some (session == 0) given (ne_eqb session 0 some)
+
+flat : (fed : List ℕ) (requests : List Request) (fault : Bool)
+    → (fault ≡ true → ((place : ℕ) × IsFaultAfter fed place requests)) →
+    fault ≡ true → ((place : ℕ) × (fault_of fed ≡ Some place)
+    × (length requests ≡ lines_before place (stream_of fed).lines))
+flat fed requests fault at_fault e = let found = at_fault e in (found.0, found.1.0, found.1.1)
+
+-- what is told of a service at its end
+pub record Told (start : Seen) (fed : List ℕ) (session : ℕ) (cause : Option DeskFault)
+    (after : Seen) (final : SessionEnd) : Type 0 where
+  pub added : List Record
+  pub bytes : List ℕ
+  pub mine_is : after.desk.mine ≡ start.desk.mine ++ added
+  pub own : AllByRecursion (IsOwn session) added
+  pub connects : session ≢ 0 → IsTrue (has_connect session added)
+  pub timed : AreTimed start.gave after.gave added
+  pub put_is : after.link.put ≡ grown bytes start.link.put
+  pub talk : IsTalk start.link.host fed bytes after.link.ended added session
+      (given_to session (after.desk.gave_to session)) final after.desk.lock_full
+  pub waits : IfSome after.link.reads
+      (λ looks. NoneWaits
+      (steps_of session added (given_to session (after.desk.gave_to session))) looks)
+  pub cause_is : after.desk.fault_to session ≡ cause
+  pub others : LeavesOthers session start after
+
+-- a look's place, whatever comes after it
+waits_so : (told : Option (List Look)) (waited : Bool) (place after steps : List Step)
+    → steps ≡ place ++ after → IfSome told (λ looks. AreAnswered false [] looks waited place)
+    → IfSome told (λ looks. NoneWaits steps looks)
+waits_so None waited place after steps e looked = tt
+waits_so (Some looks) waited place after steps e looked = (waited, place, after, looked, e)
+
+-- no session was connected
+pub silent_told : {start : Seen} {past : Past} {known : Known} {now : Seen} {planned : SessionEnd}
+    (over : IsOver start past known now planned) → known.session ≡ 0 → (risen : Bool) →
+    (planned ≡ end.LinkFault → risen ≡ true)
+    → (planned ≡ end.End → known.cause ≡ None → now.link.ended ≡ true)
+    → Told start past.fed known.session known.cause now (ending risen planned known.cause)
+silent_told {start} {past} {known} {now} {planned} over none risen lost has_ended =
+    go past.party over.served.party over.served.owed over.plan
+  where
+    final : SessionEnd
+    final = ending risen planned known.cause
+
+    go : (party : Party) → IsParty past.fed party start known now over.served.added
+        → over.served.bytes ++ known.pending ≡ owed_to party (now.desk.gave_to known.session) →
+        Plans planned known.cause (record { fed = past.fed; party = party }) known
+        → Told start past.fed known.session known.cause now (ending risen planned known.cause)
+    go (Nobody told) is owed plan =
+        let s = over.served in
+        let mine : now.desk.mine ≡ start.desk.mine ++ [] =
+        s.mine ∙ ap (λ added. start.desk.mine ++ added) is.nothing in
+        let talk : IsTalk start.link.host past.fed s.bytes now.link.ended [] 0
+        (given_to 0 (now.desk.gave_to known.session))
+        (ending risen planned known.cause) now.desk.lock_full
+        =
+        talk_silent (ending risen planned known.cause) start.link.host past.fed s.bytes
+        now.link.ended now.desk.lock_full
+        (silent_facts risen planned known.cause past.fed told s.bytes now.link.ended known owed
+        (may_put past.fed told s.bytes known.pending owed is.may_tell) plan lost has_ended) in
+        let steps : [] ≡ s.place ++ s.recent =
+        ap (λ added. steps_of known.session added (now.desk.gave_to known.session))
+        (sym is.nothing) ∙ s.steps in
+        record {
+          added = [];
+          bytes = s.bytes;
+          mine_is = mine;
+          own = tt;
+          connects = λ some. absurd (some none);
+          timed = subst (λ added. AreTimed start.gave now.gave added) is.nothing s.timed;
+          put_is = s.put;
+          talk =
+              subst (λ (session : ℕ). IsTalk start.link.host past.fed s.bytes
+              now.link.ended [] session (given_to session (now.desk.gave_to known.session))
+              (ending risen planned known.cause) now.desk.lock_full) (sym none) talk;
+          waits = waits_so now.link.reads s.waited s.place s.recent [] steps s.looked;
+          cause_is = s.cause;
+          others = s.others;
+        }
+    go (Somebody user requests broken) is owed plan = absurd (is.some none)
+
+settled_of : {start : Seen} {past : Past} {known : Known} {now : Seen}
+    (s : IsServed start past known now) → s.place ++ s.recent ≢ [] → known.phase ≡ phase.Calm
+    → IsSettled (s.place ++ s.recent)
+settled_of s some calm =
+    let is : IsPhase phase.Calm s.waited s.place s.recent =
+    subst (λ reached. IsPhase reached s.waited s.place s.recent) calm s.phase in
+    elim is.0 [ inl none ↦ absurd (some none) | inr settled ↦ settled ]
+
+full_now : (old : Bool) (reason : DeskFault) → IsLockFault reason
+    → (old || is_lock_full {X = ⊤} (Err reason)) ≡ true
+full_now true reason is = refl
+full_now false (fault.Gone reason) is = absurd is
+full_now false (fault.Full number) is = le-leb (2 ^ 62) number is
+full_now false fault.Memory is = absurd is
+
+own_push : {session : ℕ} (added : List Record) → AllByRecursion (IsOwn session) added
+    → (made : Record) → made.session ≡ session → AllByRecursion (IsOwn session) (added ++ made ∷ [])
+own_push [] own made of = (inl of, tt)
+own_push (first ∷ added) own made of = (own.0, own_push added own.1 made of)
+
+-- a session was closed, or no turn of the lock is left
+pub session_told : {start : Seen} {past : Past} {known : Known} {now : Seen} {planned : SessionEnd}
+    (over : IsOver start past known now planned) → known.session ≢ 0 → (risen : Bool) →
+    (moment : ℕ) (answer : Result ⊤ DeskFault) (desk : DeskView) (gave : Option (List ℕ))
+    → ClosesOf now.desk moment known.session answer desk → Gains now.gave moment gave →
+    (planned ≡ end.LinkFault → risen ≡ true)
+    → (planned ≡ end.End → first_fault known.cause answer ≡ None → now.link.ended ≡ true) →
+    Told start past.fed known.session (first_fault known.cause answer) (seen desk now.link gave)
+    (ending risen planned (first_fault known.cause answer))
+session_told {start} {past} {known} {now} {planned} over some risen moment answer desk gave closes
+    gains lost has_ended = go past.party over.served.party over.served.owed over.plan answer closes
+    has_ended
+  where
+    leaves : (answer : Result ⊤ DeskFault) → ClosesOf now.desk moment known.session answer desk
+        → ((number : ℕ) → number ≢ known.session
+        → is_open number desk.mine ≡ is_open number now.desk.mine)
+        → LeavesOthers known.session start (seen desk now.link gave)
+    leaves answer closes opened =
+        others_trans over.served.others
+        (act_leaves {X = ⊤} known.session now answer desk gave closes.rest
+        (λ number other. closes.given number) opened)
+
+    begun : (user : List ℕ) (requests : List Request) (broken : Bool)
+        → IsSomebody start.link.host past.fed user requests broken known.session now.desk.mine
+        over.served.added (now.desk.gave_to known.session)
+        → over.served.place ++ over.served.recent ≡ [] → ⊥
+    begun user requests broken is none =
+        let first = is.course.connected in
+        cc (
+          none,
+          sym over.served.steps
+              ∙ ap (λ added. steps_of known.session added (now.desk.gave_to known.session)) first.2
+              ∙ steps_connected known.session user start.link.host first.0 first.1
+              (now.desk.gave_to known.session) first.3 first.4,
+        )
+
+    go : (party : Party) → IsParty past.fed party start known now over.served.added
+        → over.served.bytes ++ known.pending ≡ owed_to party (now.desk.gave_to known.session) →
+        Plans planned known.cause (record { fed = past.fed; party = party }) known
+        → (answer : Result ⊤ DeskFault) → ClosesOf now.desk moment known.session answer desk →
+        (planned ≡ end.End → first_fault known.cause answer ≡ None → now.link.ended ≡ true)
+        → Told start past.fed known.session (first_fault known.cause answer)
+        (seen desk now.link gave) (ending risen planned (first_fault known.cause answer))
+    go (Nobody told) is owed plan answer closes has_ended = absurd (some is.none)
+    go (Somebody user requests broken) is owed plan (Ok done) closes has_ended =
+        let s = over.served in
+        let last : Record =
+        record_of now.desk.pass moment (act.Close known.session) known.session false in
+        let given : List (List Item) = now.desk.gave_to known.session in
+        let prefix : IsPrefix s.bytes (printed given) = (known.pending, owed) in
+        let same : first_fault known.cause (Ok done) ≡ known.cause = ok_fault known.cause done in
+        let now_given : given_to known.session (desk.gave_to known.session) ≡ given =
+        given_some known.session (desk.gave_to known.session) some
+        ∙ closes.given known.session in
+        let all : steps_of known.session (s.added ++ last ∷ []) given ≡ s.place
+        ++ (s.recent ++ Closes ∷ [])
+        =
+        steps_push known.session s.added (last ∷ []) given is.course.drains
+        ∙ ap₂ (λ first rest. first ++ rest) s.steps (own_step-same known.session Closes [])
+        ∙ append_assoc s.place s.recent (Closes ∷ []) in
+        record {
+          added = s.added ++ last ∷ [];
+          bytes = s.bytes;
+          mine_is =
+              closes.added ∙ ap (λ first. first ++ last ∷ []) s.mine
+              ∙ append_assoc start.desk.mine s.added (last ∷ []);
+          own = own_push s.added s.own last refl;
+          connects = λ some. connected_more known.session s.added last is.course.is_open;
+          timed = timed_more start.gave now.gave gave s.added moment last s.timed gains refl;
+          put_is = s.put;
+          talk =
+              subst (λ (given : List (List Item)). IsTalk start.link.host past.fed s.bytes
+              now.link.ended (s.added ++ last ∷ []) known.session given
+              (ending risen planned (first_fault known.cause (Ok done))) desk.lock_full)
+              (sym now_given)
+              (talk_closed (ending risen planned (first_fault known.cause (Ok done))) past.fed
+              s.bytes now.link.ended desk.lock_full now.desk.pass moment some is.course
+              is.first.greeting is.first.calls prefix (flat past.fed requests broken is.at_fault)
+              (session_facts risen planned (first_fault known.cause (Ok done)) past.fed user s.bytes
+              now.link.ended requests broken known (steps_of known.session s.added given) given
+              owed
+              (λ calm. subst (λ steps. IsSettled steps) (sym s.steps)
+              (settled_of s (begun user requests broken is) calm))
+              (subst (λ (cause : Option DeskFault). Plans planned cause
+              (record { fed = past.fed; party = Somebody user requests broken }) known)
+              (sym same) plan) lost has_ended));
+          waits =
+              subst (λ (given : List (List Item)). IfSome now.link.reads
+              (λ looks. NoneWaits (steps_of known.session (s.added ++ last ∷ []) given) looks))
+              (sym now_given)
+              (waits_so now.link.reads s.waited s.place (s.recent ++ Closes ∷ [])
+              (steps_of known.session (s.added ++ last ∷ []) given) all s.looked);
+          cause_is =
+              closes.rest.noted.0
+              ∙ ap (λ (first : Option DeskFault). first_fault {X = ⊤} first (Ok done)) s.cause;
+          others =
+              leaves (Ok done) closes
+              (λ number other. ap (is_open number) closes.added
+              ∙ others_open number now.desk.mine last (λ e. other (sym e)));
+        }
+    go (Somebody user requests broken) is owed plan (Err reason) closes has_ended =
+        let s = over.served in
+        let given : List (List Item) = now.desk.gave_to known.session in
+        let now_given : given_to known.session (desk.gave_to known.session) ≡ given =
+        given_some known.session (desk.gave_to known.session) some
+        ∙ closes.given known.session in
+        record {
+          added = s.added;
+          bytes = s.bytes;
+          mine_is = closes.rest.none_added ∙ s.mine;
+          own = s.own;
+          connects =
+              λ some. and_left (has_connect known.session s.added)
+              (not (has_close known.session s.added)) is.course.is_open;
+          timed = timed_skip start.gave now.gave gave s.added moment s.timed gains;
+          put_is = s.put;
+          talk =
+              subst (λ (given : List (List Item)). IsTalk start.link.host past.fed s.bytes
+              now.link.ended s.added known.session given
+              (ending risen planned
+              (first_fault {X = ⊤} known.cause (Err reason))) desk.lock_full) (sym now_given)
+              (talk_open (ending risen planned
+              (first_fault {X = ⊤} known.cause (Err reason))) past.fed s.bytes now.link.ended
+              desk.lock_full some is.course is.first.greeting is.first.calls
+              (known.pending, owed) (flat past.fed requests broken is.at_fault)
+              (session_facts risen planned (first_fault {X = ⊤} known.cause (Err reason)) past.fed
+              user s.bytes now.link.ended requests broken known
+              (steps_of known.session s.added given) given owed
+              (λ calm. subst (λ steps. IsSettled steps) (sym s.steps)
+              (settled_of s (begun user requests broken is) calm))
+              (plan_later planned known.cause reason past.fed user requests broken known plan) lost
+              has_ended)
+              (closes.rest.lock_full ∙ full_now now.desk.lock_full reason closes.why));
+          waits =
+              subst (λ (given : List (List Item)). IfSome now.link.reads
+              (λ looks. NoneWaits (steps_of known.session s.added given) looks)) (sym now_given)
+              (waits_so now.link.reads s.waited s.place s.recent
+              (steps_of known.session s.added given) s.steps s.looked);
+          cause_is =
+              closes.rest.noted.0
+              ∙ ap (λ (first : Option DeskFault). first_fault {X = ⊤} first
+              (Err reason)) s.cause;
+          others =
+              leaves (Err reason) closes
+              (λ number other. ap (is_open number) closes.rest.none_added);
+        }
+
+-- ---- the cause
+
+-- an end that the loop gives
+abbrev pub IsPlanned : SessionEnd → Type 0
+IsPlanned end.End = Unit {0}
+IsPlanned (end.Broken place) = Unit {0}
+IsPlanned end.LinkFault = Unit {0}
+IsPlanned end.Memory = Unit {0}
+IsPlanned end.Overrun = ⊥
+IsPlanned end.Dropped = ⊥
+IsPlanned end.Stopped = ⊥
+IsPlanned (end.Full number) = ⊥
+
+plans_planned : (planned : SessionEnd) (cause : Option DeskFault) (past : Past) (known : Known)
+    → Plans planned cause past known → IsPlanned planned
+plans_planned end.End cause past known plan = tt
+plans_planned (end.Broken place) cause past known plan = tt
+plans_planned end.LinkFault cause past known plan = tt
+plans_planned end.Memory cause past known plan = tt
+plans_planned end.Overrun cause past known plan = plan
+plans_planned end.Dropped cause past known plan = plan
+plans_planned end.Stopped cause past known plan = plan
+plans_planned (end.Full number) cause past known plan = plan
+
+pub over_planned : {start : Seen} {past : Past} {known : Known} {now : Seen} {planned : SessionEnd}
+    → IsOver start past known now planned → IsPlanned planned
+over_planned {past = past} {known = known} {planned = planned} over =
+    plans_planned planned known.cause past known over.plan
+
+fault_ends : (why : DeskFault) → IsEndOf (Some why) (end_at why)
+fault_ends (fault.Gone why.Absent) = refl
+fault_ends (fault.Gone why.Dropped) = inl refl
+fault_ends (fault.Gone why.Overrun) = inl refl
+fault_ends (fault.Gone why.Stopped) = inl refl
+fault_ends (fault.Full number) = inl refl
+fault_ends fault.Memory = refl
+
+memory_ends : (why : DeskFault) → IsEndOf (Some why) end.Memory
+memory_ends (fault.Gone why.Absent) = refl
+memory_ends (fault.Gone why.Dropped) = inr refl
+memory_ends (fault.Gone why.Overrun) = inr refl
+memory_ends (fault.Gone why.Stopped) = inr refl
+memory_ends (fault.Full number) = inr refl
+memory_ends fault.Memory = refl
+
+-- a fault gives neither of these ends
+not_from_fault : (why : DeskFault) (final : SessionEnd) → (final ≡ end.LinkFault)
+    ⊎ (final ≡ end.End) → end_at why ≡ final → ⊥
+not_from_fault (fault.Gone why.Absent) final (inl p) e = cc
+not_from_fault (fault.Gone why.Absent) final (inr p) e = cc
+not_from_fault (fault.Gone why.Dropped) final (inl p) e = cc
+not_from_fault (fault.Gone why.Dropped) final (inr p) e = cc
+not_from_fault (fault.Gone why.Overrun) final (inl p) e = cc
+not_from_fault (fault.Gone why.Overrun) final (inr p) e = cc
+not_from_fault (fault.Gone why.Stopped) final (inl p) e = cc
+not_from_fault (fault.Gone why.Stopped) final (inr p) e = cc
+not_from_fault (fault.Full number) final (inl p) e = cc
+not_from_fault (fault.Full number) final (inr p) e = cc
+not_from_fault fault.Memory final (inl p) e = cc
+not_from_fault fault.Memory final (inr p) e = cc
+
+record Ends (planned : SessionEnd) (cause : Option DeskFault) (ended : Bool) : Type 0 where
+  link : ending_of planned cause ≡ end.LinkFault → ⊥
+  desk : IsEndOf cause (ending_of planned cause)
+  has_ended : ending_of planned cause ≡ end.End → ended ≡ true
+
+ends_so : (planned : SessionEnd) (cause : Option DeskFault) (ended : Bool) → IsPlanned planned
+    → planned ≢ end.LinkFault → (planned ≡ end.End → cause ≡ None → ended ≡ true)
+    → Ends planned cause ended
+ends_so end.End None ended is_planned some told =
+    record { link = λ e. cc; desk = tt; has_ended = λ e. told refl refl }
+ends_so end.End (Some why) ended is_planned some told =
+    record {
+      link = λ e. not_from_fault why end.LinkFault (inl refl) e;
+      desk = fault_ends why;
+      has_ended = λ e. absurd (not_from_fault why end.End (inr refl) e);
+    }
+ends_so (end.Broken place) None ended is_planned some told =
+    record { link = λ e. cc; desk = tt; has_ended = λ e. cc }
+ends_so (end.Broken place) (Some why) ended is_planned some told =
+    record {
+      link = λ e. not_from_fault why end.LinkFault (inl refl) e;
+      desk = fault_ends why;
+      has_ended = λ e. absurd (not_from_fault why end.End (inr refl) e);
+    }
+ends_so end.LinkFault cause ended is_planned some told = absurd (some refl)
+ends_so end.Memory None ended is_planned some told =
+    record { link = λ e. cc; desk = tt; has_ended = λ e. cc }
+ends_so end.Memory (Some why) ended is_planned some told =
+    record { link = λ e. cc; desk = memory_ends why; has_ended = λ e. cc }
+ends_so end.Overrun cause ended is_planned some told = absurd is_planned
+ends_so end.Dropped cause ended is_planned some told = absurd is_planned
+ends_so end.Stopped cause ended is_planned some told = absurd is_planned
+ends_so (end.Full number) cause ended is_planned some told = absurd is_planned
+
+pub has_cause : (risen : Bool) (planned : SessionEnd) (cause : Option DeskFault) (before after : ℕ)
+    (ended : Bool) → IsPlanned planned → (risen ≡ true → Rose before after)
+    → (risen ≡ false → Rose before after → ⊥) →
+    (planned ≡ end.LinkFault → risen ≡ true) → (planned ≡ end.End → cause ≡ None → ended ≡ true)
+    → HasCause before after cause ended (ending risen planned cause)
+has_cause true planned cause before after ended is_planned rises still lost told = record {
+  link_fault = λ e. rises refl;
+  rose = λ rose. refl;
+  desk = λ none. absurd (none (rises refl));
+  has_ended = λ e. cc;
+}
+has_cause false planned cause before after ended is_planned rises still lost told =
+    let so = ends_so planned cause ended is_planned (λ e. cc (lost e)) told in
+    record {
+      link_fault = λ e. absurd (so.link e);
+      rose = λ rose. absurd (still refl rose);
+      desk = λ none. so.desk;
+      has_ended = λ e. so.has_ended e;
+    }
+
+-- a count that fits tells each fault
+pub lost_risen : (risen : Bool) (before after : ℕ) → (risen ≡ false → Rose before after → ⊥)
+    → Climbs before after → after < 2 ^ 64 → risen ≡ true
+lost_risen true before after still climbs fits = refl
+lost_risen false before after still (inl rose) fits = absurd (still refl (inl rose))
+lost_risen false before after still (inr top) fits = absurd (still refl (inr (omega arith)))
+
+-- ---- a stream at fault is answered so
+
+planned_tells : (planned : SessionEnd) (found : Option ℕ) (place : ℕ) → found ≡ Some place
+    → (planned ≡ end.LinkFault → ⊥) →
+    (planned ≡ end.End → found ≡ None) → ((at : ℕ) → planned ≡ end.Broken at → found ≡ Some at)
+    → IsPlanned planned → (planned ≡ end.Broken place) ⊎ (planned ≡ end.Memory)
+planned_tells end.End found place e link none at is_planned = let sound = none refl in absurd (cc)
+planned_tells (end.Broken there) found place e link none at is_planned =
+    let same = at there refl in let equal : there ≡ place = cc in inl (ap end.Broken equal)
+planned_tells end.LinkFault found place e link none at is_planned = absurd (link refl)
+planned_tells end.Memory found place e link none at is_planned = inr refl
+planned_tells end.Overrun found place e link none at is_planned = absurd is_planned
+planned_tells end.Dropped found place e link none at is_planned = absurd is_planned
+planned_tells end.Stopped found place e link none at is_planned = absurd is_planned
+planned_tells (end.Full number) found place e link none at is_planned = absurd is_planned
+
+none_plan : (planned : SessionEnd) (cause : Option DeskFault) (party : Party) (fed : List ℕ)
+    (known : Known) → Plans planned cause (record { fed = fed; party = party }) known → cause ≡ None
+    → planned ≡ end.End → fault_of fed ≡ None
+none_plan end.End None (Nobody told) fed known plan none e = plan.1.1
+none_plan end.End None (Somebody user requests broken) fed known plan none e = plan.1.0
+none_plan end.End (Some reason) party fed known plan none e = absurd (cc)
+none_plan (end.Broken place) cause party fed known plan none e = absurd (cc)
+none_plan end.LinkFault cause party fed known plan none e = absurd (cc)
+none_plan end.Memory cause party fed known plan none e = absurd (cc)
+none_plan end.Overrun cause party fed known plan none e = absurd plan
+none_plan end.Dropped cause party fed known plan none e = absurd plan
+none_plan end.Stopped cause party fed known plan none e = absurd plan
+none_plan (end.Full number) cause party fed known plan none e = absurd plan
+
+place_plan : (at : ℕ) (cause : Option DeskFault) (party : Party) (fed : List ℕ) (known : Known)
+    → Plans (end.Broken at) cause (record { fed = fed; party = party }) known → cause ≡ None
+    → fault_of fed ≡ Some at
+place_plan at None (Nobody told) fed known plan none = plan.1.1
+place_plan at None (Somebody user requests broken) fed known plan none = plan.1.1.0
+place_plan at (Some reason) party fed known plan none = absurd (cc)
+
+pub tells_fault : {start : Seen} {past : Past} {known : Known} {now : Seen} {planned : SessionEnd}
+    → IsOver start past known now planned →
+    (risen : Bool) (before after : ℕ) (cause : Option DeskFault)
+    → (risen ≡ true → Rose before after) → (planned ≡ end.LinkFault → risen ≡ true)
+    → (cause ≡ None → known.cause ≡ None) →
+    TellsFault before after cause past.fed (ending risen planned cause)
+tells_fault over true before after cause rises lost first place found none no_cause =
+    absurd (none (rises refl))
+tells_fault over false before after (Some reason) rises lost first place found none no_cause =
+    absurd (cc)
+tells_fault {past = past} {known = known} {planned = planned} over false before after None rises
+    lost first place found none no_cause =
+    planned_tells planned (fault_of past.fed) place found (λ e. cc (lost e))
+    (none_plan planned known.cause past.party past.fed known over.plan (first refl))
+    (λ at e. place_plan at known.cause past.party past.fed known
+    (subst (λ (planned : SessionEnd). Plans planned known.cause past known) e over.plan)
+    (first refl))
+    (over_planned over)
+
+-- what the link says of an end
+pub heard_lost : {start : Seen} {past : Past} {known : Known} {now : Seen} {planned : SessionEnd}
+    → IsOver start past known now planned → planned ≡ end.LinkFault
+    → Climbs start.link.faults now.link.faults
+heard_lost {start} {past} {known} {now} over e =
+    subst (λ (planned : SessionEnd). IsHeard planned known.cause start.link now.link) e over.heard
+
+pub heard_ended : {start : Seen} {past : Past} {known : Known} {now : Seen} {planned : SessionEnd}
+    → IsOver start past known now planned → planned ≡ end.End → known.cause ≡ None
+    → now.link.ended ≡ true
+heard_ended {start} {past} {known} {now} over e none =
+    subst (λ (cause : Option DeskFault). IsHeard end.End cause start.link now.link) none
+    (subst (λ (planned : SessionEnd). IsHeard planned known.cause start.link now.link) e
+    over.heard)
+
+-- ---- the beginning
+
+-- nothing was done yet
+pub begun_between : (start : Seen) (known : Known) → IsUntouched start.link
+    → start.desk.fault_to 0 ≡ None → IsAt known.splitting [] []
+    → known ≡ record {
+      splitting = known.splitting;
+      pending = [];
+      session = 0;
+      cause = None;
+      phase = phase.Calm;
+    } →
+    IsBetween start (record { fed = []; party = Nobody [] }) [] known start
+begun_between start known untouched none at same =
+    subst (λ (known : Known). IsBetween start (record { fed = []; party = Nobody [] }) [] known
+    start) (sym same)
+    (record {
+      serving = record {
+        served = record {
+          added = [];
+          bytes = [];
+          waited = false;
+          place = [];
+          recent = [];
+          mine = sym (append-nil start.desk.mine);
+          timed = timed_none start.gave;
+          own = tt;
+          taken = sym (grown-nil start.link.taken);
+          put = sym (grown-nil start.link.put);
+          owed = refl;
+          party = record { none = refl; calm = refl; nothing = refl; may_tell = inl refl };
+          steps = refl;
+          looked = no_look start.link.reads untouched.no_read;
+          phase = (inl refl, λ waited some. absurd (cc (waited)));
+          cause = none;
+          others = others_none 0 start;
+          untouched = untouched;
+        };
+        at = at;
+        called = (refl, refl);
+        nothing = refl;
+        sound = refl;
+      };
+      all = sym at.units;
+      sound = refl;
+      calm = refl;
+    })
+  where
+    grown-nil : (told : Option (List ℕ)) → grown [] told ≡ told
+    grown-nil None = refl
+    grown-nil (Some before) = ap Some (append-nil before)
+
+    no_look : (told : Option (List Look)) → IfSome told (λ looks. looks ≡ [])
+        → IfSome told (λ looks. AreAnswered false [] looks false [])
+    no_look None none = tt
+    no_look (Some looks) none =
+        subst (λ looks. AreAnswered false [] looks false []) (sym none) (refl, refl)
+
+-- what is told, where nothing was before
+pub told_so : (bytes : List ℕ) (before after : Option (List ℕ)) → IsNothing before
+    → after ≡ grown bytes before → IfSome after (λ told. told ≡ bytes)
+told_so bytes None after nothing e =
+    subst (λ (told : Option (List ℕ)). IfSome told (λ told. told ≡ bytes)) (sym e) tt
+told_so bytes (Some first) after nothing e =
+    subst (λ (told : Option (List ℕ)). IfSome told (λ told. told ≡ bytes)) (sym e)
+    (ap (λ first. first ++ bytes) nothing)
+
+is_zero : (n : ℕ) → (n ≡ 0) ⊎ (n ≢ 0)
+is_zero zero = inl refl
+is_zero (suc n) = inr (λ e. omega arith)
+
+-- how a conversation was closed
+pub record IsClosed (known : Known) (now : Seen) (new : Known) (desk : DeskView)
+    (gave : Option (List ℕ)) : Type 0 where
+  pub silent : known.session ≡ 0 → (desk ≡ now.desk) × (gave ≡ now.gave) × (new ≡ known)
+  pub closed : known.session ≢ 0 → (moment : ℕ) × (answer : Result ⊤ DeskFault)
+      × Gains now.gave moment gave × ClosesOf now.desk moment known.session answer desk
+      × (new ≡ record known { cause = first_fault known.cause answer })
+
+first_kept : (cause : Option DeskFault) (answer : Result ⊤ DeskFault)
+    → first_fault cause answer ≡ None → cause ≡ None
+first_kept None answer e = refl
+first_kept (Some first) answer e = absurd (cc (e))
+
+-- the Close meets no fault where there is none
+pub none_before : {known : Known} {now : Seen} {new : Known} {desk : DeskView} {gave : Option
+    (List ℕ)} → IsClosed known now new desk gave → new.cause ≡ None → known.cause ≡ None
+none_before {known} {now} {new} {desk} {gave} close e = go (is_zero known.session)
+  where
+    go : (known.session ≡ 0) ⊎ (known.session ≢ 0) → known.cause ≡ None
+    go (inl none) = ap (λ (known : Known). known.cause) (sym (close.silent none).2) ∙ e
+    go (inr some) =
+        let closed = close.closed some in first_kept known.cause closed.1
+        (ap (λ (known : Known). known.cause) (sym closed.4) ∙ e)
+
+pub over_told : {start : Seen} {past : Past} {known : Known} {now : Seen} {planned : SessionEnd}
+    (over : IsOver start past known now planned) → (risen : Bool)
+    → (new : Known) (desk : DeskView) (gave : Option (List ℕ)) → IsClosed known now new desk gave →
+    (planned ≡ end.LinkFault → risen ≡ true)
+    → Told start past.fed new.session new.cause (seen desk now.link gave)
+    (ending risen planned new.cause)
+over_told {start} {past} {known} {now} {planned} over risen new desk gave close lost =
+    go (is_zero known.session)
+  where
+    go : (known.session ≡ 0) ⊎ (known.session ≢ 0)
+        → Told start past.fed new.session new.cause (seen desk now.link gave)
+        (ending risen planned new.cause)
+    go (inl none) =
+        let same = close.silent none in
+        subst (λ (new : Known). Told start past.fed new.session new.cause (seen desk now.link gave)
+        (ending risen planned new.cause)) (sym same.2)
+        (subst₂ (λ (desk : DeskView) (gave : Option (List ℕ)). Told start past.fed known.session
+        known.cause (seen desk now.link gave) (ending risen planned known.cause)) (sym same.0)
+        (sym same.1)
+        (silent_told over none risen lost (heard_ended over)))
+    go (inr some) =
+        let closed = close.closed some in
+        subst (λ (new : Known). Told start past.fed new.session new.cause (seen desk now.link gave)
+        (ending risen planned new.cause)) (sym closed.4)
+        (session_told over some risen closed.0 closed.1 desk gave closed.3 closed.2 lost
+        (λ e none. heard_ended over e (first_kept known.cause closed.1 none)))

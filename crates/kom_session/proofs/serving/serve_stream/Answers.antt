@@ -1,0 +1,5 @@
+use Rattle.kom_session.proofs.Going.{never_read}
+use Rattle.kom_session.proofs.serving.serve_stream.Goals as goal
+
+pub returns-in_default : goal.returns-in_default
+returns-in_default g c = λ start past units b. (past, never_read b)
