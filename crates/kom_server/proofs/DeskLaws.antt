@@ -1,292 +1,406 @@
 -- The desk stands after each of its acts.
-use Rattle.std.proofs.Common.{◌≡◌, ℕ, ◌+◌, ◌-◌, ◌^◌, ◌<◌, ◌≤◌, ◌⊎◌, inl, inr, Bool, true, false, not, ltb, List, [], ◌∷◌, ◌++◌, length, map, Option, Some, None, Result, Ok, Err, refl, sym, ap, subst, ◌∙◌, arith}
-use Rattle.std.specs.Prelude.{⊤}
+use Rattle.std.proofs.Common.{◌≡◌, ℕ, ◌+◌, ◌-◌, ◌^◌, ◌<◌, ◌≤◌, ◌⊎◌, inl, inr, Bool, true, not, List, [], ◌∷◌, ◌++◌, length, Option, Some, None, Result, Ok, Err, refl, sym, ap, subst, ◌∙◌, arith}
 use Rattle.std.specs.List.{filter, AllByRecursion}
 use Rattle.std.specs.Option.{IsSome}
-use Rattle.std.proofs.lemmas.Bool.{cases_Bool, ltb-false}
-use Rattle.std.proofs.lemmas.List.{length_push, length-map}
-use Rattle.std.proofs.lemmas.List.Sums.{sum_by-append}
+use Rattle.std.specs.Result.{IfOk, IsOk, OnErr}
+use Rattle.std.proofs.lemmas.List.{length_push}
 use Rattle.kom_types.specs.declared.acts.Act.{Act}
 use Rattle.kom_types.specs.declared.acts.Act.TheVariants as act
 use Rattle.kom_types.specs.declared.acts.Entry.{Entry}
 use Rattle.kom_types.specs.declared.acts.Record.{Record}
+use Rattle.kom_types.specs.declared.answers.Refusal.{Refusal}
+use Rattle.kom_types.specs.declared.shortage.Memory.{Memory}
+use Rattle.kom_types.specs.Sessions.{Session, is_session}
+use Rattle.kom_links.specs.Records.{IsOpen}
+use Rattle.kom_model.specs.State.{State, empty, session_of}
+use Rattle.kom_model.specs.Refusal.{refusal_of, close_refused}
+use Rattle.kom_model.specs.After.{MayFollow, after}
+use Rattle.kom_model.specs.Legal.{IsLegal, state_after}
 use Rattle.kom_core.specs.declared.answer_kind.AnswerKind.{AnswerKind}
 use Rattle.kom_core.specs.declared.answer_kind.AnswerKind.TheVariants as kind
-use Rattle.kom_types.specs.declared.answers.Why.{Why}
-use Rattle.kom_types.specs.declared.answers.Why.TheVariants as why
-use Rattle.kom_types.specs.declared.items.Item.{Item}
-use Rattle.kom_types.specs.declared.refusal.Memory.{Memory}
-use Rattle.kom_links.specs.declared.desk.DeskFault.{DeskFault}
-use Rattle.kom_links.specs.declared.desk.DeskFault.TheVariants as fault
-use Rattle.kom_links.specs.DeskCalls.{record_of, first_fault}
-use Rattle.kom_links.specs.Records.{has_session, IsOpen}
-use Rattle.kom_model.specs.State.{Session, State, empty, is_session, session_of}
-use Rattle.kom_model.specs.After.{MayFollow, after, most_sessions}
-use Rattle.kom_model.specs.Legal.{IsLegal, state_after}
-use Rattle.kom_core.specs.Acts.{refusal_of, absent, kind_of}
+use Rattle.kom_core.specs.Acts.{kind_of}
 use Rattle.kom_core.specs.Steps.{made_of}
-use Rattle.kom_core.proofs.Soundness.{IsSound-empty}
-use Rattle.kom_server.specs.Passes.{Seen, connects_in}
-use Rattle.kom_server.specs.Desks.{Kept, given_with, given_last, IsDeskFault, Stands, IsOfOpen, Logs, Refuses}
-use Rattle.kom_server.proofs.Histories.{legal-append, state_after-append, entries-state_after, connects-state_after, connects_within, open_stands, undrawn_absent, filter_shorter, one_fewer, given_since-append}
+use Rattle.kom_server.specs.declared.faults.Noted.{Noted}
+use Rattle.kom_server.specs.Passes.{PassView}
+use Rattle.kom_server.specs.Faults.{FaultTable, closed_at}
+use Rattle.kom_server.specs.Desks.{Kept, AreNoted, Stands}
+use Rattle.kom_server.specs.Making.{IsBetween, Logs, Logged}
+use Rattle.kom_server.proofs.Stepping.{length-between, length-connected, length-closed}
+use Rattle.kom_server.proofs.Histories.{legal-append, state_after-append, entries-state_after, open_stands, one_fewer}
+use Rattle.kom_server.proofs.NotedLaws.{noted_between, noted_closed, noted_connected, noted_same}
 
--- ---- why an act may be refused
+-- ---- without an act
 
-pub absent_none : (session : ℕ) (state : State) → IsSome (session_of session state) → absent session state ≡ None
-absent_none session state stands = subst (λ (there : Bool). elim there [ true ↦ None | false ↦ Some (kind.Gone why.Absent) ] ≡ None) (sym stands) refl
+pub stands_faults : (state : State) (kept : Kept) (sessions : ℕ) (table : FaultTable) → Stands state kept sessions →
+    AreNoted kept.pass.seen table → Stands state (record { pass = kept.pass; faults = table }) sessions
+stands_faults state kept sessions table stands noted = record {
+  legal = stands.legal;
+  led = stands.led;
+  numbered = stands.numbered;
+  counted = stands.counted;
+  has_room = stands.has_room;
+  bounded = stands.bounded;
+  noted = noted;
+}
 
--- an act is refused only where all numbers of sessions are used up
-pub refusals : (seen : List Record) (state : State) (what : Act) → IsLegal empty seen → state ≡ state_after empty seen → IsOfOpen seen what →
-    (refusal_of state what ≡ None) ⊎ ((refusal_of state what ≡ Some (kind.Full most_sessions)) × (connects_in seen ≡ most_sessions))
-refusals seen state (act.Connect user host) legal led asked =
-    elim (cases_Bool (ltb state.connects most_sessions)) [
-      | inl less ↦ inl (subst (λ (less : Bool). elim less [ true ↦ None | false ↦ Some (kind.Full state.connects) ] ≡ None) (sym less) refl)
-      | inr more ↦
-          let above : most_sessions ≤ state.connects = ltb-false _ _ more in
-          let within : (state_after empty seen).connects ≤ most_sessions = connects_within empty seen legal (omega arith) in
-          let same : state.connects ≡ (state_after empty seen).connects = ap (λ (state : State). state.connects) led in
-          let all : state.connects ≡ most_sessions = omega arith in
-          let counted : (state_after empty seen).connects ≡ 0 + connects_in seen = connects-state_after empty seen in
-          inr (subst (λ (less : Bool). elim less [ true ↦ None | false ↦ Some (kind.Full state.connects) ] ≡ Some (kind.Full most_sessions)) (sym more) (ap (λ n. Some (kind.Full n)) all), omega arith)
+-- there are fewer entries than the core takes, while there is room in the pass
+pub entries_within : (state : State) (kept : Kept) (sessions room : ℕ) → Stands state kept sessions → 0 < room →
+    length kept.pass.seen + room ≤ 2 ^ 62 → state.entries < 2 ^ 62
+entries_within state kept sessions room stands some bound =
+    let count : (state_after empty kept.pass.seen).entries ≡ 0 + length kept.pass.seen =
+    entries-state_after empty kept.pass.seen in
+    let same : state.entries ≡ (state_after empty kept.pass.seen).entries =
+    ap (λ (state : State). state.entries) stands.led in
+    omega arith
+
+-- ---- what the core answered
+
+-- the act was made, or this refused it
+pub logged_cases : (old new : State) (before later : PassView) (entry : Entry) (answer : AnswerKind) →
+    Logged old new before later entry answer →
+    ((refusal_of old entry.act ≡ None) × (answer ≡ kind_of old entry.act)
+    × ((short : Bool) × Logs old new before later entry short))
+    ⊎ ((refusal : Refusal) × (refusal_of old entry.act ≡ Some refusal) × (answer ≡ kind.Refused refusal)
+    × (new ≡ old) × (later ≡ before))
+logged_cases old new before later entry answer logged = go (refusal_of old entry.act) refl logged
+  where
+    go : (found : Option Refusal) → refusal_of old entry.act ≡ found →
+        elim found as (λ _. Type 0) [
+          | None ↦ (answer ≡ kind_of old entry.act) × ((short : Bool) × Logs old new before later entry short)
+          | Some refusal ↦ (answer ≡ kind.Refused refusal) × (new ≡ old) × (later ≡ before)
+        ] →
+        ((refusal_of old entry.act ≡ None) × (answer ≡ kind_of old entry.act)
+        × ((short : Bool) × Logs old new before later entry short))
+        ⊎ ((refusal : Refusal) × (refusal_of old entry.act ≡ Some refusal) × (answer ≡ kind.Refused refusal)
+        × (new ≡ old) × (later ≡ before))
+    go None is one = inl (is, one.0, one.1)
+    go (Some refusal) is one = inr (refusal, is, one.0, one.1, one.2)
+
+kind_made : (state : State) (what : Act) (refusal : Refusal) → kind_of state what ≡ kind.Refused refusal → ⊥
+kind_made state (act.Connect user host) refusal e = cc
+kind_made state (act.Call session reference call) refusal e = cc
+kind_made state (act.Broken session) refusal e = cc
+kind_made state (act.Drain session) refusal e = cc
+kind_made state act.Flush refusal e = cc
+kind_made state (act.Close session) refusal e = cc
+
+-- an answer that tells of a refusal
+pub refused_only : (old new : State) (before later : PassView) (entry : Entry) (answer : AnswerKind)
+    (refusal : Refusal) → answer ≡ kind.Refused refusal → Logged old new before later entry answer →
+    (refusal_of old entry.act ≡ Some refusal) × (new ≡ old) × (later ≡ before)
+refused_only old new before later entry answer refusal is logged =
+    elim (logged_cases old new before later entry answer logged) [
+      | inl made ↦ absurd (kind_made old entry.act refusal (sym made.1 ∙ is))
+      | inr (one, found, told, state, pass) ↦
+          let same : one ≡ refusal = let both : kind.Refused one ≡ kind.Refused refusal = sym told ∙ is in cc in
+          (found ∙ ap (λ r. Some r) same, state, pass)
     ]
-refusals seen state (act.Call session reference call) legal led asked = inl (absent_none session state (subst (λ (state : State). IsSome (session_of session state)) (sym led) (open_stands session seen legal asked)))
-refusals seen state (act.Broken session) legal led asked = inl (absent_none session state (subst (λ (state : State). IsSome (session_of session state)) (sym led) (open_stands session seen legal asked)))
-refusals seen state (act.Drain session) legal led asked = inl (absent_none session state (subst (λ (state : State). IsSome (session_of session state)) (sym led) (open_stands session seen legal asked)))
-refusals seen state act.Flush legal led asked = inl refl
-refusals seen state (act.Close session) legal led asked = inl (absent_none session state (subst (λ (state : State). IsSome (session_of session state)) (sym led) (open_stands session seen legal asked)))
 
--- ---- faults that are known
+-- an answer that tells of none
+pub made_only : (old new : State) (before later : PassView) (entry : Entry) (answer : AnswerKind) →
+    ((refusal : Refusal) → answer ≡ kind.Refused refusal → ⊥) → Logged old new before later entry answer →
+    (refusal_of old entry.act ≡ None) × (answer ≡ kind_of old entry.act)
+    × ((short : Bool) × Logs old new before later entry short)
+made_only old new before later entry answer other logged =
+    elim (logged_cases old new before later entry answer logged) [
+      | inl made ↦ made
+      | inr (one, found, told, state, pass) ↦ absurd (other one told)
+    ]
 
-connects_in-append : (a b : List Record) → connects_in (a ++ b) ≡ connects_in a + connects_in b
-connects_in-append a b = sum_by-append _ a b
+-- ---- after an act that was made and logged
 
-pub connects_in_within : (seen : List Record) → IsLegal empty seen → connects_in seen ≤ most_sessions
-connects_in_within seen legal =
-    let within : (state_after empty seen).connects ≤ most_sessions = connects_within empty seen legal (omega arith) in
-    let counted : (state_after empty seen).connects ≡ 0 + connects_in seen = connects-state_after empty seen in
-    omega arith
-
-pub all_still : (a b : List Record) → IsLegal empty (a ++ b) → connects_in a ≡ most_sessions → connects_in (a ++ b) ≡ most_sessions
-all_still a b legal all =
-    let within : connects_in (a ++ b) ≤ most_sessions = connects_in_within (a ++ b) legal in
-    let parts : connects_in (a ++ b) ≡ connects_in a + connects_in b = connects_in-append a b in
-    omega arith
-
-pub known_more : (a b : List Record) (fault : Option DeskFault) → IsLegal empty (a ++ b) → IsDeskFault a fault → IsDeskFault (a ++ b) fault
-known_more a b None legal known = tt
-known_more a b (Some fault.Memory) legal known = tt
-known_more a b (Some (fault.Full number)) legal known = (known.0, all_still a b legal known.1)
-known_more a b (Some (fault.Gone why)) legal known = known
-
--- ---- how many sessions stand after an act
-
-mapped : (change : Session → Session) (rows : List Session) → length (map change rows) ≤ length rows
-mapped change rows = omega (arith, length-map rows change)
-
-wider : (n m : ℕ) → n ≤ m → n ≤ m + 1
-wider n m less = omega arith
-
-pushed : (rows : List Session) (row : Session) → length (rows ++ row ∷ []) ≤ length rows + 1
-pushed rows row = omega (arith, length_push rows row)
-
-grows_step : (state : State) (pass moment : ℕ) (what : Act) (session : ℕ) (short : Bool) → length (after state (record_of pass moment what session short)).sessions ≤ length state.sessions + 1
-grows_step state pass moment (act.Connect user host) session short = pushed state.sessions _
-grows_step state pass moment (act.Call number reference call) session short = wider _ _ (mapped _ state.sessions)
-grows_step state pass moment (act.Broken number) session short = wider _ _ (mapped _ state.sessions)
-grows_step state pass moment (act.Drain number) session short = wider _ _ (mapped _ state.sessions)
-grows_step state pass moment act.Flush session short = omega arith
-grows_step state pass moment (act.Close number) session short = omega (arith, filter_shorter (λ row. not (is_session number row)) state.sessions)
-
--- an act that connects nobody
-abbrev pub IsOther : AnswerKind → Type 0
-IsOther given = (number : ℕ) → given ≡ kind.Connected number → ⊥
-
-stays_step : (state : State) (pass moment : ℕ) (what : Act) (session : ℕ) (short : Bool) (given : AnswerKind) → given ≡ kind_of state what → IsOther given →
-    length (after state (record_of pass moment what session short)).sessions ≤ length state.sessions
-stays_step state pass moment (act.Connect user host) session short given answered other = absurd (other _ answered)
-stays_step state pass moment (act.Call number reference call) session short given answered other = mapped _ state.sessions
-stays_step state pass moment (act.Broken number) session short given answered other = mapped _ state.sessions
-stays_step state pass moment (act.Drain number) session short given answered other = mapped _ state.sessions
-stays_step state pass moment act.Flush session short given answered other = omega arith
-stays_step state pass moment (act.Close number) session short given answered other = filter_shorter (λ row. not (is_session number row)) state.sessions
-
--- ---- the desk stands
-
-all_push : {X : Type 0} (P : X → Type 0) (xs : List X) (x : X) → AllByRecursion P xs → P x → AllByRecursion P (xs ++ x ∷ [])
+all_push : {X : Type 0} (P : X → Type 0) (xs : List X) (x : X) → AllByRecursion P xs → P x →
+    AllByRecursion P (xs ++ x ∷ [])
 all_push P [] x all one = (one, tt)
 all_push P (y ∷ xs) x all one = (all.0, all_push P xs x all.1 one)
 
--- after an act that was made and logged
-pub stands_logged : (old new : State) (pass before behind : Seen) (sessions sessions' : ℕ) (fault fault' : Option DeskFault) (entry : Entry) (given : AnswerKind) →
-    Stands old pass sessions fault → before.seen ≡ pass.seen → before.number ≡ pass.number → length before.seen + before.room ≤ 2 ^ 62 → entry.pass ≡ pass.number →
-    Logs old new before behind entry given → length new.sessions ≤ sessions' → sessions' ≤ behind.room → (fault' ≡ None) ⊎ (fault' ≡ fault) → Stands new behind sessions' fault'
-stands_logged old new pass before behind sessions sessions' fault fault' entry given stands seen number bound entered logs counted room faults =
-    let made : Record = made_of old entry in
-    let logged : behind.seen ≡ pass.seen ++ made ∷ [] = logs.logged ∙ ap (λ front. front ++ made ∷ []) seen in
-    let follows : MayFollow (state_after empty pass.seen) made = subst (λ (state : State). MayFollow state made) stands.led logs.follows in
-    let legal : IsLegal empty (pass.seen ++ made ∷ []) = legal-append empty pass.seen (made ∷ []) stands.legal (follows, tt) in
-    let numbers : AllByRecursion (λ made. made.entry.pass ≡ pass.number) (pass.seen ++ made ∷ []) = all_push (λ (made : Record). made.entry.pass ≡ pass.number) pass.seen made stands.numbered entered in
+-- A record was logged after room was taken.
+pub record Added (old new : State) (kept : Kept) (before later : PassView) (sessions : ℕ) (made : Record) : Type 0 where
+  pub stands : Stands old kept sessions
+  pub seen : before.seen ≡ kept.pass.seen
+  pub number : before.number ≡ kept.pass.number
+  pub bound : length before.seen + before.room ≤ 2 ^ 62
+  pub entered : made.entry.pass ≡ kept.pass.number
+  pub follows : MayFollow old made
+  pub state : new ≡ after old made
+  pub logged : later.seen ≡ before.seen ++ made ∷ []
+  pub same : later.number ≡ before.number
+  pub room : later.room + 1 ≡ before.room
+
+pub added_seen : {old new : State} {kept : Kept} {before later : PassView} {sessions : ℕ} {made : Record} →
+    Added old new kept before later sessions made → later.seen ≡ kept.pass.seen ++ made ∷ []
+added_seen {made = made} a = a.logged ∙ ap (λ seen. seen ++ made ∷ []) a.seen
+
+pub added_legal : {old new : State} {kept : Kept} {before later : PassView} {sessions : ℕ} {made : Record} →
+    Added old new kept before later sessions made → IsLegal empty (kept.pass.seen ++ made ∷ [])
+added_legal {kept = kept} {made = made} a =
+    let follows : MayFollow (state_after empty kept.pass.seen) made =
+    subst (λ (state : State). MayFollow state made) a.stands.led a.follows in
+    legal-append empty kept.pass.seen (made ∷ []) a.stands.legal (follows, tt)
+
+pub stands_added : {old new : State} {kept : Kept} {before later : PassView} {sessions : ℕ} {made : Record} →
+    (sessions' : ℕ) (table : FaultTable) → Added old new kept before later sessions made →
+    length new.sessions ≤ sessions' → sessions' ≤ later.room → AreNoted (kept.pass.seen ++ made ∷ []) table →
+    Stands new (record { pass = later; faults = table }) sessions'
+stands_added {old} {new} {kept} {before} {later} {sessions} {made} sessions' table a counted room noted =
+    let logged : later.seen ≡ kept.pass.seen ++ made ∷ [] = added_seen a in
+    let numbers : AllByRecursion (λ made. made.entry.pass ≡ kept.pass.number) (kept.pass.seen ++ made ∷ []) =
+    all_push (λ (made : Record). made.entry.pass ≡ kept.pass.number) kept.pass.seen made a.stands.numbered a.entered in
     record {
-      legal = subst (λ (seen : List Record). IsLegal empty seen) (sym logged) legal;
-      led = logs.state ∙ ap (λ (state : State). after state made) stands.led ∙ sym (state_after-append empty pass.seen (made ∷ [])) ∙ ap (λ (seen : List Record). state_after empty seen) (sym logged);
-      numbered = subst (λ (number : ℕ). AllByRecursion (λ made. made.entry.pass ≡ number) behind.seen) (sym (logs.number ∙ number))
-          (subst (λ (seen : List Record). AllByRecursion (λ made. made.entry.pass ≡ pass.number) seen) (sym logged) numbers);
+      legal = subst (λ (seen : List Record). IsLegal empty seen) (sym logged) (added_legal a);
+      led = a.state ∙ ap (λ (state : State). after state made) a.stands.led
+          ∙ sym (state_after-append empty kept.pass.seen (made ∷ []))
+          ∙ ap (λ (seen : List Record). state_after empty seen) (sym logged);
+      numbered = subst (λ (number : ℕ). AllByRecursion (λ made. made.entry.pass ≡ number) later.seen)
+          (sym (a.same ∙ a.number))
+          (subst (λ (seen : List Record). AllByRecursion (λ made. made.entry.pass ≡ kept.pass.number) seen) (sym logged)
+          numbers);
       counted = counted;
       has_room = room;
       bounded =
-          let more : length behind.seen ≡ length before.seen + 1 = ap length logs.logged ∙ length_push before.seen made in
-          let less : behind.room + 1 ≡ before.room = logs.room in
-          omega (arith, bound);
-      known = subst (λ (seen : List Record). IsDeskFault seen fault') (sym logged) (elim faults [
-        | inl none ↦ subst (λ (kept : Option DeskFault). IsDeskFault (pass.seen ++ made ∷ []) kept) (sym none) tt
-        | inr same ↦ subst (λ (kept : Option DeskFault). IsDeskFault (pass.seen ++ made ∷ []) kept) (sym same) (known_more pass.seen (made ∷ []) fault legal stands.known)
-      ]);
+          let more : length later.seen ≡ length before.seen + 1 = ap length a.logged ∙ length_push before.seen made in
+          omega (arith, a.bound, a.room);
+      noted = subst (λ (seen : List Record). AreNoted seen table) (sym logged) noted;
     }
 
--- The desk asked its core for an act, behind taking room for it.
-pub record Acted (old new : State) (pass before behind : Seen) (sessions : ℕ) (fault : Option DeskFault) (entry : Entry) (given : AnswerKind) : Type 0 where
-  pub stands : Stands old pass sessions fault
-  pub asked : IsOfOpen pass.seen entry.act
-  pub seen : before.seen ≡ pass.seen
-  pub number : before.number ≡ pass.number
-  pub bound : length before.seen + before.room ≤ 2 ^ 62
-  pub room : sessions + 2 ≤ before.room
-  pub entered : entry.pass ≡ pass.number
-  pub made : refusal_of old entry.act ≡ None → Logs old new before behind entry given
-  pub refused : (why : AnswerKind) → refusal_of old entry.act ≡ Some why → (let one : Result AnswerKind Memory = Ok given in one ≡ Ok why) × (new ≡ old) × (behind ≡ before)
+-- after an act between a Connect and a Close
+pub stands_between : {old new : State} {kept : Kept} {before later : PassView} {sessions : ℕ} {made : Record} →
+    Added old new kept before later sessions made → IsBetween made.entry.act → sessions + 1 ≤ before.room →
+    Stands new (record { pass = later; faults = kept.faults }) sessions
+stands_between {old} {new} {kept} {before} {later} {sessions} {made} a between room =
+    let stays : length (after old made).sessions ≡ length old.sessions =
+    length-between old made.entry.pass made.entry.moment made.entry.act made.session made.short between in
+    let same : length new.sessions ≡ length (after old made).sessions =
+    ap (λ (state : State). length state.sessions) a.state in
+    stands_added sessions kept.faults a (omega (arith, stays, same, a.stands.counted)) (omega (arith, a.room, room))
+    (noted_between kept.pass.seen made kept.faults (added_legal a) between a.stands.noted)
 
-ok_same : (one two : AnswerKind) → (let r : Result AnswerKind Memory = Ok one in r ≡ Ok two) → one ≡ two
-ok_same one two e = cc
-
--- an act was made, or all numbers of sessions are used up
-pub acted : {old new : State} {pass before behind : Seen} {sessions : ℕ} {fault : Option DeskFault} {entry : Entry} {given : AnswerKind} → Acted old new pass before behind sessions fault entry given →
-    (Logs old new before behind entry given) ⊎ ((given ≡ kind.Full most_sessions) × (connects_in pass.seen ≡ most_sessions) × (new ≡ old) × (behind ≡ before))
-acted {old} {new} {pass} {before} {behind} {sessions} {fault} {entry} {given} a =
-    elim (refusals pass.seen old entry.act a.stands.legal a.stands.led a.asked) [
-      | inl none ↦ inl (a.made none)
-      | inr full ↦ let told = a.refused (kind.Full most_sessions) full.0 in inr (ok_same given _ told.0, full.1, told.1, told.2)
-    ]
-
--- it was made where the answer is not that they are used up
-pub acted_made : {old new : State} {pass before behind : Seen} {sessions : ℕ} {fault : Option DeskFault} {entry : Entry} {given : AnswerKind} → Acted old new pass before behind sessions fault entry given →
-    (given ≡ kind.Full most_sessions → ⊥) → Logs old new before behind entry given
-acted_made a other = elim (acted a) [ inl logs ↦ logs | inr full ↦ absurd (other full.0) ]
-
-pub stands_connected : {old new : State} {pass before behind : Seen} {sessions : ℕ} {fault : Option DeskFault} {entry : Entry} {given : AnswerKind} → Acted old new pass before behind sessions fault entry given →
-    (given ≡ kind.Full most_sessions → ⊥) → Stands new behind (sessions + 1) None
-stands_connected {old} {new} {pass} {before} {behind} {sessions} {fault} {entry} {given} a other =
-    let logs : Logs old new before behind entry given = acted_made a other in
-    let grown : length (after old (made_of old entry)).sessions ≤ length old.sessions + 1 = grows_step old entry.pass entry.moment entry.act (made_of old entry).session false in
-    let counted : length old.sessions ≤ sessions = a.stands.counted in
-    let same : length new.sessions ≡ length (after old (made_of old entry)).sessions = ap (λ (state : State). length state.sessions) logs.state in
-    let left : behind.room + 1 ≡ before.room = logs.room in
-    stands_logged old new pass before behind sessions (sessions + 1) fault None entry given a.stands a.seen a.number a.bound a.entered logs (omega arith) (omega (arith, a.room)) (inl refl)
-
-pub stands_kept : {old new : State} {pass before behind : Seen} {sessions : ℕ} {fault : Option DeskFault} {entry : Entry} {given : AnswerKind} → Acted old new pass before behind sessions fault entry given →
-    (given ≡ kind.Full most_sessions → ⊥) → IsOther given → Stands new behind sessions fault
-stands_kept {old} {new} {pass} {before} {behind} {sessions} {fault} {entry} {given} a other no_connect =
-    let logs : Logs old new before behind entry given = acted_made a other in
-    let stays : length (after old (made_of old entry)).sessions ≤ length old.sessions = stays_step old entry.pass entry.moment entry.act (made_of old entry).session false given logs.answered no_connect in
-    let counted : length old.sessions ≤ sessions = a.stands.counted in
-    let same : length new.sessions ≡ length (after old (made_of old entry)).sessions = ap (λ (state : State). length state.sessions) logs.state in
-    let left : behind.room + 1 ≡ before.room = logs.room in
-    stands_logged old new pass before behind sessions sessions fault fault entry given a.stands a.seen a.number a.bound a.entered logs (omega arith) (omega (arith, a.room)) (inr refl)
-
--- after an act that was not made
-pub stands_still : (old new : State) (pass before behind : Seen) (sessions : ℕ) (fault : Option DeskFault) → Stands old pass sessions fault →
-    before.seen ≡ pass.seen → before.number ≡ pass.number → length before.seen + before.room ≤ 2 ^ 62 → sessions + 2 ≤ before.room → new ≡ old → behind ≡ before → Stands new behind sessions fault
-stands_still old new pass before behind sessions fault stands seen number bound room still same =
-    subst (λ (state : State). Stands state behind sessions fault) (sym still) (subst (λ (now : Seen). Stands old now sessions fault) (sym same) (record {
-      legal = subst (λ (records : List Record). IsLegal empty records) (sym seen) stands.legal;
-      led = stands.led ∙ ap (λ (records : List Record). state_after empty records) (sym seen);
-      numbered = subst (λ (one : ℕ). AllByRecursion (λ made. made.entry.pass ≡ one) before.seen) (sym number)
-          (subst (λ (records : List Record). AllByRecursion (λ made. made.entry.pass ≡ pass.number) records) (sym seen) stands.numbered);
-      counted = stands.counted;
-      has_room = omega (arith, room);
-      bounded = bound;
-      known = subst (λ (records : List Record). IsDeskFault records fault) (sym seen) stands.known;
-    }))
-
-gone_step : (state : State) (what : Act) (why : Why) → kind.Gone why ≡ kind_of state what → ⊥
-gone_step state (act.Connect user host) why answered = cc
-gone_step state (act.Call session reference call) why answered = cc
-gone_step state (act.Broken session) why answered = cc
-gone_step state (act.Drain session) why answered = cc
-gone_step state act.Flush why answered = cc
-gone_step state (act.Close session) why answered = cc
-
-full_step : (state : State) (what : Act) (number : ℕ) → kind.Full number ≡ kind_of state what → ⊥
-full_step state (act.Connect user host) number answered = cc
-full_step state (act.Call session reference call) number answered = cc
-full_step state (act.Broken session) number answered = cc
-full_step state (act.Drain session) number answered = cc
-full_step state act.Flush number answered = cc
-full_step state (act.Close session) number answered = cc
-
--- no act is answered that its session is gone
-pub never_gone : {old new : State} {pass before behind : Seen} {sessions : ℕ} {fault : Option DeskFault} {entry : Entry} {given : AnswerKind} → Acted old new pass before behind sessions fault entry given →
-    (why : Why) → given ≡ kind.Gone why → ⊥
-never_gone {old} {new} {pass} {before} {behind} {sessions} {fault} {entry} {given} a why gone = elim (acted a) [
-  | inl logs ↦ gone_step old entry.act why (sym gone ∙ logs.answered)
-  | inr full ↦ let e : given ≡ kind.Full most_sessions = full.0 in cc
-]
-
--- an act that is answered Full was not made
-pub full_only : {old new : State} {pass before behind : Seen} {sessions : ℕ} {fault : Option DeskFault} {entry : Entry} {given : AnswerKind} → Acted old new pass before behind sessions fault entry given →
-    (number : ℕ) → given ≡ kind.Full number → (number ≡ most_sessions) × (connects_in pass.seen ≡ most_sessions) × (new ≡ old) × (behind ≡ before)
-full_only {old} {new} {pass} {before} {behind} {sessions} {fault} {entry} {given} a number is = elim (acted a) [
-  | inl logs ↦ absurd (full_step old entry.act number (sym is ∙ logs.answered))
-  | inr full ↦ (let e : given ≡ kind.Full most_sessions = full.0 in cc, full.1, full.2, full.3)
-]
-
--- there are fewer entries than the core takes, while there is room in the pass
-pub entries_within : (old : State) (pass : Seen) (sessions : ℕ) (fault : Option DeskFault) (room : ℕ) → Stands old pass sessions fault → 0 < room → length pass.seen + room ≤ 2 ^ 62 → old.entries < 2 ^ 62
-entries_within old pass sessions fault room stands some bound =
-    let count : (state_after empty pass.seen).entries ≡ 0 + length pass.seen = entries-state_after empty pass.seen in
-    let same : old.entries ≡ (state_after empty pass.seen).entries = ap (λ (state : State). state.entries) stands.led in
-    omega arith
+-- after a Connect
+pub stands_connected : {old new : State} {kept : Kept} {before later : PassView} {sessions : ℕ}
+    {pass moment : ℕ} {user host : List ℕ} {session : ℕ} {short : Bool} (table : FaultTable) →
+    Added old new kept before later sessions
+    (record {
+      entry = record { pass = pass; moment = moment; act = act.Connect user host };
+      session =
+          session;
+      short = short;
+    }) →
+    session ≡ old.connects + 1 → sessions + 2 ≤ before.room → table.none ≡ kept.faults.none →
+    table.rows ≡ kept.faults.rows ++ record { session = session; is_open = true; fault = None } ∷ [] →
+    Stands new (record { pass = later; faults = table }) (sessions + 1)
+stands_connected {old} {new} {kept} {before} {later} {sessions} {pass} {moment} {user} {host} {session} {short} table a
+    drawn room none rows =
+    let made : Record =
+    record {
+      entry = record { pass = pass; moment = moment; act = act.Connect user host };
+      session =
+          session;
+      short = short;
+    } in
+    let grown : length (after old made).sessions ≡ length old.sessions + 1 =
+    length-connected old pass moment user host session short in
+    let same : length new.sessions ≡ length (after old made).sessions =
+    ap (λ (state : State). length state.sessions) a.state in
+    stands_added (sessions + 1) table a (omega (arith, grown, same, a.stands.counted)) (omega (arith, a.room, room))
+    (noted_connected kept.pass.seen pass moment user host session short kept.faults table (added_legal a) a.stands.legal
+    (drawn ∙ ap (λ (state : State). state.connects + 1) a.stands.led) none rows a.stands.noted)
 
 -- ---- a session's close
 
-pub close_room : (old : State) (pass : Seen) (sessions : ℕ) (fault : Option DeskFault) (session : ℕ) → Stands old pass sessions fault → IsOpen session pass.seen →
-    (IsSome (session_of session old)) × (0 < sessions) × (0 < pass.room)
-close_room old pass sessions fault session stands open' =
-    let there : IsSome (session_of session old) = subst (λ (state : State). IsSome (session_of session state)) (sym stands.led) (open_stands session pass.seen stands.legal open') in
-    let fewer : length (filter (λ row. not (is_session session row)) old.sessions) + 1 ≤ length old.sessions = one_fewer (is_session session) old.sessions there in
-    let counted : length old.sessions ≤ sessions = stands.counted in
+pub close_room : (state : State) (kept : Kept) (sessions session : ℕ) → Stands state kept sessions →
+    IsOpen session kept.pass.seen → (IsSome (session_of session state)) × (0 < sessions) × (0 < kept.pass.room)
+close_room state kept sessions session stands is_open =
+    let there : IsSome (session_of session state) =
+    subst (λ (state : State). IsSome (session_of session state)) (sym stands.led)
+    (open_stands session kept.pass.seen stands.legal is_open) in
+    let fewer : length (filter (λ row. not (is_session session row)) state.sessions) + 1 ≤ length state.sessions =
+    one_fewer (is_session session) state.sessions there in
+    let counted : length state.sessions ≤ sessions = stands.counted in
     (there, omega arith, omega (arith, stands.has_room))
 
-pub stands_closed : (old new : State) (pass behind : Seen) (sessions : ℕ) (fault : Option DeskFault) (entry : Entry) (session : ℕ) (given : AnswerKind) → Stands old pass sessions fault → IsOpen session pass.seen →
-    entry.pass ≡ pass.number → entry.act ≡ act.Close session → Logs old new pass behind entry given → Stands new behind (sessions - 1) fault
-stands_closed old new pass behind sessions fault entry session given stands open' entered closes logs =
-    let room : (IsSome (session_of session old)) × (0 < sessions) × (0 < pass.room) = close_room old pass sessions fault session stands open' in
-    let fewer : length (filter (λ row. not (is_session session row)) old.sessions) + 1 ≤ length old.sessions = one_fewer (is_session session) old.sessions room.0 in
-    let rows : new.sessions ≡ filter (λ row. not (is_session session row)) old.sessions =
-    ap (λ (state : State). state.sessions) logs.state
-    ∙ ap (λ (what : Act). (after old (record_of entry.pass entry.moment what (made_of old entry).session false)).sessions) closes in
-    let same : length new.sessions ≡ length (filter (λ row. not (is_session session row)) old.sessions) = ap length rows in
-    let counted : length old.sessions ≤ sessions = stands.counted in
-    let left : behind.room + 1 ≡ pass.room = logs.room in
-    stands_logged old new pass pass behind sessions (sessions - 1) fault fault entry given stands refl refl stands.bounded entered logs (omega arith) (omega (arith, stands.has_room)) (inr refl)
+may_close : (found : Option Session) → IsSome found → close_refused found ≡ None
+may_close None some = cc
+may_close (Some row) some = refl
 
--- ---- what drains gave
+pub close_possible : (state : State) (session : ℕ) → IsSome (session_of session state) →
+    refusal_of state (act.Close session) ≡ None
+close_possible state session some = may_close (session_of session state) some
 
--- after one record more
-pub given_last_push : (seen : List Record) (made : Record) → given_last (seen ++ made ∷ []) ≡ given_with (state_after empty seen) made (given_last seen)
-given_last_push seen made = given_since-append empty [] seen (made ∷ [])
+-- after a Close
+pub stands_closed : {old new : State} {kept : Kept} {later : PassView} {sessions : ℕ} {pass moment session : ℕ}
+    {short : Bool} →
+    Added old new kept kept.pass later sessions
+    (record {
+      entry = record { pass = pass; moment = moment; act = act.Close session };
+      session = session;
+      short =
+          short;
+    }) →
+    IsOpen session kept.pass.seen → (table : FaultTable) → table ≡ closed_at session kept.faults →
+    Stands new (record { pass = later; faults = table }) (sessions - 1)
+stands_closed {old} {new} {kept} {later} {sessions} {pass} {moment} {session} {short} a is_open table closed =
+    let made : Record =
+    record {
+      entry = record { pass = pass; moment = moment; act = act.Close session };
+      session = session;
+      short =
+          short;
+    } in
+    let room = close_room old kept sessions session a.stands is_open in
+    let fewer : length (filter (λ row. not (is_session session row)) old.sessions) + 1 ≤ length old.sessions =
+    one_fewer (is_session session) old.sessions room.0 in
+    let left : length (after old made).sessions ≡ length (filter (λ row. not (is_session session row)) old.sessions) =
+    length-closed old pass moment session session short in
+    let same : length new.sessions ≡ length (after old made).sessions =
+    ap (λ (state : State). length state.sessions) a.state in
+    stands_added (sessions - 1) table a (omega (arith, fewer, left, same, a.stands.counted))
+    (omega (arith, a.room, a.stands.has_room, room.1))
+    (subst (λ (table : FaultTable). AreNoted (kept.pass.seen ++ made ∷ []) table) (sym closed)
+    (noted_closed kept.pass.seen pass moment session short kept.faults (added_legal a) a.stands.noted))
 
--- the number of a new session is in no record before it
-pub fresh_number : (seen : List Record) → IsLegal empty seen → has_session ((state_after empty seen).connects + 1) seen ≡ false
-fresh_number seen legal = undrawn_absent _ empty seen IsSound-empty legal (omega arith)
+-- ---- an act that was asked for
 
--- ---- refusals
+-- An entry is handed to the core, after room for so many records was taken beyond those for the sessions that stand.
+pub record Ready (old : State) (kept : Kept) (before : PassView) (sessions more : ℕ) (entry : Entry) : Type 0 where
+  pub stands : Stands old kept sessions
+  pub seen : before.seen ≡ kept.pass.seen
+  pub number : before.number ≡ kept.pass.number
+  pub bound : length before.seen + before.room ≤ 2 ^ 62
+  pub room : sessions + more ≤ before.room
+  pub entered : entry.pass ≡ kept.pass.number
 
--- what a desk says that refused for this reason
-pub refused_of : (old new : Kept) (pass behind : Seen) (fault : Option DeskFault) (items : List Item) (why given : DeskFault) → (let kept : Kept = record { pass = pass; fault = fault; items = items } in kept ≡ old) →
-    new.pass ≡ behind → behind.seen ≡ pass.seen → behind.number ≡ pass.number → given ≡ why → new.fault ≡ first_fault {X = ⊤} fault (Err why) → IsDeskFault pass.seen (Some why) → Refuses old new given
-refused_of old new pass behind fault items why given view is seen number same first known = record {
-  seen = ap (λ (pass : Seen). pass.seen) is ∙ seen ∙ ap (λ (kept : Kept). kept.pass.seen) view;
-  number = ap (λ (pass : Seen). pass.number) is ∙ number ∙ ap (λ (kept : Kept). kept.pass.number) view;
-  fault = first ∙ ap (λ (why : DeskFault). first_fault {X = ⊤} fault (Err why)) (sym same) ∙ ap (λ (kept : Kept). first_fault {X = ⊤} kept.fault (Err given)) view;
-  known = subst (λ (kept : Kept). IsDeskFault kept.pass.seen (Some given)) view (subst (λ (why : DeskFault). IsDeskFault pass.seen (Some why)) (sym same) known);
+added_from : {old new : State} {kept : Kept} {before later : PassView} {sessions more : ℕ} {entry : Entry}
+    {short : Bool} →
+    Ready old kept before sessions more entry → Logs old new before later entry short →
+    Added old new kept before later sessions (made_of old entry short)
+added_from ready logs = record {
+  stands = ready.stands;
+  seen = ready.seen;
+  number = ready.number;
+  bound = ready.bound;
+  entered = ready.entered;
+  follows = logs.follows;
+  state = logs.state;
+  logged = logs.logged.0;
+  same = logs.logged.1;
+  room = logs.logged.2;
 }
+
+-- where nothing was made
+pub stands_still : {old new : State} {kept : Kept} {before later : PassView} {sessions more : ℕ} {entry : Entry} →
+    (table : FaultTable) → Ready old kept before sessions more entry → new ≡ old → later ≡ before →
+    table.none ≡ kept.faults.none → table.rows ≡ kept.faults.rows →
+    Stands new (record { pass = later; faults = table }) sessions
+stands_still {old} {new} {kept} {before} {later} {sessions} table ready still same none rows =
+    subst (λ (state : State). Stands state (record { pass = later; faults = table }) sessions) (sym still)
+    (subst (λ (pass : PassView). Stands old (record { pass = pass; faults = table }) sessions) (sym same) (record {
+      legal = subst (λ (seen : List Record). IsLegal empty seen) (sym ready.seen) ready.stands.legal;
+      led = ready.stands.led ∙ ap (λ (seen : List Record). state_after empty seen) (sym ready.seen);
+      numbered = subst (λ (one : ℕ). AllByRecursion (λ made. made.entry.pass ≡ one) before.seen) (sym ready.number)
+          (subst (λ (seen : List Record). AllByRecursion (λ made. made.entry.pass ≡ kept.pass.number) seen)
+          (sym ready.seen) ready.stands.numbered);
+      counted = ready.stands.counted;
+      has_room = omega (arith, ready.room);
+      bounded = ready.bound;
+      noted = subst (λ (seen : List Record). AreNoted seen table) (sym ready.seen)
+          (noted_same kept.pass.seen kept.faults table none rows ready.stands.noted);
+    }))
+
+-- whatever the core answered
+pub stands_asked : {old new : State} {kept : Kept} {before later : PassView} {sessions : ℕ} {entry : Entry} →
+    (result : Result AnswerKind Memory) → Ready old kept before sessions 1 entry → IsBetween entry.act →
+    IfOk result (Logged old new before later entry) → OnErr result (new ≡ old) → OnErr result (later ≡ before) →
+    Stands new (record { pass = later; faults = kept.faults }) sessions
+stands_asked {kept = kept} (Err memory) ready between logged state pass =
+    stands_still kept.faults ready state pass refl refl
+stands_asked {old} {new} {kept} {before} {later} {sessions} {entry} (Ok answer) ready between logged state pass =
+    elim (logged_cases old new before later entry answer logged) [
+      | inl made ↦ stands_between (added_from ready made.2.1) between ready.room
+      | inr (refusal, found, told, still, same) ↦ stands_still kept.faults ready still same refl refl
+    ]
+
+connected_number : (answer : AnswerKind) (one two : ℕ) → answer ≡ kind.Connected one → answer ≡ kind.Connected two →
+    one ≡ two
+connected_number answer one two is told = cc
+
+-- What a Connect that was made leaves.
+pub joined : (old new : State) (before later : PassView) (pass moment number : ℕ) (what : Act) (answer : AnswerKind)
+    (user host : List ℕ) → what ≡ act.Connect user host → answer ≡ kind.Connected number →
+    Logged old new before later (record { pass = pass; moment = moment; act = what }) answer →
+    (number ≡ old.connects + 1) × (short : Bool)
+    × Logs old new before later (record { pass = pass; moment = moment; act = act.Connect user host }) short
+joined old new before later pass moment number what answer user host is told logged =
+    let made = made_only old new before later (record { pass = pass; moment = moment; act = act.Connect user host })
+    answer
+    (λ refusal refused. let wrong : kind.Connected number ≡ kind.Refused refusal = sym told ∙ refused in cc)
+    (subst (λ (what : Act). Logged old new before later (record { pass = pass; moment = moment; act = what }) answer) is
+    logged)
+    in
+    (connected_number answer number (old.connects + 1) told made.1, made.2.0, made.2.1)
+
+pub stands_joined : (old new : State) (kept : Kept) (before later : PassView) (sessions pass moment number : ℕ)
+    (what : Act) (answer : AnswerKind) (user host : List ℕ) (table : FaultTable) →
+    Ready old kept before sessions 2 (record { pass = pass; moment = moment; act = what }) →
+    what ≡ act.Connect user host → answer ≡ kind.Connected number →
+    Logged old new before later (record { pass = pass; moment = moment; act = what }) answer →
+    table.none ≡ kept.faults.none →
+    table.rows ≡ kept.faults.rows ++ record { session = number; is_open = true; fault = None } ∷ [] →
+    Stands new (record { pass = later; faults = table }) (sessions + 1)
+stands_joined old new kept before later sessions pass moment number what answer user host table ready is told logged
+    none rows =
+    let made = joined old new before later pass moment number what answer user host is told logged in
+    let ready' : Ready old kept before sessions 2 (record { pass = pass; moment = moment; act = act.Connect user host })
+    =
+    subst (λ (what : Act). Ready old kept before sessions 2 (record { pass = pass; moment = moment; act = what })) is
+    ready in
+    let row : ℕ → Noted = λ n. record { session = n; is_open = true; fault = None } in
+    stands_connected table (added_from ready' made.2) refl ready.room none
+    (rows ∙ ap (λ n. kept.faults.rows ++ row n ∷ []) made.0)
+
+-- What a Close leaves.
+pub left : (old new : State) (kept : Kept) (later : PassView) (sessions pass moment : ℕ) (answer : AnswerKind)
+    (session : ℕ) → Stands old kept sessions → IsOpen session kept.pass.seen →
+    Logged old new kept.pass later (record { pass = pass; moment = moment; act = act.Close session }) answer →
+    (answer ≡ kind.Taken) × (short : Bool)
+    × Logs old new kept.pass later (record { pass = pass; moment = moment; act = act.Close session }) short
+left old new kept later sessions pass moment answer session stands is_open logged =
+    let entry : Entry = record { pass = pass; moment = moment; act = act.Close session } in
+    let none : refusal_of old (act.Close session) ≡ None =
+    close_possible old session (close_room old kept sessions session stands is_open).0 in
+    elim (logged_cases old new kept.pass later entry answer logged) [
+      | inl made ↦ (made.1, made.2.0, made.2.1)
+      | inr (refusal, found, told, still, same) ↦ let wrong : Some refusal ≡ None = sym found ∙ none in cc
+    ]
+
+pub stands_left : (old new : State) (kept : Kept) (later : PassView) (sessions pass moment : ℕ) (answer : AnswerKind)
+    (session : ℕ) (table : FaultTable) → Stands old kept sessions → IsOpen session kept.pass.seen →
+    pass ≡ kept.pass.number →
+    Logged old new kept.pass later (record { pass = pass; moment = moment; act = act.Close session }) answer →
+    table ≡ closed_at session kept.faults → Stands new (record { pass = later; faults = table }) (sessions - 1)
+stands_left old new kept later sessions pass moment answer session table stands is_open entered logged closed =
+    let made = left old new kept later sessions pass moment answer session stands is_open logged in
+    let logs = made.2 in
+    let added : Added old new kept kept.pass later sessions
+    (made_of old (record { pass = pass; moment = moment; act = act.Close session }) made.1) = record {
+      stands = stands;
+      seen = refl;
+      number = refl;
+      bound = stands.bounded;
+      entered = entered;
+      follows = logs.follows;
+      state = logs.state;
+      logged = logs.logged.0;
+      same = logs.logged.1;
+      room = logs.logged.2;
+    } in
+    stands_closed added is_open table closed
+
+-- a Close is answered that it was made
+pub left_taken : (old new : State) (kept : Kept) (later : PassView) (sessions pass moment session : ℕ)
+    (result : Result AnswerKind Memory) → Stands old kept sessions → IsOpen session kept.pass.seen →
+    IfOk result (Logged old new kept.pass later (record { pass = pass; moment = moment; act = act.Close session })) →
+    IsOk result → result ≡ Ok kind.Taken
+left_taken old new kept later sessions pass moment session (Ok answer) stands is_open logged done =
+    ap (λ (answer : AnswerKind). Ok answer)
+    (left old new kept later sessions pass moment answer session stands is_open logged).0
+left_taken old new kept later sessions pass moment session (Err memory) stands is_open logged done = cc

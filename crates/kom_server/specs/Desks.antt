@@ -1,106 +1,91 @@
--- What the desk of the one pass is.
-use Rattle.std.specs.Prelude.{◌≡◌, ℕ, ◌+◌, ◌^◌, ◌≤◌, List, [], ◌∷◌, ◌++◌, length, Option, Some, None, Err, ⊤}
+-- What the desk of a pass over a core of its own is.
+use Rattle.std.specs.Prelude.{◌≡◌, ◌≢◌, ℕ, ◌+◌, ◌^◌, ◌≤◌, ◌⊎◌, Bool, true, false, List, [], ◌∷◌, ◌++◌, length, Option, Some, None}
 use Rattle.std.specs.List.{AllByRecursion}
-use Rattle.kom_types.specs.declared.acts.Act.{Act}
-use Rattle.kom_types.specs.declared.acts.Act.TheVariants as act
-use Rattle.kom_types.specs.declared.acts.Entry.{Entry}
 use Rattle.kom_types.specs.declared.acts.Record.{Record}
-use Rattle.kom_core.specs.declared.answer_kind.AnswerKind.{AnswerKind}
-use Rattle.kom_types.specs.declared.items.Item.{Item}
+use Rattle.kom_types.specs.declared.answers.Why.TheVariants as why
+use Rattle.kom_types.specs.Sessions.{Session}
 use Rattle.kom_links.specs.declared.desk.DeskFault.{DeskFault}
 use Rattle.kom_links.specs.declared.desk.DeskFault.TheVariants as fault
-use Rattle.kom_links.specs.DeskCalls.{first_fault}
-use Rattle.kom_links.specs.Records.{IsOpen}
-use Rattle.kom_model.specs.State.{State, empty}
-use Rattle.kom_model.specs.After.{MayFollow, after, given_from, most_sessions}
+use Rattle.kom_links.specs.DeskCalls.{DeskView}
+use Rattle.kom_links.specs.Records.{is_open}
+use Rattle.kom_model.specs.State.{State, empty, session_of}
+use Rattle.kom_model.specs.Refusal.{most_sessions}
 use Rattle.kom_model.specs.Legal.{IsLegal, state_after}
-use Rattle.kom_core.specs.Acts.{kind_of, items_of}
-use Rattle.kom_core.specs.Steps.{made_of}
-use Rattle.kom_server.specs.Passes.{Seen, connects_in}
+use Rattle.kom_model.specs.Out.{given_along}
+use Rattle.kom_server.specs.declared.faults.Noted.{Noted}
+use Rattle.kom_server.specs.Passes.{PassView, connects_in}
+use Rattle.kom_server.specs.Faults.{FaultTable, fault_in, is_open_in}
 
--- the desk's pass, the first fault that it answered since its last connect, and what its last drain took
+-- At some moment of a history the row of a session passed this test.
+abbrev pub WasOnce : (Session → Bool) → ℕ → List Record → Type 0
+WasOnce test session history =
+    (before rest : List Record) × (row : Session) × (history ≡ before ++ rest)
+    × (session_of session (state_after empty before) ≡ Some row) × (test row ≡ true)
+
+-- more would have waited for the session than may
+abbrev pub WasOverrun : ℕ → List Record → Type 0
+WasOverrun session history = WasOnce (λ row. row.overrun) session history
+
+-- a call ended the session
+abbrev pub WasDropped : ℕ → List Record → Type 0
+WasDropped session history = WasOnce (λ row. row.seat.ended) session history
+
+-- the server was shut down, or its store refused a flush
+abbrev pub WasStopped : List Record → Type 0
+WasStopped history = (before rest : List Record) × (history ≡ before ++ rest)
+    × (((state_after empty before).stopped ≡ true)
+    ⊎ ((state_after empty before).store_refused ≡ true))
+
+-- all numbers of sessions were drawn
+abbrev pub WasFull : ℕ → List Record → Type 0
+WasFull number history = (number ≡ most_sessions) × (connects_in history ≡ most_sessions)
+
+-- The cause of a fault at a session, in the history that led to it. Memory may always run out.
+abbrev pub IsKnown : List Record → ℕ → Option DeskFault → Type 0
+IsKnown history session None = Unit {0}
+IsKnown history session (Some fault.Memory) = Unit {0}
+IsKnown history session (Some (fault.Full number)) = WasFull number history
+IsKnown history session (Some (fault.Gone why.Absent)) = ⊥
+IsKnown history session (Some (fault.Gone why.Dropped)) = WasDropped session history
+IsKnown history session (Some (fault.Gone why.Overrun)) = WasOverrun session history
+IsKnown history session (Some (fault.Gone why.Stopped)) = WasStopped history
+
+-- what the desk has: its pass, and the first faults that it answered
 pub record Kept : Type 0 where
-  pub pass : Seen
-  pub fault : Option DeskFault
-  pub items : List Item
+  pub pass : PassView
+  pub faults : FaultTable
 
--- the lists that drains gave, behind one record more: none yet at a Connect, one more at a Drain
-abbrev pub given_with : State → Record → List (List Item) → List (List Item)
-given_with state made given = elim made.entry.act [
-  | act.Connect user host ↦ []
-  | act.Call session reference call ↦ given
-  | act.Broken session ↦ given
-  | act.Drain session ↦ given ++ given_from session state ∷ []
-  | act.Flush ↦ given
-  | act.Close session ↦ given
-]
+-- what contracts see of a desk that has these
+abbrev pub desk_view : Kept → DeskView
+desk_view kept = record {
+  pass = kept.pass.number;
+  mine = kept.pass.seen;
+  gave_to = λ session. given_along empty session kept.pass.seen;
+  fault_to = fault_in kept.faults;
+  lock_full = false;
+}
 
--- the lists that drains gave since the last Connect, behind these records
-abbrev pub given_since : State → List (List Item) → List Record → List (List Item)
-given_since state given [] = given
-given_since state given (made ∷ records) = given_since (after state made) (given_with state made given) records
+-- no two rows are of one session
+abbrev pub AreApart : List Noted → Type 0
+AreApart [] = Unit {0}
+AreApart (row ∷ rows) = AllByRecursion (λ other. other.session ≢ row.session) rows × AreApart rows
 
--- the lists that the drains of a whole history gave since its last Connect
-abbrev pub given_last : List Record → List (List Item)
-given_last records = given_since empty [] records
+-- The rows of a table of faults are those of sessions that were connected, one for each at most;
+-- the open ones are open; and each fault has its cause.
+pub record AreNoted (history : List Record) (table : FaultTable) : Type 0 where
+  pub apart : AreApart table.rows
+  pub drawn : AllByRecursion (λ row.
+      (row.session ≢ 0) × (row.session ≤ connects_in history)) table.rows
+  pub opened : (session : ℕ) → is_open_in table session ≡ is_open session history
+  pub known : (session : ℕ) → IsKnown history session (fault_in table session)
 
--- The faults that this desk answers: want of memory, and that all numbers of sessions are used up, which they are then.
-abbrev pub IsDeskFault : List Record → Option DeskFault → Type 0
-IsDeskFault seen None = Unit {0}
-IsDeskFault seen (Some fault.Memory) = Unit {0}
-IsDeskFault seen (Some (fault.Full number)) = (number ≡ most_sessions) × (connects_in seen ≡ most_sessions)
-IsDeskFault seen (Some (fault.Gone why)) = ⊥
-
--- The core stands where the pass's records lead, and in the pass there is room for the Close of each session that stands.
-pub record Stands (state : State) (pass : Seen) (sessions : ℕ) (fault : Option DeskFault) : Type 0 where
-  pub legal : IsLegal empty pass.seen
-  pub led : state ≡ state_after empty pass.seen
-  pub numbered : AllByRecursion (λ made. made.entry.pass ≡ pass.number) pass.seen
+-- The core stands where the pass's records lead, and there is room for the Close of each session
+-- that stands.
+pub record Stands (state : State) (kept : Kept) (sessions : ℕ) : Type 0 where
+  pub legal : IsLegal empty kept.pass.seen
+  pub led : state ≡ state_after empty kept.pass.seen
+  pub numbered : AllByRecursion (λ made. made.entry.pass ≡ kept.pass.number) kept.pass.seen
   pub counted : length state.sessions ≤ sessions
-  pub has_room : sessions ≤ pass.room
-  pub bounded : length pass.seen + pass.room ≤ 2 ^ 62
-  pub known : IsDeskFault pass.seen fault
-
--- an act of a session is asked for where that session was connected and not closed
-abbrev pub IsOfOpen : List Record → Act → Type 0
-IsOfOpen seen (act.Connect user host) = Unit {0}
-IsOfOpen seen (act.Call session reference call) = IsOpen session seen
-IsOfOpen seen (act.Broken session) = IsOpen session seen
-IsOfOpen seen (act.Drain session) = IsOpen session seen
-IsOfOpen seen act.Flush = Unit {0}
-IsOfOpen seen (act.Close session) = IsOpen session seen
-
--- the act of an entry was made on the core, and its record logged in the room that there was for it
-pub record Logs (old new : State) (before behind : Seen) (entry : Entry) (answer : AnswerKind) : Type 0 where
-  pub follows : MayFollow old (made_of old entry)
-  pub answered : answer ≡ kind_of old entry.act
-  pub state : new ≡ after old (made_of old entry)
-  pub logged : behind.seen ≡ before.seen ++ made_of old entry ∷ []
-  pub number : behind.number ≡ before.number
-  pub room : behind.room + 1 ≡ before.room
-
--- the record of an act that this pass makes now
-abbrev pub record_now : Seen → ℕ → Act → Record
-record_now pass moment what = made_of (state_after empty pass.seen) (record { pass = pass.number; moment = moment; act = what })
-
--- The desk made this act; at a Connect its fault is forgotten.
-pub record Makes (old new : Kept) (moment : ℕ) (what : Act) (answer : AnswerKind) : Type 0 where
-  pub logged : new.pass.seen ≡ old.pass.seen ++ record_now old.pass moment what ∷ []
-  pub number : new.pass.number ≡ old.pass.number
-  pub answered : answer ≡ kind_of (state_after empty old.pass.seen) what
-  pub items : new.items ≡ items_of (state_after empty old.pass.seen) what
-  pub fault : new.fault ≡ elim what [
-    | act.Connect user host ↦ None
-    | act.Call session reference call ↦ old.fault
-    | act.Broken session ↦ old.fault
-    | act.Drain session ↦ old.fault
-    | act.Flush ↦ old.fault
-    | act.Close session ↦ old.fault
-  ]
-
--- The desk refused for this reason, which is its first fault if it had none.
-pub record Refuses (old new : Kept) (why : DeskFault) : Type 0 where
-  pub seen : new.pass.seen ≡ old.pass.seen
-  pub number : new.pass.number ≡ old.pass.number
-  pub fault : new.fault ≡ first_fault {X = ⊤} old.fault (Err why)
-  pub known : IsDeskFault old.pass.seen (Some why)
+  pub has_room : sessions ≤ kept.pass.room
+  pub bounded : length kept.pass.seen + kept.pass.room ≤ 2 ^ 62
+  pub noted : AreNoted kept.pass.seen kept.faults

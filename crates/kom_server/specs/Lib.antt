@@ -1,3 +1,6 @@
 pub mod Passes
+pub mod Faults
 pub mod Desks
-pub mod Once
+pub mod Making
+pub mod Runs
+pub mod Serving

@@ -1,13 +1,17 @@
 -- What a pass is.
-use Rattle.std.specs.Prelude.{ℕ, List, count_by}
+use Rattle.std.specs.Prelude.{ℕ, ◌==◌, List, filter, count_by}
 use Rattle.kom_types.specs.declared.acts.Record.{Record}
 use Rattle.kom_links.specs.Records.{is_connect}
 
--- A pass's number, the records that it has seen, which are those that it made, and for how many more there is room.
-pub record Seen : Type 0 where
+-- A pass's number, the records that it has seen, and for how many more there is room.
+pub record PassView : Type 0 where
   pub number : ℕ
   pub seen : List Record
   pub room : ℕ
+
+-- the records of a history that are those of the pass of this number, in order
+abbrev pub of_pass : ℕ → List Record → List Record
+of_pass number history = filter (λ made. made.entry.pass == number) history
 
 -- how many sessions these records connected
 abbrev pub connects_in : List Record → ℕ

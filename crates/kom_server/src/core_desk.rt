@@ -1,22 +1,25 @@
-ghost use Rattle.std.specs.Prelude.{◌≡◌, ◌+◌, ◌^◌, ◌<◌, [], Ok, Err, None, Some, ⊤, false, IfOk, IfErr, IsOk, OnErr};
-ghost use Rattle.kom_types.specs.declared.acts.Act.TheVariants as act;
-ghost use Rattle.kom_core.specs.declared.answer_kind.AnswerKind.{AnswerKind as Kind};
-ghost use Rattle.kom_core.specs.Acts.{refusal_of, items_of, TakesNone};
-ghost use Rattle.kom_links.specs.DeskCalls.{first_fault};
-ghost use Rattle.kom_model.specs.State.{empty};
-ghost use Rattle.kom_model.specs.Legal.{IsLegal};
-ghost use Rattle.kom_server.specs.Desks.{IsDeskFault, IsOfOpen, Logs, Makes, Refuses, given_last};
+ghost use Rattle.std.specs.Prelude.{◌≡◌, ℕ, Bool, ◌+◌, ◌^◌, ◌<◌, ◌||◌, [], None, Some, IfOk, IfErr, IsOk, OnOk, OnErr};
 ghost use Rattle.std.specs.List.{AllByRecursion};
+ghost use Rattle.kom_types.specs.declared.acts.Act.TheVariants as act;
+ghost use Rattle.kom_core.specs.Acts.{items_of, TakesNone};
+ghost use Rattle.kom_links.specs.Records.{IsOpen};
+ghost use Rattle.kom_model.specs.State.{empty};
+ghost use Rattle.kom_model.specs.Legal.{IsLegal, state_after};
+ghost use Rattle.kom_server.specs.Faults.{fault_in, noted_at, noted_at_none, noted_everywhere};
+ghost use Rattle.kom_server.specs.Desks.{IsKnown, AreNoted, desk_view};
+ghost use Rattle.kom_server.specs.Making.{IsBetween, LogsLast, Logged, fault_from};
+ghost use Rattle.kom_server.specs.Making.{Makes, Refuses, Joins, Leaves};
 
+use crate::faults::Faults;
 use crate::passes::Pass;
 use arrayvec::ArrayVec;
 use kom_core::{AnswerKind, Core};
 use kom_links::{Desk, DeskFault};
-use kom_types::{Act, Bytes, Call, Entry, Item, Memory, Moment};
+use kom_types::{Act, Bytes, Call, Entry, Item, Memory, Moment, Refusal, Why};
 use std::alloc::Global;
 use std::marker::Model;
 
-/// The desk of the one pass over a core of its own.
+/// The desk of a pass over a core of its own.
 #[derive(Drop)]
 pub(crate) struct CoreDesk {
     alloc: Global,
@@ -24,9 +27,7 @@ pub(crate) struct CoreDesk {
     pass: Pass,
     // How many sessions stand, each of which has room for its Close.
     sessions: usize,
-    fault: Option<DeskFault>,
-    // What the last act took, if that was a drain.
-    items: ArrayVec<Item, 64>,
+    faults: Faults,
 }
 
 impl Model for CoreDesk {
@@ -34,36 +35,40 @@ impl Model for CoreDesk {
 
     ghost Value = { Kept };
 
-    ghost view = { λ desk. record { pass = desk.pass; fault = desk.fault; items = desk.items.items } };
+    ghost view = { λ desk. record { pass = desk.pass; faults = desk.faults } };
 
-    ghost invariant = { λ desk. Stands desk.core.state desk.pass desk.sessions desk.fault };
+    ghost invariant = { λ desk. Stands desk.core.state
+        (record { pass = desk.pass; faults = desk.faults }) desk.sessions };
 }
 
 impl CoreDesk {
-    /// A desk that has made no act.
-    pub(crate) fn new(alloc: Global) -> CoreDesk
+    /// A desk of this pass that has made no act.
+    pub(crate) fn new(alloc: Global, number: u32) -> CoreDesk
         ensures seen { result.pass.seen ≡ [] }
-        ensures fault { result.fault ≡ None }
+        ensures number { result.pass.number ≡ number }
+        ensures no_fault { (desk_view result).fault_to 0 ≡ None }
     {
         CoreDesk {
             alloc,
             core: Core::fresh(alloc),
-            pass: Pass::new(alloc, 0),
+            pass: Pass::new(alloc, number),
             sessions: 0,
-            fault: None,
-            items: ArrayVec::new(),
+            faults: Faults::new(alloc),
         }
     }
 
-    /// Forgets the fault of the link that was served last.
+    /// Forgets the faults of the sessions that are closed, and the one of no session, before the
+    /// next link is served.
     pub(crate) fn forget(&mut self)
+        ensures no_fault { (desk_view self.new).fault_to 0 ≡ None }
         ensures pass { self.new.pass ≡ self.old.pass }
-        ensures fault { self.new.fault ≡ None }
-        ensures known { IsDeskFault self.old.pass.seen self.old.fault }
+        ensures known { (session : ℕ) →
+            IsKnown self.old.pass.seen session (fault_in self.old.faults session) }
         ensures legal { IsLegal empty self.old.pass.seen }
-        ensures numbered { AllByRecursion (λ made. made.entry.pass ≡ self.old.pass.number) self.old.pass.seen }
+        ensures numbered { AllByRecursion (λ made.
+            made.entry.pass ≡ self.old.pass.number) self.old.pass.seen }
     {
-        self.fault = None;
+        self.faults.forget();
     }
 
     /// The pass, with the records of all acts.
@@ -73,49 +78,134 @@ impl CoreDesk {
         self.pass
     }
 
-    /// Keeps a fault, if it is the first.
-    fn fail(&mut self, fault: DeskFault) -> DeskFault
-        requires { IsDeskFault self.old.pass.seen (Some fault) }
+    /// Notes a fault at a session.
+    fn note_at(&mut self, session: u32, fault: DeskFault) -> DeskFault
+        requires { IsKnown self.old.pass.seen session (Some fault) }
         ensures result { result ≡ fault }
         ensures pass { self.new.pass ≡ self.old.pass }
-        ensures fault { self.new.fault ≡ first_fault {X = ⊤} self.old.fault (Err fault) }
+        ensures faults { self.new.faults ≡ noted_at session fault self.old.faults }
     {
-        if self.fault.is_none() {
-            self.fault = Some(fault);
-        }
+        self.faults.note_at(session, fault);
         fault
     }
 
-    /// Makes an act and logs its record, with room for the Close of each session that stands then.
-    fn make(&mut self, moment: Moment, act: Act) -> Result<AnswerKind, DeskFault>
-        requires { IsOfOpen self.old.pass.seen act }
-        ensures made { IfOk result (λ answer. Makes self.old self.new moment act answer) }
-        ensures refused { IfErr result (λ why. Refuses self.old self.new why) }
+    /// Notes a fault where no session is meant.
+    fn note_at_none(&mut self, fault: DeskFault) -> DeskFault
+        requires { IsKnown self.old.pass.seen 0 (Some fault) }
+        ensures result { result ≡ fault }
+        ensures pass { self.new.pass ≡ self.old.pass }
+        ensures faults { self.new.faults ≡ noted_at_none fault self.old.faults }
     {
-        if self.pass.reserve(self.sessions + 2).is_err() {
-            return Err(self.fail(DeskFault::Memory));
+        self.faults.note_at_none(fault);
+        fault
+    }
+
+    /// Notes a fault that is of no session.
+    fn note_everywhere(&mut self, fault: DeskFault) -> DeskFault
+        requires { (session : ℕ) → IsKnown self.old.pass.seen session (Some fault) }
+        ensures result { result ≡ fault }
+        ensures pass { self.new.pass ≡ self.old.pass }
+        ensures faults { self.new.faults ≡ noted_everywhere fault self.old.faults }
+    {
+        self.faults.note_everywhere(fault);
+        fault
+    }
+
+    /// Makes an act that neither connects nor closes a session, and logs its record. What a drain
+    /// takes is put into an array.
+    fn make(
+        &mut self,
+        moment: Moment,
+        act: Act,
+        items: &mut ArrayVec<Item, 64>,
+    ) -> Result<(), DeskFault>
+        requires { IsBetween act }
+        ensures made { OnOk result ((short : Bool)
+            × Makes self.old self.new moment act short items.new.items) }
+        ensures refused { IfErr result (λ fault. Refuses self.old self.new act fault) }
+        ensures none_taken { OnErr result (items.new.items ≡ []) }
+        ensures legal { IsLegal empty self.old.pass.seen }
+        ensures noted { AreNoted self.old.pass.seen self.old.faults }
+    {
+        items.clear();
+        if self.pass.reserve(self.sessions + 1).is_err() {
+            return Err(DeskFault::Memory);
         }
         let entry = Entry {
             pass: self.pass.number(),
             moment,
             act,
         };
-        match act_and_log(&mut self.core, &mut self.pass, entry, &mut self.items) {
+        match act_and_log(&mut self.core, &mut self.pass, entry, items) {
+            Ok(AnswerKind::Refused(refusal)) => Err(fault_of(refusal)),
+            Ok(_) => Ok(()),
+            Err(Memory) => Err(DeskFault::Memory),
+        }
+    }
+
+    /// Connects a session, with room for its row and for the Close of each session that stands
+    /// then.
+    fn join(&mut self, moment: Moment, user: &[u8], host: &[u8]) -> Result<u32, DeskFault>
+        ensures made { IfOk result (Joins self.old self.new moment user.now host.now) }
+        ensures refused { IfErr result (Refuses self.old self.new (act.Connect user.now host.now)) }
+        ensures legal { IsLegal empty self.old.pass.seen }
+        ensures noted { AreNoted self.old.pass.seen self.old.faults }
+    {
+        if self.faults.reserve().is_err() || self.pass.reserve(self.sessions + 2).is_err() {
+            return Err(DeskFault::Memory);
+        }
+        let Ok(act) = greeting(self.alloc, user, host) else {
+            return Err(DeskFault::Memory);
+        };
+        let entry = Entry {
+            pass: self.pass.number(),
+            moment,
+            act,
+        };
+        match act_and_log(&mut self.core, &mut self.pass, entry, &mut ArrayVec::new()) {
             Ok(AnswerKind::Connected(number)) => {
                 self.sessions += 1;
-                self.fault = None;
-                Ok(AnswerKind::Connected(number))
+                self.faults.connect(number);
+                Ok(number)
             }
-            Ok(AnswerKind::Taken) => Ok(AnswerKind::Taken),
-            Ok(AnswerKind::Items) => Ok(AnswerKind::Items),
-            Ok(AnswerKind::Gone(_)) => unreachable!(),
-            Ok(AnswerKind::Full(number)) => Err(self.fail(DeskFault::Full(number))),
-            Err(Memory) => Err(self.fail(DeskFault::Memory)),
+            Ok(AnswerKind::Refused(refusal)) => Err(fault_of(refusal)),
+            Ok(_) => unreachable!(),
+            Err(Memory) => Err(DeskFault::Memory),
         }
+    }
+
+    /// Closes a session that is open.
+    fn leave(&mut self, moment: Moment, session: u32)
+        requires { IsOpen session self.old.pass.seen }
+        ensures closed { Leaves self.old self.new moment session }
+        ensures noted { AreNoted self.old.pass.seen self.old.faults }
+    {
+        let entry = Entry {
+            pass: self.pass.number(),
+            moment,
+            act: Act::Close { session },
+        };
+        match act_and_log(&mut self.core, &mut self.pass, entry, &mut ArrayVec::new()) {
+            Ok(AnswerKind::Taken) => {
+                self.sessions -= 1;
+                self.faults.close(session);
+            }
+            _ => unreachable!(),
+        }
+    }
+
+    /// Whether the server was shut down or its store refused a flush.
+    fn is_stopped(&self) -> bool
+        ensures stopped { result ≡ ((state_after empty self.now.pass.seen).stopped
+            || (state_after empty self.now.pass.seen).store_refused) }
+        ensures noted { AreNoted self.now.pass.seen self.now.faults }
+    {
+        self.core.stopped()
     }
 }
 
-/// Makes the act of an entry, for whose record there is room, and logs it. What a drain takes is put into an array.
+/// Makes the act of an entry, for whose record there is room, and logs it. What a drain takes is
+/// put into an array.
 fn act_and_log(
     core: &mut Core,
     pass: &mut Pass,
@@ -124,17 +214,26 @@ fn act_and_log(
 ) -> Result<AnswerKind, Memory>
     requires room { 0 < pass.old.room }
     requires bound { core.old.state.entries < 2 ^ 62 }
-    ensures made { refusal_of core.old.state entry.act ≡ None → IfOk result (λ answer. Logs core.old.state core.new.state pass.old pass.new entry answer) }
-    ensures refused { (why : Kind) → refusal_of core.old.state entry.act ≡ Some why → (result ≡ Ok why) × (core.new.state ≡ core.old.state) × (pass.new ≡ pass.old) }
-    ensures memory { OnErr result ((core.new.state ≡ core.old.state) × (pass.new ≡ pass.old)) }
-    ensures none_taken { TakesNone entry.act → IsOk result }
+    ensures logged { IfOk result (Logged core.old.state core.new.state pass.old pass.new entry) }
+    ensures state { OnErr result (core.new.state ≡ core.old.state) }
+    ensures pass { OnErr result (pass.new ≡ pass.old) }
+    ensures none_taken { TakesNone core.old.state entry.act → IsOk result }
     ensures given { items.new.items ≡ items_of core.old.state entry.act }
 {
     let answer = core.make(entry, items)?;
+    log_last(core, pass);
+    Ok(answer)
+}
+
+/// Logs the record of the core's last act, if it made one.
+fn log_last(core: &mut Core, pass: &mut Pass)
+    requires { 0 < pass.old.room }
+    ensures state { core.new.state ≡ core.old.state }
+    ensures logged { LogsLast core.old.last pass.old pass.new }
+{
     if let Some(record) = core.last() {
         pass.log(record);
     }
-    Ok(answer)
 }
 
 /// The act of a greeting.
@@ -147,25 +246,23 @@ fn greeting(alloc: Global, user: &[u8], host: &[u8]) -> Result<Act, Memory>
     })
 }
 
+/// The fault of a refusal.
+fn fault_of(refusal: Refusal) -> DeskFault
+    ensures { result ≡ fault_from refusal }
+{
+    match refusal {
+        Refusal::Gone(why) => DeskFault::Gone(why),
+        Refusal::Full(number) => DeskFault::Full(number),
+    }
+}
+
 impl Desk for CoreDesk {
-    ghost pass_of = { λ desk. desk.pass.number };
-
-    ghost mine = { λ desk. desk.pass.seen };
-
-    ghost given_items = { λ desk. given_last desk.pass.seen };
-
-    ghost fault = { λ desk. desk.fault };
-
-    ghost lock_full = { λ _. false };
+    ghost view = { λ desk. desk_view desk };
 
     fn connect(&mut self, moment: Moment, user: &[u8], host: &[u8]) -> Result<u32, DeskFault> {
-        let act = match greeting(self.alloc, user, host) {
-            Ok(act) => act,
-            Err(Memory) => return Err(self.fail(DeskFault::Memory)),
-        };
-        match self.make(moment, act)? {
-            AnswerKind::Connected(number) => Ok(number),
-            _ => unreachable!(),
+        match self.join(moment, user, host) {
+            Ok(session) => Ok(session),
+            Err(fault) => Err(self.note_at_none(fault)),
         }
     }
 
@@ -181,45 +278,48 @@ impl Desk for CoreDesk {
             reference,
             call,
         };
-        self.make(moment, act)?;
-        Ok(())
+        match self.make(moment, act, &mut ArrayVec::new()) {
+            Ok(()) => Ok(()),
+            Err(fault) => Err(self.note_at(session, fault)),
+        }
     }
 
     fn broken(&mut self, moment: Moment, session: u32) -> Result<(), DeskFault> {
-        self.make(moment, Act::Broken { session })?;
-        Ok(())
+        match self.make(moment, Act::Broken { session }, &mut ArrayVec::new()) {
+            Ok(()) => Ok(()),
+            Err(fault) => Err(self.note_at(session, fault)),
+        }
     }
 
-    fn drain(&mut self, moment: Moment, session: u32) -> Result<ArrayVec<Item, 64>, DeskFault> {
-        self.make(moment, Act::Drain { session })?;
-        let mut items = ArrayVec::new();
-        match items.try_extend_from_slice(self.items.as_slice()) {
-            Ok(()) => Ok(items),
-            Err(_) => unreachable!(),
+    fn drain_into(
+        &mut self,
+        moment: Moment,
+        session: u32,
+        into: &mut ArrayVec<Item, 64>,
+    ) -> Result<(), DeskFault> {
+        match self.make(moment, Act::Drain { session }, into) {
+            Ok(()) => Ok(()),
+            Err(fault) => Err(self.note_at(session, fault)),
         }
     }
 
     fn flush(&mut self, moment: Moment) -> Result<(), DeskFault> {
-        self.make(moment, Act::Flush)?;
-        Ok(())
-    }
-
-    fn close(&mut self, moment: Moment, session: u32) -> Result<(), DeskFault> {
-        let entry = Entry {
-            pass: self.pass.number(),
-            moment,
-            act: Act::Close { session },
-        };
-        match act_and_log(&mut self.core, &mut self.pass, entry, &mut self.items) {
-            Ok(AnswerKind::Taken) => {
-                self.sessions -= 1;
-                Ok(())
-            }
-            _ => unreachable!(),
+        match self.make(moment, Act::Flush, &mut ArrayVec::new()) {
+            Ok(()) => Ok(()),
+            Err(fault) => Err(self.note_everywhere(fault)),
         }
     }
 
+    fn close(&mut self, moment: Moment, session: u32) -> Result<(), DeskFault> {
+        self.leave(moment, session);
+        Ok(())
+    }
+
     fn stopped(&mut self) -> Result<bool, DeskFault> {
-        Ok(false)
+        let stopped = self.is_stopped();
+        if stopped {
+            self.note_everywhere(DeskFault::Gone(Why::Stopped));
+        }
+        Ok(stopped)
     }
 }

@@ -2,6 +2,7 @@
 #![tactic(auto)]
 
 mod core_desk;
+mod faults;
 mod outcome;
 mod passes;
 mod running;

@@ -12,7 +12,8 @@ pub struct Outcome<W: World> {
     pub end: Option<Closing<W>>,
 }
 
-/// The pass with all that it has seen, the gates with the links that were given back, and the clocks.
+/// The pass with all that it has seen, the gates with the links that were given back, and the
+/// clocks.
 #[derive(Drop)]
 pub struct Closing<W: World> {
     pub pass: Pass,

@@ -8,7 +8,7 @@ use std::marker::Model;
 const MOST_RECORDS: usize = 1 << 62;
 
 /// The number of a pass, and the records of the acts that it made, which are all that it has seen.
-#[derive(Debug, Drop)]
+#[derive(Drop)]
 pub struct Pass {
     number: u32,
     records: Vec<Record>,
@@ -16,11 +16,15 @@ pub struct Pass {
 
 impl Model for Pass {
     ghost use Rattle.std.specs.Prelude.{◌-◌, ◌^◌, ◌≤◌, min, vec_len, vec_capacity};
-    ghost use Rattle.kom_server.specs.Passes.{Seen};
+    ghost use Rattle.kom_server.specs.Passes.{PassView};
 
-    ghost Value = { Seen };
+    ghost Value = { PassView };
 
-    ghost view = { λ pass. record { number = pass.number; seen = pass.records.items; room = min (vec_capacity pass.records) (2 ^ 62) - vec_len pass.records } };
+    ghost view = { λ pass. record {
+      number = pass.number;
+      seen = pass.records.items;
+      room = min (vec_capacity pass.records) (2 ^ 62) - vec_len pass.records;
+    } };
 
     ghost invariant = { λ pass. vec_len pass.records ≤ 2 ^ 62 };
 }

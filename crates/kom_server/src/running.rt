@@ -1,8 +1,9 @@
-ghost use Rattle.std.specs.Prelude.{◌≡◌, ◌≢◌, ◌<◌, ◌⊎◌, ◌↔◌, [], ◌∷◌, true, false, codes, IsTrue, IsNone, IfSome, IsSomeAnd, is_some};
+ghost use Rattle.std.specs.Prelude.{◌≡◌, ◌≢◌, ◌<◌, ◌⊎◌, ◌↔◌, [], ◌∷◌, map, length, true, false};
+ghost use Rattle.std.specs.Prelude.{codes, IsTrue, IsNone, IsSome, IfSome, IsSomeAnd, is_some};
 ghost use Rattle.std.specs.List.{AllByRecursion};
 ghost use Rattle.kom_links.specs.Outside.{IsNothing, Rose};
 ghost use Rattle.kom_links.specs.Asking.{with_sink};
-ghost use Rattle.kom_server.specs.Once.{IsRefused, HasUsage, Opens, IsOnce, AllGivenBack, HasFailed};
+ghost use Rattle.kom_server.specs.Runs.{IsRefused, HasUsage, Opens, IsRun, HasFailed};
 
 use crate::core_desk::CoreDesk;
 use crate::outcome::{Closing, Outcome};
@@ -24,42 +25,51 @@ pub fn run<R: Threads + Wait + Sync, W: World>(
     words: &Words,
     world: &mut W,
 ) -> Outcome<W>
-    // Status 2 says that the words are no command. The usage line is then written to the sink, and the world is asked for
-    // nothing else.
+    // Status 2 says that the words are no command. The usage line is then written to the sink, and
+    // the world is asked for nothing else.
     ensures refused { (result.status ≡ 2) ↔ IsRefused words.now }
-    ensures usage { IsRefused words.now → HasUsage (W.Sink.put result.sink) (W.Sink.sink_faults result.sink) × IsNone result.end }
-    ensures asks_alone { IsRefused words.now → W.asked world.new ≡ with_sink (W.asked world.old) }
-    ensures accepted { ¬ IsRefused words.now → IsNothing (W.Sink.put result.sink) }
+    ensures usage { IsRefused words.now → HasUsage (W.Sink.view result.sink) × IsNone result.end }
+    ensures asks_alone { IsRefused words.now →
+        (W.view world.new).asked ≡ with_sink (W.view world.old).asked }
+    ensures accepted { ¬ IsRefused words.now → IsNothing (W.Sink.view result.sink).put }
 
-    // Else the world is asked for one sink, one clock and one gate at most, and a gate that it gave is left to be closed.
-    ensures opens { ¬ IsRefused words.now → Opens (is_some result.end) (with_sink (W.asked world.old)) (W.asked world.new) }
+    // Else the world is asked for one sink, one clock and one gate at most, and a gate that it gave
+    // is left to be closed.
+    ensures opens { ¬ IsRefused words.now →
+        Opens (is_some result.end) (with_sink (W.view world.old).asked) (W.view world.new).asked }
 
-    // Status 5 says that the world or the gate failed; 6 that memory was wanted and no gate was given; 0 that the gate has
-    // ended.
-    ensures statuses { (result.status ≡ 0) ⊎ (result.status ≡ 2) ⊎ (result.status ≡ 5) ⊎ (result.status ≡ 6) }
-    ensures faults { ¬ IsRefused words.now → ((result.status ≡ 5) ↔ (Rose (W.world_faults world.old) (W.world_faults world.new)
-        ⊎ IsSomeAnd result.end (λ closing. HasFailed W.Gate.gate_faults closing.gates.items))) }
+    // Status 5 says that the world or a gate failed; 6 that memory ran out and no gate was given; 0
+    // that each gate has ended.
+    ensures statuses { (result.status ≡ 0) ⊎ (result.status ≡ 2) ⊎ (result.status ≡ 5)
+        ⊎ (result.status ≡ 6) }
+    ensures faults { ¬ IsRefused words.now →
+        ((result.status ≡ 5) ↔ (Rose (W.view world.old).faults (W.view world.new).faults
+        ⊎ IsSomeAnd result.end (λ closing.
+        HasFailed (map (λ gate. W.Gate.view gate) closing.gates.items)))) }
     ensures unserved { result.status ≡ 6 → IsNone result.end }
-    ensures zero { result.status ≡ 0 → IsSomeAnd result.end (λ closing. AllByRecursion (λ gate. W.Gate.gate_ended gate ≡ true) closing.gates.items) }
+    ensures zero { result.status ≡ 0 → IsSomeAnd result.end (λ closing.
+        AllByRecursion (λ gate. (W.Gate.view gate).ended ≡ true) closing.gates.items) }
 
-    // What was served: one gate by one pass with one clock.
-    ensures once { IfSome result.end (λ closing. (gate : W.Gate) × (clock : W.Clock)
-        × (closing.gates.items ≡ gate ∷ []) × (closing.clocks.items ≡ clock ∷ [])
-        × AllGivenBack (W.Gate.given gate) (W.Gate.returned gate)
-        × IsOnce W.Gate.Link.host_of W.Gate.Link.taken W.Gate.Link.put W.Gate.Link.ended W.Gate.Link.fault_count
-        (W.Gate.returned gate) (W.Clock.gave clock) closing.pass) }
+    // What was served: one gate, by a pass of number 0 with one clock.
+    ensures once { IfSome result.end (λ closing. IsRun W.Gate.Link.view closing.pass.seen
+        (map (λ gate. W.Gate.view gate) closing.gates.items)
+        (map (λ clock. W.Clock.gave clock) closing.clocks.items)) }
+    ensures one_gate { IfSome result.end (λ closing. length closing.gates.items ≡ 1) }
+    ensures number { IfSome result.end (λ closing. closing.pass.number ≡ 0) }
 {
     let before = world.faults();
     let mut sink = world.out();
-    if !is_once(words) {
+    let Some(command) = command_of(words) else {
         let _ = sink.write(USAGE);
         return Outcome {
             status: 2,
             sink,
             end: None,
         };
-    }
-    let (failed, end) = once(rt, alloc, world);
+    };
+    let (failed, end) = match command {
+        Command::Once => once(rt, alloc, world),
+    };
     let status = if failed || has_risen(before, world.faults()) {
         5
     } else if end.is_some() {
@@ -70,6 +80,24 @@ pub fn run<R: Threads + Wait + Sync, W: World>(
     Outcome { status, sink, end }
 }
 
+/// A command of the program.
+#[derive(Clone, Copy, Debug)]
+enum Command {
+    /// Serves standard input and output.
+    Once,
+}
+
+/// The command that the words are, if they are one.
+fn command_of(words: &Words) -> Option<Command>
+    ensures { IsSome result ↔ (words.now ≡ codes "once" ∷ []) }
+{
+    if words.len() == 1 && words.word(0) == "once" {
+        Some(Command::Once)
+    } else {
+        None
+    }
+}
+
 /// Whether faults rose from one count to another, which stands still at its type's end.
 fn has_risen(before: u64, after: u64) -> bool
     ensures { IsTrue result ↔ Rose before after }
@@ -77,24 +105,20 @@ fn has_risen(before: u64, after: u64) -> bool
     before < after || after == u64::MAX
 }
 
-/// Whether the words are those of the command that serves standard input and output.
-fn is_once(words: &Words) -> bool
-    ensures { IsTrue result ↔ (words.now ≡ codes "once" ∷ []) }
-{
-    words.len() == 1 && words.word(0) == "once"
-}
-
-/// Serves the sessions at the gate over standard input and output, until the gate ends or fails, and says whether it
-/// failed. Nothing is served where the gate, the clock or memory for them is refused.
+/// Serves the sessions at the gate over standard input and output, until the gate ends or fails,
+/// and says whether it failed. Nothing is served where the gate, the clock or memory for them is
+/// refused.
 fn once<R: Wait, W: World>(rt: &R, alloc: Global, world: &mut W) -> (bool, Option<Closing<W>>)
-    ensures opens { Opens (is_some result.1) (W.asked world.old) (W.asked world.new) }
-    ensures failed { IsTrue result.0 ↔ IsSomeAnd result.1 (λ closing. HasFailed W.Gate.gate_faults closing.gates.items) }
-    ensures ended { result.0 ≡ false → IfSome result.1 (λ closing. AllByRecursion (λ gate. W.Gate.gate_ended gate ≡ true) closing.gates.items) }
-    ensures once { IfSome result.1 (λ closing. (gate : W.Gate) × (clock : W.Clock)
-        × (closing.gates.items ≡ gate ∷ []) × (closing.clocks.items ≡ clock ∷ [])
-        × AllGivenBack (W.Gate.given gate) (W.Gate.returned gate)
-        × IsOnce W.Gate.Link.host_of W.Gate.Link.taken W.Gate.Link.put W.Gate.Link.ended W.Gate.Link.fault_count
-        (W.Gate.returned gate) (W.Clock.gave clock) closing.pass) }
+    ensures opens { Opens (is_some result.1) (W.view world.old).asked (W.view world.new).asked }
+    ensures failed { IsTrue result.0 ↔ IsSomeAnd result.1 (λ closing.
+        HasFailed (map (λ gate. W.Gate.view gate) closing.gates.items)) }
+    ensures ended { result.0 ≡ false → IfSome result.1 (λ closing.
+        AllByRecursion (λ gate. (W.Gate.view gate).ended ≡ true) closing.gates.items) }
+    ensures once { IfSome result.1 (λ closing. IsRun W.Gate.Link.view closing.pass.seen
+        (map (λ gate. W.Gate.view gate) closing.gates.items)
+        (map (λ clock. W.Clock.gave clock) closing.clocks.items)) }
+    ensures one_gate { IfSome result.1 (λ closing. length closing.gates.items ≡ 1) }
+    ensures number { IfSome result.1 (λ closing. closing.pass.number ≡ 0) }
 {
     let Ok(mut gates) = Vec::with_capacity(alloc, 1) else {
         return (false, None);
@@ -108,7 +132,7 @@ fn once<R: Wait, W: World>(rt: &R, alloc: Global, world: &mut W) -> (bool, Optio
     let Ok(mut gate) = world.std_gate() else {
         return (false, None);
     };
-    let mut desk = CoreDesk::new(alloc);
+    let mut desk = CoreDesk::new(alloc, 0);
     serve_gate(rt, alloc, &mut desk, &mut gate, &mut clock);
     let failed = gate.faults() != 0;
     gates.push_reserved(gate);

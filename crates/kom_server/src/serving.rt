@@ -1,9 +1,11 @@
-ghost use Rattle.std.specs.Prelude.{◌≡◌, ◌+◌, None, false, true, length, IfSome};
-ghost use Rattle.kom_links.specs.Outside.{IsNothing};
-ghost use Rattle.kom_server.specs.Once.{IsOnce, AllGivenBack};
+ghost use Rattle.std.specs.Prelude.{◌≡◌, None, true};
+ghost use Rattle.kom_links.specs.Outside.{IsFresh};
+ghost use Rattle.kom_server.specs.Desks.{desk_view};
+ghost use Rattle.kom_server.specs.Runs.{AllGivenBack};
+ghost use Rattle.kom_server.specs.Serving.{Serves, OneIsOut};
 
 use crate::core_desk::CoreDesk;
-use kom_links::{Clock, Gate, Link, Next};
+use kom_links::{Clock, Gate, Next};
 use kom_session::serve_link;
 use std::alloc::Global;
 use std::sync::Wait;
@@ -16,12 +18,15 @@ pub(crate) fn serve_gate<R: Wait, G: Gate, C: Clock>(
     gate: &mut G,
     clock: &mut C,
 )
-    requires no_fault { desk.old.fault ≡ None }
-    requires once { IsOnce G.Link.host_of G.Link.taken G.Link.put G.Link.ended G.Link.fault_count (G.returned gate.old) (C.gave clock.old) desk.old.pass }
-    requires all_back { AllGivenBack (G.given gate.old) (G.returned gate.old) }
-    ensures once { IsOnce G.Link.host_of G.Link.taken G.Link.put G.Link.ended G.Link.fault_count (G.returned gate.new) (C.gave clock.new) desk.new.pass }
-    ensures all_back { AllGivenBack (G.given gate.new) (G.returned gate.new) }
-    ensures ended { G.gate_faults gate.new ≡ 0 → G.gate_ended gate.new ≡ true }
+    requires no_fault { (desk_view desk.old).fault_to 0 ≡ None }
+    requires serves { Serves G.Link.view desk.old.pass (G.view gate.old).returned
+        (C.gave clock.old) }
+    requires all_back { AllGivenBack (G.view gate.old) }
+    ensures serves { Serves G.Link.view desk.new.pass (G.view gate.new).returned
+        (C.gave clock.new) }
+    ensures all_back { AllGivenBack (G.view gate.new) }
+    ensures number { desk.new.pass.number ≡ desk.old.pass.number }
+    ensures ended { (G.view gate.new).faults ≡ 0 → (G.view gate.new).ended ≡ true }
 {
     for _ in rt.forever() {
         match gate.next() {
@@ -43,16 +48,16 @@ fn serve_one<R: Wait, G: Gate, C: Clock>(
     clock: &mut C,
     mut link: G::Link,
 )
-    requires no_fault { desk.old.fault ≡ None }
-    requires fresh { G.Link.fault_count link ≡ 0 }
-    requires nothing_taken { IsNothing (G.Link.taken link) }
-    requires nothing_put { IsNothing (G.Link.put link) }
-    requires not_ended { G.Link.ended link ≡ false }
-    requires once { IsOnce G.Link.host_of G.Link.taken G.Link.put G.Link.ended G.Link.fault_count (G.returned gate.old) (C.gave clock.old) desk.old.pass }
-    requires one_out { IfSome (G.given gate.old) (λ number. IfSome (G.returned gate.old) (λ links. number ≡ length links + 1)) }
-    ensures no_fault { desk.new.fault ≡ None }
-    ensures once { IsOnce G.Link.host_of G.Link.taken G.Link.put G.Link.ended G.Link.fault_count (G.returned gate.new) (C.gave clock.new) desk.new.pass }
-    ensures all_back { AllGivenBack (G.given gate.new) (G.returned gate.new) }
+    requires no_fault { (desk_view desk.old).fault_to 0 ≡ None }
+    requires fresh { IsFresh (G.Link.view link) }
+    requires serves { Serves G.Link.view desk.old.pass (G.view gate.old).returned
+        (C.gave clock.old) }
+    requires one_out { OneIsOut (G.view gate.old) }
+    ensures no_fault { (desk_view desk.new).fault_to 0 ≡ None }
+    ensures serves { Serves G.Link.view desk.new.pass (G.view gate.new).returned
+        (C.gave clock.new) }
+    ensures all_back { AllGivenBack (G.view gate.new) }
+    ensures number { desk.new.pass.number ≡ desk.old.pass.number }
 {
     let served = serve_link(rt, alloc, desk, &mut link, clock);
     desk.forget();

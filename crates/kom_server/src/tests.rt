@@ -12,8 +12,8 @@ const ASKS: &[u8] = b"A5Hceder\n1 56\n";
 
 const ANSWERS: &[u8] = b"LysKOM\n=1 1\n";
 
-/// What a run left: its status, how many acts its history has, what was put to its links and to its sink, and how its
-/// sessions ended.
+/// What a run left: its status, how many acts its history has, what was put to its links and to its
+/// sink, and how its sessions ended.
 #[derive(Drop)]
 struct Left {
     status: u8,
@@ -56,7 +56,8 @@ fn left_by<R: Threads + Wait + Sync>(
     })
 }
 
-/// A gate whose one client sends these bytes over a link of this plan, and that answers by a script.
+/// A gate whose one client sends these bytes over a link of this plan, and that answers by a
+/// script.
 fn gate_of(alloc: Global, input: &[u8], plan: LinkPlan, script: Script) -> Result<GatePlan, Fail> {
     let mut clients = VecDeque::new(alloc);
     let input = Vec::from_slice(alloc, input)?;
@@ -64,7 +65,8 @@ fn gate_of(alloc: Global, input: &[u8], plan: LinkPlan, script: Script) -> Resul
     Ok(GatePlan { clients, script })
 }
 
-/// A world with this gate, or whose gate is refused, and whose sink fails at the write of this number.
+/// A world with this gate, or whose gate is refused, and whose sink fails at the write of this
+/// number.
 fn world_of(alloc: Global, gate: Option<GatePlan>, sink_fails: u64) -> Result<MemoryWorld, Fail> {
     let mut moments = Vec::new(alloc);
     moments.push(Moment::at_most(951_782_400))?;
@@ -73,7 +75,8 @@ fn world_of(alloc: Global, gate: Option<GatePlan>, sink_fails: u64) -> Result<Me
     Ok(MemoryWorld::new(alloc, gate, moments, fails))
 }
 
-/// A script at whose calls of these numbers, counted from 1, nothing is ready, or the call fails; 0 is no call.
+/// A script at whose calls of these numbers, counted from 1, nothing is ready, or the call fails; 0
+/// is no call.
 fn script_of(alloc: Global, waits: u64, fails: u64) -> Result<Script, Fail> {
     let mut script = Script::new(alloc);
     script.waits.push(waits)?;
@@ -84,7 +87,8 @@ fn script_of(alloc: Global, waits: u64, fails: u64) -> Result<Script, Fail> {
 #[test]
 fn a_client_is_answered_by_its_lines(rt: HostRuntime) -> Result<(), Fail> {
     let alloc = rt.alloc();
-    // What the client sends, how many bytes a read and a write give and take at most, what is put, and how it ends.
+    // What the client sends, how many bytes a read and a write give and take at most, what is put,
+    // and how it ends.
     let rows: [(&[u8], usize, &[u8], SessionEnd); 13] = [
         (ASKS, 0, ANSWERS, SessionEnd::End),
         (ASKS, 1, ANSWERS, SessionEnd::End),
@@ -147,9 +151,10 @@ fn a_client_is_answered_by_its_lines(rt: HostRuntime) -> Result<(), Fail> {
 #[test]
 fn a_link_that_fails_ends_its_session_alone(rt: HostRuntime) -> Result<(), Fail> {
     let alloc = rt.alloc();
-    // The place where a read stops, the read and the write at which nothing is ready, those that fail, how many acts
-    // are made, what is put, and how it ends. A connect and a call each have a flush and two drains behind them; a
-    // session that is there at a read at which nothing is ready is flushed and drained.
+    // The place where a read stops, the read and the write at which nothing is ready, those that
+    // fail, how many acts are made, what is put, and how it ends. What was read at once is settled
+    // together: a flush, a drain that gives all, and one that gives nothing once that is written.
+    // A session that is there at a read at which nothing is ready is settled too.
     let rows: [(usize, [u64; 4], usize, &[u8], SessionEnd); 10] = [
         (9, [1, 0, 0, 0], 9, ANSWERS, SessionEnd::End),
         (9, [2, 0, 0, 0], 11, ANSWERS, SessionEnd::End),
@@ -158,9 +163,9 @@ fn a_link_that_fails_ends_its_session_alone(rt: HostRuntime) -> Result<(), Fail>
         (9, [0, 0, 1, 0], 0, b"", SessionEnd::LinkFault),
         (9, [0, 0, 2, 0], 5, b"LysKOM\n", SessionEnd::LinkFault),
         (9, [0, 0, 3, 0], 9, ANSWERS, SessionEnd::LinkFault),
-        (0, [0, 0, 2, 0], 9, ANSWERS, SessionEnd::LinkFault),
-        (0, [0, 0, 0, 1], 4, b"", SessionEnd::LinkFault),
-        (0, [0, 0, 0, 2], 8, b"LysKOM\n", SessionEnd::LinkFault),
+        (0, [0, 0, 2, 0], 6, ANSWERS, SessionEnd::LinkFault),
+        (0, [0, 0, 0, 1], 5, b"", SessionEnd::LinkFault),
+        (9, [0, 0, 0, 2], 8, b"LysKOM\n", SessionEnd::LinkFault),
     ];
     for (cut, [late_read, late_write, failed_read, failed_write], acts, output, end) in rows {
         let mut plan = LinkPlan::new(alloc);
@@ -185,7 +190,8 @@ fn a_link_that_fails_ends_its_session_alone(rt: HostRuntime) -> Result<(), Fail>
 #[test]
 fn a_gate_that_fails_ends_the_run(rt: HostRuntime) -> Result<(), Fail> {
     let alloc = rt.alloc();
-    // The call of the gate at which nobody has come, the one that fails, the status, and what is put.
+    // The call of the gate at which nobody has come, the one that fails, the status, and what is
+    // put.
     let rows: [(u64, u64, u8, &[u8]); 5] = [
         (1, 0, 0, ANSWERS),
         (2, 0, 0, ANSWERS),

@@ -1,10 +1,13 @@
 use Rattle.std.proofs.Common.{◌≡◌, None}
-use Rattle.kom_server.specs.Once.{IsOnce, AllGivenBack}
+use Rattle.kom_server.specs.Desks.{desk_view}
+use Rattle.kom_server.specs.Runs.{AllGivenBack}
+use Rattle.kom_server.specs.Serving.{Serves}
 use Rattle.kom_server.proofs.serving.serve_gate.Given as goal
 
 abbrev pub invariant-loop : goal.invariant-loop
 invariant-loop g l = record {
-  no_fault : l.desk.fault ≡ None;
-  once : IsOnce g.G.Link.Link.host_of g.G.Link.Link.taken g.G.Link.Link.put g.G.Link.Link.ended g.G.Link.Link.fault_count (g.G.Gate.returned l.gate) (g.C.Clock.gave l.clock) l.desk.pass;
-  all_back : AllGivenBack (g.G.Gate.given l.gate) (g.G.Gate.returned l.gate);
+  no_fault : (desk_view l.desk).fault_to 0 ≡ None;
+  serves : Serves g.G.Link.Link.view l.desk.pass (g.G.Gate.view l.gate).returned (g.C.Clock.gave l.clock);
+  all_back : AllGivenBack (g.G.Gate.view l.gate);
+  number : l.desk.pass.number ≡ l.fn.desk.pass.number;
 }

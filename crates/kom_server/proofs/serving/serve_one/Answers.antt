@@ -1,10 +1,26 @@
-use Rattle.kom_server.proofs.ServedLaws.{once_served}
+use Rattle.kom_server.proofs.ServedLaws.{serves_one, given_back}
 use Rattle.kom_server.proofs.serving.serve_one.Goals as goal
 
-pub returns-clause-once : goal.returns-clause-once
-returns-clause-once g c =
-    once_served g.G.Link.Link.host_of g.G.Link.Link.taken g.G.Link.Link.put g.G.Link.Link.ended g.G.Link.Link.fault_count c.args.desk.now c.serve_link-served.new.desk c.forget.new.self
-    c.args.link c.serve_link-served.new.link c.serve_link-served.result (g.G.Gate.returned c.args.gate.now) (g.G.Gate.returned c.give_back.new.self)
-    (g.C.Clock.gave c.args.clock.now) (g.C.Clock.gave c.serve_link-served.new.clock) c.requires.fresh c.serve_link-served.ensures.talk c.serve_link-served.ensures.session
-    c.serve_link-served.ensures.cause c.serve_link-served.ensures.fault c.serve_link-served.ensures.host c.forget.ensures.pass c.forget.ensures.known c.forget.ensures.legal c.forget.ensures.numbered
-    c.give_back.ensures.returned c.requires.once
+pub serve_link-served-requires-clause-untouched : goal.serve_link-served-requires-clause-untouched
+serve_link-served-requires-clause-untouched g c = record {
+  nothing_taken = c.requires.fresh.nothing_taken;
+  nothing_put = c.requires.fresh.nothing_put;
+  not_ended = c.requires.fresh.not_ended;
+  no_read = c.requires.fresh.no_read;
+}
+
+pub returns-clause-serves : goal.returns-clause-serves
+returns-clause-serves g c =
+    serves_one g.G.Link.Link.view c.args.desk.now c.serve_link-served.new.desk c.forget.new.self c.args.link
+    c.serve_link-served.new.link c.serve_link-served.result (g.G.Gate.view c.args.gate.now).returned
+    (g.G.Gate.view c.give_back.new.self).returned (g.C.Clock.gave c.args.clock.now)
+    (g.C.Clock.gave c.serve_link-served.new.clock) c.requires.fresh.no_fault c.serve_link-served.ensures.talk
+    c.serve_link-served.ensures.session c.serve_link-served.ensures.cause c.serve_link-served.ensures.others.host
+    c.forget.ensures.pass c.forget.ensures.known c.forget.ensures.legal c.forget.ensures.numbered
+    c.give_back.ensures.returned c.requires.serves
+
+pub returns-clause-all_back : goal.returns-clause-all_back
+returns-clause-all_back g c =
+    given_back (g.G.Gate.view c.args.gate.now) (g.G.Gate.view c.give_back.new.self)
+    (c.serve_link-served.new.link, c.serve_link-served.result) c.give_back.ensures.given c.give_back.ensures.returned
+    c.requires.one_out

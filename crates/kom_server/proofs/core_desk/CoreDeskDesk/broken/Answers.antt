@@ -1,7 +1,20 @@
-use Rattle.std.proofs.Common.{ap, ◌∙◌}
-use Rattle.kom_server.specs.Desks.{given_last}
-use Rattle.kom_server.proofs.DeskLaws.{given_last_push}
+use Rattle.kom_server.proofs.Refusals.{known_still, call_told}
+use Rattle.kom_server.proofs.DeskViews.{broken_made, broken_refused}
 use Rattle.kom_server.proofs.core_desk.CoreDeskDesk.broken.Goals as goal
 
-pub returns-clause-given : goal.returns-clause-given
-returns-clause-given c = ap given_last c.in_ok-make.ensures.made.logged ∙ given_last_push c.args.self.now.pass.seen _
+pub note_at-requires : goal.note_at-requires
+note_at-requires c =
+    known_still c.args.self.now.pass.seen c.make.new.self.pass.seen c.args.session c.in-Err.fault
+    c.in-Err.ensures.refused.seen (call_told c.args.self.now.pass.seen c.args.session c.in-Err.fault
+    c.in-Err.ensures.legal c.requires c.in-Err.ensures.refused.cause)
+
+pub returns-in-Ok : goal.returns-in-Ok
+returns-in-Ok c =
+    broken_made c.args.self.now c.make.new.self c.args.moment c.args.session _
+    (c.in-Ok.ensures.made.0, c.make.new.items.items, c.in-Ok.ensures.made.1)
+
+pub returns-in-Err : goal.returns-in-Err
+returns-in-Err c =
+    broken_refused c.args.self.now c.make.new.self c.note_at.new.self c.args.moment c.args.session c.in-Err.fault
+    c.note_at.result c.in-Err.ensures.legal c.in-Err.ensures.noted c.requires c.in-Err.ensures.refused
+    c.note_at.ensures.result c.note_at.ensures.pass c.note_at.ensures.faults

@@ -1,28 +1,19 @@
-use Rattle.std.proofs.Common.{◌≡◌, ℕ, ◌+◌, ap, subst, ◌∙◌, arith}
-use Rattle.kom_types.specs.declared.acts.Act.{Act}
-use Rattle.kom_types.specs.declared.acts.Act.TheVariants as act
-use Rattle.kom_core.specs.declared.answer_kind.AnswerKind.{AnswerKind}
-use Rattle.kom_core.specs.declared.answer_kind.AnswerKind.TheVariants as kind
-use Rattle.kom_links.specs.Records.{has_session}
-use Rattle.kom_model.specs.State.{empty}
-use Rattle.kom_model.specs.Legal.{IsLegal, state_after}
-use Rattle.kom_core.specs.Acts.{kind_of}
-use Rattle.kom_server.specs.Desks.{Kept, given_last, record_now, given_with}
-use Rattle.kom_server.proofs.DeskLaws.{given_last_push, fresh_number}
+use Rattle.kom_server.proofs.Refusals.{known_still, connect_told}
+use Rattle.kom_server.proofs.DeskViews.{connects_made, connects_refused}
 use Rattle.kom_server.proofs.core_desk.CoreDeskDesk.connect.Goals as goal
 
-number_of : (given : AnswerKind) (one two : ℕ) → given ≡ kind.Connected one → given ≡ kind.Connected two → one ≡ two
-number_of given one two is answered = cc
+pub note_at_none-requires : goal.note_at_none-requires
+note_at_none-requires c =
+    known_still c.args.self.now.pass.seen c.join.new.self.pass.seen 0 c.in-Err.fault c.in-Err.ensures.refused.seen
+    (connect_told c.args.self.now.pass.seen c.in-Err.fault c.in-Err.ensures.legal c.in-Err.ensures.refused.cause)
 
-pub returns-clause-new_number : goal.returns-clause-new_number
-returns-clause-new_number c =
-    let answered : c.in_ok-number.field-0 ≡ kind_of (state_after empty c.args.self.now.pass.seen) (act.Connect c.args.user.now c.args.host.now) =
-    subst (λ (what : Act). c.in_ok-number.field-0 ≡ kind_of (state_after empty c.args.self.now.pass.seen) what) c.in-Ok.ensures c.in_ok-number.ensures.made.answered in
-    let same : c.in-Connected.number ≡ (state_after empty c.args.self.now.pass.seen).connects + 1 = number_of _ _ _ c.in-Connected.is answered in
-    let legal : IsLegal empty c.args.self.now.pass.seen = subst (λ (kept : Kept). IsLegal empty kept.pass.seen) c.self.view_is c.self.invariant.legal in
-    (λ none. omega arith, ap (λ (number : ℕ). has_session number c.args.self.now.pass.seen) same ∙ fresh_number c.args.self.now.pass.seen legal)
+pub returns-in-Ok : goal.returns-in-Ok
+returns-in-Ok c =
+    connects_made c.args.self.now c.join.new.self c.args.moment c.args.user.now c.args.host.now c.in-Ok.session
+    c.in-Ok.ensures.legal c.in-Ok.ensures.noted c.in-Ok.ensures.made
 
-pub returns-clause-given : goal.returns-clause-given
-returns-clause-given c =
-    ap given_last c.in_ok-number.ensures.made.logged ∙ given_last_push c.args.self.now.pass.seen _
-    ∙ ap (λ (what : Act). given_with (state_after empty c.args.self.now.pass.seen) (record_now c.args.self.now.pass c.args.moment what) (given_last c.args.self.now.pass.seen)) c.in-Ok.ensures
+pub returns-in-Err : goal.returns-in-Err
+returns-in-Err c =
+    connects_refused c.args.self.now c.join.new.self c.note_at_none.new.self c.args.moment c.args.user.now
+    c.args.host.now c.in-Err.fault c.note_at_none.result c.in-Err.ensures.legal c.in-Err.ensures.refused
+    c.note_at_none.ensures.result c.note_at_none.ensures.pass c.note_at_none.ensures.faults
