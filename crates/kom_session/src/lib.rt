@@ -6,5 +6,7 @@ mod ending;
 mod flow;
 mod serving;
 mod settling;
+#[cfg(test)]
+mod tests;
 
 pub use serving::serve_link;
