@@ -3,11 +3,11 @@
 
 usage: tools/bench_once.py [KOMD]      (KOMD: the built program, crates/komd/out/komd if left out)
 
-lines    one million lines `1 56` behind a greeting; the C program reads in the same pieces of 8,192 bytes and
+lines    one million lines `1 56` after a greeting; the C program reads in the same pieces of 8,192 bytes and
          makes one write for each reply
-duties   the same lines; the C program also does what each line owes here: it reads the clock at each of a line's
-         four acts (the call, the flush, the drain, and the drain that finds nothing left) and keeps a record of
-         80 bytes of each, as the server's records are
+duties   the same lines; the C program writes the replies of four lines at once and does what four lines owe here:
+         it reads the clock at each of their seven acts (four calls, the flush, the drain, and the drain that finds
+         nothing left) and keeps a record of 80 bytes of each, as the server's records are
 strings  200 unknown calls, each with a string of one mebibyte; the C program reads in the same pieces and copies
          the bytes once into a buffer that it uses again for each mebibyte
 
@@ -45,8 +45,32 @@ static void act(unsigned char kind) {
     made->act[0] = kind;
     made->session = 1;
 }
+static char held[64];
+static size_t length;
+static int lines;
+static int settle(void) {
+    if (length == 0) return 0;
+    act(2);
+    act(3);
+    if (write(1, held, length) < 0) return 1;
+    act(3);
+    length = 0;
+    lines = 0;
+    return 0;
+}
+static int answer(const char *reply, int greeted) {
+    act(1);
+    memcpy(held + length, reply, strlen(reply));
+    length += strlen(reply);
+    lines += greeted;
+    return lines == 4 ? settle() : 0;
+}
 #else
-static void act(unsigned char kind) { (void) kind; }
+static int settle(void) { return 0; }
+static int answer(const char *reply, int greeted) {
+    (void) greeted;
+    return write(1, reply, strlen(reply)) < 0;
+}
 #endif
 int main(void) {
     ssize_t count;
@@ -54,15 +78,11 @@ int main(void) {
     while ((count = read(0, piece, sizeof piece)) > 0) {
         char *at = piece, *end = piece + count, *feed;
         while ((feed = memchr(at, '\n', end - at)) != 0) {
-            const char *reply = greeted ? "=1 1\n" : "LysKOM\n";
-            act(1);
-            act(2);
-            act(3);
-            if (write(1, reply, strlen(reply)) < 0) return 1;
-            act(3);
+            if (answer(greeted ? "=1 1\n" : "LysKOM\n", greeted)) return 1;
             greeted = 1;
             at = feed + 1;
         }
+        if (settle()) return 1;
     }
     return 0;
 }
