@@ -4,7 +4,7 @@
 ghost use Rattle.std.specs.Prelude.{◌≤◌, IfOk};
 
 use bench_watch::{Counts, Request, Watch};
-use kom_disk::{Disk, Failed, FileDisk};
+use kom_disk::{Disk, Failed, Opener};
 use std::process::ExitCode;
 use std::rt::Clock;
 use std::{fs, io};
@@ -24,7 +24,7 @@ fn main(rt: HostRuntime) -> io::Result<ExitCode> {
     let Some(request) = bench_watch::asked(&rt, TURNS) else {
         return bench_watch::refuse(&rt, "bench_disk [TURNS]");
     };
-    let Ok(mut disk) = FileDisk::open(&rt, STORE) else {
+    let Ok(mut disk) = Opener::new().open(&rt, STORE) else {
         return Err(io::ErrorKind::Other.into());
     };
     let done = measure(&rt, request, &mut disk);

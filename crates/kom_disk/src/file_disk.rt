@@ -1,23 +1,21 @@
 // A disk over a file of the system. It tells nothing of content.
-ghost use Rattle.std.specs.Prelude.{◌≡◌, ◌≤◌, ◌+◌, ℕ, List, [], false, length, max, min, IfOk, OnOk, OnErr};
+ghost use Rattle.std.specs.Prelude.{◌≡◌, ◌≤◌, ◌+◌, ℕ, List, [], false, length, max, min, OnOk, OnErr};
 ghost use Rattle.kom_disk.specs.Disk.{owes_nothing};
 ghost use Rattle.kom_disk.specs.Faults.{CountsFault, Rose};
 
-use crate::place::{HostPlace, OpenedFile, Place};
+use crate::place::{OpenedFile, Place};
 use crate::{Disk, Failed};
-use std::fs::File;
 use std::io;
 use std::os::unix::fs::FileExt;
-use std::rt::Files;
 
 // The system takes no offset and no length from here on.
 const MAX_LEN: u64 = (1 << 63) - 1;
 
-/// A file that is read and written in place. Its clauses say that each error is counted, and how
-/// long the file is by its last measure and its own calls since. That a real file keeps what was
-/// synced rests on the system. After a write or a cut that failed the file is measured, at once or
-/// else by the next of them, which fails as long as the file has another length than is counted;
-/// `len` counts it anew. After a sync that failed each later one fails.
+/// A file that is read and written in place, opened by an `Opener`. Its clauses say that each error
+/// is counted, and how long the file is by its last measure and its own calls since. That a real
+/// file keeps what was synced rests on the system. After a write or a cut that failed the file is
+/// measured, at once or else by the next of them, which fails as long as the file has another
+/// length than is counted; `len` counts it anew. After a sync that failed each later one fails.
 #[derive(Drop)]
 pub struct FileDisk<P: Place> {
     place: P,
@@ -33,73 +31,19 @@ pub struct FileDisk<P: Place> {
     is_lost: bool,
 }
 
-impl<R: Files<File = File> + AllocGlobal + Copy> FileDisk<HostPlace<R>> {
-    /// Opens the file of this path, and locks it for as long as the disk lives: a second opening
-    /// fails, in this process or in another one. The entries of its folder are synced. A missing
-    /// file is an empty disk, which the first write makes, readable and writable for its owner
-    /// alone; that write fails where another process has made the file since.
-    ///
-    /// It fails where the folder is missing or not readable, at a directory, and at a file that
-    /// this process may not both read and write; a file that nobody may write is opened by root
-    /// alone. A device is opened as an empty disk: on `/dev/full` each write fails, on `/dev/null`
-    /// what is written is gone, and on both each sync fails and each cut but one past the end.
-    pub fn open(rt: &R, path: &str) -> Result<FileDisk<HostPlace<R>>, Failed>
-        ensures { IfOk result (λ disk. disk.faults ≡ 0) }
-    {
-        FileDisk::at(host_place(rt, path)?)
-    }
-
-    /// Opens the file of this path for reading alone: it is not made and not locked, and writes
-    /// fail. It fails where the file is missing.
-    pub fn open_to_read(rt: &R, path: &str) -> Result<FileDisk<HostPlace<R>>, Failed>
-        ensures { IfOk result (λ disk. disk.faults ≡ 0) }
-    {
-        FileDisk::at_to_read(host_place(rt, path)?)
-    }
-}
-
-fn host_place<R: Files<File = File> + AllocGlobal + Copy>(
-    rt: &R,
-    path: &str,
-) -> Result<HostPlace<R>, Failed> {
-    match String::from_str(rt.alloc(), path) {
-        Ok(path) => Ok(HostPlace::new(*rt, path)),
-        Err(_) => Err(Failed),
-    }
-}
-
 impl<P: Place> FileDisk<P> {
-    /// As `open`, of any place.
-    pub fn at(place: P) -> Result<FileDisk<P>, Failed>
-        ensures { IfOk result (λ disk. disk.faults ≡ 0) }
+    // Of a file that is open, and None where nothing has its name.
+    pub(crate) fn new(place: P, file: Option<P::File>, len: u64) -> FileDisk<P>
+        ensures place { result.place ≡ place }
+        ensures unfailed { result.faults ≡ 0 }
     {
-        match open_locked(&place) {
-            Ok((file, len)) => Ok(FileDisk {
-                place,
-                file,
-                len,
-                faults: 0,
-                is_unmeasured: false,
-                is_lost: false,
-            }),
-            Err(_) => Err(Failed),
-        }
-    }
-
-    /// As `open_to_read`, of any place.
-    pub fn at_to_read(place: P) -> Result<FileDisk<P>, Failed>
-        ensures { IfOk result (λ disk. disk.faults ≡ 0) }
-    {
-        match open_measured(&place) {
-            Ok((file, len)) => Ok(FileDisk {
-                place,
-                file: Some(file),
-                len,
-                faults: 0,
-                is_unmeasured: false,
-                is_lost: false,
-            }),
-            Err(_) => Err(Failed),
+        FileDisk {
+            place,
+            file,
+            len,
+            faults: 0,
+            is_unmeasured: false,
+            is_lost: false,
         }
     }
 
@@ -197,25 +141,6 @@ impl<P: Place> FileDisk<P> {
             None => Ok(()),
         }
     }
-}
-
-fn open_locked<P: Place>(place: &P) -> io::Result<(Option<P::File>, u64)> {
-    let file = place.open()?;
-    let len = match &file {
-        Some(file) => {
-            file.lock()?;
-            file.measure()?
-        }
-        None => 0,
-    };
-    place.sync_folder()?;
-    Ok((file, len))
-}
-
-fn open_measured<P: Place>(place: &P) -> io::Result<(P::File, u64)> {
-    let file = place.open_to_read()?;
-    let len = file.measure()?;
-    Ok((file, len))
 }
 
 fn make_locked<P: Place>(place: &P) -> io::Result<P::File> {

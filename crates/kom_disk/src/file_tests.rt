@@ -1,5 +1,5 @@
 use crate::tests::{needs_send, write_cut_and_read};
-use crate::{Disk, Failed, FileDisk, OpenedFile, Place};
+use crate::{Disk, Failed, FileDisk, OpenedFile, Opener, Place};
 use std::cell::Cell;
 use std::os::unix::fs::{FileExt, MetadataExt};
 use std::test::Fail;
@@ -142,11 +142,15 @@ impl Place for FakePlace {
     }
 }
 
-fn open(plan: Plan) -> Result<FileDisk<FakePlace>, Failed> {
-    FileDisk::at(FakePlace {
+fn place(plan: Plan) -> FakePlace {
+    FakePlace {
         plan,
         folder_calls: Cell::new(0),
-    })
+    }
+}
+
+fn open(plan: Plan) -> Result<FileDisk<FakePlace>, Failed> {
+    Opener::new().open_place(place(plan))
 }
 
 fn failing(first: u32, second: u32) -> Plan {
@@ -157,7 +161,12 @@ fn failing(first: u32, second: u32) -> Plan {
 
 #[test]
 fn an_error_of_a_file_is_told(rt: HostRuntime) -> Result<(), Fail> {
-    assert!(rt; open(failing(1, 0)).is_err());
+    let mut opener = Opener::new();
+    assert!(rt; opener.open_place(place(failing(1, 0))).is_err());
+    assert!(rt; opener.open_place_to_read(place(failing(1, 0))).is_err());
+    assert_eq!(rt; opener.faults, 2);
+    let mut disk = opener.open_place_to_read(place(SOUND))?;
+    assert_eq!(rt; (disk.len(), disk.faults(), opener.faults), (Ok(0), 0, 2));
     let cases = [
         (0, [true, true, true, true]),
         (2, [false, true, true, true]),
@@ -204,20 +213,23 @@ fn an_opening_locks_and_syncs_the_folder(rt: HostRuntime) -> Result<(), Fail> {
     let (mut locked, mut unsynced) = (SOUND, SOUND);
     locked.is_locked = true;
     unsynced.folder_fails = 1;
-    assert!(rt; open(locked).is_err());
-    assert!(rt; open(unsynced).is_err());
+    let mut opener = Opener::new();
+    assert!(rt; opener.open_place(place(locked)).is_err());
+    assert_eq!(rt; opener.faults, 1);
+    assert!(rt; opener.open_place(place(unsynced)).is_err());
+    assert_eq!(rt; opener.faults, 2);
     // A missing file is made by the first write, and then the same holds of it.
     locked.is_missing = true;
     unsynced.is_missing = true;
     unsynced.folder_fails = 2;
     for plan in [locked, unsynced] {
-        let mut disk = open(plan)?;
+        let mut disk = opener.open_place(place(plan))?;
         assert_eq!(rt;
             (disk.len(), disk.cut(0), disk.sync()),
             (Ok(0), Ok(()), Ok(()))
         );
         assert_eq!(rt; disk.write_at(0, b"a"), Err(Failed));
-        assert_eq!(rt; disk.faults(), 1);
+        assert_eq!(rt; (disk.faults(), opener.faults), (1, 2));
     }
     Ok(())
 }
@@ -244,23 +256,28 @@ fn a_file_is_measured_after_a_failed_write(rt: HostRuntime) -> Result<(), Fail> 
 #[test]
 fn a_file_is_kept(rt: HostRuntime) -> Result<(), Fail> {
     let _ = fs::remove_dir_all(&rt, FOLDER);
-    assert!(rt; FileDisk::open(&rt, PATH).is_err());
+    let mut opener = Opener::new();
+    assert!(rt; opener.open(&rt, PATH).is_err());
     fs::create_dir(&rt, FOLDER)?;
-    assert!(rt; FileDisk::open(&rt, FOLDER).is_err());
-    assert!(rt; FileDisk::open_to_read(&rt, PATH).is_err());
-    let mut disk = FileDisk::open(&rt, PATH)?;
+    assert!(rt; opener.open(&rt, FOLDER).is_err());
+    assert!(rt; opener.open_to_read(&rt, PATH).is_err());
+    assert_eq!(rt; opener.faults, 3);
+    let mut disk = opener.open(&rt, PATH)?;
     needs_send(&disk);
     assert_eq!(rt; disk.len(), Ok(0));
     assert_eq!(rt; disk.sync(), Ok(()));
     assert!(rt; !fs::exists(&rt, PATH)?);
-    let mut late = FileDisk::open(&rt, PATH)?;
+    let mut late = opener.open(&rt, PATH)?;
     assert_eq!(rt; write_cut_and_read(&mut disk), Ok(*b"abxy"));
     assert_eq!(rt; fs::metadata(&rt, PATH)?.mode() & 0o777, 0o600);
     // Another that found no file does not write over it, and while the disk lives no other opens
-    // it.
+    // it: the second opening fails and is counted, by its own opener too.
     assert_eq!(rt; late.write_at(0, b"a"), Err(Failed));
-    assert!(rt; FileDisk::open(&rt, PATH).is_err());
-    let mut reads = FileDisk::open_to_read(&rt, PATH)?;
+    let mut second = Opener::new();
+    assert!(rt; second.open(&rt, PATH).is_err());
+    assert!(rt; opener.open(&rt, PATH).is_err());
+    assert_eq!(rt; (opener.faults, second.faults), (4, 1));
+    let mut reads = second.open_to_read(&rt, PATH)?;
     assert_eq!(rt; reads.write_at(0, b"z"), Err(Failed));
     assert_eq!(rt; reads.cut(0), Err(Failed));
     if reads.len() == Ok(4) {
@@ -270,8 +287,9 @@ fn a_file_is_kept(rt: HostRuntime) -> Result<(), Fail> {
     }
     assert_eq!(rt; (disk.faults(), late.faults(), reads.faults()), (0, 1, 3));
     drop(disk);
-    let mut again = FileDisk::open(&rt, PATH)?;
+    let mut again = second.open(&rt, PATH)?;
     assert_eq!(rt; again.len(), Ok(2));
+    assert_eq!(rt; (opener.faults, second.faults), (4, 1));
     let kept = fs::read(&rt, PATH)?;
     assert_eq!(rt; kept.as_slice(), b"ab".as_slice());
     fs::remove_dir_all(&rt, FOLDER)?;
@@ -281,7 +299,7 @@ fn a_file_is_kept(rt: HostRuntime) -> Result<(), Fail> {
 #[test]
 fn a_device_keeps_nothing(rt: HostRuntime) -> Result<(), Fail> {
     for (path, is_full) in [("/dev/full", true), ("/dev/null", false)] {
-        let mut disk = FileDisk::open(&rt, path)?;
+        let mut disk = Opener::new().open(&rt, path)?;
         assert_eq!(rt; disk.len(), Ok(0));
         assert_eq!(rt; disk.write_at(0, b"a").is_err(), is_full, "{path}");
         assert_eq!(rt; disk.sync(), Err(Failed), "{path}");

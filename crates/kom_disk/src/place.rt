@@ -1,4 +1,6 @@
 // What a disk over a file asks of the system, and the system itself.
+ghost use Rattle.std.specs.Prelude.{◌≡◌};
+
 use std::fs::{File, OpenOptions};
 use std::io;
 use std::os::unix::fs::{FileExt, OpenOptionsExt};
@@ -60,7 +62,9 @@ pub struct HostPlace<R: Files<File = File> + Copy> {
 }
 
 impl<R: Files<File = File> + Copy> HostPlace<R> {
-    pub fn new(rt: R, path: String) -> HostPlace<R> {
+    pub fn new(rt: R, path: String) -> HostPlace<R>
+        ensures { result.path ≡ path }
+    {
         HostPlace { rt, path }
     }
 }
