@@ -1,8 +1,9 @@
 // What a stop leaves of a write or of a cut.
 ghost use Rattle.std.specs.Prelude.{◌≡◌, ◌<◌, ◌≤◌, ◌+◌, ◌^◌, length, take, drop, max, OnOk, IfOk};
-ghost use Rattle.kom_disk.specs.Disk.{Torn, Shortened};
-ghost use Rattle.kom_disk.specs.declared.tear.Tear.TheVariants.{Nothing};
+ghost use Rattle.kom_disk.specs.Disk.{overwritten, Torn, Shortened};
+ghost use Rattle.kom_disk.specs.declared.tear.Tear.TheVariants.{Nothing, Whole};
 
+use crate::memory_disk::overwrite;
 use std::alloc::{AllocError, Global};
 
 /// What is left of a write. Of a cut `First` cuts off so many bytes, `Whole` all of them, and any
@@ -33,7 +34,8 @@ impl Tear {
     /// The kind of this number, from 0 on and again from 8 on, for n bytes that are written or cut
     /// off.
     pub fn of(number: u64, n: usize) -> Tear
-        ensures { number ≡ 0 → result ≡ Nothing }
+        ensures nothing { number ≡ 0 → result ≡ Nothing }
+        ensures whole { number ≡ 1 → result ≡ Whole }
     {
         match number % 8 {
             0 => Tear::Nothing,
@@ -93,12 +95,20 @@ fn mix(tear: Tear, bytes: &mut [u8], at: usize, end: usize, from: &[u8])
 }
 
 /// Leaves a torn write in `bytes`. One that begins past their end leaves nothing.
+#[tactic(auto, using(crate::proofs::Torn::torn_whole))]
 pub fn tear_write(tear: Tear, bytes: &mut Vec<u8>, at: usize, from: &[u8]) -> Result<(), AllocError>
     ensures torn { OnOk result (Torn at (length from.now) bytes.old.items bytes.new.items) }
     ensures nothing { tear ≡ Nothing → OnOk result (bytes.new.items ≡ bytes.old.items) }
+    ensures whole { at ≤ length bytes.old.items → tear ≡ Whole
+        → OnOk result (bytes.new.items ≡ overwritten bytes.old.items at from.now) }
 {
     let end = at.checked_add(from.len()).ok_or(AllocError)?;
     if at > bytes.len() {
+        return Ok(());
+    }
+    if let Tear::Whole = tear {
+        bytes.reserve(from.len())?;
+        overwrite(bytes, at, from);
         return Ok(());
     }
     let reach = tear.reach(bytes.len(), at, from.len());
@@ -127,6 +137,7 @@ pub fn torn_range(
 pub fn tear_cut(tear: Tear, bytes: &mut Vec<u8>, len: usize)
     ensures torn { Shortened len bytes.old.items bytes.new.items }
     ensures nothing { tear ≡ Nothing → bytes.new.items ≡ bytes.old.items }
+    ensures whole { tear ≡ Whole → bytes.new.items ≡ take len bytes.old.items }
 {
     if len >= bytes.len() {
         return;
