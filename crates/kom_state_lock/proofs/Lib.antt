@@ -1,6 +1,7 @@
 pub mod Begins
 pub mod Places
 pub mod Words
+pub mod Sharing
 pub mod Moves
 pub mod Turns
 pub mod PassFacts

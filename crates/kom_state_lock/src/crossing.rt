@@ -21,3 +21,9 @@ pub fn may_cross<B: Booked + Send>() {
 pub fn may_be_read<B: Sync>() {
     may_be_shared::<Held<B>>();
 }
+
+/// Where a value may go to another thread and threads may share it and its entries, they may share
+/// a pass. No search finds the proof: whoever shares one names `pass_sync`, of proofs/Sharing.
+pub fn may_be_seen<B: Booked<Entry: Sync> + Send + Sync>() {
+    may_be_shared::<Pass<B>>();
+}
