@@ -1,5 +1,6 @@
 -- Passes that are joined into one seat, the last one first.
-use Rattle.std.proofs.Common.{◌≡◌, ℕ, zero, suc, ◌<◌, ◌⊎◌, inl, inr, List, [], ◌∷◌, ◌++◌, length, map, get_or, max, All, Contains, sym, refl, ap, ◌∙◌, subst, arith, append_assoc}
+use Rattle.std.proofs.Common.{◌≡◌, ℕ, zero, suc, ◌<◌, ◌⊎◌, inl, inr, List, [], ◌∷◌, ◌++◌, length, map, get_or, max, All}
+use Rattle.std.proofs.Common.{Contains, sym, refl, ap, ◌∙◌, subst, arith, append_assoc}
 use Rattle.std.proofs.lemmas.List.Elements.{All-cons, All-contains, All-weaker}
 use mathlib.Core.Option as maybe
 use mathlib.Core.List.{IsPrefix}
@@ -39,7 +40,8 @@ module _ {B E : Type 0} where
   is_in_joined v w p is = record {
     mine = elim is.mine [
       | inl own ↦ inl own
-      | inr share ↦ inr (among_more (share_of w ∷ w.joined) v.joined (record { number = p.number; mine = p.mine }) share)
+      | inr share ↦ inr (among_more (share_of w ∷ w.joined) v.joined
+          (record { number = p.number; mine = p.mine }) share)
     ];
     seen = elim is.seen [
       | inl own ↦ inr (0, ap maybe.some (sym own))
@@ -50,9 +52,11 @@ module _ {B E : Type 0} where
 
   -- and what the other one knows of itself
   is_in_other : (table : TableId) (v w : View B E) (p : PassModel B E) → pass_model table w ≡ p → IsIn (joining v w) p
-  is_in_other table v w p e = subst (IsIn (joining v w)) e record { mine = inr (0, refl); seen = inr (1, refl); drawn = omega arith }
+  is_in_other table v w p e =
+      subst (IsIn (joining v w)) e record { mine = inr (0, refl); seen = inr (1, refl); drawn = omega arith }
 
-  pub first_gathered : (table : TableId) (all rest : List (PassModel B E)) (p : PassModel B E) (v : View B E) → all ≡ rest ++ p ∷ [] → pass_model table v ≡ p → AreGathered all rest v
+  pub first_gathered : (table : TableId) (all rest : List (PassModel B E)) (p : PassModel B E) (v : View B E)
+      → all ≡ rest ++ p ∷ [] → pass_model table v ≡ p → AreGathered all rest v
   first_gathered table all rest p v e is = record {
     gone = p ∷ [];
     parts = e;
@@ -60,15 +64,20 @@ module _ {B E : Type 0} where
     drawn = contains_first p.drawn v.drawn [] (sym (ap (λ (q : PassModel B E). q.drawn) is));
   }
 
-  pub one_gathered : (table : TableId) (all rest rest' : List (PassModel B E)) (p : PassModel B E) (v w n : View B E) → AreGathered all rest v → rest ≡ rest' ++ p ∷ [] → pass_model table w ≡ p → n ≡ joining v w → AreGathered all rest' n
+  pub one_gathered : (table : TableId) (all rest rest' : List (PassModel B E)) (p : PassModel B E) (v w n : View B E)
+      → AreGathered all rest v → rest ≡ rest' ++ p ∷ [] → pass_model table w ≡ p → n ≡ joining v w
+      → AreGathered all rest' n
   one_gathered table all rest rest' p v w n before e is new =
       let d : w.drawn ≡ p.drawn = ap (λ (q : PassModel B E). q.drawn) is in
       subst (AreGathered all rest') (sym new) record {
         gone = p ∷ before.gone;
-        parts = before.parts ∙ (ap (λ (l : List (PassModel B E)). l ++ before.gone) e ∙ append_assoc rest' (p ∷ []) before.gone);
-        each = All-cons (IsIn (joining v w)) p before.gone (is_in_other table v w p is) (λ k x h. is_in_joined v w _ (before.each k x h));
+        parts = before.parts ∙ (ap (λ (l : List (PassModel B E)). l ++ before.gone) e
+            ∙ append_assoc rest' (p ∷ []) before.gone);
+        each = All-cons (IsIn (joining v w)) p before.gone (is_in_other table v w p is)
+            (λ k x h. is_in_joined v w _ (before.each k x h));
         drawn = elim (is_max v.drawn w.drawn) [
-          | inl old ↦ contains_more p.drawn (max v.drawn w.drawn) (map drawn_by before.gone) (subst (Contains (map drawn_by before.gone)) (sym old) before.drawn)
+          | inl old ↦ contains_more p.drawn (max v.drawn w.drawn) (map drawn_by before.gone)
+              (subst (Contains (map drawn_by before.gone)) (sym old) before.drawn)
           | inr other ↦ contains_first p.drawn (max v.drawn w.drawn) (map drawn_by before.gone) (sym d ∙ sym other)
         ];
       }
@@ -77,7 +86,8 @@ module _ {B E : Type 0} where
   nothing_left all [] gone e none = sym e
   nothing_left all (p ∷ rest) gone e none = absurd (omega arith)
 
-  pub all_gathered : (all rest : List (PassModel B E)) (v : View B E) → AreGathered all rest v → length rest ≡ 0 → All (IsIn v) all × Contains (map drawn_by all) v.drawn
+  pub all_gathered : (all rest : List (PassModel B E)) (v : View B E) → AreGathered all rest v → length rest ≡ 0
+      → All (IsIn v) all × Contains (map drawn_by all) v.drawn
   all_gathered all rest v g none =
       let same : g.gone ≡ all = nothing_left all rest g.gone g.parts none in
       (subst (All (IsIn v)) same g.each, subst (λ l. Contains (map drawn_by l) v.drawn) same g.drawn)
@@ -86,12 +96,14 @@ module _ {B E : Type 0} where
   some_pass [] n c = absurd (let h = c.1 in omega arith)
   some_pass (p ∷ all) n c = omega arith
 
-  from_map : (all : List (PassModel B E)) (k n : ℕ) → k < length (map number_of all) → get_or (map number_of all) k n ≡ n → (p : PassModel B E) × Contains all p × (p.number ≡ n)
+  from_map : (all : List (PassModel B E)) (k n : ℕ) → k < length (map number_of all)
+      → get_or (map number_of all) k n ≡ n → (p : PassModel B E) × Contains all p × (p.number ≡ n)
   from_map [] k n h e = absurd (omega arith)
   from_map (p ∷ all) zero n h e = (p, contains_first p p all refl, e)
   from_map (p ∷ all) (suc k) n h e = let r = from_map all k n (omega arith) e in (r.0, contains_more p r.0 all r.1, r.2)
 
-  pub covers : (passes : ℕ) (all : List (PassModel B E)) (v : View B E) → All (IsIn v) all → ((n : ℕ) → n < passes → Contains (map number_of all) n) → Covers passes v
+  pub covers : (passes : ℕ) (all : List (PassModel B E)) (v : View B E) → All (IsIn v) all
+      → ((n : ℕ) → n < passes → Contains (map number_of all) n) → Covers passes v
   covers passes all v knows every n low =
       let c = every n low in
       let r = from_map all c.0 n c.1 c.2 in
@@ -101,18 +113,27 @@ module _ {B E : Type 0} where
         | inr share ↦ inr (share.0, record { number = r.0.number; mine = r.0.mine }, share.1, r.2)
       ]
 
-  closed_mine : (pass_of : E → ℕ) (passes : ℕ) (v : View B E) (p : PassModel B E) → IsSettled pass_of passes v → IsIn v p → p.mine ≡ entries_of pass_of p.number v.seen
+  closed_mine : (pass_of : E → ℕ) (passes : ℕ) (v : View B E) (p : PassModel B E) → IsSettled pass_of passes v
+      → IsIn v p → p.mine ≡ entries_of pass_of p.number v.seen
   closed_mine pass_of passes v p s is = elim is.mine [
     | inl own ↦ own.1 ∙ (s.mine ∙ ap (λ n. entries_of pass_of n v.seen) (sym own.0))
     | inr share ↦ s.joined share.0 (record { number = p.number; mine = p.mine }) share.1
   ]
 
-  closed_seen : (pass_of : E → ℕ) (passes : ℕ) (v : View B E) (p : PassModel B E) → IsSettled pass_of passes v → IsIn v p → IsPrefix p.seen v.seen
+  closed_seen : (pass_of : E → ℕ) (passes : ℕ) (v : View B E) (p : PassModel B E) → IsSettled pass_of passes v
+      → IsIn v p → IsPrefix p.seen v.seen
   closed_seen pass_of passes v p s is = elim is.seen [
     | inl own ↦ subst (λ z. IsPrefix z v.seen) (sym own) (begins_itself v.seen)
     | inr before ↦ s.beginnings before.0 p.seen before.1
   ]
 
-  pub all_closed : (pass_of : E → ℕ) (passes : ℕ) (table : TableId) (all : List (PassModel B E)) (v : View B E) (last : PassModel B E) → IsSettled pass_of passes v → All (IsIn v) all → last ≡ pass_model table (note_of v) → All (IsClosed pass_of last) all
+  pub all_closed : (pass_of : E → ℕ) (passes : ℕ) (table : TableId) (all : List (PassModel B E)) (v : View B E)
+      (last : PassModel B E) → IsSettled pass_of passes v → All (IsIn v) all → last ≡ pass_model table (note_of v)
+      → All (IsClosed pass_of last) all
   all_closed pass_of passes table all v last s knows e = subst (λ l. All (IsClosed pass_of l) all) (sym e)
-      (All-weaker (IsIn v) (IsClosed pass_of (pass_model table (note_of v))) (λ p is. record { mine = closed_mine pass_of passes v p s is; seen = closed_seen pass_of passes v p s is; drawn = is.drawn }) all knows)
+      (All-weaker (IsIn v) (IsClosed pass_of (pass_model table (note_of v)))
+      (λ p is. record {
+        mine = closed_mine pass_of passes v p s is;
+        seen = closed_seen pass_of passes v p s is;
+        drawn = is.drawn;
+      }) all knows)

@@ -1,5 +1,6 @@
 -- A seat that changes keeps what is true of the table, where the others' turns allow it.
-use Rattle.std.proofs.Common.{◌≡◌, ◌≢◌, ℕ, ◌+◌, ◌^◌, ◌<◌, ◌≤◌, ◌⊎◌, inl, inr, Bool, true, false, cond, List, length, set, sym, refl, ap, ◌∙◌, subst, arith, length-set, Some, Option}
+use Rattle.std.proofs.Common.{◌≡◌, ◌≢◌, ℕ, ◌+◌, ◌^◌, ◌<◌, ◌≤◌, ◌⊎◌, inl, inr, Bool, true, false, cond, List, length}
+use Rattle.std.proofs.Common.{set, sym, refl, ap, ◌∙◌, subst, arith, length-set, Some, Option}
 use Rattle.std.specs.Prelude.{count_by}
 use mathlib.Core.Option as maybe
 use mathlib.Core.List.{IsPrefix}
@@ -9,7 +10,8 @@ use Rattle.kom_state_lock.specs.declared.views.Turn.{Turn}
 use Rattle.kom_state_lock.specs.declared.views.Turn.TheVariants.{Resting, Waiting, Holding, Logged, Spent, Closed}
 use Rattle.kom_state_lock.specs.declared.views.Share.{Share}
 use Rattle.kom_state_lock.specs.declared.views.View.{View}
-use Rattle.kom_state_lock.specs.Views.{entries_of, ticket_in, is_over, is_served, may_have_ticket, is_original, spent_seat}
+use Rattle.kom_state_lock.specs.Views.{entries_of, ticket_in, is_over, is_served, may_have_ticket, is_original}
+use Rattle.kom_state_lock.specs.Views.{spent_seat}
 use Rattle.kom_state_lock.specs.Rule.{InTurn, IsJoined, IsSeated, IsHome, IsAway, IsKnown, Stands}
 use Rattle.kom_state_lock.proofs.Begins.{begins_through}
 use Rattle.kom_state_lock.proofs.Places.{here_below, count_set}
@@ -62,7 +64,8 @@ module _ {B E : Type 0} (pass_of : E → ℕ) (led : B → List E → B → Type
       → InTurn pass_of led opening t sv h homes seen turn → ticket_in turn ≡ Some k → k < t
   ticket_below t sv h homes seen Resting k says e = absurd cc
   ticket_below t sv h homes seen (Waiting mine) k says e = let same : mine ≡ k = cc in omega (arith, says.1)
-  ticket_below t sv h homes seen (Holding mine taken before) k says e = let same : mine ≡ k = cc in omega (arith, says.0.drawn)
+  ticket_below t sv h homes seen (Holding mine taken before) k says e = let same : mine ≡ k = cc in
+      omega (arith, says.0.drawn)
   ticket_below t sv h homes seen (Logged mine left) k says e = let same : mine ≡ k = cc in omega (arith, says.0.drawn)
   ticket_below t sv h homes seen Spent k says e = absurd cc
   ticket_below t sv h homes seen Closed k says e = absurd cc
@@ -78,7 +81,8 @@ module _ {B E : Type 0} (pass_of : E → ℕ) (led : B → List E → B → Type
   served_now t sv h homes seen Closed says e = absurd cc
 
   -- what a change of the seat id from v to w asks, where the table goes from t sv h homes to t' sv' h' homes'
-  pub record IsMove (t sv : ℕ) (h : List E) (homes : Homes) (views : List V) (id : ℕ) (v : V) (t' sv' : ℕ) (h' : List E) (homes' : Homes) (w : V) : Type 0 where
+  pub record IsMove (t sv : ℕ) (h : List E) (homes : Homes) (views : List V) (id : ℕ) (v : V) (t' sv' : ℕ) (h' : List E)
+      (homes' : Homes) (w : V) : Type 0 where
     pub here : get_elem? views id ≡ maybe.some v
     pub goes : is_over v.turn ≡ false
     pub still : is_over w.turn ≡ false
@@ -87,14 +91,15 @@ module _ {B E : Type 0} (pass_of : E → ℕ) (led : B → List E → B → Type
     pub next : w.next ≡ v.next
     pub beginnings : w.beginnings ≡ v.beginnings
     pub rises : t ≤ t'
-    pub behind : sv' ≤ t'
+    pub ordered : sv' ≤ t'
     pub served : sv' ≤ 2 ^ 62
     pub room : (t' + sv) + cond (may_have_ticket v.turn) 1 0 ≤ (t + sv') + cond (may_have_ticket w.turn) 1 0
     pub begins : IsPrefix h h'
     pub entries : (n : ℕ) → n ≢ id → entries_of pass_of n h' ≡ entries_of pass_of n h
     pub slot : IsHome pass_of led opening sv' h' homes' ⊎ IsAway pass_of led opening homes' (set views id w)
     pub rest : (j : ℕ) (u : V) → j ≢ id → get_elem? views j ≡ maybe.some u → is_over u.turn ≡ false
-        → InTurn pass_of led opening t sv h homes u.seen u.turn → InTurn pass_of led opening t' sv' h' homes' u.seen u.turn
+        → InTurn pass_of led opening t sv h homes u.seen u.turn
+        → InTurn pass_of led opening t' sv' h' homes' u.seen u.turn
     pub fresh : (k : ℕ) → ticket_in w.turn ≡ Some k → (ticket_in v.turn ≡ Some k) ⊎ (t ≤ k)
     pub seen : IsPrefix w.seen h'
     pub mine : w.mine ≡ entries_of pass_of id h'
@@ -102,12 +107,14 @@ module _ {B E : Type 0} (pass_of : E → ℕ) (led : B → List E → B → Type
     pub turn : InTurn pass_of led opening t' sv' h' homes' w.seen w.turn
     pub known : IsKnown pass_of led opening h' (set views id w)
 
-  module _ (t sv : ℕ) (h : List E) (homes : Homes) (views : List V) (id : ℕ) (v : V) (t' sv' : ℕ) (h' : List E) (homes' : Homes) (w : V)
+  module _ (t sv : ℕ) (h : List E) (homes : Homes) (views : List V) (id : ℕ) (v : V) (t' sv' : ℕ) (h' : List E)
+      (homes' : Homes) (w : V)
       (r : Standing t sv h homes views) (m : IsMove t sv h homes views id v t' sv' h' homes' w) where
     abbrev Seat : ℕ → V → Type 0
     Seat = IsSeated pass_of led opening passes t' sv' h' homes' (set views id w)
 
-    still_joined : (share : Share E) → IsJoined pass_of led opening h views share → IsJoined pass_of led opening h' (set views id w) share
+    still_joined : (share : Share E) → IsJoined pass_of led opening h views share
+        → IsJoined pass_of led opening h' (set views id w) share
     still_joined share is =
         let n : ℕ = share.number in
         let other : n ≢ id = λ e.
@@ -130,9 +137,13 @@ module _ {B E : Type 0} (pass_of : E → ℕ) (led : B → List E → B → Type
       mine = m.mine;
       drawn = m.drawn;
       turn = m.turn;
-      joined = λ k share e. still_joined share (old.joined k share (subst (λ (l : List (Share E)). get_elem? l k ≡ maybe.some share) m.joined e));
-      beginnings = λ k seen e. begins_through seen h h' (old.beginnings k seen (subst (λ (l : List (List E)). get_elem? l k ≡ maybe.some seen) m.beginnings e)) m.begins;
-      next = λ some. let some' : 0 < v.next = omega (arith, m.next) in let is = old.next some' in (is.0, m.next ∙ (is.1 ∙ sym long));
+      joined = λ k share e. still_joined share
+          (old.joined k share (subst (λ (l : List (Share E)). get_elem? l k ≡ maybe.some share) m.joined e));
+      beginnings = λ k seen e. begins_through seen h h'
+          (old.beginnings k seen
+          (subst (λ (l : List (List E)). get_elem? l k ≡ maybe.some seen) m.beginnings e)) m.begins;
+      next = λ some. let some' : 0 < v.next = omega (arith, m.next) in let is = old.next some' in
+          (is.0, m.next ∙ (is.1 ∙ sym long));
     }
 
     theirs : (j : ℕ) (u : V) → j ≢ id → get_elem? views j ≡ maybe.some u → is_over u.turn ≡ false → Seat j u
@@ -155,13 +166,16 @@ module _ {B E : Type 0} (pass_of : E → ℕ) (led : B → List E → B → Type
     ]
 
     -- another seat has no ticket of this one
-    alone : (j : ℕ) (u : V) (k : ℕ) → j ≢ id → get_elem? views j ≡ maybe.some u → ticket_in u.turn ≡ Some k → ticket_in w.turn ≡ Some k → ⊥
+    alone : (j : ℕ) (u : V) (k : ℕ) → j ≢ id → get_elem? views j ≡ maybe.some u → ticket_in u.turn ≡ Some k
+        → ticket_in w.turn ≡ Some k → ⊥
     alone j u k other e his mine = elim (m.fresh k mine) [
       | inl old ↦ other (r.apart j id u v k e m.here his old)
-      | inr new ↦ let low : k < t = ticket_below t sv h homes u.seen u.turn k (r.each j u e (has_ticket u.turn k his)).turn his in omega arith
+      | inr new ↦ let low : k < t = ticket_below t sv h homes u.seen u.turn k
+          (r.each j u e (has_ticket u.turn k his)).turn his in omega arith
     ]
 
-    apart' : (i j : ℕ) (x y : V) (k : ℕ) → get_elem? (set views id w) i ≡ maybe.some x → get_elem? (set views id w) j ≡ maybe.some y
+    apart' : (i j : ℕ) (x y : V) (k : ℕ) → get_elem? (set views id w) i ≡ maybe.some x
+        → get_elem? (set views id w) j ≡ maybe.some y
         → ticket_in x.turn ≡ Some k → ticket_in y.turn ≡ Some k → i ≡ j
     apart' i j x y k e f p q = elim (at_set views id i w x e) [
       | inl a ↦ elim (at_set views id j w y f) [
@@ -177,24 +191,30 @@ module _ {B E : Type 0} (pass_of : E → ℕ) (led : B → List E → B → Type
     pub moved : Standing t' sv' h' homes' (set views id w)
     moved = record {
       few = r.few;
-      behind = m.behind;
+      ordered = m.ordered;
       served = m.served;
       seats = let c = count_set (λ (u : V). is_original u.turn) views id v w m.here in
           let a = goes_original v.turn m.goes in let b = goes_original w.turn m.still in
-          let c' : count_by (λ (u : V). is_original u.turn) (set views id w) + 1 ≡ count_by (λ (u : V). is_original u.turn) views + 1 =
-          subst (λ (z : Bool × Bool). count_by (λ (u : V). is_original u.turn) (set views id w) + cond z.0 1 0 ≡ count_by (λ (u : V). is_original u.turn) views + cond z.1 1 0) (λ i. (a i, b i)) c in
+          let c' : count_by (λ (u : V). is_original u.turn) (set views id w) + 1
+          ≡ count_by (λ (u : V). is_original u.turn) views + 1 =
+          subst (λ (z : Bool × Bool). count_by (λ (u : V). is_original u.turn) (set views id w) + cond z.0 1 0
+          ≡ count_by (λ (u : V). is_original u.turn) views + cond z.1 1 0) (λ i. (a i, b i)) c in
           let s = r.seats in omega arith;
-      tickets = let c = count_set (λ (u : V). may_have_ticket u.turn) views id v w m.here in let s = r.tickets in let q = m.room in omega arith;
+      tickets = let c = count_set (λ (u : V). may_have_ticket u.turn) views id v w m.here in let s = r.tickets in
+          let q = m.room in omega arith;
       slot = m.slot;
       each = each';
       apart = apart';
       unborn = λ n far. let far' : length views ≤ n = omega (arith, long) in
           let near : id < length views = here_below views id v m.here in
           m.entries n (λ e. omega arith) ∙ r.unborn n far';
-      strangers = λ n far. let near : id < passes = (r.each id v m.here m.goes).within in m.entries n (λ e. omega arith) ∙ r.strangers n far;
+      strangers = λ n far. let near : id < passes = (r.each id v m.here m.goes).within in m.entries n (λ e. omega arith)
+          ∙ r.strangers n far;
       known = m.known;
     }
 
     -- a seat that has its turn is the only one
-    pub one_served : (j : ℕ) (u : V) → get_elem? views j ≡ maybe.some u → is_served u.turn ≡ true → ticket_in v.turn ≡ Some sv → j ≡ id
-    one_served j u e serves mine = r.apart j id u v sv e m.here (served_now t sv h homes u.seen u.turn (r.each j u e (served_goes u.turn serves)).turn serves) mine
+    pub one_served : (j : ℕ) (u : V) → get_elem? views j ≡ maybe.some u → is_served u.turn ≡ true
+        → ticket_in v.turn ≡ Some sv → j ≡ id
+    one_served j u e serves mine = r.apart j id u v sv e m.here
+        (served_now t sv h homes u.seen u.turn (r.each j u e (served_goes u.turn serves)).turn serves) mine

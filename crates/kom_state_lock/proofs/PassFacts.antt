@@ -9,8 +9,10 @@ use Rattle.kom_state_lock.specs.Passes.{IsPass, HoldsNoTurn}
 
 module _ {B E : Type 0} where
   -- a pass that has logged is a pass
-  pub logged_is_pass : (number : ℕ) (refused : Option ℕ) (me n : Me (Option B) (View B E)) (ticket : ℕ) (taken : B) (before : List E) (entry : E) (left : B)
-      → IsPass number refused me → me.0.turn ≡ Holding ticket taken before → n ≡ (logging entry left me.0, me.1) → IsPass number refused n
+  pub logged_is_pass : (number : ℕ) (refused : Option ℕ) (me n : Me (Option B) (View B E)) (ticket : ℕ) (taken : B)
+      (before : List E) (entry : E) (left : B)
+      → IsPass number refused me → me.0.turn ≡ Holding ticket taken before → n ≡ (logging entry left me.0, me.1)
+      → IsPass number refused n
   logged_is_pass number refused me n ticket taken before entry left is holds e =
       subst (λ m. IsPass number refused m) (sym e) record {
         numbered = is.numbered;

@@ -1,5 +1,7 @@
 -- Seats are split off, joined, and close the hall.
-use Rattle.std.proofs.Common.{◌≡◌, ◌≢◌, ℕ, zero, suc, ◌+◌, ◌<◌, ◌≤◌, ◌⊎◌, inl, inr, Bool, true, false, cond, List, [], ◌∷◌, ◌++◌, length, set, sym, refl, ap, ◌∙◌, subst, arith, length-set, length-append, Some, None, Option}
+use Rattle.std.proofs.Common.{◌≡◌, ◌≢◌, ℕ, zero, suc, ◌+◌, ◌<◌, ◌≤◌, ◌⊎◌, inl, inr, Bool, true, false, cond, List, []}
+use Rattle.std.proofs.Common.{◌∷◌, ◌++◌, length, set, sym, refl, ap, ◌∙◌, subst, arith, length-set, length-append, Some}
+use Rattle.std.proofs.Common.{None, Option}
 use Rattle.std.specs.Prelude.{count_by}
 use Rattle.std.proofs.lemmas.List.Sums.{count_by-le-length}
 use mathlib.Core.Option as maybe
@@ -13,7 +15,8 @@ use Rattle.kom_state_lock.specs.declared.views.Turn.{Turn}
 use Rattle.kom_state_lock.specs.declared.views.Turn.TheVariants.{Resting, Waiting, Holding, Logged, Spent, Closed}
 use Rattle.kom_state_lock.specs.declared.views.Share.{Share}
 use Rattle.kom_state_lock.specs.declared.views.View.{View}
-use Rattle.kom_state_lock.specs.Views.{entries_of, ticket_in, is_over, is_served, may_have_ticket, is_original, spent_seat, first_seat, splitting, split_off, share_of, joining, noting, note_of}
+use Rattle.kom_state_lock.specs.Views.{entries_of, ticket_in, is_over, is_served, may_have_ticket, is_original}
+use Rattle.kom_state_lock.specs.Views.{spent_seat, first_seat, splitting, split_off, share_of, joining, noting, note_of}
 use Rattle.kom_state_lock.specs.Rule.{at_home, AreWords, InTurn, IsJoined, IsSeated, IsHome, IsKnown, Stands, Rule}
 use Rattle.kom_state_lock.specs.Closing.{Covers, IsSettled}
 use Rattle.kom_state_lock.proofs.Begins.{begins_itself, longer_begins, longer_first, longer_second}
@@ -47,8 +50,9 @@ module _ {B E : Type 0} (pass_of : E → ℕ) (led : B → List E → B → Type
   other_seen t sv h homes seen seen' Spent idle says = tt
   other_seen t sv h homes seen seen' Closed idle says = tt
 
-  -- a seat with the number next, or no longer able to split, and one more behind the others
-  module _ (t sv : ℕ) (h : List E) (homes : Homes) (views : List V) (id next : ℕ) (v right : V) (r : Standing t sv h homes views)
+  -- a seat with the number next, or no longer able to split, and one more after the others
+  module _ (t sv : ℕ) (h : List E) (homes : Homes) (views : List V) (id next : ℕ) (v right : V)
+      (r : Standing t sv h homes views)
       (here : get_elem? views id ≡ maybe.some v) (goes : is_over v.turn ≡ false) where
     abbrev left : V
     left = record v { next = next }
@@ -68,21 +72,25 @@ module _ {B E : Type 0} (pass_of : E → ℕ) (led : B → List E → B → Type
     as_before : (i : ℕ) (u : V) → i ≢ id → get_elem? views i ≡ maybe.some u → get_elem? more i ≡ maybe.some u
     as_before i u other e = at_longer (set views id left) (right ∷ []) i u (set_else views id i left other ∙ e)
 
-    still_joined : (share : Share E) → IsJoined pass_of led opening h views share → IsJoined pass_of led opening h more share
+    still_joined : (share : Share E) → IsJoined pass_of led opening h views share
+        → IsJoined pass_of led opening h more share
     still_joined share is =
         let other : share.number ≢ id = λ e.
-        let same : spent_seat ≡ v = maybe.some-injective spent_seat v (sym is.spent ∙ (ap (get_elem? views) e ∙ here)) in
+        let same : spent_seat ≡ v = maybe.some-injective spent_seat v
+        (sym is.spent ∙ (ap (get_elem? views) e ∙ here)) in
         let bad : true ≡ false = ap (λ (u : V). is_over u.turn) same ∙ goes in absurd cc in
         record { spent = as_before share.number spent_seat other is.spent; mine = is.mine }
 
     -- who is there now was there before, with the same ticket, or is the new one
-    from : (i : ℕ) (x : V) → get_elem? more i ≡ maybe.some x → ((i ≡ length views) × (right ≡ x)) ⊎ (((i ≡ id) × (left ≡ x)) ⊎ ((i ≢ id) × (get_elem? views i ≡ maybe.some x)))
+    from : (i : ℕ) (x : V) → get_elem? more i ≡ maybe.some x → ((i ≡ length views) × (right ≡ x))
+        ⊎ (((i ≡ id) × (left ≡ x)) ⊎ ((i ≢ id) × (get_elem? views i ≡ maybe.some x)))
     from i x e = elim (at_end (set views id left) right x i e) [
       | inl a ↦ inr (at_set views id i left x a)
       | inr b ↦ inl (b.0 ∙ length-set views id left, b.1)
     ]
 
-    ticket_before : (i : ℕ) (x : V) (k : ℕ) → ticket_in right.turn ≡ None → get_elem? more i ≡ maybe.some x → ticket_in x.turn ≡ Some k → (u : V) × (get_elem? views i ≡ maybe.some u) × (ticket_in u.turn ≡ Some k)
+    ticket_before : (i : ℕ) (x : V) (k : ℕ) → ticket_in right.turn ≡ None → get_elem? more i ≡ maybe.some x
+        → ticket_in x.turn ≡ Some k → (u : V) × (get_elem? views i ≡ maybe.some u) × (ticket_in u.turn ≡ Some k)
     ticket_before i x k none e mine = elim (from i x e) [
       | inl a ↦ let bad : None ≡ Some k = sym none ∙ (ap (λ (u : V). ticket_in u.turn) a.1 ∙ mine) in absurd cc
       | inr b ↦ elim b [
@@ -111,7 +119,8 @@ module _ {B E : Type 0} (pass_of : E → ℕ) (led : B → List E → B → Type
           beginnings = old.beginnings;
           next = λ some. let is = own_next some in (is.0, is.1 ∙ sym long);
         } in
-        let theirs : (i : ℕ) (u : V) → i ≢ id → get_elem? views i ≡ maybe.some u → is_over u.turn ≡ false → Seat i u = λ i u other e go.
+        let theirs : (i : ℕ) (u : V) → i ≢ id → get_elem? views i ≡ maybe.some u → is_over u.turn ≡ false
+        → Seat i u = λ i u other e go.
         let was = r.each i u e go in record {
           number = was.number;
           within = was.within;
@@ -125,21 +134,24 @@ module _ {B E : Type 0} (pass_of : E → ℕ) (led : B → List E → B → Type
         } in
         record {
           few = r.few;
-          behind = r.behind;
+          ordered = r.ordered;
           served = r.served;
           seats = let c = count_set (λ (u : V). is_original u.turn) views id v left here in
               let d = count_end (λ (u : V). is_original u.turn) (set views id left) right in omega arith;
           tickets = let c = count_set (λ (u : V). may_have_ticket u.turn) views id v left here in
-              let d = count_end (λ (u : V). may_have_ticket u.turn) (set views id left) right in let s = r.tickets in omega arith;
+              let d = count_end (λ (u : V). may_have_ticket u.turn) (set views id left) right in let s = r.tickets in
+              omega arith;
           slot = elim r.slot [
             | inl home ↦ inl home
             | inr away ↦ inr (dite (ℕ_discrete away.0 id)
-                (λ e. let is : away.1 ≡ v = maybe.some-injective away.1 v (sym away.2 ∙ (ap (get_elem? views) e ∙ here)) in
+                (λ e. let is : away.1 ≡ v = maybe.some-injective away.1 v
+                (sym away.2 ∙ (ap (get_elem? views) e ∙ here)) in
                 (id, left, there, sym (ap (λ (u : V). is_served u.turn) is) ∙ away.3, away.4))
                 (λ other. (away.0, away.1, as_before away.0 away.1 other away.2, away.3, away.4)))
           ];
           each = λ i u e go. elim (from i u e) [
-            | inl a ↦ subst (λ (z : ℕ × V). Seat z.0 z.1) (λ j. (sym a.0 j, a.1 j)) (newcomer (ap (λ (x : V). is_over x.turn) a.1 ∙ go))
+            | inl a ↦ subst (λ (z : ℕ × V). Seat z.0 z.1) (λ j. (sym a.0 j, a.1 j))
+                (newcomer (ap (λ (x : V). is_over x.turn) a.1 ∙ go))
             | inr b ↦ elim b [
               | inl c ↦ subst (λ (z : ℕ × V). Seat z.0 z.1) (λ j. (sym c.0 j, c.1 j)) own
               | inr d ↦ theirs i u d.0 d.1 go
@@ -151,13 +163,15 @@ module _ {B E : Type 0} (pass_of : E → ℕ) (led : B → List E → B → Type
           unborn = λ n far. r.unborn n (omega (arith, long));
           strangers = r.strangers;
           known = dite (ℕ_discrete r.known.0 id)
-              (λ e. let is : r.known.1 ≡ v = maybe.some-injective r.known.1 v (sym r.known.2 ∙ (ap (get_elem? views) e ∙ here)) in
+              (λ e. let is : r.known.1 ≡ v = maybe.some-injective r.known.1 v
+              (sym r.known.2 ∙ (ap (get_elem? views) e ∙ here)) in
               (id, left, there, goes, sym (ap (λ (u : V). u.seen) is) ∙ r.known.4))
               (λ other. (r.known.0, r.known.1, as_before r.known.0 r.known.1 other r.known.2, r.known.3, r.known.4));
         }
 
   -- the first seat may split while there are fewer seats than passes
-  pub splits_allowed : (id : ℕ) (v : V) → is_over v.turn ≡ false → 0 < v.next → v.next < passes → Splits Ruled id v (splitting v) (split_off v)
+  pub splits_allowed : (id : ℕ) (v : V) → is_over v.turn ≡ false → 0 < v.next → v.next < passes
+      → Splits Ruled id v (splitting v) (split_off v)
   splits_allowed id v goes some room s r here =
       let st = r.stands in
       let views = s.views in
@@ -188,7 +202,8 @@ module _ {B E : Type 0} (pass_of : E → ℕ) (led : B → List E → B → Type
       }
 
   -- where a seat has all numbers, no other takes turns
-  alone : (t sv : ℕ) (h : List E) (homes : Homes) (views : List V) (id : ℕ) (v : V) → Standing t sv h homes views → get_elem? views id ≡ maybe.some v → is_over v.turn ≡ false → Covers passes v
+  alone : (t sv : ℕ) (h : List E) (homes : Homes) (views : List V) (id : ℕ) (v : V) → Standing t sv h homes views
+      → get_elem? views id ≡ maybe.some v → is_over v.turn ≡ false → Covers passes v
       → (i : ℕ) (u : V) → get_elem? views i ≡ maybe.some u → is_over u.turn ≡ false → i ≡ id
   alone t sv h homes views id v r here goes all i u e go =
       let mine = r.each id v here goes in
@@ -196,12 +211,14 @@ module _ {B E : Type 0} (pass_of : E → ℕ) (led : B → List E → B → Type
         | inl same ↦ same ∙ mine.number
         | inr joined ↦
             let is = mine.joined joined.0 joined.1 joined.2 in
-            let over : spent_seat ≡ u = maybe.some-injective spent_seat u (sym is.spent ∙ (ap (get_elem? views) joined.3 ∙ e)) in
+            let over : spent_seat ≡ u = maybe.some-injective spent_seat u
+            (sym is.spent ∙ (ap (get_elem? views) joined.3 ∙ e)) in
             let bad : true ≡ false = ap (λ (x : V). is_over x.turn) over ∙ go in absurd cc
       ]
 
   -- the last seat may leave a note
-  pub notes_allowed : (id : ℕ) (v : V) → is_over v.turn ≡ false → Covers passes v → Splits Ruled id v (noting v) (note_of v)
+  pub notes_allowed : (id : ℕ) (v : V) → is_over v.turn ≡ false → Covers passes v
+      → Splits Ruled id v (noting v) (note_of v)
   notes_allowed id v goes all s r here =
       let st = r.stands in record {
         ticket = r.ticket;
@@ -211,13 +228,16 @@ module _ {B E : Type 0} (pass_of : E → ℕ) (led : B → List E → B → Type
         stands = added r.ticket r.serving r.history s.homes s.views id 0 v (note_of v) st here goes refl
             (let c = st.seats in omega arith)
             (λ none. absurd (omega arith))
-            (λ i u other e go _. other (alone r.ticket r.serving r.history s.homes s.views id v st here goes all i u e go))
+            (λ i u other e go _. other
+            (alone r.ticket r.serving r.history s.homes s.views id v st here goes all i u e go))
             (λ over. absurd cc);
       }
 
-  module _ (t sv : ℕ) (h : List E) (homes : Homes) (views : List V) (id other : ℕ) (v w : V) (r : Standing t sv h homes views)
+  module _ (t sv : ℕ) (h : List E) (homes : Homes) (views : List V) (id other : ℕ) (v w : V)
+      (r : Standing t sv h homes views)
       (here : get_elem? views id ≡ maybe.some v) (goes : is_over v.turn ≡ false) (idle : is_served v.turn ≡ false)
-      (apart : other ≢ id) (there : get_elem? views other ≡ maybe.some w) (goes' : is_over w.turn ≡ false) (idle' : is_served w.turn ≡ false) where
+      (apart : other ≢ id) (there : get_elem? views other ≡ maybe.some w) (goes' : is_over w.turn ≡ false)
+      (idle' : is_served w.turn ≡ false) where
     abbrev both : V
     both = joining v w
 
@@ -234,31 +254,38 @@ module _ {B E : Type 0} (pass_of : E → ℕ) (led : B → List E → B → Type
     wide = length-set one other spent_seat ∙ length-set views id both
 
     other_near : other < length one
-    other_near = let near : other < length views = here_below views other w there in omega (arith, length-set views id both)
+    other_near = let near : other < length views = here_below views other w there in
+        omega (arith, length-set views id both)
 
     both_there : get_elem? fewer id ≡ maybe.some both
-    both_there = set_else one other id spent_seat (λ e. apart (sym e)) ∙ set_here views id both (here_below views id v here)
+    both_there = set_else one other id spent_seat (λ e. apart (sym e))
+        ∙ set_here views id both (here_below views id v here)
 
     spent_there : get_elem? fewer other ≡ maybe.some spent_seat
     spent_there = set_here one other spent_seat other_near
 
-    unchanged : (i : ℕ) (u : V) → i ≢ id → i ≢ other → get_elem? views i ≡ maybe.some u → get_elem? fewer i ≡ maybe.some u
+    unchanged : (i : ℕ) (u : V) → i ≢ id → i ≢ other → get_elem? views i ≡ maybe.some u
+        → get_elem? fewer i ≡ maybe.some u
     unchanged i u a b e = set_else one other i spent_seat b ∙ (set_else views id i both a ∙ e)
 
     who : (i : ℕ) (x : V) → get_elem? fewer i ≡ maybe.some x
-        → ((i ≡ other) × (spent_seat ≡ x)) ⊎ (((i ≡ id) × (both ≡ x)) ⊎ ((i ≢ other) × (i ≢ id) × (get_elem? views i ≡ maybe.some x)))
+        → ((i ≡ other) × (spent_seat ≡ x)) ⊎ (((i ≡ id) × (both ≡ x))
+        ⊎ ((i ≢ other) × (i ≢ id) × (get_elem? views i ≡ maybe.some x)))
     who i x e = elim (at_set one other i spent_seat x e) [
       | inl a ↦ inl a
       | inr b ↦ elim (at_set views id i both x b.1) [ inl c ↦ inr (inl c) | inr d ↦ inr (inr (b.0, d.0, d.1)) ]
     ]
 
-    spent_joined : (share : Share E) → IsJoined pass_of led opening h views share → IsJoined pass_of led opening h fewer share
+    spent_joined : (share : Share E) → IsJoined pass_of led opening h views share
+        → IsJoined pass_of led opening h fewer share
     spent_joined share is =
         let a : share.number ≢ id = λ e.
-        let same : spent_seat ≡ v = maybe.some-injective spent_seat v (sym is.spent ∙ (ap (get_elem? views) e ∙ here)) in
+        let same : spent_seat ≡ v = maybe.some-injective spent_seat v
+        (sym is.spent ∙ (ap (get_elem? views) e ∙ here)) in
         let bad : true ≡ false = ap (λ (u : V). is_over u.turn) same ∙ goes in absurd cc in
         let b : share.number ≢ other = λ e.
-        let same : spent_seat ≡ w = maybe.some-injective spent_seat w (sym is.spent ∙ (ap (get_elem? views) e ∙ there)) in
+        let same : spent_seat ≡ w = maybe.some-injective spent_seat w
+        (sym is.spent ∙ (ap (get_elem? views) e ∙ there)) in
         let bad : true ≡ false = ap (λ (u : V). is_over u.turn) same ∙ goes' in absurd cc in
         record { spent = unchanged share.number spent_seat a b is.spent; mine = is.mine }
 
@@ -268,7 +295,8 @@ module _ {B E : Type 0} (pass_of : E → ℕ) (led : B → List E → B → Type
     old' : IsSeated pass_of led opening passes t sv h homes views other w
     old' = r.each other w there goes'
 
-    share_joined : (k : ℕ) (share : Share E) → get_elem? (share_of w ∷ w.joined) k ≡ maybe.some share → IsJoined pass_of led opening h fewer share
+    share_joined : (k : ℕ) (share : Share E) → get_elem? (share_of w ∷ w.joined) k ≡ maybe.some share
+        → IsJoined pass_of led opening h fewer share
     share_joined zero share e =
         subst (IsJoined pass_of led opening h fewer) (maybe.some-injective (share_of w) share e) record {
           spent = ap (get_elem? fewer) old'.number ∙ spent_there;
@@ -276,7 +304,8 @@ module _ {B E : Type 0} (pass_of : E → ℕ) (led : B → List E → B → Type
         }
     share_joined (suc k) share e = spent_joined share (old'.joined k share e)
 
-    beginning_seen : (k : ℕ) (seen : List E) → get_elem? (v.seen ∷ w.seen ∷ w.beginnings) k ≡ maybe.some seen → IsPrefix seen h
+    beginning_seen : (k : ℕ) (seen : List E) → get_elem? (v.seen ∷ w.seen ∷ w.beginnings) k ≡ maybe.some seen
+        → IsPrefix seen h
     beginning_seen zero seen e = subst (λ z. IsPrefix z h) (maybe.some-injective v.seen seen e) old.seen
     beginning_seen (suc zero) seen e = subst (λ z. IsPrefix z h) (maybe.some-injective w.seen seen e) old'.seen
     beginning_seen (suc (suc k)) seen e = old'.beginnings k seen e
@@ -313,7 +342,8 @@ module _ {B E : Type 0} (pass_of : E → ℕ) (led : B → List E → B → Type
       next = λ some. let is = was.next some in (is.0, is.1 ∙ sym wide);
     }
 
-    ticket_then : (i : ℕ) (x : V) (k : ℕ) → get_elem? fewer i ≡ maybe.some x → ticket_in x.turn ≡ Some k → (u : V) × (get_elem? views i ≡ maybe.some u) × (ticket_in u.turn ≡ Some k)
+    ticket_then : (i : ℕ) (x : V) (k : ℕ) → get_elem? fewer i ≡ maybe.some x → ticket_in x.turn ≡ Some k → (u : V)
+        × (get_elem? views i ≡ maybe.some u) × (ticket_in u.turn ≡ Some k)
     ticket_then i x k e mine = elim (who i x e) [
       | inl a ↦ let bad : None ≡ Some k = ap (λ (u : V). ticket_in u.turn) a.1 ∙ mine in absurd cc
       | inr b ↦ elim b [
@@ -322,12 +352,14 @@ module _ {B E : Type 0} (pass_of : E → ℕ) (led : B → List E → B → Type
       ]
     ]
 
-    unserved_other : (i : ℕ) (u x : V) → get_elem? views i ≡ maybe.some u → is_served u.turn ≡ true → (j : ℕ) → get_elem? views j ≡ maybe.some x → is_served x.turn ≡ false → i ≢ j
+    unserved_other : (i : ℕ) (u x : V) → get_elem? views i ≡ maybe.some u → is_served u.turn ≡ true → (j : ℕ)
+        → get_elem? views j ≡ maybe.some x → is_served x.turn ≡ false → i ≢ j
     unserved_other i u x e serves j f no_turn same =
         let is : u ≡ x = maybe.some-injective u x (sym e ∙ (ap (get_elem? views) same ∙ f)) in
         let bad : true ≡ false = sym serves ∙ (ap (λ (y : V). is_served y.turn) is ∙ no_turn) in absurd cc
 
-    seen_whole : (i : ℕ) (u : V) → get_elem? views i ≡ maybe.some u → is_over u.turn ≡ false → u.seen ≡ h → Dec (i ≡ id) → Dec (i ≡ other) → IsKnown pass_of led opening h fewer
+    seen_whole : (i : ℕ) (u : V) → get_elem? views i ≡ maybe.some u → is_over u.turn ≡ false → u.seen ≡ h → Dec (i ≡ id)
+        → Dec (i ≡ other) → IsKnown pass_of led opening h fewer
     seen_whole i u e go whole (yes a) b =
         let is : u ≡ v = maybe.some-injective u v (sym e ∙ (ap (get_elem? views) a ∙ here)) in
         (id, both, both_there, goes, longer_first v.seen w.seen h (sym (ap (λ (x : V). x.seen) is) ∙ whole) old'.seen)
@@ -339,14 +371,17 @@ module _ {B E : Type 0} (pass_of : E → ℕ) (led : B → List E → B → Type
     pub joined_stands : Standing t sv h homes fewer
     joined_stands = record {
       few = r.few;
-      behind = r.behind;
+      ordered = r.ordered;
       served = r.served;
       seats = let c = count_set (λ (u : V). is_original u.turn) views id v both here in
-          let d = count_set (λ (u : V). is_original u.turn) one other w spent_seat (set_else views id other both apart ∙ there) in
-          let e : cond {A = ℕ} (is_original w.turn) 1 0 ≡ 1 = ap (λ (b : Bool). cond {A = ℕ} b 1 0) (goes_original w.turn goes') in
+          let d = count_set (λ (u : V). is_original u.turn) one other w spent_seat
+          (set_else views id other both apart ∙ there) in
+          let e : cond {A = ℕ} (is_original w.turn) 1 0 ≡ 1 = ap (λ (b : Bool). cond {A = ℕ} b 1 0)
+          (goes_original w.turn goes') in
           let s = r.seats in omega arith;
       tickets = let c = count_set (λ (u : V). may_have_ticket u.turn) views id v both here in
-          let d = count_set (λ (u : V). may_have_ticket u.turn) one other w spent_seat (set_else views id other both apart ∙ there) in
+          let d = count_set (λ (u : V). may_have_ticket u.turn) one other w spent_seat
+          (set_else views id other both apart ∙ there) in
           let e = bit_small (may_have_ticket w.turn) in
           let s = r.tickets in omega arith;
       slot = elim r.slot [
@@ -368,22 +403,27 @@ module _ {B E : Type 0} (pass_of : E → ℕ) (led : B → List E → B → Type
           | inr d ↦ theirs i u d.0 d.1 d.2 go
         ]
       ];
-      apart = λ i j x y k e f p q. let a = ticket_then i x k e p in let b = ticket_then j y k f q in r.apart i j a.0 b.0 k a.1 b.1 a.2 b.2;
+      apart = λ i j x y k e f p q. let a = ticket_then i x k e p in let b = ticket_then j y k f q in
+          r.apart i j a.0 b.0 k a.1 b.1 a.2 b.2;
       unborn = λ n far. r.unborn n (omega (arith, wide));
       strangers = r.strangers;
-      known = seen_whole r.known.0 r.known.1 r.known.2 r.known.3 r.known.4 (ℕ_discrete r.known.0 id) (ℕ_discrete r.known.0 other);
+      known = seen_whole r.known.0 r.known.1 r.known.2 r.known.3 r.known.4 (ℕ_discrete r.known.0 id)
+          (ℕ_discrete r.known.0 other);
     }
 
   -- one seat takes in another, where neither has its turn
-  pub joins_allowed : (id other : ℕ) (v w : V) → is_over v.turn ≡ false → is_served v.turn ≡ false → is_over w.turn ≡ false → is_served w.turn ≡ false
+  pub joins_allowed : (id other : ℕ) (v w : V) → is_over v.turn ≡ false → is_served v.turn ≡ false
+      → is_over w.turn ≡ false → is_served w.turn ≡ false
       → Joins Ruled id v other w (joining v w) spent_seat
   joins_allowed id other v w goes idle goes' idle' s r here apart there =
-      let there' : get_elem? s.views other ≡ maybe.some w = sym (set_else s.views id other (joining v w) apart) ∙ there in record {
+      let there' : get_elem? s.views other ≡ maybe.some w = sym (set_else s.views id other (joining v w) apart)
+      ∙ there in record {
         ticket = r.ticket;
         serving = r.serving;
         history = r.history;
         words = r.words;
-        stands = joined_stands r.ticket r.serving r.history s.homes s.views id other v w r.stands here goes idle apart there' goes' idle';
+        stands = joined_stands r.ticket r.serving r.history s.homes s.views id other v w r.stands here goes idle
+            apart there' goes' idle';
       }
 
   -- the closing value, and what the last seat then knows
@@ -393,7 +433,8 @@ module _ {B E : Type 0} (pass_of : E → ℕ) (led : B → List E → B → Type
     pub leads : led opening v.seen value
     pub settled : IsSettled pass_of passes v
 
-  pub closes : (id : ℕ) (v : V) (words : List ℕ) (slots : List (Option B)) → is_over v.turn ≡ false → is_served v.turn ≡ false → Covers passes v → Final (Seen Ruled id v) words slots → IsClosing v slots
+  pub closes : (id : ℕ) (v : V) (words : List ℕ) (slots : List (Option B)) → is_over v.turn ≡ false
+      → is_served v.turn ≡ false → Covers passes v → Final (Seen Ruled id v) words slots → IsClosing v slots
   closes id v words slots goes idle all final =
       let s = final.0 in
       let r = final.1.0 in
@@ -427,22 +468,27 @@ module _ {B E : Type 0} (pass_of : E → ℕ) (led : B → List E → B → Type
         };
       }
 
-  alone_at_first : (value : B) → 0 < passes → (i : ℕ) (v : V) → get_elem? (first_seat ∷ []) i ≡ maybe.some v → IsSeated pass_of led opening passes 0 0 [] (at_home value) (first_seat ∷ []) i v
-  alone_at_first value some zero v e = subst (IsSeated pass_of led opening passes 0 0 [] (at_home value) (first_seat ∷ []) zero) (maybe.some-injective first_seat v e) record {
-    number = refl;
-    within = some;
-    seen = begins_itself [];
-    mine = refl;
-    drawn = omega arith;
-    turn = tt;
-    joined = λ k share f. absurd (maybe.some-ne-none share (sym f));
-    beginnings = λ k seen f. absurd (maybe.some-ne-none seen (sym f));
-    next = λ _. (refl, refl);
-  }
+  alone_at_first : (value : B) → 0 < passes → (i : ℕ) (v : V) → get_elem? (first_seat ∷ []) i ≡ maybe.some v
+      → IsSeated pass_of led opening passes 0 0 [] (at_home value) (first_seat ∷ []) i v
+  alone_at_first value some zero v e =
+      subst (IsSeated pass_of led opening passes 0 0 [] (at_home value) (first_seat ∷ []) zero)
+      (maybe.some-injective first_seat v e) record {
+        number = refl;
+        within = some;
+        seen = begins_itself [];
+        mine = refl;
+        drawn = omega arith;
+        turn = tt;
+        joined = λ k share f. absurd (maybe.some-ne-none share (sym f));
+        beginnings = λ k seen f. absurd (maybe.some-ne-none seen (sym f));
+        next = λ _. (refl, refl);
+      }
   alone_at_first value some (suc i) v e = absurd (maybe.some-ne-none v (sym e))
 
-  no_ticket_at_first : (i : ℕ) (v : V) (k : ℕ) → get_elem? (first_seat ∷ []) i ≡ maybe.some v → ticket_in v.turn ≡ Some k → ⊥
-  no_ticket_at_first zero v k e mine = let bad : None ≡ Some k = ap (λ (u : V). ticket_in u.turn) (maybe.some-injective first_seat v e) ∙ mine in cc
+  no_ticket_at_first : (i : ℕ) (v : V) (k : ℕ) → get_elem? (first_seat ∷ []) i ≡ maybe.some v
+      → ticket_in v.turn ≡ Some k → ⊥
+  no_ticket_at_first zero v k e mine = let bad : None ≡ Some k = ap (λ (u : V). ticket_in u.turn)
+      (maybe.some-injective first_seat v e) ∙ mine in cc
   no_ticket_at_first (suc i) v k e mine = maybe.some-ne-none v (sym e)
 
   -- the table at the start
@@ -455,7 +501,7 @@ module _ {B E : Type 0} (pass_of : E → ℕ) (led : B → List E → B → Type
     words = are;
     stands = record {
       few = few;
-      behind = omega arith;
+      ordered = omega arith;
       served = omega arith;
       seats = omega arith;
       tickets = omega arith;
@@ -469,9 +515,12 @@ module _ {B E : Type 0} (pass_of : E → ℕ) (led : B → List E → B → Type
   }
 
   -- the same where the last seat has left its note
-  pub noted_closes : (id : ℕ) (v w : V) (words : List ℕ) (slots : List (Option B)) → w ≡ noting v → is_over v.turn ≡ false → is_served v.turn ≡ false → Covers passes v → Final (Seen Ruled id w) words slots → IsClosing v slots
+  pub noted_closes : (id : ℕ) (v w : V) (words : List ℕ) (slots : List (Option B)) → w ≡ noting v
+      → is_over v.turn ≡ false → is_served v.turn ≡ false → Covers passes v → Final (Seen Ruled id w) words slots
+      → IsClosing v slots
   noted_closes id v w words slots e goes idle all final =
-      let c = closes id (noting v) words slots goes idle all (subst (λ (u : V). Final (Seen Ruled id u) words slots) e final) in
+      let c = closes id (noting v) words slots goes idle all
+      (subst (λ (u : V). Final (Seen Ruled id u) words slots) e final) in
       let s = c.settled in
       record {
         value = c.value;

@@ -1,12 +1,14 @@
 -- What contracts see of a hall and of a pass.
-use Rattle.std.specs.Prelude.{◌≡◌, ℕ, ◌+◌, ◌^◌, ◌<◌, ◌≤◌, ◌⊎◌, List, ◌++◌, ◌∷◌, [], length, slice_get, slice_index_or, Option, Some, None}
+use Rattle.std.specs.Prelude.{◌≡◌, ℕ, ◌+◌, ◌^◌, ◌<◌, ◌≤◌, ◌⊎◌, List, ◌++◌, ◌∷◌, []}
+use Rattle.std.specs.Prelude.{length, slice_get, slice_index_or, Option, Some, None}
 use mathlib.Core.List.{IsPrefix}
 use Rattle.atomic_table.specs.Seated.{TableId}
 use Rattle.atomic_table.specs.Table.{Me}
 use Rattle.kom_state_lock.specs.declared.views.View.{View}
 use Rattle.kom_state_lock.specs.Views.{entries_of, ticket_of, slots_in, history_in}
 use Rattle.kom_state_lock.specs.declared.views.Turn.{Turn}
-use Rattle.kom_state_lock.specs.declared.views.Turn.TheVariants.{Resting, Waiting, Holding, Logged, Spent, Closed}
+use Rattle.kom_state_lock.specs.declared.views.Turn.TheVariants.{Resting, Waiting, Holding}
+use Rattle.kom_state_lock.specs.declared.views.Turn.TheVariants.{Logged, Spent, Closed}
 
 -- a hall: its table, the value that it was made with, and how many passes it has
 pub record HallModel (B : Type 0) : Type 0 where
@@ -14,7 +16,8 @@ pub record HallModel (B : Type 0) : Type 0 where
   pub opening : B
   pub passes : ℕ
 
--- a pass: the table of its hall, its number, what it has seen of the history and its own entries in it, one more than the greatest ticket that it knows to be drawn, and its turn
+-- a pass: the table of its hall, its number, what it has seen of the history and its own entries in
+-- it, one more than the greatest ticket that it knows to be drawn, and its turn
 pub record PassModel (B E : Type 0) : Type 0 where
   pub table : TableId
   pub number : ℕ
@@ -25,7 +28,14 @@ pub record PassModel (B E : Type 0) : Type 0 where
 
 module _ {B E : Type 0} where
   abbrev pub pass_model : TableId → View B E → PassModel B E
-  pass_model table v = record { table = table; number = v.number; seen = v.seen; mine = v.mine; drawn = v.drawn; turn = v.turn }
+  pass_model table v = record {
+    table = table;
+    number = v.number;
+    seen = v.seen;
+    mine = v.mine;
+    drawn = v.drawn;
+    turn = v.turn;
+  }
 
   -- the ticket that was drawn and has no turn yet
   abbrev pub refused_in : Turn B E → Option ℕ
@@ -46,11 +56,19 @@ module _ {B E : Type 0} where
 
   -- a pass that has taken no turn
   abbrev pub new_pass : TableId → ℕ → PassModel B E
-  new_pass table number = record { table = table; number = number; seen = []; mine = []; drawn = 0; turn = Resting }
+  new_pass table number = record {
+    table = table;
+    number = number;
+    seen = [];
+    mine = [];
+    drawn = 0;
+    turn = Resting;
+  }
 
   -- each pass stands at the place that is its number
   abbrev pub AreNewPasses : TableId → ℕ → List (PassModel B E) → Type 0
-  AreNewPasses table count passes = (length passes ≡ count) × ((number : ℕ) → number < count → slice_get passes number ≡ Some (new_pass table number))
+  AreNewPasses table count passes = (length passes ≡ count)
+      × ((number : ℕ) → number < count → slice_get passes number ≡ Some (new_pass table number))
 
   abbrev pub drawn_by : PassModel B E → ℕ
   drawn_by pass = pass.drawn
@@ -78,7 +96,8 @@ module _ {B E : Type 0} where
 
   pub record AreReady (hall : HallModel B) (passes : List (PassModel B E)) : Type 0 where
     pub long : length passes ≡ hall.passes
-    pub each : (k : ℕ) (d : PassModel B E) → k < length passes → IsReady hall k (slice_index_or passes k d)
+    pub each : (k : ℕ) (d : PassModel B E) → k < length passes
+        → IsReady hall k (slice_index_or passes k d)
 
   -- the same of all passes but the last one, which whoever made the hall keeps
   pub record AreReadyButLast (hall : HallModel B) (passes : List (PassModel B E)) : Type 0 where
@@ -101,7 +120,8 @@ module _ {B E : Type 0} where
   MayLog follows Spent entry value = ⊥
   MayLog follows Closed entry value = ⊥
 
-  -- the value is the one that was logged; or nothing was logged, and the value means what the one that was taken does
+  -- the value is the one that was logged; or nothing was logged, and the value means what the one
+  -- that was taken does
   abbrev pub MayPut : (B → B → Type 0) → Turn B E → B → Type 0
   MayPut stays (Holding ticket taken before) value = stays taken value
   MayPut stays (Logged ticket left) value = value ≡ left
@@ -125,17 +145,24 @@ module _ {B E : Type 0} where
   abbrev pub RefusesTurn : PassModel B E → ℕ → PassModel B E → Type 0
   RefusesTurn old ticket new =
       (2 ^ 62 ≤ ticket)
-      × (((old.turn ≡ Waiting ticket) × (new ≡ old)) ⊎ ((old.turn ≡ Resting) × (old.drawn ≤ ticket) × (new ≡ record old { drawn = ticket + 1; turn = Waiting ticket })))
+      × (((old.turn ≡ Waiting ticket) × (new ≡ old))
+      ⊎ ((old.turn ≡ Resting) × (old.drawn ≤ ticket)
+      × (new ≡ record old { drawn = ticket + 1; turn = Waiting ticket })))
 
   -- the history with the entry at its end is seen, and the entry is one more of the pass
   abbrev pub logged_pass : E → B → PassModel B E → PassModel B E
-  logged_pass entry value pass = record pass { seen = history_in pass.turn pass.seen ++ entry ∷ []; mine = pass.mine ++ entry ∷ []; turn = Logged (ticket_of pass.turn) value }
+  logged_pass entry value pass = record pass {
+    seen = history_in pass.turn pass.seen ++ entry ∷ [];
+    mine = pass.mine ++ entry ∷ [];
+    turn = Logged (ticket_of pass.turn) value;
+  }
 
   -- the history as it stood in the turn is seen
   abbrev pub resting_pass : PassModel B E → PassModel B E
   resting_pass pass = record pass { seen = history_in pass.turn pass.seen; turn = Resting }
 
-  -- in the closing history, the entries of a pass are those that it knows as its own, and what it had seen is a beginning
+  -- in the closing history, the entries of a pass are those that it knows as its own, and what it
+  -- had seen is a prefix
   pub record IsClosed (pass_of : E → ℕ) (last pass : PassModel B E) : Type 0 where
     pub mine : pass.mine ≡ entries_of pass_of pass.number last.seen
     pub seen : IsPrefix pass.seen last.seen

@@ -47,7 +47,8 @@ module _ {B E : Type 0} where
   -- the entry and the value that are told are logged
   abbrev pub Logs : Option E → Option B → Seated B E → Seated B E → Type 0
   Logs told value m n =
-      (entry : E) (left : B) → told ≡ Some entry → value ≡ Some left → n ≡ (logging entry left m.0, m.1)
+      (entry : E) (left : B) → told ≡ Some entry → value ≡ Some left
+      → n ≡ (logging entry left m.0, m.1)
 
   -- the slot goes back
   abbrev pub HandsOn : Seated B E → Seated B E → Type 0

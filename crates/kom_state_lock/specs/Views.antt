@@ -1,7 +1,9 @@
 -- What a seat knows, before and after each step.
-use Rattle.std.specs.Prelude.{ℕ, ◌+◌, ◌==◌, Bool, true, false, List, [], ◌∷◌, ◌++◌, length, filter, max, Option, Some, None, if◌then◌else◌, leb}
+use Rattle.std.specs.Prelude.{ℕ, ◌+◌, ◌==◌, Bool, true, false, List, [], ◌∷◌, ◌++◌}
+use Rattle.std.specs.Prelude.{length, filter, max, Option, Some, None, if◌then◌else◌, leb}
 use Rattle.kom_state_lock.specs.declared.views.Turn.{Turn}
-use Rattle.kom_state_lock.specs.declared.views.Turn.TheVariants.{Resting, Waiting, Holding, Logged, Spent, Closed}
+use Rattle.kom_state_lock.specs.declared.views.Turn.TheVariants.{Resting, Waiting, Holding}
+use Rattle.kom_state_lock.specs.declared.views.Turn.TheVariants.{Logged, Spent, Closed}
 use Rattle.kom_state_lock.specs.declared.views.Share.{Share}
 use Rattle.kom_state_lock.specs.declared.views.View.{View}
 
@@ -88,14 +90,32 @@ module _ {B E : Type 0} where
 
   -- a seat that has seen so much and has no entries
   abbrev pub newcomer : ℕ → List E → ℕ → ℕ → View B E
-  newcomer number seen drawn next = record { number = number; seen = seen; mine = []; drawn = drawn; turn = Resting; joined = []; beginnings = []; next = next }
+  newcomer number seen drawn next = record {
+    number = number;
+    seen = seen;
+    mine = [];
+    drawn = drawn;
+    turn = Resting;
+    joined = [];
+    beginnings = [];
+    next = next;
+  }
 
   -- the first seat, before any other is made
   abbrev pub first_seat : View B E
   first_seat = newcomer 0 [] 0 1
 
   abbrev pub spent_seat : View B E
-  spent_seat = record { number = 0; seen = []; mine = []; drawn = 0; turn = Spent; joined = []; beginnings = []; next = 0 }
+  spent_seat = record {
+    number = 0;
+    seen = [];
+    mine = [];
+    drawn = 0;
+    turn = Spent;
+    joined = [];
+    beginnings = [];
+    next = 0;
+  }
 
   -- draw: the seat has this ticket
   abbrev pub drawing : ℕ → View B E → View B E
@@ -107,7 +127,11 @@ module _ {B E : Type 0} where
 
   -- log: the entry ends the history, which is now seen
   abbrev pub logging : E → B → View B E → View B E
-  logging entry left v = record v { seen = history_in v.turn v.seen ++ entry ∷ []; mine = v.mine ++ entry ∷ []; turn = Logged (ticket_of v.turn) left }
+  logging entry left v = record v {
+    seen = history_in v.turn v.seen ++ entry ∷ [];
+    mine = v.mine ++ entry ∷ [];
+    turn = Logged (ticket_of v.turn) left;
+  }
 
   -- hand on: the history as it stands is seen, and the ticket goes
   abbrev pub resting : View B E → View B E
@@ -125,7 +149,12 @@ module _ {B E : Type 0} where
   share_of v = record { number = v.number; mine = v.mine }
 
   abbrev pub joining : View B E → View B E → View B E
-  joining v w = record v { seen = longer v.seen w.seen; drawn = max v.drawn w.drawn; joined = (share_of w ∷ w.joined) ++ v.joined; beginnings = (v.seen ∷ w.seen ∷ w.beginnings) ++ v.beginnings }
+  joining v w = record v {
+    seen = longer v.seen w.seen;
+    drawn = max v.drawn w.drawn;
+    joined = (share_of w ∷ w.joined) ++ v.joined;
+    beginnings = (v.seen ∷ w.seen ∷ w.beginnings) ++ v.beginnings;
+  }
 
   -- close: the last seat splits no more, and leaves a note of what it knows
   abbrev pub noting : View B E → View B E

@@ -21,7 +21,10 @@ pub trait Booked {
 
     ghost empty_leads: { (opening : Self) → led opening [] opening };
 
-    ghost staying_leads: { (opening : Self) (history : List Self.Entry) (old new : Self) → led opening history old → stays old new → led opening history new };
+    ghost staying_leads: { (opening : Self) (history : List Self.Entry) (old new : Self)
+        → led opening history old → stays old new → led opening history new };
 
-    ghost following_leads: { (opening : Self) (history : List Self.Entry) (old : Self) (entry : Self.Entry) (new : Self) → led opening history old → follows old entry new → led opening (history ++ entry ∷ []) new };
+    ghost following_leads: { (opening : Self) (history : List Self.Entry) (old : Self)
+        (entry : Self.Entry) (new : Self) → led opening history old → follows old entry new
+        → led opening (history ++ entry ∷ []) new };
 }

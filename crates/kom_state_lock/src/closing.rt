@@ -11,7 +11,8 @@ use crate::plays::{Both, Desk, Note, Place, Words};
 
 fn join<B: Booked>(words: &Words<B>, seat: &mut Place<B>, other: Place<B>)
     requires table { IsSeatOf words.now.table_id seat.old × IsSeatOf words.now.table_id other }
-    requires free { HoldsNoTurn seat.old.me.0.turn × HoldsNoTurn other.me.0.turn × (other.me.1 ≡ []) }
+    requires free { HoldsNoTurn seat.old.me.0.turn × HoldsNoTurn other.me.0.turn
+        × (other.me.1 ≡ []) }
     ensures seat { IsSameSeat seat.old seat.new }
     ensures both { seat.new.me ≡ (joining seat.old.me.0 other.me.0, seat.old.me.1) }
 {
@@ -24,7 +25,8 @@ pub(crate) fn gather<B: Booked>(words: &Words<B>, mut passes: Vec<Pass<B>>) -> (
     requires hall { All (λ p. p.table ≡ words.now.table_id) passes.items }
     requires free { All (λ p. HoldsNoTurn p.turn) passes.items }
     requires some { 0 < length passes.items }
-    ensures seat { IsSeatOf words.now.table_id result.1 × (result.1.me.1 ≡ []) × HoldsNoTurn result.1.me.0.turn }
+    ensures seat { IsSeatOf words.now.table_id result.1 × (result.1.me.1 ≡ [])
+        × HoldsNoTurn result.1.me.0.turn }
     ensures number { result.0 ≡ result.1.me.0.number }
     ensures knows { All (IsIn result.1.me.0) passes.items }
     ensures drawn { Contains (map drawn_by passes.items) result.1.me.0.drawn }

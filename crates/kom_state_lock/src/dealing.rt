@@ -1,5 +1,6 @@
 // A table with its passes, as a hall is made.
-ghost use Rattle.std.specs.Prelude.{◌≡◌, ℕ, ◌<◌, ◌≤◌, ◌+◌, [], length, IfOk, IfErr, vec_len, vec_capacity};
+ghost use Rattle.std.specs.Prelude.{◌≡◌, ℕ, ◌<◌, ◌≤◌, ◌+◌, []};
+ghost use Rattle.std.specs.Prelude.{length, IfOk, IfErr, vec_len, vec_capacity};
 ghost use Rattle.kom_state_lock.specs.declared.views.Turn.TheVariants.{Resting};
 ghost use Rattle.kom_state_lock.specs.Views.{splitting, split_off, first_seat};
 ghost use Rattle.kom_state_lock.specs.Steps.{IsSameSeat, IsSeatOf, IsHallTable};
@@ -20,8 +21,10 @@ pub(crate) fn lay_table<B: Booked>(
     passes: u32,
 ) -> Result<(Desk<B>, Place<B>), B>
     requires { (1 ≤ passes) × (passes ≤ 65) }
-    ensures table { IfOk result (λ t. IsHallTable t.0.shared.table_id × (t.0.shared.key.value.value ≡ value) × (t.0.shared.key.passes ≡ passes)) }
-    ensures seat { IfOk result (λ t. (t.1.table_id ≡ t.0.shared.table_id) × (t.1.id ≡ 0) × (t.1.me ≡ (first_seat, []))) }
+    ensures table { IfOk result (λ t. IsHallTable t.0.shared.table_id
+        × (t.0.shared.key.value.value ≡ value) × (t.0.shared.key.passes ≡ passes)) }
+    ensures seat { IfOk result (λ t. (t.1.table_id ≡ t.0.shared.table_id) × (t.1.id ≡ 0)
+        × (t.1.me ≡ (first_seat, []))) }
     ensures err { IfErr result (λ v. v ≡ value) }
 {
     let key = Opening {
@@ -47,8 +50,10 @@ fn split<B: Booked>(words: &Words<B>, seat: &mut Place<B>) -> Place<B>
     requires table { IsSeatOf words.now.table_id seat.old }
     requires splits { (0 < seat.old.me.0.next) × (seat.old.me.0.next < words.now.key.passes) }
     requires free { seat.old.me.0.turn ≡ Resting }
-    ensures seat { IsSameSeat seat.old seat.new × (seat.new.me ≡ (splitting seat.old.me.0, seat.old.me.1)) }
-    ensures new { (result.table_id ≡ seat.old.table_id) × (result.me ≡ (split_off seat.old.me.0, [])) }
+    ensures seat { IsSameSeat seat.old seat.new
+        × (seat.new.me ≡ (splitting seat.old.me.0, seat.old.me.1)) }
+    ensures new { (result.table_id ≡ seat.old.table_id)
+        × (result.me ≡ (split_off seat.old.me.0, [])) }
 {
     words.split_seat::<Another>(seat)
 }

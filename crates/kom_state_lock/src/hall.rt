@@ -1,9 +1,13 @@
 // A hall, and the calls of its passes.
-ghost use Rattle.std.specs.Prelude.{◌≡◌, ◌↔◌, ℕ, ◌^◌, ◌≤◌, ◌<◌, [], Some, Ok, Err, IfOk, IfErr, MatchResult, All, Contains, map};
+ghost use Rattle.std.specs.Prelude.{◌≡◌, ◌↔◌, ℕ, ◌^◌, ◌≤◌, ◌<◌, [], Some, Ok, Err};
+ghost use Rattle.std.specs.Prelude.{IfOk, IfErr, MatchResult, All, Contains, map};
 ghost use Rattle.kom_state_lock.specs.declared.hall.Full.{Full};
 ghost use Rattle.kom_state_lock.specs.declared.views.Turn.TheVariants.{Closed};
 ghost use Rattle.kom_state_lock.specs.Views.{entries_of, ticket_in};
-ghost use Rattle.kom_state_lock.specs.Passes.{IsPassOf, HoldsNoTurn, TakesTurn, RefusesTurn, MayLog, MayPut, IsClosed, AreNewPasses, AreReady, number_of, drawn_by, logged_pass, resting_pass};
+ghost use Rattle.kom_state_lock.specs.Passes.{IsPassOf, HoldsNoTurn, TakesTurn, RefusesTurn};
+ghost use Rattle.kom_state_lock.specs.Passes.{MayLog, MayPut, logged_pass, resting_pass};
+ghost use Rattle.kom_state_lock.specs.Passes.{AreNewPasses, AreReady, IsClosed};
+ghost use Rattle.kom_state_lock.specs.Passes.{number_of, drawn_by};
 
 use crate::booked::Booked;
 use crate::closing::{gather, settle};
@@ -24,7 +28,8 @@ pub struct Full(pub u64);
 #[derive(Debug, Clone, Copy, PartialEq, Eq)]
 pub struct Memory;
 
-/// A value that the holders of its passes take turns with, in one order. Threads share it by reference.
+/// A value that the holders of its passes take turns with, in one order. Threads share it by
+/// reference.
 #[derive(Drop)]
 pub struct Hall<B: Booked> {
     table: Desk<B>,
@@ -37,9 +42,14 @@ impl<B: Booked> Model for Hall<B> {
 
     ghost Value = { HallModel B };
 
-    ghost view = { λ h. record { table = h.table.shared.table_id; opening = h.table.shared.key.value.value; passes = h.table.shared.key.passes } };
+    ghost view = { λ h. record {
+      table = h.table.shared.table_id;
+      opening = h.table.shared.key.value.value;
+      passes = h.table.shared.key.passes;
+    } };
 
-    ghost invariant = { λ h. IsHallTable h.table.shared.table_id × (0 < h.table.shared.key.passes) };
+    ghost invariant = { λ h. IsHallTable h.table.shared.table_id
+        × (0 < h.table.shared.key.passes) };
 }
 
 impl<B: Booked> Hall<B> {
@@ -70,7 +80,8 @@ impl<B: Booked> Hall<B> {
         }
     }
 
-    /// Waits for the pass's turn, and takes the value. A pass that was refused once is refused ever after.
+    /// Waits for the pass's turn, and takes the value. A pass that was refused once is refused ever
+    /// after.
     pub fn take<R: Wait>(&self, rt: &R, pass: &mut Pass<B>) -> Result<Held<B>, Full>
         requires pass { IsPassOf self.now pass.old }
         requires free { HoldsNoTurn pass.old.turn }
@@ -78,7 +89,8 @@ impl<B: Booked> Hall<B> {
             (λ held. TakesTurn B.pass_of B.led self.now pass.old held pass.new)
             (λ full. RefusesTurn pass.old full.0 pass.new) }
         ensures below { IfErr result (λ full. full.0 < pass.new.drawn) }
-        ensures full { (n : ℕ) → (result ≡ Err (record { 0 = n })) ↔ ((ticket_in pass.new.turn ≡ Some n) × (2 ^ 62 ≤ n)) }
+        ensures full { (n : ℕ) → (result ≡ Err (record { 0 = n }))
+            ↔ ((ticket_in pass.new.turn ≡ Some n) × (2 ^ 62 ≤ n)) }
     {
         if let Some(ticket) = pass.full {
             return Err(Full(ticket));
@@ -92,7 +104,8 @@ impl<B: Booked> Hall<B> {
         }
     }
 
-    /// Writes the entry that leads from the value that was taken to the one that is held. At most once in a turn.
+    /// Writes the entry that leads from the value that was taken to the one that is held. At most
+    /// once in a turn.
     pub fn log(&self, pass: &mut Pass<B>, held: &mut Held<B>, entry: B::Entry)
         requires pass { IsPassOf self.now pass.old }
         requires follows { MayLog B.follows pass.old.turn entry held.old }
@@ -115,13 +128,16 @@ impl<B: Booked> Hall<B> {
     /// The value, and a pass that has seen the whole history.
     pub fn close(self, passes: Vec<Pass<B>>) -> (B, Pass<B>)
         requires hall { All (IsPassOf self) passes.items }
-        requires every { (number : ℕ) → number < self.passes → Contains (map number_of passes.items) number }
+        requires every { (number : ℕ) → number < self.passes
+            → Contains (map number_of passes.items) number }
         requires free { All (λ p. HoldsNoTurn p.turn) passes.items }
         ensures leads { B.led self.opening result.1.seen result.0 }
         ensures closed { All (IsClosed B.pass_of result.1) passes.items }
         ensures number { result.1.number < self.passes }
-        ensures others { (number : ℕ) → self.passes ≤ number → entries_of B.pass_of number result.1.seen ≡ [] }
-        ensures own { (result.1.mine ≡ entries_of B.pass_of result.1.number result.1.seen) × (result.1.turn ≡ Closed) }
+        ensures others { (number : ℕ) → self.passes ≤ number
+            → entries_of B.pass_of number result.1.seen ≡ [] }
+        ensures own { (result.1.mine ≡ entries_of B.pass_of result.1.number result.1.seen)
+            × (result.1.turn ≡ Closed) }
         ensures drawn { Contains (map drawn_by passes.items) result.1.drawn }
     {
         let Hall { table } = self;

@@ -1,7 +1,8 @@
 // What each step tells. These types are for the proofs alone.
 ghost use Rattle.std.specs.Prelude.{None};
 ghost use Rattle.kom_state_lock.specs.Steps.{Draws, Looks, Logs, HandsOn, Marks};
-ghost use Rattle.kom_state_lock.specs.Views.{first_seat, splitting, split_off, joining, spent_seat, noting, note_of};
+ghost use Rattle.kom_state_lock.specs.Views.{first_seat, splitting, split_off};
+ghost use Rattle.kom_state_lock.specs.Views.{joining, spent_seat, noting, note_of};
 ghost use Rattle.kom_state_lock.specs.Rule.{Rule};
 
 use crate::booked::Booked;
@@ -29,7 +30,8 @@ impl<B: Booked> TableRule<Option<B>, View<B, B::Entry>, Opening<B>> for OneHisto
     ghost first = { λ _. first_seat };
 }
 
-/// What a call tells a step: the value that the hall was made with, and the entry and the value to be logged.
+/// What a call tells a step: the value that the hall was made with, and the entry and the value to
+/// be logged.
 pub trait Told<B, E> {
     ghost use Rattle.std.specs.Prelude.{Option};
 

@@ -156,8 +156,10 @@ pub(crate) fn take_turn<B: Booked, R: Wait>(
     requires free { (seat.old.me.0.turn ≡ Resting) × (seat.old.me.1 ≡ []) }
     ensures seat { IsSameSeat seat.old seat.new }
     ensures turn { MatchResult result
-        (λ value. TakesAll B.pass_of B.led words.now.key.value.value seat.old.me.0 value seat.new.me)
-        (λ ticket. (2 ^ 62 ≤ ticket) × (seat.old.me.0.drawn ≤ ticket) × (seat.new.me ≡ (drawing ticket seat.old.me.0, []))) }
+        (λ value. TakesAll B.pass_of B.led words.now.key.value.value seat.old.me.0 value
+        seat.new.me)
+        (λ ticket. (2 ^ 62 ≤ ticket) × (seat.old.me.0.drawn ≤ ticket)
+        × (seat.new.me ≡ (drawing ticket seat.old.me.0, []))) }
 {
     let ticket = draw(words, seat);
     if ticket >= TURNS {

@@ -1,5 +1,6 @@
 // A counter and a small store under the lock, with threads that take turns.
-ghost use Rattle.std.specs.Prelude.{◌≡◌, ℕ, ◌+◌, ◌*◌, ◌<◌, ◌≤◌, ◌^◌, ◌%◌, ◌++◌, ◌∷◌, [], length, All, IfSome, fold, if◌then◌else◌};
+ghost use Rattle.std.specs.Prelude.{◌≡◌, ℕ, ◌+◌, ◌*◌, ◌<◌, ◌≤◌, ◌^◌, ◌%◌, ◌++◌, ◌∷◌, []};
+ghost use Rattle.std.specs.Prelude.{length, All, IfSome, fold, if◌then◌else◌};
 ghost use Rattle.kom_state_lock.specs.Passes.{IsPassOf, HoldsNoTurn, AreReady, AreReadyButLast};
 
 use crate::{Booked, Hall, Pass};
@@ -34,29 +35,39 @@ impl Booked for Counter {
 
     ghost pass_of = { λ e. e.pass };
 
-    ghost follows = { λ old e new. (new.total ≡ (old.total + e.by) % 2 ^ 64) × (new.added.items ≡ old.added.items ++ e ∷ []) };
+    ghost follows = { λ old e new. (new.total ≡ (old.total + e.by) % 2 ^ 64)
+        × (new.added.items ≡ old.added.items ++ e ∷ []) };
 
-    ghost stays = { λ old new. (new.total ≡ old.total) × (new.added.items ≡ old.added.items) };
+    ghost stays = { λ old new. (new.total ≡ old.total)
+        × (new.added.items ≡ old.added.items) };
 
-    ghost led = { λ opening history value. (value.total ≡ fold (λ n e. (n + e.by) % 2 ^ 64) opening.total history) × (value.added.items ≡ opening.added.items ++ history) };
+    ghost led = { λ opening history value.
+        (value.total ≡ fold (λ n e. (n + e.by) % 2 ^ 64) opening.total history)
+        × (value.added.items ≡ opening.added.items ++ history) };
 
     ghost itself_stays = { λ value. (refl, refl) };
 
     ghost empty_leads = { λ opening. (refl, sym (append-nil opening.added.items)) };
 
-    ghost staying_leads = { λ opening history old new leads stays. (stays.0 ∙ leads.0, stays.1 ∙ leads.1) };
+    ghost staying_leads = { λ opening history old new leads stays.
+        (stays.0 ∙ leads.0, stays.1 ∙ leads.1) };
 
     ghost following_leads = { λ opening history old e new leads follows. (
-      follows.0 ∙ (ap (λ n. (n + e.by) % 2 ^ 64) leads.0 ∙ sym (fold-append (λ n e. (n + e.by) % 2 ^ 64) opening.total history (e ∷ []))),
-      follows.1 ∙ (ap (λ l. l ++ e ∷ []) leads.1 ∙ append_assoc opening.added.items history (e ∷ [])),
+      follows.0 ∙ (ap (λ n. (n + e.by) % 2 ^ 64) leads.0
+          ∙ sym (fold-append (λ n e. (n + e.by) % 2 ^ 64) opening.total history (e ∷ []))),
+      follows.1 ∙ (ap (λ l. l ++ e ∷ []) leads.1
+          ∙ append_assoc opening.added.items history (e ∷ [])),
     ) };
 }
 
 // One turn that adds. False where there was no ticket or no memory.
 fn add<R: Wait>(rt: &R, hall: &Hall<Counter>, pass: &mut Pass<Counter>, by: u64) -> bool
     requires pass { IsPassOf hall.now pass.old × HoldsNoTurn pass.old.turn }
-    ensures pass { IsPassOf hall.now pass.new × HoldsNoTurn pass.new.turn × (pass.new.number ≡ pass.old.number) }
-    ensures mine { pass.new.mine ≡ (if result then pass.old.mine ++ record { pass = pass.old.number; by = by } ∷ [] else pass.old.mine) }
+    ensures pass { IsPassOf hall.now pass.new × HoldsNoTurn pass.new.turn
+        × (pass.new.number ≡ pass.old.number) }
+    ensures mine { pass.new.mine ≡ (if result
+        then pass.old.mine ++ record { pass = pass.old.number; by = by } ∷ []
+        else pass.old.mine) }
 {
     let Ok(mut held) = hall.take(rt, pass) else {
         return false;
@@ -79,7 +90,8 @@ fn add<R: Wait>(rt: &R, hall: &Hall<Counter>, pass: &mut Pass<Counter>, by: u64)
 // So many turns. False where one added nothing.
 fn add_often<R: Wait>(rt: &R, hall: &Hall<Counter>, pass: &mut Pass<Counter>, turns: u64) -> bool
     requires { IsPassOf hall.now pass.old × HoldsNoTurn pass.old.turn }
-    ensures { IsPassOf hall.now pass.new × HoldsNoTurn pass.new.turn × (pass.new.number ≡ pass.old.number) }
+    ensures { IsPassOf hall.now pass.new × HoldsNoTurn pass.new.turn
+        × (pass.new.number ≡ pass.old.number) }
 {
     let mut all = true;
     for by in 0..turns {
@@ -111,7 +123,8 @@ fn add_together<R: Threads + Wait + Sync>(
     );
 }
 
-// A counter from 0, added to by each pass in a thread of its own. What it counts is what its entries add up to.
+// A counter from 0, added to by each pass in a thread of its own. What it counts is what its
+// entries add up to.
 fn count_together<R: Threads + Wait + Sync>(
     rt: &R,
     alloc: Global,
@@ -240,7 +253,8 @@ impl Booked for Store {
 
     ghost stays = { λ old new. new.values ≡ old.values };
 
-    ghost led = { λ opening history value. value.values ≡ fold (λ values e. slice_set values e.key e.value) opening.values history };
+    ghost led = { λ opening history value. value.values
+        ≡ fold (λ values e. slice_set values e.key e.value) opening.values history };
 
     ghost itself_stays = { λ value. refl };
 
@@ -248,13 +262,17 @@ impl Booked for Store {
 
     ghost staying_leads = { λ opening history old new leads stays. stays ∙ leads };
 
-    ghost following_leads = { λ opening history old e new leads follows. follows ∙ (ap (λ values. slice_set values e.key e.value) leads ∙ sym (fold-append (λ values e. slice_set values e.key e.value) opening.values history (e ∷ []))) };
+    ghost following_leads = { λ opening history old e new leads follows. follows
+        ∙ (ap (λ values. slice_set values e.key e.value) leads
+        ∙ sym (fold-append (λ values e. slice_set values e.key e.value)
+        opening.values history (e ∷ []))) };
 }
 
 // Writes under the pass's own key. False where there was no ticket.
 fn write<R: Wait>(rt: &R, hall: &Hall<Store>, pass: &mut Pass<Store>, value: u64) -> bool
     requires { IsPassOf hall.now pass.old × HoldsNoTurn pass.old.turn × (pass.old.number < 8) }
-    ensures pass { IsPassOf hall.now pass.new × HoldsNoTurn pass.new.turn × (pass.new.number ≡ pass.old.number) }
+    ensures pass { IsPassOf hall.now pass.new × HoldsNoTurn pass.new.turn
+        × (pass.new.number ≡ pass.old.number) }
 {
     let Ok(mut held) = hall.take(rt, pass) else {
         return false;
@@ -275,7 +293,8 @@ fn write<R: Wait>(rt: &R, hall: &Hall<Store>, pass: &mut Pass<Store>, value: u64
 // Reads a key, and counts it. The turn is not logged.
 fn read<R: Wait>(rt: &R, hall: &Hall<Store>, pass: &mut Pass<Store>, key: usize) -> Option<u64>
     requires { IsPassOf hall.now pass.old × HoldsNoTurn pass.old.turn × (key < 8) }
-    ensures pass { IsPassOf hall.now pass.new × HoldsNoTurn pass.new.turn × (pass.new.number ≡ pass.old.number) }
+    ensures pass { IsPassOf hall.now pass.new × HoldsNoTurn pass.new.turn
+        × (pass.new.number ≡ pass.old.number) }
     ensures mine { pass.new.mine ≡ pass.old.mine }
 {
     let mut held = hall.take(rt, pass).ok()?;
@@ -289,7 +308,8 @@ fn read<R: Wait>(rt: &R, hall: &Hall<Store>, pass: &mut Pass<Store>, key: usize)
 // Writes and reads in turn, so often each. False where there was no ticket.
 fn write_and_read<R: Wait>(rt: &R, hall: &Hall<Store>, pass: &mut Pass<Store>, turns: u64) -> bool
     requires { IsPassOf hall.now pass.old × HoldsNoTurn pass.old.turn × (pass.old.number < 8) }
-    ensures { IsPassOf hall.now pass.new × HoldsNoTurn pass.new.turn × (pass.new.number ≡ pass.old.number) }
+    ensures { IsPassOf hall.now pass.new × HoldsNoTurn pass.new.turn
+        × (pass.new.number ≡ pass.old.number) }
 {
     let mut all = true;
     let key = pass.number() as usize;
@@ -352,7 +372,8 @@ fn writes_are_kept_and_reads_change_nothing(rt: HostRuntime) -> Result<(), Fail>
 // One turn that is counted. The first of all is held for so long.
 fn hold_first<R: Clock + Wait>(rt: &R, hall: &Hall<Store>, pass: &mut Pass<Store>, time: Duration)
     requires { IsPassOf hall.now pass.old × HoldsNoTurn pass.old.turn }
-    ensures { IsPassOf hall.now pass.new × HoldsNoTurn pass.new.turn × (pass.new.number ≡ pass.old.number) }
+    ensures { IsPassOf hall.now pass.new × HoldsNoTurn pass.new.turn
+        × (pass.new.number ≡ pass.old.number) }
 {
     let Ok(mut held) = hall.take(rt, pass) else {
         return;

@@ -13,8 +13,12 @@ loop-pass-preserved g c =
       carries = ap (λ m. m.1) new.both ∙ now.carries;
       idle = subst (λ m. HoldsNoTurn m.0.turn) (sym new.both) now.idle;
       number = now.number ∙ sym (ap (λ m. m.0.number) new.both);
-      hall = (All-pop (λ p. p.table ≡ c.args.words.now.table_id) c.loop-pass.passes.items c.pop-in-loop-pass.new.self.items (Some c.in-Some.pass) pop now.hall).0;
-      free = (All-pop (λ p. HoldsNoTurn p.turn) c.loop-pass.passes.items c.pop-in-loop-pass.new.self.items (Some c.in-Some.pass) pop now.free).0;
-      gathered = one_gathered c.into_seat.result.table_id c.args.passes.items c.loop-pass.passes.items c.pop-in-loop-pass.new.self.items c.in-Some.pass c.loop-pass.seat.me.0 c.into_seat.result.me.0 c.join.new.seat.me.0
+      hall = (All-pop (λ p. p.table ≡ c.args.words.now.table_id) c.loop-pass.passes.items
+          c.pop-in-loop-pass.new.self.items (Some c.in-Some.pass) pop now.hall).0;
+      free = (All-pop (λ p. HoldsNoTurn p.turn) c.loop-pass.passes.items c.pop-in-loop-pass.new.self.items
+          (Some c.in-Some.pass) pop now.free).0;
+      gathered = one_gathered c.into_seat.result.table_id c.args.passes.items c.loop-pass.passes.items
+          c.pop-in-loop-pass.new.self.items c.in-Some.pass c.loop-pass.seat.me.0 c.into_seat.result.me.0
+          c.join.new.seat.me.0
           now.gathered pop c.into_seat.ensures.0 (ap (λ m. m.0) new.both);
     }

@@ -14,5 +14,6 @@ join_seat-requires g c =
       c.requires.table.1.1,
       f.2,
       omega (arith, c.requires.table.0.0.0),
-      joins_allowed b.pass_of b.led key.value.value key.passes c.args.seat.now.id c.args.other.id v w (free_goes v.turn f.0) (free_idle v.turn f.0) (free_goes w.turn f.1) (free_idle w.turn f.1),
+      joins_allowed b.pass_of b.led key.value.value key.passes c.args.seat.now.id c.args.other.id v w
+          (free_goes v.turn f.0) (free_idle v.turn f.0) (free_goes w.turn f.1) (free_idle w.turn f.1),
     )

@@ -10,7 +10,8 @@ pub new-requires : goal.new-requires
 new-requires g c =
     let b = g.B.Booked in
     let value = c.args.value in
-    let slots : c.push_reserved.new.self.items ≡ Some value ∷ [] = c.push_reserved.ensures.items ∙ ap (λ xs. xs ++ Some value ∷ []) c.in-Ok.ensures.items in
+    let slots : c.push_reserved.new.self.items ≡ Some value ∷ [] = c.push_reserved.ensures.items
+    ∙ ap (λ xs. xs ++ Some value ∷ []) c.in-Ok.ensures.items in
     let passes = c.args.passes in
     let words = replicate 152 0 in
     let are : AreWords 0 0 0 words = record { next = refl; now = refl; written = refl } in

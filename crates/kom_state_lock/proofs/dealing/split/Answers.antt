@@ -10,5 +10,6 @@ split_seat-requires g c =
     let n = c.requires.splits in (
       c.requires.table.1,
       omega (arith, c.requires.table.0.0),
-      splits_allowed b.pass_of b.led key.value.value key.passes c.args.seat.now.id c.args.seat.now.me.0 (ap is_over c.requires.free) n.0 n.1,
+      splits_allowed b.pass_of b.led key.value.value key.passes c.args.seat.now.id c.args.seat.now.me.0
+          (ap is_over c.requires.free) n.0 n.1,
     )

@@ -10,7 +10,8 @@ fetch_add-served-requires g c =
     let b = g.B.Booked in
     let e = c.exchange.ensures in
     let view : c.exchange.new.seat.me.0 ≡ c.args.seat.now.me.0 = ap (λ m. m.0) e.3 in
-    let slot : c.exchange.new.seat.me.1 ≡ (0, Some c.args.value) ∷ [] = ap (λ m. m.1) e.3 ∙ ap (λ l. (0, Some c.args.value) ∷ rest l) c.requires.carries in (
+    let slot : c.exchange.new.seat.me.1 ≡ (0, Some c.args.value) ∷ [] = ap (λ m. m.1) e.3
+    ∙ ap (λ l. (0, Some c.args.value) ∷ rest l) c.requires.carries in (
       e.0 ∙ c.requires.table.1,
       omega (arith, c.requires.table.0.0),
       hands_on_allowed b.pass_of b.led key.value.value key.passes b.stays (b.staying_leads key.value.value)

@@ -3,4 +3,5 @@ use Rattle.kom_state_lock.specs.Passes.{HoldsNoTurn}
 use Rattle.kom_state_lock.proofs.tests.add_often.Given as goal
 
 abbrev pub invariant-loop-by : goal.invariant-loop-by
-invariant-loop-by g l = (l.pass.table ≡ l.hall.table) × HoldsNoTurn l.pass.turn × (l.pass.number ≡ l.initial.pass.number)
+invariant-loop-by g l = (l.pass.table ≡ l.hall.table) × HoldsNoTurn l.pass.turn
+    × (l.pass.number ≡ l.initial.pass.number)

@@ -8,6 +8,8 @@ pub close-counter-requires-clause-every : goal.close-counter-requires-clause-eve
 close-counter-requires-clause-every g c number low =
     let new = c.add_together.new.passes in
     let rest = drop (length new) c.in_ok-hall.row.items in
-    let long : c.in_ok-hall.row.len ≡ length new = omega (arith, c.as_mut_slice.ensures.len, c.add_together.auto.passes) in
-    subst (λ l. Contains (map number_of l) number) (sym (ap (λ n. take n (new ++ rest)) long ∙ take-append_seam new rest))
+    let long : c.in_ok-hall.row.len ≡ length new =
+    omega (arith, c.as_mut_slice.ensures.len, c.add_together.auto.passes) in
+    subst (λ l. Contains (map number_of l) number) (sym (ap (λ n. take n (new ++ rest)) long
+    ∙ take-append_seam new rest))
     (ready_every c.in_ok-hall.hall new c.add_together.ensures number low)
