@@ -1,9 +1,8 @@
 -- What a caller needs to append: that all pairs are below a local, and stay so.
 --     below_none        there is no pair from the local on
---     below_more        nor is any from a greater one on
 --     below_push        a pair of that local was added
 --     below_without     a pair was taken out
-use Rattle.std.proofs.Common.{◌≡◌, ℕ, ◌+◌, ◌≤◌, ◌<◌, ◌==◌, true, false, cond, not, List, [], ◌∷◌, ◌++◌}
+use Rattle.std.proofs.Common.{◌≡◌, ℕ, ◌+◌, ◌<◌, ◌==◌, true, false, cond, not, List, [], ◌∷◌, ◌++◌}
 use Rattle.std.proofs.Common.{sym, ◌∙◌, arith, inl, inr}
 use Rattle.std.proofs.lemmas.Bool.{le-leb, lt-leb, cases_lt}
 use Rattle.map_chain.specs.Pairs.{Pair, AllBelow, from_on, without}
@@ -17,11 +16,6 @@ below_none n (p ∷ ps) e = elim (cases_lt p.0 n) [
       let some = sym (kept _ p (from_on n ps) (le-leb n p.0 more)) ∙ e in
       let none : p ∷ from_on n ps ≡ [] = some in cc
 ]
-
-pub below_more : (n m : ℕ) (ps : List Pair) → n ≤ m → AllBelow n ps → AllBelow m ps
-below_more n m [] le below = tt
-below_more n m (p ∷ ps) le below =
-    let less : p.0 < n = below.0 in (omega arith, below_more n m ps le below.1)
 
 pub below_push : (n text : ℕ) (ps : List Pair) → AllBelow n ps → AllBelow (n + 1) (ps ++ (n, text) ∷ [])
 below_push n text [] below = (omega arith, tt)

@@ -3,6 +3,7 @@ mod Crosses
 mod Filters
 mod Growing
 mod Indexing
+mod Keys
 mod Linking
 mod Lists
 mod Seeking

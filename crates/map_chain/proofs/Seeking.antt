@@ -1,19 +1,12 @@
 -- The block that a local belongs to.
 --     pairs-cut, pairs-take      the pairs up to a block, its own, and those after it
 --     AllBelow-*, AllFrom-*, rising-*      over `++`
---     ReachesAt, below_all       a block reaches n, or all up to it are below n
+--     below_all                  all up to a block are below n
 use Rattle.std.proofs.Common.{◌≡◌, ℕ, zero, suc, ◌<◌, ◌≤◌, List, [], ◌∷◌, ◌++◌, length, take, drop, slice_get, Some, refl, sym, ap, subst, ◌∙◌, arith, append_assoc, append-nil}
 use denote.RawPtr.{Ptr}
 use Rattle.map_chain.specs.Pairs.{Pair, AllBelow, AllFrom, IsRising, highest}
 use Rattle.map_chain.specs.Blocks.{Placed, pairs_of, AllFilled}
 use Rattle.map_chain.proofs.Lists.{AllFrom-weaken}
-
--- the i-th block has a local of n or above
-pub record ReachesAt (n : ℕ) (bs : Placed) (i : ℕ) : Type 0 where
-  pub place : Ptr
-  pub pairs : List Pair
-  pub is : slice_get bs i ≡ Some (place, pairs)
-  pub reached : n ≤ highest pairs
 
 pub pairs-cut : (bs : Placed) (i : ℕ) (p : Ptr) (ps : List Pair) → slice_get bs i ≡ Some (p, ps) → pairs_of bs ≡ pairs_of (take i bs) ++ (ps ++ pairs_of (drop (suc i) bs))
 pairs-cut [] i p ps e = cc

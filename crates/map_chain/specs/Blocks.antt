@@ -3,6 +3,7 @@ use Rattle.std.specs.Prelude.{◌≡◌, ℕ, suc, ◌+◌, ◌-◌, ◌*◌, �
 use Rattle.std.specs.Prelude.{Bool, true, false, Option, None}
 use Rattle.std.specs.Prelude.{List, [], ◌∷◌, ◌++◌, length, take, drop, remove, slice_get, Some}
 use denote.RawPtr.{Ptr}
+use Rattle.map_chain.specs.Edit.{edit}
 use Rattle.map_chain.specs.Pairs.{Pair, AllBelow, highest}
 use Rattle.map_chain.specs.declared.nodes.Place.{Place}
 
@@ -14,6 +15,10 @@ Placed = List (Ptr × List Pair)
 abbrev pub pairs_of : Placed → List Pair
 pairs_of [] = []
 pairs_of (b ∷ bs) = b.1 ++ pairs_of bs
+
+-- the blocks with one more pair in the last
+abbrev pub with_last : Pair → Placed → Placed
+with_last q bs = edit (length bs - 1) (λ ps. ps ++ q ∷ []) bs
 
 -- how many pairs the last block has room for
 abbrev pub room_in : Placed → ℕ

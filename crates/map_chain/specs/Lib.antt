@@ -2,6 +2,7 @@ pub mod Blocks
 pub mod Chain
 pub mod Edit
 pub mod Index
+pub mod Keys
 pub mod Lends
 pub mod Links
 pub mod Nodes

@@ -98,16 +98,17 @@ impl Block {
         };
     }
 
-    /// How many pairs have a local below this one.
+    /// How many pairs have a local below this one. The search begins with the bounds of all places,
+    /// so that its first read need not wait for that of `len`.
     pub(crate) fn find(&self, local: u32) -> usize
         requires { IsRising self.now }
         ensures { IsPlace local self.now result }
     {
         let mut low = 0;
-        let mut high = self.len;
+        let mut high = ROOM;
         while low < high {
             let middle = low + (high - low) / 2;
-            if self.pairs[middle].0 < local {
+            if middle < self.len && self.pairs[middle].0 < local {
                 low = middle + 1;
             } else {
                 high = middle;

@@ -6,7 +6,8 @@ ghost use Rattle.map_chain.specs.Edit.{edit};
 ghost use Rattle.map_chain.specs.Links.{with_next, with_previous};
 ghost use Rattle.map_chain.specs.Nodes.{IsAt};
 ghost use Rattle.map_chain.specs.Pairs.{Pair, AllBelow, IsRising};
-ghost use Rattle.map_chain.specs.Blocks.{Placed, pairs_of, room_in, AllFilled, HasRoomAt, IsPairOf};
+ghost use Rattle.map_chain.specs.Blocks.{Placed, pairs_of, with_last, room_in, AllFilled};
+ghost use Rattle.map_chain.specs.Blocks.{HasRoomAt, IsPairOf};
 
 use crate::block::{Block, ROOM};
 use crate::loose::Loose;
@@ -191,7 +192,7 @@ impl Blocks {
     /// Adds the pair to the last block.
     pub(crate) fn push_last(&mut self, local: u32, text: u32)
         requires { 0 < room_in self.old }
-        ensures { self.new ≡ edit (length self.old - 1) (λ ps. ps ++ (local, text) ∷ []) self.old }
+        ensures { self.new ≡ with_last (local, text) self.old }
     {
         let (last, i) = (self.last, self.count - 1);
         self.nodes.get_mut(last, i).block.push(local, text);

@@ -1,16 +1,17 @@
 //! The chain.
 ghost use Rattle.std.specs.Prelude.{◌≡◌, ◌+◌, ◌^◌, ◌<◌, ◌≤◌, ◌↔◌, [], ◌∷◌, ◌++◌, length};
-ghost use Rattle.std.specs.Prelude.{max, reverse, vec_capacity, IsTrue, OnOk, OnErr};
-ghost use Rattle.map_chain.specs.Blocks.{AllFilled, HasMadeRoom, HasNoRoom, IsPairAt, HasLost};
-ghost use Rattle.map_chain.specs.Index.{IsIndexed};
+ghost use Rattle.std.specs.Prelude.{max, reverse, IsTrue, OnOk, OnErr};
+ghost use Rattle.map_chain.specs.Blocks.{pairs_of, AllFilled, HasMadeRoom, HasNoRoom};
+ghost use Rattle.map_chain.specs.Blocks.{IsPairAt, HasLost};
+ghost use Rattle.map_chain.specs.Index.{IsIndexed, IsIndexedFor};
 ghost use Rattle.map_chain.specs.Pairs.{Pair, AllBelow, IsRising, text_of, without, from_on, below};
 
 use crate::block::ROOM;
 use crate::blocks::Blocks;
+use crate::index::Index;
 use crate::joining::{join_thin, put_by, take_block};
 use crate::memory::Memory;
 use crate::node::Node;
-use crate::nodes::Place;
 use crate::walks::{Downward, Upward};
 use std::alloc::Global;
 use std::marker::Model;
@@ -18,19 +19,18 @@ use std::marker::Model;
 /// Pairs of a local number and a text, of rising locals, in a two-way chain of blocks of 64 pairs.
 ///
 /// `append` and `len` are constant. `get`, `remove`, `from` and `before` find their block by
-/// halving an index of the blocks' places, and the pair in it by halving too. A block that has become
+/// halving the keys of an index, and the pair in it by halving too. A block that has become
 /// thin is joined with a neighbour if both fit into one.
 pub struct Chain {
     used: Blocks,
     spare: Blocks,
-    index: Vec<Place>,
+    index: Index,
     len: usize,
     alloc: Global,
 }
 
 impl Model for Chain {
     ghost use Rattle.map_chain.specs.Chain.{Listed};
-    ghost use Rattle.std.specs.Prelude.{vec_capacity};
     ghost use Rattle.map_chain.specs.Blocks.{pairs_of, room_of};
     ghost use Rattle.map_chain.specs.Index.{IsKept};
 
@@ -38,22 +38,25 @@ impl Model for Chain {
 
     ghost view = { λ c. record { pairs = pairs_of c.used; spare = room_of c.used c.spare } };
 
-    ghost invariant = { λ c. IsKept c.used c.spare c.len c.index.items (vec_capacity c.index) };
+    ghost invariant = { λ c. IsKept c.used c.spare c.len c.index };
 }
 
 // Makes room in the last block for one more pair, by another block if there is none: a spare one if
-// there is one.
+// there is one. That block's key is the local of the pair.
 fn make_room(
     used: &mut Blocks,
     spare: &mut Blocks,
-    index: &mut Vec<Place>,
+    index: &mut Index,
+    local: u32,
     alloc: Global,
 ) -> Result<(), Memory>
+    requires above { AllBelow local (pairs_of used.old) }
     requires blocks { AllFilled used.old × (length used.old < 2 ^ 60) }
-    requires index { IsIndexed index.old.items (vec_capacity index.old) used.old spare.old }
+    requires index { IsIndexed index.old used.old spare.old }
     ensures ok { OnOk result (HasMadeRoom used.old spare.old used.new spare.new) }
     ensures err { OnErr result (HasNoRoom used.old spare.old used.new spare.new) }
-    ensures index { IsIndexed index.new.items (vec_capacity index.new) used.new spare.new }
+    ensures index { OnOk result (IsIndexedFor local index.new used.new spare.new) }
+    ensures kept { OnErr result (IsIndexed index.new used.new spare.new) }
 {
     if used.room() > 0 {
         return Ok(());
@@ -61,11 +64,13 @@ fn make_room(
     let node = match spare.pop(alloc) {
         Some(node) => node,
         None => {
-            index.reserve(1)?;
+            index.places.reserve(1)?;
+            index.keys.reserve(1)?;
             Box::new(alloc, Node::new())?
         }
     };
-    index.push(used.link(node)).unwrap();
+    index.places.push(used.link(node)).unwrap();
+    index.keys.push(local).unwrap();
     Ok(())
 }
 
@@ -73,24 +78,24 @@ fn make_room(
 fn take_pair(
     used: &mut Blocks,
     spare: &mut Blocks,
-    index: &mut Vec<Place>,
+    index: &mut Index,
     i: usize,
     k: usize,
     alloc: Global,
 )
     requires within { IsPairAt used.old i k }
     requires blocks { AllFilled used.old × (length used.old + length spare.old ≤ 2 ^ 60) }
-    requires index { IsIndexed index.old.items (vec_capacity index.old) used.old spare.old }
+    requires index { IsIndexed index.old used.old spare.old }
     ensures lost { HasLost used.old spare.old i k used.new spare.new }
-    ensures index { IsIndexed index.new.items (vec_capacity index.new) used.new spare.new }
+    ensures index { IsIndexed index.new used.new spare.new }
 {
-    let at = index[i];
+    let at = index.places[i];
     if used.block(at, i).len() > 1 {
         used.remove_pair(at, i, k);
         join_thin(used, spare, index, i, alloc);
         return;
     }
-    let is_last = i + 1 == index.len();
+    let is_last = i + 1 == index.places.len();
     let node = take_block(used, index, i, alloc);
     put_by(spare, node, is_last);
 }
@@ -118,7 +123,7 @@ impl Chain {
         Chain {
             used: Blocks::new(alloc),
             spare: Blocks::new(alloc),
-            index: Vec::new(alloc),
+            index: Index::new(alloc),
             len: 0,
             alloc,
         }
@@ -155,7 +160,13 @@ impl Chain {
         ensures err { OnErr result ((self.new.pairs ≡ self.old.pairs) × (self.old.spare ≡ 0)) }
         ensures spare { self.old.spare ≤ self.new.spare + 1 }
     {
-        make_room(&mut self.used, &mut self.spare, &mut self.index, self.alloc)?;
+        make_room(
+            &mut self.used,
+            &mut self.spare,
+            &mut self.index,
+            local,
+            self.alloc,
+        )?;
         self.used.push_last(local, text);
         self.len += 1;
         Ok(())
@@ -194,7 +205,8 @@ impl Chain {
         ensures spare { self.old.spare ≤ self.new.spare }
     {
         let blocks = n.saturating_sub(self.used.room()).div_ceil(ROOM);
-        self.index.reserve(blocks)?;
+        self.index.places.reserve(blocks)?;
+        self.index.keys.reserve(blocks)?;
         stock(&mut self.spare, blocks, self.alloc)
     }
 

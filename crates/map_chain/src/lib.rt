@@ -4,6 +4,7 @@
 mod block;
 mod blocks;
 mod chain;
+mod index;
 mod joining;
 mod loose;
 mod memory;

@@ -7,6 +7,7 @@ ghost use Rattle.map_chain.specs.Pairs.{IsRising, from_on, below};
 ghost use Rattle.map_chain.specs.Blocks.{pairs_of, AllFilled, IsWhole};
 
 use crate::blocks::Blocks;
+use crate::index::Index;
 use crate::nodes::Place;
 use std::marker::Model;
 
@@ -57,7 +58,7 @@ impl<'a> Model for Upward<'a> {
 }
 
 impl<'a> Upward<'a> {
-    pub(crate) fn new(blocks: &'a Blocks, index: &[Place], local: u32) -> Upward<'a>
+    pub(crate) fn new(blocks: &'a Blocks, index: &Index, local: u32) -> Upward<'a>
         requires order { IsRising (pairs_of blocks.now) × AllFilled blocks.now }
         requires index { IsIndexOf index.now blocks.now }
         ensures { result ≡ from_on local (pairs_of blocks.now) }
@@ -131,7 +132,7 @@ impl<'a> Model for Downward<'a> {
 }
 
 impl<'a> Downward<'a> {
-    pub(crate) fn new(blocks: &'a Blocks, index: &[Place], ceiling: u32) -> Downward<'a>
+    pub(crate) fn new(blocks: &'a Blocks, index: &Index, ceiling: u32) -> Downward<'a>
         requires order { IsRising (pairs_of blocks.now) × AllFilled blocks.now }
         requires index { IsIndexOf index.now blocks.now }
         ensures { result ≡ reverse (below ceiling (pairs_of blocks.now)) }

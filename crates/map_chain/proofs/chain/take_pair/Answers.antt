@@ -4,7 +4,8 @@ use Rattle.std.proofs.lemmas.Bool.Decides.{nat_tests}
 use Rattle.map_chain.specs.Pairs.{Pair}
 use Rattle.map_chain.proofs.Linking.{get-within, length-edit}
 use Rattle.map_chain.proofs.Growing.{lost_pair}
-use Rattle.map_chain.proofs.Indexing.{index_length, indexed-edit}
+use Rattle.map_chain.proofs.Indexing.{places_length, indexed-edit}
+use Rattle.map_chain.proofs.Keys.{keys-pair}
 use Rattle.map_chain.proofs.Thin.{lost_whole, lost_kept, within_here}
 use Rattle.map_chain.proofs.chain.take_pair.Goals as goal
 
@@ -25,7 +26,9 @@ join_thin-requires-clause-blocks c =
 
 pub join_thin-requires-clause-index : goal.join_thin-requires-clause-index
 join_thin-requires-clause-index c =
-    indexed-edit c.args.index.now.items _ c.args.used.now c.args.spare.now c.remove_pair.new.self c.args.i (λ l. remove l c.args.k) c.requires.index c.remove_pair.ensures
+    let used = c.args.used.now in let x = c.args.index.now in let i : ℕ = c.args.i in
+    indexed-edit x used c.args.spare.now c.remove_pair.new.self i (λ l. remove l c.args.k) c.requires.index c.remove_pair.ensures
+    (keys-pair x.keys.items used i c.args.k c.requires.index.blocks.keys)
 
 pub returns-then-len-gt1-clause-lost : goal.returns-then-len-gt1-clause-lost
 returns-then-len-gt1-clause-lost c =
@@ -44,7 +47,7 @@ take_block-node-requires-clause-within c = let w = c.requires.within in get-with
 pub returns-clause-lost : goal.returns-clause-lost
 returns-clause-lost c =
     let used = c.args.used.now in let ps = c.block.result.now in let p = c.index-at.result.now.ptr in let i : ℕ = c.args.i in
-    let same = index_length c.args.index.now.items used c.requires.index.places in let long = c.args.index.now.ok.0 in let len = c.len-2.ensures in
+    let same = places_length c.args.index.now.places.items used c.requires.index.blocks.places in let long = c.args.index.now.places.ok.0 in let len = c.len-2.ensures in
     let inside = get-within used i (p, ps) c.block.ensures in
     lost_whole used c.args.spare.now i c.args.k p ps c.block.ensures (within_here used i c.args.k p ps c.requires.within c.block.ensures) c.requires.blocks.0
     c.take_block-node.new.used c.put_by.new.spare _ c.take_block-node.ensures.others c.put_by.ensures
@@ -52,5 +55,6 @@ returns-clause-lost c =
 
 pub returns-clause-index : goal.returns-clause-index
 returns-clause-index c =
-    let lost = returns-clause-lost c in let few = lost.few in let room = c.requires.index.room in let same = c.take_block-node.ensures.room in
-    record { places = c.take_block-node.ensures.index; room = omega arith }
+    let lost = returns-clause-lost c in let few = lost.few in let room = c.requires.index.room in let key_room = c.requires.index.key_room in
+    let same = c.take_block-node.ensures.room in let key_same = c.take_block-node.ensures.key_room in
+    record { blocks = c.take_block-node.ensures.index; room = omega arith; key_room = omega arith }

@@ -6,9 +6,11 @@ use Rattle.map_chain.specs.Edit.{edit}
 use Rattle.map_chain.specs.Pairs.{Pair}
 use Rattle.map_chain.specs.Nodes.{places}
 use Rattle.map_chain.specs.Blocks.{Placed, FitTogether, IsBlockAt}
+use Rattle.map_chain.specs.Keys.{AreKeysOf}
 use Rattle.map_chain.specs.declared.node.Node.{Node}
 use Rattle.map_chain.proofs.Linking.{one_block, get-within, places-edit, length-edit, length-remove_at}
-use Rattle.map_chain.proofs.Indexing.{index_length}
+use Rattle.map_chain.proofs.Indexing.{places_length}
+use Rattle.map_chain.proofs.Keys.{keys-join}
 use Rattle.map_chain.proofs.Thin.{get-remove_before, kept_join}
 use Rattle.map_chain.proofs.joining.join.Goals as goal
 
@@ -44,7 +46,7 @@ pub returns-clause-kept : goal.returns-clause-kept
 returns-clause-kept c =
     let t = c.requires.together in let used = c.args.used.now in let taken = c.take_block-node.new.used in let i : ℕ = c.args.i in let node = c.deref.result.now in
     let qs : List Pair = node.block in let value = c.take_block-node.result.value in let e = c.take_block-node.ensures.node in let gone = c.take_block-node.ensures.others in
-    let same = index_length c.args.index.now.items used c.requires.index.places in let long = c.args.index.now.ok.0 in let len = c.len.ensures in
+    let same = places_length c.args.index.now.places.items used c.requires.index.blocks.places in let long = c.args.index.now.places.ok.0 in let len = c.len.ensures in
     let more = second used taken i t node value e c.deref.ensures gone in let within = get-within used (suc i) (e.0, qs) more in
     kept_join used c.args.spare.now c.put_by.new.spare i t.here e.0 t.pairs qs t.first more (fits used taken i t node value e c.deref.ensures gone) c.requires.blocks.0 c.add_pairs.new.self _
     (c.add_pairs.ensures ∙ ap (λ (bs : Placed). edit i (λ l. l ++ qs) bs) (others used taken i t node value e c.deref.ensures gone)) c.put_by.ensures
@@ -52,10 +54,22 @@ returns-clause-kept c =
 
 pub returns-clause-index : goal.returns-clause-index
 returns-clause-index c =
-    let k = returns-clause-kept c in let few = k.few in let room = c.requires.index.room in let same = c.take_block-node.ensures.room in
+    let t = c.requires.together in let used = c.args.used.now in let taken = c.take_block-node.new.used in let i : ℕ = c.args.i in let node = c.deref.result.now in
+    let qs : List Pair = node.block in let value = c.take_block-node.result.value in let e = c.take_block-node.ensures.node in let gone = c.take_block-node.ensures.others in
+    let k = returns-clause-kept c in let few = k.few in let x = c.requires.index in let room = x.room in let key_room = x.key_room in
+    let same = c.take_block-node.ensures.room in let key_same = c.take_block-node.ensures.key_room in
+    let ks = c.args.index.now.keys.items in let more = second used taken i t node value e c.deref.ensures gone in
+    let is = c.add_pairs.ensures ∙ ap (λ (bs : Placed). edit i (λ l. l ++ qs) bs) (others used taken i t node value e c.deref.ensures gone) in
+    let fewer : c.take_block-node.new.index.keys.items ≡ remove ks (suc i) =
+    c.take_block-node.ensures.keys ∙ ap (λ (j : ℕ). remove ks j) (next used taken i t node value e c.deref.ensures gone) in
     record {
-      places = c.take_block-node.ensures.index ∙ sym (ap places c.add_pairs.ensures ∙ places-edit c.take_block-node.new.used c.args.i (λ (l : List Pair). l ++ c.deref.result.now.block));
+      blocks = record {
+        places = c.take_block-node.ensures.index.places ∙ sym (ap places c.add_pairs.ensures ∙ places-edit taken i (λ (l : List Pair). l ++ qs));
+        keys = subst (λ (w : List ℕ × Placed). AreKeysOf w.0 w.1) (λ j. (sym fewer j, sym is j))
+            (keys-join ks used i e.0 qs more c.requires.blocks.0 x.blocks.keys);
+      };
       room = omega arith;
+      key_room = omega arith;
     }
 
 pub returns-clause-fewer : goal.returns-clause-fewer

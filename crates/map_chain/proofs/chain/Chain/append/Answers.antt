@@ -1,12 +1,14 @@
 use Rattle.std.proofs.Common.{◌-◌, [], ◌∷◌, ◌++◌, length, sym, ap, subst, ◌∙◌, arith}
 use Rattle.map_chain.specs.Pairs.{Pair, AllBelow}
+use Rattle.map_chain.specs.Blocks.{Placed}
+use Rattle.map_chain.specs.Index.{IsIndexed}
 use Rattle.map_chain.proofs.Growing.{has_room, blocks_under, pairs_under, grown, chain_grown}
-use Rattle.map_chain.proofs.Indexing.{indexed-edit}
 use Rattle.map_chain.proofs.chain.Chain.append.Goals as goal
 
 pub make_room-requires : goal.make_room-requires
 make_room-requires c =
     record {
+      above = subst (AllBelow c.args.local) (sym (ap (λ w. w.pairs) c.self.view_is)) c.requires.above;
       blocks = (c.self.invariant.0.filled, blocks_under c.self.inside.used c.self.inside.spare c.self.inside.len c.self.invariant.0);
       index = c.self.invariant.1;
     }
@@ -23,8 +25,8 @@ invariant_of-self-2 c =
       chain_grown used spare c.push_last.new.self c.make_room.new.spare q c.self.inside.len v
           (grown used spare c.make_room.new.used c.make_room.new.spare c.push_last.new.self q c.in_ok-make_room.ensures.ok c.push_last.ensures v.filled (blocks_under used spare c.self.inside.len v) v.few)
           (subst (AllBelow c.args.local) (sym (ap (λ w. w.pairs) c.self.view_is)) c.requires.above) c.ranges.local.fits,
-      indexed-edit c.make_room.new.index.items _ c.make_room.new.used c.make_room.new.spare c.push_last.new.self (length c.make_room.new.used - 1) (λ ps. ps ++ q ∷ []) c.in_ok-make_room.ensures.index
-          c.push_last.ensures,
+      subst (λ (bs : Placed). IsIndexed c.make_room.new.index bs c.make_room.new.spare) (sym c.push_last.ensures)
+          (c.in_ok-make_room.ensures.index c.args.text),
     )
 
 pub returns-clause-ok : goal.returns-clause-ok
