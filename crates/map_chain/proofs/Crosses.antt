@@ -12,20 +12,22 @@ use denote.RawPtr.{Ptr, block_ptr, null_ptr, block_of, count_of}
 use denote.Struct.Struct.{exits_of}
 use denote.Struct.Owning.{shape, fields, to}
 use denote.Struct.Lending.{lent_at}
-use denote.Param.Send.{IsSend, IsSync, Quiet, Common, AllSend, part_keyless, owning_send, struct_send, struct_sync, sendable}
+use denote.Param.Send.{IsSend, IsSync, Quiet, Common, AllSend, part_keyless, owning_send, struct_send, struct_sync}
+use denote.Param.Send.{sendable}
 use Rattle.core.specs.declared.alloc.Allocator.{Ghosts}
 use Rattle.std_alloc.proofs.SendSync.{FreesAnywhere}
 use Rattle.std_alloc.specs.Box.Ownership.{box_owns}
 use Rattle.map_chain.specs.Ownership.{nodes_own, nodes_lent}
 use Rattle.map_chain.specs.contracts.nodes.Nodes as Nodes
 
--- what a part leaves behind, seen from the whole
+-- what is left of a part, seen from the whole
 calm : {Whole Part : Type 0} (part : Whole → Part) (e : Exit Part) → Quiet e → Quiet (hidden (under part e))
 calm part unchanged q = λ whole now. tt
 calm part (leaves L l S s r) q = λ whole. q (part whole)
 
 -- the memory of one node
-node_crosses : (R : RattleType) → IsSend R → (frees : Ty → Ptr → Fml) → ((τ : Ty) (p : Ptr) → Keyless (frees τ p)) → (p : Ptr) (x : R.Denot) → Keyless (box_owns frees R p x)
+node_crosses : (R : RattleType) → IsSend R → (frees : Ty → Ptr → Fml) → ((τ : Ty) (p : Ptr) → Keyless (frees τ p))
+    → (p : Ptr) (x : R.Denot) → Keyless (box_owns frees R p x)
 node_crosses R s frees f null_ptr x = (tt, f (bare (lone R.mir)) null_ptr)
 node_crosses R s frees f (block_ptr b o) x = (part_keyless R s full_share x b o, f (bare (lone R.mir)) (block_ptr b o))
 
@@ -34,7 +36,8 @@ node_seen : (R : RattleType) → IsSync R → (p : Ptr) (x : R.Denot) → Common
 node_seen R s null_ptr x κ = (tt, s.shared x (block_of null_ptr) (count_of null_ptr) κ)
 node_seen R s (block_ptr b o) x κ = (tt, s.shared x (block_of (block_ptr b o)) (count_of (block_ptr b o)) κ)
 
-all_cross : (R : RattleType) → IsSend R → (frees : Ty → Ptr → Fml) → ((τ : Ty) (p : Ptr) → Keyless (frees τ p)) → (ns : List (Ptr × R.Denot)) → Keyless (nodes_own frees R ns)
+all_cross : (R : RattleType) → IsSend R → (frees : Ty → Ptr → Fml) → ((τ : Ty) (p : Ptr) → Keyless (frees τ p))
+    → (ns : List (Ptr × R.Denot)) → Keyless (nodes_own frees R ns)
 all_cross R s frees f [] = tt
 all_cross R s frees f (n ∷ ns) = (node_crosses R s frees f n.0 n.1, all_cross R s frees f ns)
 

@@ -25,27 +25,32 @@ places_length ps bs e =
     sym (length-map ps (λ (p : Place). p.ptr)) ∙ ap (λ (l : List Ptr). length l) e
     ∙ length-map bs (λ (b : Ptr × List Pair). b.0)
 
-pub place_at : (ps : List Place) (bs : Placed) (i : ℕ) (d : Place) → ArePlacesOf ps bs → i < length bs → IsAt bs i (get_or ps i d).ptr
+pub place_at : (ps : List Place) (bs : Placed) (i : ℕ) (d : Place) → ArePlacesOf ps bs → i < length bs
+    → IsAt bs i (get_or ps i d).ptr
 place_at ps [] i d e h = absurd (omega arith)
 place_at [] (b ∷ bs) i d e h = cc
 place_at (x ∷ xs) (b ∷ bs) zero d e h = cc
 place_at (x ∷ xs) (b ∷ bs) (suc i) d e h =
     let others : ArePlacesOf xs bs = cc in place_at xs bs i d others (omega arith)
 
-pub places-remove : (ps : List Place) (bs : Placed) (i : ℕ) → ArePlacesOf ps bs → ArePlacesOf (remove ps i) (remove bs i)
+pub places-remove : (ps : List Place) (bs : Placed) (i : ℕ) → ArePlacesOf ps bs
+    → ArePlacesOf (remove ps i) (remove bs i)
 places-remove ps bs i e =
     map-remove_at (λ (p : Place). p.ptr) ps i ∙ ap (λ (l : List Ptr). remove l i) e
     ∙ sym (map-remove_at (λ (b : Ptr × List Pair). b.0) bs i)
 
-places-push : (ps : List Place) (bs : Placed) (r : Place) → ArePlacesOf ps bs → ArePlacesOf (ps ++ r ∷ []) (bs ++ (r.ptr, []) ∷ [])
+places-push : (ps : List Place) (bs : Placed) (r : Place) → ArePlacesOf ps bs
+    → ArePlacesOf (ps ++ r ∷ []) (bs ++ (r.ptr, []) ∷ [])
 places-push ps bs r e =
     map-append (λ (p : Place). p.ptr) ps (r ∷ []) ∙ ap (λ (l : List Ptr). l ++ r.ptr ∷ []) e
     ∙ sym (map-append (λ (b : Ptr × List Pair). b.0) bs ((r.ptr, []) ∷ []))
 
-pub indexed-edit : (index : Index) (used spare used' : Placed) (i : ℕ) (f : List Pair → List Pair) → IsIndexed index used spare
+pub indexed-edit : (index : Index) (used spare used' : Placed) (i : ℕ) (f : List Pair → List Pair)
+    → IsIndexed index used spare
     → used' ≡ edit i f used → AreKeysOf index.keys.items (edit i f used) → IsIndexed index used' spare
 indexed-edit index used spare used' i f x is keys =
-    let same = ap (λ (bs : Placed). length bs) is ∙ length-edit used i f in let most = x.room in let key_most = x.key_room in
+    let same = ap (λ (bs : Placed). length bs) is ∙ length-edit used i f in let most = x.room in
+    let key_most = x.key_room in
     record {
       blocks = record {
         places = x.blocks.places ∙ sym (ap places is ∙ places-edit used i f);
@@ -56,16 +61,21 @@ indexed-edit index used spare used' i f x is keys =
     }
 
 -- a block comes with its first pair
-pub indexed-begin : (x now : Index) (used used' spare' : Placed) (r : Place) (q : Pair) → IsIndexOf x used → AllBelow q.0 (pairs_of used)
-    → used' ≡ used ++ (r.ptr, []) ∷ [] → now.places.items ≡ x.places.items ++ r ∷ [] → now.keys.items ≡ x.keys.items ++ q.0 ∷ []
-    → suc (length used) + length spare' ≤ vec_capacity now.places → suc (length used) + length spare' ≤ vec_capacity now.keys
+pub indexed-begin : (x now : Index) (used used' spare' : Placed) (r : Place) (q : Pair) → IsIndexOf x used
+    → AllBelow q.0 (pairs_of used)
+    → used' ≡ used ++ (r.ptr, []) ∷ [] → now.places.items ≡ x.places.items ++ r ∷ []
+    → now.keys.items ≡ x.keys.items ++ q.0 ∷ []
+    → suc (length used) + length spare' ≤ vec_capacity now.places
+    → suc (length used) + length spare' ≤ vec_capacity now.keys
     → IsIndexed now (with_last q used') spare'
 indexed-begin x now used used' spare' r q v above is places keys room key_room =
-    let f : List Pair → List Pair = λ ps. ps ++ q ∷ [] in let more = used ++ (r.ptr, []) ∷ [] in let j : ℕ = length more - 1 in
+    let f : List Pair → List Pair = λ ps. ps ++ q ∷ [] in let more = used ++ (r.ptr, []) ∷ [] in
+    let j : ℕ = length more - 1 in
     let long = length-append used ((r.ptr, []) ∷ []) in let same = length-edit more j f in
     subst (λ (bs : Placed). IsIndexed now (with_last q bs) spare') (sym is) (record {
       blocks = record {
-        places = ap (λ (l : List Place). map (λ p. p.ptr) l) places ∙ places-push x.places.items used r v.places ∙ sym (places-edit more j f);
+        places = ap (λ (l : List Place). map (λ p. p.ptr) l) places ∙ places-push x.places.items used r v.places
+            ∙ sym (places-edit more j f);
         keys = subst (λ (l : List ℕ). AreKeysOf l (edit j f more)) (sym keys)
             (keys-begin x.keys.items used r.ptr q j (omega arith) v.keys above);
       };

@@ -81,20 +81,25 @@ keys_length (k ∷ ks) [] a = absurd a
 keys_length (k ∷ ks) (b ∷ bs) a = ap suc (keys_length ks bs a.2)
 
 -- the pairs before a block are below its key
-keys_above : (ks : List ℕ) (bs : Placed) (i : ℕ) → AreKeysOf ks bs → i < length ks → AllBelow (get_or ks i 0) (pairs_of (take i bs))
+keys_above : (ks : List ℕ) (bs : Placed) (i : ℕ) → AreKeysOf ks bs → i < length ks
+    → AllBelow (get_or ks i 0) (pairs_of (take i bs))
 keys_above [] bs i a h = absurd (omega arith)
 keys_above (k ∷ ks) [] i a h = absurd a
 keys_above (k ∷ ks) (b ∷ bs) zero a h = tt
 keys_above (k ∷ ks) (b ∷ bs) (suc i) a h =
-    AllBelow-append (get_or ks i 0) b.1 (pairs_of (take i bs)) (above_at ks b.1 i a.1 (omega arith)) (keys_above ks bs i a.2 (omega arith))
+    AllBelow-append (get_or ks i 0) b.1 (pairs_of (take i bs)) (above_at ks b.1 i a.1 (omega arith))
+    (keys_above ks bs i a.2 (omega arith))
 
-pub before_nearest : (n : ℕ) (ks : List ℕ) (bs : Placed) (i : ℕ) → AreKeysOf ks bs → IsNearest n ks i → AllBelow n (pairs_of (take i bs))
+pub before_nearest : (n : ℕ) (ks : List ℕ) (bs : Placed) (i : ℕ) → AreKeysOf ks bs → IsNearest n ks i
+    → AllBelow n (pairs_of (take i bs))
 before_nearest n ks bs zero a h = tt
 before_nearest n ks bs (suc i) a h =
-    AllBelow-weaken (get_or ks (suc i) 0) n (pairs_of (take (suc i) bs)) (h.reached (omega arith)) (keys_above ks bs (suc i) a h.within)
+    AllBelow-weaken (get_or ks (suc i) 0) n (pairs_of (take (suc i) bs)) (h.reached (omega arith))
+    (keys_above ks bs (suc i) a h.within)
 
 -- the pairs of a block are not below its key
-keys_from : (ks : List ℕ) (bs : Placed) (i : ℕ) (p : Ptr) (ps : List Pair) → AreKeysOf ks bs → slice_get bs i ≡ Some (p, ps) → AllFrom (get_or ks i 0) ps
+keys_from : (ks : List ℕ) (bs : Placed) (i : ℕ) (p : Ptr) (ps : List Pair) → AreKeysOf ks bs
+    → slice_get bs i ≡ Some (p, ps) → AllFrom (get_or ks i 0) ps
 keys_from [] [] i p ps a e = cc
 keys_from [] (b ∷ bs) i p ps a e = absurd a
 keys_from (k ∷ ks) [] i p ps a e = absurd a
@@ -159,7 +164,8 @@ keys-join (k ∷ ks) (b ∷ []) i q qs e f a = cc
 keys-join (k ∷ []) (b ∷ c ∷ bs) i q qs e f a = absurd a.2
 keys-join (k ∷ l ∷ ks) (b ∷ c ∷ bs) zero q qs e f a =
     let at : c ≡ (q, qs) = cc in let le = between k l b.1 f.0 a.0 a.1.0 in
-    let both : AllFrom l qs × AreAbove ks qs = subst (λ (d : Ptr × List Pair). AllFrom l d.1 × AreAbove ks d.1) at (a.2.0, a.2.1) in
+    let both : AllFrom l qs × AreAbove ks qs = subst (λ (d : Ptr × List Pair). AllFrom l d.1 × AreAbove ks d.1) at
+    (a.2.0, a.2.1) in
     (AllFrom-append k b.1 qs a.0 (AllFrom-weaken k l qs le both.0), above-append ks b.1 qs a.1.1 both.1, a.2.2)
 keys-join (k ∷ l ∷ ks) (b ∷ c ∷ bs) (suc i) q qs e f a =
     (a.0, above-remove (l ∷ ks) b.1 (suc i) a.1, keys-join (l ∷ ks) (c ∷ bs) i q qs e f.2 a.2)

@@ -1,7 +1,8 @@
 -- Nodes stay linked as one is added or taken out.
 --     edit-is, places-edit, length-edit, ..      an edit of one value keeps the rest
 --     LeadsOn-*, LeadsBack-*                     what leads on, and what leads back
-use Rattle.std.proofs.Common.{◌≡◌, ℕ, zero, suc, ◌+◌, ◌<◌, ◌≤◌, List, [], ◌∷◌, ◌++◌, map, length, slice_get, slice_set, Some, ◌-◌, inl, inr, refl, sym, ap, subst, ◌∙◌, arith}
+use Rattle.std.proofs.Common.{◌≡◌, ℕ, zero, suc, ◌+◌, ◌<◌, ◌≤◌, List, [], ◌∷◌, ◌++◌, map, length, slice_get, slice_set}
+use Rattle.std.proofs.Common.{Some, ◌-◌, inl, inr, refl, sym, ap, subst, ◌∙◌, arith}
 use Rattle.std.proofs.lemmas.Bool.{cases_lt}
 use Rattle.std.specs.List.{remove}
 use denote.RawPtr.{Ptr, null_ptr}
@@ -14,7 +15,8 @@ use Rattle.map_chain.specs.declared.node.Node.{Node}
 use Rattle.map_chain.specs.declared.nodes.Place.{Place}
 
 module _ {X : Type 0} where
-  pub edit-is : (ns : List (Ptr × X)) (i : ℕ) (p : Ptr) (x : X) (f : X → X) → slice_get ns i ≡ Some (p, x) → slice_set ns i (p, f x) ≡ edit i f ns
+  pub edit-is : (ns : List (Ptr × X)) (i : ℕ) (p : Ptr) (x : X) (f : X → X) → slice_get ns i ≡ Some (p, x)
+      → slice_set ns i (p, f x) ≡ edit i f ns
   edit-is [] i p x f e = cc
   edit-is (n ∷ ns) zero p x f e = let at : n ≡ (p, x) = cc in ap (λ (m : Ptr × X). (m.0, f m.1) ∷ ns) (sym at)
   edit-is (n ∷ ns) (suc i) p x f e = ap (λ (l : List (Ptr × X)). n ∷ l) (edit-is ns i p x f e)
@@ -33,7 +35,8 @@ module _ {X : Type 0} where
   IsAt-edit ns i f j p e = ap (λ (ps : List Ptr). slice_get ps j) (places-edit ns i f) ∙ e
 
   -- the value after the one that changes
-  pub get-edit_before : (ns : List (Ptr × X)) (j : ℕ) (f : X → X) → slice_get (edit j f ns) (suc j) ≡ slice_get ns (suc j)
+  pub get-edit_before : (ns : List (Ptr × X)) (j : ℕ) (f : X → X)
+      → slice_get (edit j f ns) (suc j) ≡ slice_get ns (suc j)
   get-edit_before [] j f = refl
   get-edit_before (n ∷ ns) zero f = refl
   get-edit_before (n ∷ ns) (suc j) f = get-edit_before ns j f
@@ -44,7 +47,8 @@ module _ {X : Type 0} where
   get-edit_after (n ∷ ns) zero f = refl
   get-edit_after (n ∷ ns) (suc j) f = get-edit_after ns j f
 
-  pub remove-edit_after : (ns : List (Ptr × X)) (i : ℕ) (f : X → X) → remove (edit (suc i) f ns) i ≡ edit i f (remove ns i)
+  pub remove-edit_after : (ns : List (Ptr × X)) (i : ℕ) (f : X → X)
+      → remove (edit (suc i) f ns) i ≡ edit i f (remove ns i)
   remove-edit_after [] zero f = refl
   remove-edit_after [] (suc i) f = refl
   remove-edit_after (n ∷ ns) zero f = refl
@@ -106,7 +110,8 @@ blocks-next [] i q = refl
 blocks-next (n ∷ ns) zero q = refl
 blocks-next (n ∷ ns) (suc i) q = ap (λ (l : List (Ptr × List Pair)). (n.0, n.1.block) ∷ l) (blocks-next ns i q)
 
-pub blocks-previous : (ns : List (Ptr × Node)) (i : ℕ) (q : Place) → blocks_of (edit i (with_previous q) ns) ≡ blocks_of ns
+pub blocks-previous : (ns : List (Ptr × Node)) (i : ℕ) (q : Place)
+    → blocks_of (edit i (with_previous q) ns) ≡ blocks_of ns
 blocks-previous [] i q = refl
 blocks-previous (n ∷ ns) zero q = refl
 blocks-previous (n ∷ ns) (suc i) q = ap (λ (l : List (Ptr × List Pair)). (n.0, n.1.block) ∷ l) (blocks-previous ns i q)
@@ -115,89 +120,110 @@ blocks-previous (n ∷ ns) (suc i) q = ap (λ (l : List (Ptr × List Pair)). (n.
 abbrev pub with_block : (List Pair → List Pair) → Node → Node
 with_block f n = record n { block = f n.block }
 
-pub blocks-block : (ns : List (Ptr × Node)) (i : ℕ) (f : List Pair → List Pair) → blocks_of (edit i (with_block f) ns) ≡ edit i f (blocks_of ns)
+pub blocks-block : (ns : List (Ptr × Node)) (i : ℕ) (f : List Pair → List Pair)
+    → blocks_of (edit i (with_block f) ns) ≡ edit i f (blocks_of ns)
 blocks-block [] i f = refl
 blocks-block (n ∷ ns) zero f = refl
 blocks-block (n ∷ ns) (suc i) f = ap (λ (l : List (Ptr × List Pair)). (n.0, n.1.block) ∷ l) (blocks-block ns i f)
 
 -- ---- what leads on
 
-pub LeadsOn-at : (h : Ptr) (ns : List (Ptr × Node)) (i : ℕ) (p : Ptr) (x : Node) → LeadsOn h ns → slice_get ns i ≡ Some (p, x) → suc i < length ns → IsAt ns (suc i) x.next.ptr
+pub LeadsOn-at : (h : Ptr) (ns : List (Ptr × Node)) (i : ℕ) (p : Ptr) (x : Node) → LeadsOn h ns
+    → slice_get ns i ≡ Some (p, x) → suc i < length ns → IsAt ns (suc i) x.next.ptr
 LeadsOn-at h [] i p x l e m = absurd (omega arith)
 LeadsOn-at h (n ∷ []) i p x l e m = absurd (omega arith)
-LeadsOn-at h (n ∷ k ∷ ns) zero p x l e m = let at : n ≡ (p, x) = cc in ap (λ (q : Ptr). Some q) (sym l.1.0) ∙ ap (λ (w : Ptr × Node). Some w.1.next.ptr) at
+LeadsOn-at h (n ∷ k ∷ ns) zero p x l e m =
+    let at : n ≡ (p, x) = cc in ap (λ (q : Ptr). Some q) (sym l.1.0) ∙ ap (λ (w : Ptr × Node). Some w.1.next.ptr) at
 LeadsOn-at h (n ∷ k ∷ ns) (suc i) p x l e m = LeadsOn-at n.1.next.ptr (k ∷ ns) i p x l.1 e (omega arith)
 
-pub LeadsOn-previous : (h : Ptr) (ns : List (Ptr × Node)) (i : ℕ) (q : Place) → LeadsOn h ns → LeadsOn h (edit i (with_previous q) ns)
+pub LeadsOn-previous : (h : Ptr) (ns : List (Ptr × Node)) (i : ℕ) (q : Place) → LeadsOn h ns
+    → LeadsOn h (edit i (with_previous q) ns)
 LeadsOn-previous h [] i q l = l
 LeadsOn-previous h (n ∷ ns) zero q l = l
 LeadsOn-previous h (n ∷ ns) (suc i) q l = (l.0, LeadsOn-previous n.1.next.ptr ns i q l.1)
 
-pub LeadsOn-block : (h : Ptr) (ns : List (Ptr × Node)) (i : ℕ) (f : List Pair → List Pair) → LeadsOn h ns → LeadsOn h (edit i (with_block f) ns)
+pub LeadsOn-block : (h : Ptr) (ns : List (Ptr × Node)) (i : ℕ) (f : List Pair → List Pair) → LeadsOn h ns
+    → LeadsOn h (edit i (with_block f) ns)
 LeadsOn-block h [] i f l = l
 LeadsOn-block h (n ∷ ns) zero f l = l
 LeadsOn-block h (n ∷ ns) (suc i) f l = (l.0, LeadsOn-block n.1.next.ptr ns i f l.1)
 
-pub LeadsOn-push : (h : Ptr) (ns : List (Ptr × Node)) (j : ℕ) (q : Place) (x : Node) → suc j ≡ length ns → LeadsOn h ns → x.next.ptr ≡ null_ptr → LeadsOn h (edit j (with_next q) (ns ++ (q.ptr, x) ∷ []))
+pub LeadsOn-push : (h : Ptr) (ns : List (Ptr × Node)) (j : ℕ) (q : Place) (x : Node) → suc j ≡ length ns → LeadsOn h ns
+    → x.next.ptr ≡ null_ptr → LeadsOn h (edit j (with_next q) (ns ++ (q.ptr, x) ∷ []))
 LeadsOn-push h [] j q x m l e = absurd (omega arith)
 LeadsOn-push h (n ∷ []) zero q x m l e = (l.0, (refl, e))
 LeadsOn-push h (n ∷ []) (suc j) q x m l e = absurd (omega arith)
 LeadsOn-push h (n ∷ k ∷ ns) zero q x m l e = absurd (omega arith)
 LeadsOn-push h (n ∷ k ∷ ns) (suc j) q x m l e = (l.0, LeadsOn-push n.1.next.ptr (k ∷ ns) j q x (omega arith) l.1 e)
 
-pub LeadsOn-unlink : (h : Ptr) (ns : List (Ptr × Node)) (j : ℕ) (p : Ptr) (x : Node) → LeadsOn h ns → slice_get ns (suc j) ≡ Some (p, x) → LeadsOn h (remove (edit j (with_next x.next) ns) (suc j))
+pub LeadsOn-unlink : (h : Ptr) (ns : List (Ptr × Node)) (j : ℕ) (p : Ptr) (x : Node) → LeadsOn h ns
+    → slice_get ns (suc j) ≡ Some (p, x) → LeadsOn h (remove (edit j (with_next x.next) ns) (suc j))
 LeadsOn-unlink h [] j p x l e = cc
 LeadsOn-unlink h (n ∷ []) j p x l e = cc
-LeadsOn-unlink h (n ∷ k ∷ ns) zero p x l e = let at : k ≡ (p, x) = cc in (l.0, subst (λ (w : Ptr × Node). LeadsOn w.1.next.ptr ns) at l.1.1)
+LeadsOn-unlink h (n ∷ k ∷ ns) zero p x l e =
+    let at : k ≡ (p, x) = cc in (l.0, subst (λ (w : Ptr × Node). LeadsOn w.1.next.ptr ns) at l.1.1)
 LeadsOn-unlink h (n ∷ k ∷ ns) (suc j) p x l e = (l.0, LeadsOn-unlink n.1.next.ptr (k ∷ ns) j p x l.1 e)
 
-pub LeadsOn-unlink_first : (h : Ptr) (ns : List (Ptr × Node)) (p : Ptr) (x : Node) → LeadsOn h ns → slice_get ns 0 ≡ Some (p, x) → LeadsOn x.next.ptr (remove ns 0)
+pub LeadsOn-unlink_first : (h : Ptr) (ns : List (Ptr × Node)) (p : Ptr) (x : Node) → LeadsOn h ns
+    → slice_get ns 0 ≡ Some (p, x) → LeadsOn x.next.ptr (remove ns 0)
 LeadsOn-unlink_first h [] p x l e = cc
-LeadsOn-unlink_first h (n ∷ ns) p x l e = let at : n ≡ (p, x) = cc in subst (λ (w : Ptr × Node). LeadsOn w.1.next.ptr ns) at l.1
+LeadsOn-unlink_first h (n ∷ ns) p x l e =
+    let at : n ≡ (p, x) = cc in subst (λ (w : Ptr × Node). LeadsOn w.1.next.ptr ns) at l.1
 
 -- ---- what leads back
 
-pub LeadsBack-last : (a : Ptr) (ns : List (Ptr × Node)) (t : Ptr) (j : ℕ) → suc j ≡ length ns → LeadsBack a ns t → IsAt ns j t
+pub LeadsBack-last : (a : Ptr) (ns : List (Ptr × Node)) (t : Ptr) (j : ℕ) → suc j ≡ length ns → LeadsBack a ns t
+    → IsAt ns j t
 LeadsBack-last a [] t j m l = absurd (omega arith)
 LeadsBack-last a (n ∷ []) t zero m l = ap (λ (p : Ptr). Some p) (sym l.1)
 LeadsBack-last a (n ∷ []) t (suc j) m l = absurd (omega arith)
 LeadsBack-last a (n ∷ k ∷ ns) t zero m l = absurd (omega arith)
 LeadsBack-last a (n ∷ k ∷ ns) t (suc j) m l = LeadsBack-last n.0 (k ∷ ns) t j (omega arith) l.1
 
-pub LeadsBack-at : (a : Ptr) (ns : List (Ptr × Node)) (t : Ptr) (j : ℕ) (p : Ptr) (x : Node) → LeadsBack a ns t → slice_get ns (suc j) ≡ Some (p, x) → IsAt ns j x.previous.ptr
+pub LeadsBack-at : (a : Ptr) (ns : List (Ptr × Node)) (t : Ptr) (j : ℕ) (p : Ptr) (x : Node) → LeadsBack a ns t
+    → slice_get ns (suc j) ≡ Some (p, x) → IsAt ns j x.previous.ptr
 LeadsBack-at a [] t j p x l e = cc
 LeadsBack-at a (n ∷ []) t j p x l e = cc
-LeadsBack-at a (n ∷ k ∷ ns) t zero p x l e = let at : k ≡ (p, x) = cc in ap (λ (q : Ptr). Some q) (sym l.1.0) ∙ ap (λ (w : Ptr × Node). Some w.1.previous.ptr) at
+LeadsBack-at a (n ∷ k ∷ ns) t zero p x l e =
+    let at : k ≡ (p, x) = cc in ap (λ (q : Ptr). Some q) (sym l.1.0) ∙ ap (λ (w : Ptr × Node). Some w.1.previous.ptr) at
 LeadsBack-at a (n ∷ k ∷ ns) t (suc j) p x l e = LeadsBack-at n.0 (k ∷ ns) t j p x l.1 e
 
-pub LeadsBack-next : (a : Ptr) (ns : List (Ptr × Node)) (t : Ptr) (i : ℕ) (q : Place) → LeadsBack a ns t → LeadsBack a (edit i (with_next q) ns) t
+pub LeadsBack-next : (a : Ptr) (ns : List (Ptr × Node)) (t : Ptr) (i : ℕ) (q : Place) → LeadsBack a ns t
+    → LeadsBack a (edit i (with_next q) ns) t
 LeadsBack-next a [] t i q l = l
 LeadsBack-next a (n ∷ ns) t zero q l = l
 LeadsBack-next a (n ∷ ns) t (suc i) q l = (l.0, LeadsBack-next n.0 ns t i q l.1)
 
-pub LeadsBack-block : (a : Ptr) (ns : List (Ptr × Node)) (t : Ptr) (i : ℕ) (f : List Pair → List Pair) → LeadsBack a ns t → LeadsBack a (edit i (with_block f) ns) t
+pub LeadsBack-block : (a : Ptr) (ns : List (Ptr × Node)) (t : Ptr) (i : ℕ) (f : List Pair → List Pair)
+    → LeadsBack a ns t → LeadsBack a (edit i (with_block f) ns) t
 LeadsBack-block a [] t i f l = l
 LeadsBack-block a (n ∷ ns) t zero f l = l
 LeadsBack-block a (n ∷ ns) t (suc i) f l = (l.0, LeadsBack-block n.0 ns t i f l.1)
 
-pub LeadsBack-push : (a : Ptr) (ns : List (Ptr × Node)) (t q : Ptr) (x : Node) → LeadsBack a ns t → x.previous.ptr ≡ t → LeadsBack a (ns ++ (q, x) ∷ []) q
+pub LeadsBack-push : (a : Ptr) (ns : List (Ptr × Node)) (t q : Ptr) (x : Node) → LeadsBack a ns t → x.previous.ptr ≡ t
+    → LeadsBack a (ns ++ (q, x) ∷ []) q
 LeadsBack-push a [] t q x l e = (e ∙ l, refl)
 LeadsBack-push a (n ∷ ns) t q x l e = (l.0, LeadsBack-push n.0 ns t q x l.1 e)
 
-pub LeadsBack-unlink : (a : Ptr) (ns : List (Ptr × Node)) (t : Ptr) (i : ℕ) (p : Ptr) (x : Node) → LeadsBack a ns t → slice_get ns i ≡ Some (p, x) → suc i < length ns
+pub LeadsBack-unlink : (a : Ptr) (ns : List (Ptr × Node)) (t : Ptr) (i : ℕ) (p : Ptr) (x : Node) → LeadsBack a ns t
+    → slice_get ns i ≡ Some (p, x) → suc i < length ns
     → LeadsBack a (edit i (with_previous x.previous) (remove ns i)) t
 LeadsBack-unlink a [] t i p x l e m = cc
 LeadsBack-unlink a (n ∷ []) t i p x l e m = absurd (omega arith)
-LeadsBack-unlink a (n ∷ k ∷ ns) t zero p x l e m = let at : n ≡ (p, x) = cc in (sym (ap (λ (w : Ptr × Node). w.1.previous.ptr) at) ∙ l.0, l.1.1)
+LeadsBack-unlink a (n ∷ k ∷ ns) t zero p x l e m =
+    let at : n ≡ (p, x) = cc in (sym (ap (λ (w : Ptr × Node). w.1.previous.ptr) at) ∙ l.0, l.1.1)
 LeadsBack-unlink a (n ∷ k ∷ ns) t (suc i) p x l e m = (l.0, LeadsBack-unlink n.0 (k ∷ ns) t i p x l.1 e (omega arith))
 
-pub LeadsBack-unlink_last : (a : Ptr) (ns : List (Ptr × Node)) (t : Ptr) (i : ℕ) (p : Ptr) (x : Node) → LeadsBack a ns t → slice_get ns i ≡ Some (p, x) → suc i ≡ length ns
+pub LeadsBack-unlink_last : (a : Ptr) (ns : List (Ptr × Node)) (t : Ptr) (i : ℕ) (p : Ptr) (x : Node) → LeadsBack a ns t
+    → slice_get ns i ≡ Some (p, x) → suc i ≡ length ns
     → LeadsBack a (remove ns i) x.previous.ptr
 LeadsBack-unlink_last a [] t i p x l e m = cc
-LeadsBack-unlink_last a (n ∷ []) t zero p x l e m = let at : n ≡ (p, x) = cc in sym (ap (λ (w : Ptr × Node). w.1.previous.ptr) at) ∙ l.0
+LeadsBack-unlink_last a (n ∷ []) t zero p x l e m =
+    let at : n ≡ (p, x) = cc in sym (ap (λ (w : Ptr × Node). w.1.previous.ptr) at) ∙ l.0
 LeadsBack-unlink_last a (n ∷ []) t (suc i) p x l e m = absurd (omega arith)
 LeadsBack-unlink_last a (n ∷ k ∷ ns) t zero p x l e m = absurd (omega arith)
-LeadsBack-unlink_last a (n ∷ k ∷ ns) t (suc i) p x l e m = (l.0, LeadsBack-unlink_last n.0 (k ∷ ns) t i p x l.1 e (omega arith))
+LeadsBack-unlink_last a (n ∷ k ∷ ns) t (suc i) p x l e m =
+    (l.0, LeadsBack-unlink_last n.0 (k ∷ ns) t i p x l.1 e (omega arith))
 
 -- ---- what a caller sees of the nodes
 
@@ -212,7 +238,8 @@ module _ (ns : List (Ptr × Node)) (bs : List (Ptr × List Pair)) (is : blocks_o
   same_length = sym (length-blocks ns) ∙ ap (λ (cs : List (Ptr × List Pair)). length cs) is
 
   pub block_at : (i : ℕ) (p : Ptr) (x : Node) → slice_get ns i ≡ Some (p, x) → slice_get bs i ≡ Some (p, x.block)
-  block_at i p x e = subst (λ (cs : List (Ptr × List Pair)). slice_get cs i ≡ Some (p, x.block)) is (get-map (λ n. (n.0, n.1.block)) ns i (p, x) e)
+  block_at i p x e = subst (λ (cs : List (Ptr × List Pair)). slice_get cs i ≡ Some (p, x.block)) is
+      (get-map (λ n. (n.0, n.1.block)) ns i (p, x) e)
 
 -- ---- a node linked in at the end, or taken out
 
@@ -231,24 +258,31 @@ pub record Relinked (ns ms : List (Ptr × Node)) (first last : Ptr) (bs : List (
   pub linked : IsLinked first last ms
   pub blocks : blocks_of ms ≡ bs
 
-blocks-end : (ns : List (Ptr × Node)) (p : Ptr) (x : Node) → x.block ≡ [] → blocks_of (ns ++ (p, x) ∷ []) ≡ blocks_of ns ++ (p, []) ∷ []
+blocks-end : (ns : List (Ptr × Node)) (p : Ptr) (x : Node) → x.block ≡ []
+    → blocks_of (ns ++ (p, x) ∷ []) ≡ blocks_of ns ++ (p, []) ∷ []
 blocks-end [] p x e = ap (λ (b : List Pair). (p, b) ∷ []) e
 blocks-end (n ∷ ns) p x e = ap (λ (bs : List (Ptr × List Pair)). (n.0, n.1.block) ∷ bs) (blocks-end ns p x e)
 
-pub linked_in : (first last : Place) (ns : List (Ptr × Node)) (q : Place) (x : Node) (ms : List (Ptr × Node)) (r : Place) → IsLinked first.ptr last.ptr ns
-    → x.next.ptr ≡ null_ptr → x.previous.ptr ≡ last.ptr → x.block ≡ [] → LedOn first q (length ns) (ns ++ (q.ptr, x) ∷ []) ms r
+pub linked_in : (first last : Place) (ns : List (Ptr × Node)) (q : Place) (x : Node) (ms : List (Ptr × Node))
+    (r : Place) → IsLinked first.ptr last.ptr ns
+    → x.next.ptr ≡ null_ptr → x.previous.ptr ≡ last.ptr → x.block ≡ []
+    → LedOn first q (length ns) (ns ++ (q.ptr, x) ∷ []) ms r
     → Relinked ns ms r.ptr q.ptr (blocks_of ns ++ (q.ptr, []) ∷ [])
 linked_in first last [] q x ms r l e f g on =
     let is = on.at_first refl in
     record {
-      linked = subst (λ (s : Place × List (Ptr × Node)). IsLinked s.0.ptr q.ptr s.1) (λ i. (sym is.0 i, sym is.1 i)) ((refl, e), LeadsBack-push null_ptr [] last.ptr q.ptr x l.1 f);
+      linked = subst (λ (s : Place × List (Ptr × Node)). IsLinked s.0.ptr q.ptr s.1) (λ i. (sym is.0 i, sym is.1 i))
+          ((refl, e), LeadsBack-push null_ptr [] last.ptr q.ptr x l.1 f);
       blocks = ap blocks_of is.1 ∙ blocks-end [] q.ptr x g;
     }
 linked_in first last (k ∷ ks) q x ms r l e f g on =
-    let is = on.after_one (omega arith) in let j : ℕ = length (k ∷ ks) - 1 in let all : List (Ptr × Node) = (k ∷ ks) ++ (q.ptr, x) ∷ [] in
+    let is = on.after_one (omega arith) in let j : ℕ = length (k ∷ ks) - 1 in
+    let all : List (Ptr × Node) = (k ∷ ks) ++ (q.ptr, x) ∷ [] in
     record {
-      linked = subst (λ (s : Place × List (Ptr × Node)). IsLinked s.0.ptr q.ptr s.1) (λ i. (sym is.0 i, sym is.1 i))
-          (LeadsOn-push first.ptr (k ∷ ks) j q x (omega arith) l.0 e, LeadsBack-next null_ptr all q.ptr j q (LeadsBack-push null_ptr (k ∷ ks) last.ptr q.ptr x l.1 f));
+      linked = subst (λ (s : Place × List (Ptr × Node)). IsLinked s.0.ptr q.ptr s.1) (λ i. (sym is.0 i, sym is.1 i)) (
+        LeadsOn-push first.ptr (k ∷ ks) j q x (omega arith) l.0 e,
+        LeadsBack-next null_ptr all q.ptr j q (LeadsBack-push null_ptr (k ∷ ks) last.ptr q.ptr x l.1 f),
+      );
       blocks = ap blocks_of is.1 ∙ blocks-next all j q ∙ blocks-end (k ∷ ks) q.ptr x g;
     }
 
@@ -260,12 +294,14 @@ record Past (first : Ptr) (ns ms : List (Ptr × Node)) (i : ℕ) (p : Ptr) (x : 
   blocks : blocks_of ms ≡ blocks_of ns
   long : length ms ≡ length ns
 
-past : (first last : Place) (ns : List (Ptr × Node)) (i : ℕ) (p : Ptr) (x : Node) (ms : List (Ptr × Node)) (r : Place) → IsLinked first.ptr last.ptr ns
+past : (first last : Place) (ns : List (Ptr × Node)) (i : ℕ) (p : Ptr) (x : Node) (ms : List (Ptr × Node)) (r : Place)
+    → IsLinked first.ptr last.ptr ns
     → slice_get ns i ≡ Some (p, x) → LedOn first x.next i ns ms r → Past first.ptr ns ms i p x r.ptr last.ptr
 past first last ns zero p x ms r l e on =
     let is = on.at_first refl in
     record {
-      on = subst (λ (s : Place × List (Ptr × Node)). LeadsOn s.0.ptr (remove s.1 zero)) (λ i. (sym is.0 i, sym is.1 i)) (LeadsOn-unlink_first first.ptr ns p x l.0 e);
+      on = subst (λ (s : Place × List (Ptr × Node)). LeadsOn s.0.ptr (remove s.1 zero)) (λ i. (sym is.0 i, sym is.1 i))
+          (LeadsOn-unlink_first first.ptr ns p x l.0 e);
       back = subst (λ (ks : List (Ptr × Node)). LeadsBack null_ptr ks last.ptr) (sym is.1) l.1;
       at = ap (λ (ks : List (Ptr × Node)). slice_get ks zero) is.1 ∙ e;
       blocks = ap blocks_of is.1;
@@ -275,40 +311,55 @@ past first last ns (suc j) p x ms r l e on =
     let is = on.after_one (omega arith) in let before : suc j - 1 ≡ j = omega arith in
     let to : ms ≡ edit j (with_next x.next) ns = is.1 ∙ ap (λ (i : ℕ). edit i (with_next x.next) ns) before in
     record {
-      on = subst (λ (s : Place × List (Ptr × Node)). LeadsOn s.0.ptr (remove s.1 (suc j))) (λ i. (sym is.0 i, sym to i)) (LeadsOn-unlink first.ptr ns j p x l.0 e);
-      back = subst (λ (ks : List (Ptr × Node)). LeadsBack null_ptr ks last.ptr) (sym to) (LeadsBack-next null_ptr ns last.ptr j x.next l.1);
+      on = subst (λ (s : Place × List (Ptr × Node)). LeadsOn s.0.ptr (remove s.1 (suc j))) (λ i. (sym is.0 i, sym to i))
+          (LeadsOn-unlink first.ptr ns j p x l.0 e);
+      back = subst (λ (ks : List (Ptr × Node)). LeadsBack null_ptr ks last.ptr) (sym to)
+          (LeadsBack-next null_ptr ns last.ptr j x.next l.1);
       at = ap (λ (ks : List (Ptr × Node)). slice_get ks (suc j)) to ∙ get-edit_before ns j (with_next x.next) ∙ e;
       blocks = ap blocks_of to ∙ blocks-next ns j x.next;
       long = ap (λ (ks : List (Ptr × Node)). length ks) to ∙ length-edit ns j (with_next x.next);
     }
 
 -- and what led back to it leads past it too
-pub linked_past : (first last : Place) (ns : List (Ptr × Node)) (i : ℕ) (p : Ptr) (x : Node) (ms : List (Ptr × Node)) (r : Place) (ks : List (Ptr × Node)) (s : Place) → IsLinked first.ptr last.ptr ns
+pub linked_past : (first last : Place) (ns : List (Ptr × Node)) (i : ℕ) (p : Ptr) (x : Node) (ms : List (Ptr × Node))
+    (r : Place) (ks : List (Ptr × Node)) (s : Place) → IsLinked first.ptr last.ptr ns
     → slice_get ns i ≡ Some (p, x) → LedOn first x.next i ns ms r → LedBack last x.previous (suc i) ms ks s
-    → (slice_get ks i ≡ Some (p, x)) × Relinked ns (remove ks i) r.ptr s.ptr (remove (blocks_of ns) i) × (suc (length (remove ks i)) ≡ length ns)
+    → (slice_get ks i ≡ Some (p, x)) × Relinked ns (remove ks i) r.ptr s.ptr (remove (blocks_of ns) i) ×
+    (suc (length (remove ks i)) ≡ length ns)
 linked_past first last ns i p x ms r ks s l e on back =
     let m = past first last ns i p x ms r l e on in let within = get-within ms i (p, x) m.at in
     elim (cases_lt (suc i) (length ms)) [
       | inl less ↦
           let is = back.before_one less in let f = with_previous x.previous in
           let to = sym is.1 in
-          let gone : remove ks i ≡ edit i f (remove ms i) = ap (λ (l : List (Ptr × Node)). remove l i) is.1 ∙ remove-edit_after ms i f in
-          let at : slice_get ks i ≡ Some (p, x) = ap (λ (l : List (Ptr × Node)). slice_get l i) is.1 ∙ get-edit_after ms i f ∙ m.at in (
+          let gone : remove ks i ≡ edit i f (remove ms i) = ap (λ (l : List (Ptr × Node)). remove l i) is.1
+          ∙ remove-edit_after ms i f in
+          let at : slice_get ks i ≡ Some (p, x) = ap (λ (l : List (Ptr × Node)). slice_get l i) is.1
+          ∙ get-edit_after ms i f ∙ m.at in (
             at,
             record {
-              linked = subst (λ (z : Place × List (Ptr × Node)). IsLinked r.ptr z.0.ptr z.1) (λ j. (sym is.0 j, sym gone j))
-                  (LeadsOn-previous r.ptr (remove ms i) i x.previous m.on, LeadsBack-unlink null_ptr ms last.ptr i p x m.back m.at less);
-              blocks = ap blocks_of gone ∙ blocks-previous (remove ms i) i x.previous ∙ map-remove_at (λ n. (n.0, n.1.block)) ms i ∙ ap (λ (bs : List (Ptr × List Pair)). remove bs i) m.blocks;
+              linked = subst (λ (z : Place × List (Ptr × Node)). IsLinked r.ptr z.0.ptr z.1)
+                  (λ j. (sym is.0 j, sym gone j)) (
+                    LeadsOn-previous r.ptr (remove ms i) i x.previous m.on,
+                    LeadsBack-unlink null_ptr ms last.ptr i p x m.back m.at less,
+                  );
+              blocks = ap blocks_of gone ∙ blocks-previous (remove ms i) i x.previous
+                  ∙ map-remove_at (λ n. (n.0, n.1.block)) ms i
+                  ∙ ap (λ (bs : List (Ptr × List Pair)). remove bs i) m.blocks;
             },
-            ap suc (ap (λ (l : List (Ptr × Node)). length l) gone ∙ length-edit (remove ms i) i f) ∙ length-remove_at ms i within ∙ m.long,
+            ap suc (ap (λ (l : List (Ptr × Node)). length l) gone ∙ length-edit (remove ms i) i f)
+                ∙ length-remove_at ms i within ∙ m.long,
           )
       | inr more ↦
           let is = back.at_last more in let last_one : suc i ≡ length ms = omega arith in (
             ap (λ (l : List (Ptr × Node)). slice_get l i) is.1 ∙ m.at,
             record {
-              linked = subst (λ (z : Place × List (Ptr × Node)). IsLinked r.ptr z.0.ptr (remove z.1 i)) (λ j. (sym is.0 j, sym is.1 j))
+              linked = subst (λ (z : Place × List (Ptr × Node)). IsLinked r.ptr z.0.ptr (remove z.1 i))
+                  (λ j. (sym is.0 j, sym is.1 j))
                   (m.on, LeadsBack-unlink_last null_ptr ms last.ptr i p x m.back m.at last_one);
-              blocks = ap (λ (l : List (Ptr × Node)). blocks_of (remove l i)) is.1 ∙ map-remove_at (λ n. (n.0, n.1.block)) ms i ∙ ap (λ (bs : List (Ptr × List Pair)). remove bs i) m.blocks;
+              blocks = ap (λ (l : List (Ptr × Node)). blocks_of (remove l i)) is.1
+                  ∙ map-remove_at (λ n. (n.0, n.1.block)) ms i
+                  ∙ ap (λ (bs : List (Ptr × List Pair)). remove bs i) m.blocks;
             },
             ap (λ (l : List (Ptr × Node)). suc (length (remove l i))) is.1 ∙ length-remove_at ms i within ∙ m.long,
           )
@@ -320,18 +371,25 @@ IsAt-append (n ∷ ns) ms zero p e = e
 IsAt-append (n ∷ ns) ms (suc i) p e = IsAt-append ns ms i p e
 
 -- the nodes stay where they are
-pub LedOn-places : (first next : Place) (i : ℕ) (ns ms : List (Ptr × Node)) (r : Place) → LedOn first next i ns ms r → (j : ℕ) (p : Ptr) → IsAt ns j p → IsAt ms j p
-LedOn-places first next zero ns ms r on j p e = subst (λ (ks : List (Ptr × Node)). IsAt ks j p) (sym (on.at_first refl).1) e
+pub LedOn-places : (first next : Place) (i : ℕ) (ns ms : List (Ptr × Node)) (r : Place) → LedOn first next i ns ms r
+    → (j : ℕ) (p : Ptr) → IsAt ns j p → IsAt ms j p
+LedOn-places first next zero ns ms r on j p e = subst (λ (ks : List (Ptr × Node)). IsAt ks j p)
+    (sym (on.at_first refl).1) e
 LedOn-places first next (suc i) ns ms r on j p e =
-    subst (λ (ks : List (Ptr × Node)). IsAt ks j p) (sym (on.after_one (omega arith)).1) (IsAt-edit ns (suc i - 1) (with_next next) j p e)
+    subst (λ (ks : List (Ptr × Node)). IsAt ks j p) (sym (on.after_one (omega arith)).1)
+    (IsAt-edit ns (suc i - 1) (with_next next) j p e)
 
 -- a node with other pairs is written
-pub block_put : (ns : List (Ptr × Node)) (i : ℕ) (p : Ptr) (x : Node) (f : List Pair → List Pair) (b : List Pair) → slice_get ns i ≡ Some (p, x) → b ≡ f x.block
+pub block_put : (ns : List (Ptr × Node)) (i : ℕ) (p : Ptr) (x : Node) (f : List Pair → List Pair) (b : List Pair)
+    → slice_get ns i ≡ Some (p, x) → b ≡ f x.block
     → slice_set ns i (p, record x { block = b }) ≡ edit i (with_block f) ns
-block_put ns i p x f b e is = ap (λ (c : List Pair). slice_set ns i (p, record x { block = c })) is ∙ edit-is ns i p x (with_block f) e
+block_put ns i p x f b e is = ap (λ (c : List Pair). slice_set ns i (p, record x { block = c })) is
+    ∙ edit-is ns i p x (with_block f) e
 
-pub still_linked : (first last : Ptr) (count : ℕ) (ns : List (Ptr × Node)) (i : ℕ) (p : Ptr) (x : Node) (f : List Pair → List Pair) (b : List Pair) → AreLinked first last count ns
-    → slice_get ns i ≡ Some (p, x) → b ≡ f x.block → AreLinked first last count (slice_set ns i (p, record x { block = b }))
+pub still_linked : (first last : Ptr) (count : ℕ) (ns : List (Ptr × Node)) (i : ℕ) (p : Ptr) (x : Node) (f : List Pair
+    → List Pair) (b : List Pair) → AreLinked first last count ns
+    → slice_get ns i ≡ Some (p, x) → b ≡ f x.block
+    → AreLinked first last count (slice_set ns i (p, record x { block = b }))
 still_linked first last count ns i p x f b v e is =
     subst (λ (ks : List (Ptr × Node)). AreLinked first last count ks) (sym (block_put ns i p x f b e is))
     (record {
@@ -340,11 +398,15 @@ still_linked first last count ns i p x f b v e is =
       few = v.few;
     })
 
-pub blocks_put : (ns : List (Ptr × Node)) (bs : List (Ptr × List Pair)) (i : ℕ) (p : Ptr) (x : Node) (f : List Pair → List Pair) (b : List Pair) → blocks_of ns ≡ bs
-    → slice_get ns i ≡ Some (p, x) → b ≡ f x.block → blocks_of (slice_set ns i (p, record x { block = b })) ≡ edit i f bs
-blocks_put ns bs i p x f b view e is = ap blocks_of (block_put ns i p x f b e is) ∙ blocks-block ns i f ∙ ap (edit i f) view
+pub blocks_put : (ns : List (Ptr × Node)) (bs : List (Ptr × List Pair)) (i : ℕ) (p : Ptr) (x : Node) (f : List Pair
+    → List Pair) (b : List Pair) → blocks_of ns ≡ bs
+    → slice_get ns i ≡ Some (p, x) → b ≡ f x.block
+    → blocks_of (slice_set ns i (p, record x { block = b })) ≡ edit i f bs
+blocks_put ns bs i p x f b view e is = ap blocks_of (block_put ns i p x f b e is) ∙ blocks-block ns i f
+    ∙ ap (edit i f) view
 
-pub room-last : (bs : List (Ptr × List Pair)) (j : ℕ) (p : Ptr) (ps : List Pair) → suc j ≡ length bs → slice_get bs j ≡ Some (p, ps) → room_in bs ≡ 64 - length ps
+pub room-last : (bs : List (Ptr × List Pair)) (j : ℕ) (p : Ptr) (ps : List Pair) → suc j ≡ length bs
+    → slice_get bs j ≡ Some (p, ps) → room_in bs ≡ 64 - length ps
 room-last [] j p ps m e = absurd (omega arith)
 room-last (b ∷ []) zero p ps m e = let at : b ≡ (p, ps) = cc in ap (λ (c : Ptr × List Pair). 64 - length c.1) at
 room-last (b ∷ []) (suc j) p ps m e = absurd (omega arith)
@@ -356,17 +418,24 @@ room-some [] m = absurd (omega arith)
 room-some (b ∷ bs) m = omega arith
 
 -- the same as the code counts
-pub led_past : (first last : Place) (count : ℕ) (ns ms ks : List (Ptr × Node)) (i : ℕ) (p : Ptr) (x : Node) (r s : Place) → AreLinked first.ptr last.ptr count ns → slice_get ns i ≡ Some (p, x)
-    → LedOn first x.next i ns ms r → (count ≤ i + 1 → (s ≡ x.previous) × (ks ≡ ms)) → (i + 1 < count → (s ≡ last) × (ks ≡ edit (i + 1) (with_previous x.previous) ms))
-    → (slice_get ks i ≡ Some (p, x)) × Relinked ns (remove ks i) r.ptr s.ptr (remove (blocks_of ns) i) × (suc (length (remove ks i)) ≡ length ns)
+pub led_past : (first last : Place) (count : ℕ) (ns ms ks : List (Ptr × Node)) (i : ℕ) (p : Ptr) (x : Node)
+    (r s : Place) → AreLinked first.ptr last.ptr count ns → slice_get ns i ≡ Some (p, x)
+    → LedOn first x.next i ns ms r → (count ≤ i + 1 → (s ≡ x.previous) × (ks ≡ ms))
+    → (i + 1 < count → (s ≡ last) × (ks ≡ edit (i + 1) (with_previous x.previous) ms))
+    → (slice_get ks i ≡ Some (p, x)) × Relinked ns (remove ks i) r.ptr s.ptr (remove (blocks_of ns) i) ×
+    (suc (length (remove ks i)) ≡ length ns)
 led_past first last count ns ms ks i p x r s v e on at_end inside =
-    let n = v.counted in let long = (past first last ns i p x ms r v.linked e on).long in let next : i + 1 ≡ suc i = omega arith in
+    let n = v.counted in let long = (past first last ns i p x ms r v.linked e on).long in
+    let next : i + 1 ≡ suc i = omega arith in
     linked_past first last ns i p x ms r ks s v.linked e on (record {
       at_last = λ more. at_end (omega arith);
-      before_one = λ less. let w = inside (omega arith) in (w.0, w.1 ∙ ap (λ (j : ℕ). edit j (with_previous x.previous) ms) next);
+      before_one = λ less. let w = inside (omega arith) in
+          (w.0, w.1 ∙ ap (λ (j : ℕ). edit j (with_previous x.previous) ms) next);
     })
 
 -- what lies at an index is one thing
-pub one_block : {X : Type 0} (ns : List (Ptr × X)) (i : ℕ) (p q : Ptr) (x y : X) → slice_get ns i ≡ Some (p, x) → slice_get ns i ≡ Some (q, y) → (p ≡ q) × (x ≡ y)
+pub one_block : {X : Type 0} (ns : List (Ptr × X)) (i : ℕ) (p q : Ptr) (x y : X) → slice_get ns i ≡ Some (p, x)
+    → slice_get ns i ≡ Some (q, y) → (p ≡ q) × (x ≡ y)
 one_block {X = X} ns i p q x y e f =
-    let same : Some (p, x) ≡ Some (q, y) = sym e ∙ f in let P : Ptr × X = (p, x) in let Q : Ptr × X = (q, y) in let is : P ≡ Q = cc in (ap (λ (z : Ptr × X). z.0) is, ap (λ (z : Ptr × X). z.1) is)
+    let same : Some (p, x) ≡ Some (q, y) = sym e ∙ f in let P : Ptr × X = (p, x) in let Q : Ptr × X = (q, y) in
+    let is : P ≡ Q = cc in (ap (λ (z : Ptr × X). z.0) is, ap (λ (z : Ptr × X). z.1) is)

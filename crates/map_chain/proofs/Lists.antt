@@ -4,7 +4,8 @@
 --     take_get                 one more of the first k
 --     AllFrom-*, AllBelow-*    what holds of every local
 --     rising_below, rising_from     one local tells of all before it, or of all after it
-use Rattle.std.proofs.Common.{◌≡◌, ℕ, zero, suc, ◌<◌, ◌≤◌, List, [], ◌∷◌, ◌++◌, length, take, drop, get_or, set, slice_get, Some, refl, sym, ap, subst, ◌∙◌, arith}
+use Rattle.std.proofs.Common.{◌≡◌, ℕ, zero, suc, ◌<◌, ◌≤◌, List, [], ◌∷◌, ◌++◌, length, take, drop, get_or, set}
+use Rattle.std.proofs.Common.{slice_get, Some, refl, sym, ap, subst, ◌∙◌, arith}
 use Rattle.std.specs.List.{remove}
 use Rattle.std.proofs.lemmas.List.{drop-set-lt, length-take-le}
 use Rattle.std.proofs.lemmas.List.Edits.{remove-append_left}
@@ -22,16 +23,21 @@ module _ {X : Type 0} where
   drop-one (suc n) [] = refl
   drop-one (suc n) (x ∷ xs) = drop-one n xs
 
-  pub gap_goes : (d ps : List X) (k j : ℕ) (z : X) → k ≤ j → suc j < length d → length ps ≡ length d → take j ps ≡ remove (take (suc j) d) k → drop (suc j) ps ≡ drop (suc j) d
+  pub gap_goes : (d ps : List X) (k j : ℕ) (z : X) → k ≤ j → suc j < length d → length ps ≡ length d
+      → take j ps ≡ remove (take (suc j) d) k → drop (suc j) ps ≡ drop (suc j) d
       → take (suc j) (set ps j (get_or ps (suc j) z)) ≡ remove (take (suc (suc j)) d) k
   gap_goes d ps k j z le m same before after =
       let l = length-take-le (suc j) d (omega arith) in
-      let x : get_or ps (suc j) z ≡ get_or d (suc j) z = sym (get_or-drop_zero (suc j) ps z) ∙ ap (λ (l : List X). get_or l 0 z) after ∙ get_or-drop_zero (suc j) d z in
+      let x : get_or ps (suc j) z ≡ get_or d (suc j) z = sym (get_or-drop_zero (suc j) ps z)
+      ∙ ap (λ (l : List X). get_or l 0 z) after ∙ get_or-drop_zero (suc j) d z in
       take-suc-set ps j (get_or ps (suc j) z) (omega arith) ∙ (λ i. before i ++ x i ∷ [])
-      ∙ sym (ap (λ (l : List X). remove l k) (take-suc d (suc j) z m) ∙ remove-append_left (take (suc j) d) (get_or d (suc j) z ∷ []) k (omega arith))
+      ∙ sym (ap (λ (l : List X). remove l k) (take-suc d (suc j) z m)
+      ∙ remove-append_left (take (suc j) d) (get_or d (suc j) z ∷ []) k (omega arith))
 
-  pub gap_left : (d ps : List X) (j : ℕ) (x : X) → drop (suc j) ps ≡ drop (suc j) d → drop (suc (suc j)) (set ps j x) ≡ drop (suc (suc j)) d
-  gap_left d ps j x after = drop-set-lt (suc (suc j)) ps j x (omega arith) ∙ drop-one (suc j) ps ∙ ap (drop 1) after ∙ sym (drop-one (suc j) d)
+  pub gap_left : (d ps : List X) (j : ℕ) (x : X) → drop (suc j) ps ≡ drop (suc j) d
+      → drop (suc (suc j)) (set ps j x) ≡ drop (suc (suc j)) d
+  gap_left d ps j x after = drop-set-lt (suc (suc j)) ps j x (omega arith) ∙ drop-one (suc j) ps ∙ ap (drop 1) after
+      ∙ sym (drop-one (suc j) d)
 
   pub gap_starts : (d : List X) (k : ℕ) → take k d ≡ remove (take (suc k) d) k
   gap_starts [] zero = refl
@@ -39,13 +45,15 @@ module _ {X : Type 0} where
   gap_starts (x ∷ xs) zero = refl
   gap_starts (x ∷ xs) (suc k) = ap (λ (l : List X). x ∷ l) (gap_starts xs k)
 
-  pub get_taken : (xs : List X) (n i : ℕ) (d : X) → i < n → i < length xs → slice_get (take n xs) i ≡ Some (get_or xs i d)
+  pub get_taken : (xs : List X) (n i : ℕ) (d : X) → i < n → i < length xs
+      → slice_get (take n xs) i ≡ Some (get_or xs i d)
   get_taken [] n i d h m = absurd (omega arith)
   get_taken (x ∷ xs) zero i d h m = absurd (omega arith)
   get_taken (x ∷ xs) (suc n) zero d h m = refl
   get_taken (x ∷ xs) (suc n) (suc i) d h m = get_taken xs n i d (omega arith) (omega arith)
 
-pub take_get : {X : Type 0} (xs : List X) (k : ℕ) (q : X) → slice_get xs k ≡ Some q → take (suc k) xs ≡ take k xs ++ q ∷ []
+pub take_get : {X : Type 0} (xs : List X) (k : ℕ) (q : X) → slice_get xs k ≡ Some q
+    → take (suc k) xs ≡ take k xs ++ q ∷ []
 take_get [] k q e = cc
 take_get (x ∷ xs) zero q e = let at : x ≡ q = cc in ap (λ y. y ∷ []) at
 take_get (x ∷ xs) (suc k) q e = ap (λ l. x ∷ l) (take_get xs k q e)
@@ -60,16 +68,21 @@ AllFrom-at n (p ∷ ps) zero q a e = let at : p ≡ q = cc in subst (λ (r : Pai
 AllFrom-at n (p ∷ ps) (suc i) q a e = AllFrom-at n ps i q a.1 e
 
 -- a local below n, and so all before it
-pub rising_below : (n : ℕ) (ps : List Pair) (i : ℕ) (q : Pair) → IsRising ps → slice_get ps i ≡ Some q → q.0 < n → AllBelow n (take (suc i) ps)
+pub rising_below : (n : ℕ) (ps : List Pair) (i : ℕ) (q : Pair) → IsRising ps → slice_get ps i ≡ Some q → q.0 < n
+    → AllBelow n (take (suc i) ps)
 rising_below n [] i q r e h = cc
 rising_below n (p ∷ ps) zero q r e h = let at : p ≡ q = cc in (subst (λ (r : Pair). r.0 < n) (sym at) h, tt)
-rising_below n (p ∷ ps) (suc i) q r e h = let first : suc p.0 ≤ q.0 = AllFrom-at (suc p.0) ps i q r.0 e in (omega arith, rising_below n ps i q r.1 e h)
+rising_below n (p ∷ ps) (suc i) q r e h =
+    let first : suc p.0 ≤ q.0 = AllFrom-at (suc p.0) ps i q r.0 e in (omega arith, rising_below n ps i q r.1 e h)
 
 -- a local of n or above, and so all after it
-pub rising_from : (n : ℕ) (ps : List Pair) (i : ℕ) (q : Pair) → IsRising ps → slice_get ps i ≡ Some q → n ≤ q.0 → AllFrom n (drop i ps)
+pub rising_from : (n : ℕ) (ps : List Pair) (i : ℕ) (q : Pair) → IsRising ps → slice_get ps i ≡ Some q → n ≤ q.0
+    → AllFrom n (drop i ps)
 rising_from n [] i q r e h = cc
 rising_from n (p ∷ ps) zero q r e h =
-    let at : p ≡ q = cc in let low : n ≤ p.0 = subst (λ (r : Pair). n ≤ r.0) (sym at) h in (low, AllFrom-weaken n (suc p.0) ps (omega arith) r.0)
+    let at : p ≡ q = cc in
+    let low : n ≤ p.0 = subst (λ (r : Pair). n ≤ r.0) (sym at) h in
+    (low, AllFrom-weaken n (suc p.0) ps (omega arith) r.0)
 rising_from n (p ∷ ps) (suc i) q r e h = rising_from n ps i q r.1 e h
 
 pub highest-push : (ps : List Pair) (q : Pair) → highest (ps ++ q ∷ []) ≡ q.0

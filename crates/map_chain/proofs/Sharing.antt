@@ -21,7 +21,8 @@ pub nodes_lent_laws : (R : RattleType) → RowLaws R → (ns : List (Ptr × R.De
 nodes_lent_laws R L [] = nothing_shr_laws
 nodes_lent_laws R L (n ∷ ns) = beside_shr_laws _ _ (lent_at_shr_laws R L n.0 n.1) (nodes_lent_laws R L ns)
 
-module _ {M : Type 1} {𝓤 : Ura M} (𝓛 : Logic 𝓤) (l : Lft) (R : RattleType) (frees : Ty → Ptr → Fml) (L : Laws R) (inc : Incl l R.lives) where
+module _ {M : Type 1} {𝓤 : Ura M} (𝓛 : Logic 𝓤) (l : Lft) (R : RattleType) (frees : Ty → Ptr → Fml) (L : Laws R)
+    (inc : Incl l R.lives) where
   pub Lends-nodes : (ns : List (Ptr × R.Denot)) → Lends 𝓛 (nodes_own frees R ns) (nodes_lent R ns) l
   Lends-nodes [] = Lends-nothing 𝓛 ftrue l
   Lends-nodes (n ∷ ns) =

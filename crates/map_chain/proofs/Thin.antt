@@ -26,7 +26,8 @@ get-remove_before (b ∷ bs) (suc i) = get-remove_before bs i
 abbrev pub joined : Placed → ℕ → List Pair → Placed
 joined bs i qs = edit i (λ l. l ++ qs) (remove bs (suc i))
 
-pairs-join : (bs : Placed) (i : ℕ) (q : Ptr) (qs : List Pair) → slice_get bs (suc i) ≡ Some (q, qs) → pairs_of (joined bs i qs) ≡ pairs_of bs
+pairs-join : (bs : Placed) (i : ℕ) (q : Ptr) (qs : List Pair) → slice_get bs (suc i) ≡ Some (q, qs)
+    → pairs_of (joined bs i qs) ≡ pairs_of bs
 pairs-join [] i q qs e = cc
 pairs-join (b ∷ []) i q qs e = cc
 pairs-join (b ∷ c ∷ bs) zero q qs e =
@@ -34,7 +35,8 @@ pairs-join (b ∷ c ∷ bs) zero q qs e =
     append_assoc b.1 qs (pairs_of bs) ∙ ap (λ (d : Ptr × List Pair). b.1 ++ (d.1 ++ pairs_of bs)) (sym at)
 pairs-join (b ∷ c ∷ bs) (suc i) q qs e = ap (λ (l : List Pair). b.1 ++ l) (pairs-join (c ∷ bs) i q qs e)
 
-filled-join : (bs : Placed) (i : ℕ) (p : Ptr) (ps qs : List Pair) → slice_get bs i ≡ Some (p, ps) → suc i < length bs → length ps + length qs ≤ 64 → AllFilled bs → AllFilled (joined bs i qs)
+filled-join : (bs : Placed) (i : ℕ) (p : Ptr) (ps qs : List Pair) → slice_get bs i ≡ Some (p, ps) → suc i < length bs
+    → length ps + length qs ≤ 64 → AllFilled bs → AllFilled (joined bs i qs)
 filled-join [] i p ps qs e h fits f = absurd (omega arith)
 filled-join (b ∷ []) i p ps qs e h fits f = absurd (omega arith)
 filled-join (b ∷ c ∷ bs) zero p ps qs e h fits f =
@@ -66,7 +68,8 @@ room-most (b ∷ c ∷ bs) = room-most (c ∷ bs)
 
 module _ (used spare spare' : Placed) (i : ℕ) (p q : Ptr) (ps qs : List Pair) (here : slice_get used i ≡ Some (p, ps))
     (next : slice_get used (suc i) ≡ Some (q, qs)) (fits : length ps + length qs ≤ 64) (filled : AllFilled used) where
-  kept_by : (last : Bool) → HasPutBy spare spare' last → (last ≡ true → suc (suc i) ≡ length used) → (last ≡ false → suc (suc i) < length used)
+  kept_by : (last : Bool) → HasPutBy spare spare' last → (last ≡ true → suc (suc i) ≡ length used)
+      → (last ≡ false → suc (suc i) < length used)
       → HasKept used spare (joined used i qs) spare'
   kept_by true by end inner =
       let within = get-within used (suc i) (q, qs) next in let less = length-join used i qs within in
@@ -88,13 +91,16 @@ module _ (used spare spare' : Placed) (i : ℕ) (p q : Ptr) (ps qs : List Pair) 
         room = omega arith;
       }
 
-  pub kept_join : (used' : Placed) (last : Bool) → used' ≡ joined used i qs → HasPutBy spare spare' last → (last ≡ true → suc (suc i) ≡ length used)
+  pub kept_join : (used' : Placed) (last : Bool) → used' ≡ joined used i qs → HasPutBy spare spare' last
+      → (last ≡ true → suc (suc i) ≡ length used)
       → (last ≡ false → suc (suc i) < length used) → HasKept used spare used' spare'
   kept_join used' last is by end inner =
       subst (λ (bs : Placed). HasKept used spare bs spare') (sym is) (kept_by last by end inner)
 
-module _ (used spare : Placed) (i k : ℕ) (p : Ptr) (ps : List Pair) (at : slice_get used i ≡ Some (p, ps)) (within : k < length ps) (filled : AllFilled used) where
-  lost_by : (last : Bool) (spare' : Placed) → HasPutBy spare spare' last → (last ≡ true → suc i ≡ length used) → (last ≡ false → suc i < length used)
+module _ (used spare : Placed) (i k : ℕ) (p : Ptr) (ps : List Pair) (at : slice_get used i ≡ Some (p, ps))
+    (within : k < length ps) (filled : AllFilled used) where
+  lost_by : (last : Bool) (spare' : Placed) → HasPutBy spare spare' last → (last ≡ true → suc i ≡ length used)
+      → (last ≡ false → suc i < length used)
       → length ps ≤ 1 → HasLost used spare i k (remove used i) spare'
   lost_by true spare' by end inner one =
       let inside = get-within used i (p, ps) at in let less = length-remove_at used i inside in
@@ -116,12 +122,14 @@ module _ (used spare : Placed) (i k : ℕ) (p : Ptr) (ps : List Pair) (at : slic
         room = omega arith;
       }
 
-  pub lost_whole : (used' spare' : Placed) (last : Bool) → used' ≡ remove used i → HasPutBy spare spare' last → (last ≡ true → suc i ≡ length used)
+  pub lost_whole : (used' spare' : Placed) (last : Bool) → used' ≡ remove used i → HasPutBy spare spare' last
+      → (last ≡ true → suc i ≡ length used)
       → (last ≡ false → suc i < length used) → length ps ≤ 1 → HasLost used spare i k used' spare'
   lost_whole used' spare' last is by end inner one =
       subst (λ (bs : Placed). HasLost used spare i k bs spare') (sym is) (lost_by last spare' by end inner one)
 
-pub lost_kept : (used spare mid used' spare' : Placed) (i k : ℕ) → HasLost used spare i k mid spare → HasKept mid spare used' spare' → HasLost used spare i k used' spare'
+pub lost_kept : (used spare mid used' spare' : Placed) (i k : ℕ) → HasLost used spare i k mid spare
+    → HasKept mid spare used' spare' → HasLost used spare i k used' spare'
 lost_kept used spare mid used' spare' i k lost kept =
     let few = lost.few in let fewer = kept.few in let room = lost.room in let more = kept.room in
     record {
@@ -131,5 +139,6 @@ lost_kept used spare mid used' spare' i k lost kept =
       room = omega arith;
     }
 
-pub within_here : (bs : Placed) (i k : ℕ) (p : Ptr) (ps : List Pair) → IsPairAt bs i k → slice_get bs i ≡ Some (p, ps) → k < length ps
+pub within_here : (bs : Placed) (i k : ℕ) (p : Ptr) (ps : List Pair) → IsPairAt bs i k → slice_get bs i ≡ Some (p, ps)
+    → k < length ps
 within_here bs i k p ps w e = subst (λ (l : List Pair). k < length l) (one_block bs i w.0 p w.1 ps w.2 e).1 w.3

@@ -115,7 +115,8 @@ pairs_but bs i k ps = pairs_of (take i bs) ++ (remove ps k ++ pairs_of (drop (su
 -- those are the pairs, whatever the i-th block has
 abbrev pub HasPairsBut : Placed → ℕ → ℕ → Placed → Type 0
 HasPairsBut used i k used' =
-    (p : Ptr) (ps : List Pair) → slice_get used i ≡ Some (p, ps) → pairs_of used' ≡ pairs_but used i k ps
+    (p : Ptr) (ps : List Pair) → slice_get used i ≡ Some (p, ps)
+    → pairs_of used' ≡ pairs_but used i k ps
 
 -- the k-th pair of the i-th block is gone, and no room
 pub record HasLost (used spare : Placed) (i k : ℕ) (used' spare' : Placed) : Type 0 where

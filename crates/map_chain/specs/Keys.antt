@@ -1,4 +1,4 @@
--- The keys of the blocks of a chain, which tell the blocks of lower locals from those of higher ones.
+-- The keys of the blocks of a chain, by which a block is found.
 use Rattle.std.specs.Prelude.{ℕ, suc, ◌<◌, ◌≤◌, List, [], ◌∷◌, length, slice_index}
 use Rattle.map_chain.specs.Pairs.{Pair, AllBelow, AllFrom}
 use Rattle.map_chain.specs.Blocks.{Placed}

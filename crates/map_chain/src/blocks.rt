@@ -41,14 +41,16 @@ impl Model for Blocks {
 
 fn set_next(nodes: &mut Nodes<Node, Global>, at: Place, i: usize, next: Place)
     requires { IsAt nodes.old.nodes i at.ptr }
-    ensures { (nodes.new.nodes ≡ edit i (with_next next) nodes.old.nodes) × (nodes.new.alloc ≡ nodes.old.alloc) }
+    ensures { (nodes.new.nodes ≡ edit i (with_next next) nodes.old.nodes)
+        × (nodes.new.alloc ≡ nodes.old.alloc) }
 {
     nodes.get_mut(at, i).next = next;
 }
 
 fn set_previous(nodes: &mut Nodes<Node, Global>, at: Place, i: usize, previous: Place)
     requires { IsAt nodes.old.nodes i at.ptr }
-    ensures { (nodes.new.nodes ≡ edit i (with_previous previous) nodes.old.nodes) × (nodes.new.alloc ≡ nodes.old.alloc) }
+    ensures { (nodes.new.nodes ≡ edit i (with_previous previous) nodes.old.nodes)
+        × (nodes.new.alloc ≡ nodes.old.alloc) }
 {
     nodes.get_mut(at, i).previous = previous;
 }
@@ -64,7 +66,8 @@ fn lead_on(
 ) -> Place
     requires { 0 < i → IsAt nodes.old.nodes (i - 1) before.ptr }
     ensures at_first { i ≡ 0 → (result ≡ next) × (nodes.new.nodes ≡ nodes.old.nodes) }
-    ensures after_one { 0 < i → (result ≡ first) × (nodes.new.nodes ≡ edit (i - 1) (with_next next) nodes.old.nodes) }
+    ensures after_one { 0 < i
+        → (result ≡ first) × (nodes.new.nodes ≡ edit (i - 1) (with_next next) nodes.old.nodes) }
     ensures allocator { nodes.new.alloc ≡ nodes.old.alloc }
 {
     if i == 0 {
@@ -86,7 +89,8 @@ fn lead_back(
 ) -> Place
     requires { i < count → IsAt nodes.old.nodes i at.ptr }
     ensures at_last { count ≤ i → (result ≡ previous) × (nodes.new.nodes ≡ nodes.old.nodes) }
-    ensures before_one { i < count → (result ≡ last) × (nodes.new.nodes ≡ edit i (with_previous previous) nodes.old.nodes) }
+    ensures before_one { i < count
+        → (result ≡ last) × (nodes.new.nodes ≡ edit i (with_previous previous) nodes.old.nodes) }
     ensures allocator { nodes.new.alloc ≡ nodes.old.alloc }
 {
     if count <= i {
@@ -218,7 +222,8 @@ impl Blocks {
 
     /// Takes the last block out, if there is one.
     pub(crate) fn pop(&mut self, alloc: Global) -> Option<Box<Node>>
-        ensures { MatchOption result ((self.old ≡ []) × (self.new ≡ [])) (λ _. (0 < length self.old) × (self.new ≡ remove self.old (length self.old - 1))) }
+        ensures { MatchOption result ((self.old ≡ []) × (self.new ≡ []))
+            (λ _. (0 < length self.old) × (self.new ≡ remove self.old (length self.old - 1))) }
     {
         if self.count == 0 {
             return None;

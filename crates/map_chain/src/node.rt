@@ -25,7 +25,9 @@ impl Node {
 
     /// Empties the node, which becomes the last one, after `previous`.
     pub(crate) fn renew(&mut self, previous: Place)
-        ensures { (self.new.next.ptr ≡ null_ptr) × (self.new.previous ≡ previous) × (self.new.block ≡ []) }
+        ensures { (self.new.next.ptr ≡ null_ptr)
+            × (self.new.previous ≡ previous)
+            × (self.new.block ≡ []) }
     {
         self.next = Place::nowhere();
         self.previous = previous;

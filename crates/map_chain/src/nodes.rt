@@ -88,7 +88,8 @@ impl<T, A: Allocator> Nodes<T, A> {
 
     pub(crate) fn get_mut(&mut self, at: Place, i: usize) -> &mut T
         requires { IsAt self.old.nodes i at.ptr }
-        ensures* writes_back { sem 𝓛 (nodes_follow T.row A.row A.Allocator self.entry i at.ptr result) }
+        ensures* writes_back { sem 𝓛
+            (nodes_follow T.row A.row A.Allocator self.entry i at.ptr result) }
         ensures value { slice_get self.old.nodes i ≡ Some (at.ptr, result.now) }
     {
         let node = at.ptr as *mut T;

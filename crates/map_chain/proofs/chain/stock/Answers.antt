@@ -15,12 +15,14 @@ returns-in_err-node-clause-few c = c.loop-alloc.invariant.few
 
 pub loop-alloc-smaller : goal.loop-alloc-smaller
 loop-alloc-smaller c =
-    let more = ap (λ (l : Placed). length l) c.link.ensures ∙ length-append c.loop-alloc.spare ((c.link.result.ptr, []) ∷ []) in
+    let more = ap (λ (l : Placed). length l) c.link.ensures
+    ∙ length-append c.loop-alloc.spare ((c.link.result.ptr, []) ∷ []) in
     let len = c.len.ensures.len in let less = c.loop-alloc-test.true in omega arith
 
 pub loop-alloc-preserved : goal.loop-alloc-preserved
 loop-alloc-preserved c =
-    stocked-link c.args.spare.now c.loop-alloc.spare c.link.new.self c.link.result.ptr c.args.blocks c.loop-alloc.invariant
+    stocked-link c.args.spare.now c.loop-alloc.spare c.link.new.self c.link.result.ptr c.args.blocks
+    c.loop-alloc.invariant
     (let len = c.len.ensures.len in let less = c.loop-alloc-test.true in omega arith) c.link.ensures
 
 pub returns-clause-kept : goal.returns-clause-kept

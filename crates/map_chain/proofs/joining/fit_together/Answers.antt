@@ -33,6 +33,10 @@ returns-clause-no c = λ t.
     let p : Ptr = (get_or c.args.places.now i (record { ptr = null_ptr })).ptr in
     let q : Ptr = (get_or c.args.places.now (i + 1) (record { ptr = null_ptr })).ptr in
     let next : suc i ≡ i + 1 = omega arith in
-    let pairs = ap (λ (l : List Pair). length l) (one_block used i t.here p t.pairs c.block.result.now t.first c.block.ensures).1 in
-    let more = ap (λ (l : List Pair). length l) (one_block used (i + 1) t.next q t.more c.block-2.result.now (subst (λ (j : ℕ). slice_get used j ≡ Some (t.next, t.more)) next t.second) c.block-2.ensures).1 in
-    let first = c.len-pairs.ensures.len in let second = c.len-more.ensures.len in let fits = t.fits in grind (arith, nat_tests, pairs, more, first, second, fits)
+    let pairs = ap (λ (l : List Pair). length l)
+    (one_block used i t.here p t.pairs c.block.result.now t.first c.block.ensures).1 in
+    let more = ap (λ (l : List Pair). length l)
+    (one_block used (i + 1) t.next q t.more c.block-2.result.now
+    (subst (λ (j : ℕ). slice_get used j ≡ Some (t.next, t.more)) next t.second) c.block-2.ensures).1 in
+    let first = c.len-pairs.ensures.len in let second = c.len-more.ensures.len in
+    let fits = t.fits in grind (arith, nat_tests, pairs, more, first, second, fits)

@@ -23,8 +23,10 @@ pub returns-clause-index : goal.returns-clause-index
 returns-clause-index c =
     let x = c.args.index.now in let used = c.args.used.now in let blocks = c.requires.index in
     record {
-      places = subst (λ (w : List Place × Placed). ArePlacesOf w.0 w.1) (λ j. (sym c.remove-at.ensures.items j, sym c.unlink.ensures.others j))
+      places = subst (λ (w : List Place × Placed). ArePlacesOf w.0 w.1)
+          (λ j. (sym c.remove-at.ensures.items j, sym c.unlink.ensures.others j))
           (places-remove x.places.items used c.args.i blocks.places);
-      keys = subst (λ (w : List ℕ × Placed). AreKeysOf w.0 w.1) (λ j. (sym c.remove.ensures.items j, sym c.unlink.ensures.others j))
+      keys = subst (λ (w : List ℕ × Placed). AreKeysOf w.0 w.1)
+          (λ j. (sym c.remove.ensures.items j, sym c.unlink.ensures.others j))
           (keys-remove x.keys.items used c.args.i blocks.keys);
     }

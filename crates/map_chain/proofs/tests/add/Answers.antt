@@ -3,4 +3,7 @@ use Rattle.map_chain.proofs.Below.{below_none}
 use Rattle.map_chain.proofs.tests.add.Goals as goal
 
 pub append-requires : goal.append-requires
-append-requires c = record { above = below_none c.args.local c.args.chain.now.pairs (sym c.from.ensures.pairs ∙ c.in-None.ensures.steps.0) }
+append-requires c = record {
+  above = below_none c.args.local c.args.chain.now.pairs
+      (sym c.from.ensures.pairs ∙ c.in-None.ensures.steps.0);
+}

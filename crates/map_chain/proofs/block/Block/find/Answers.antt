@@ -1,17 +1,24 @@
-use Rattle.std.proofs.Common.{◌≡◌, ℕ, suc, ◌+◌, ◌-◌, ◌/◌, ◌<◌, List, length, take, drop, get_or, slice_get, Some, sym, ap, subst, ◌∙◌, arith}
+use Rattle.std.proofs.Common.{◌≡◌, ℕ, suc, ◌+◌, ◌-◌, ◌/◌, ◌<◌, List, length, take, drop, get_or, slice_get, Some, sym}
+use Rattle.std.proofs.Common.{ap, subst, ◌∙◌, arith}
 use Rattle.std.proofs.lemmas.List.{length-take-le, drop_all}
 use Rattle.map_chain.specs.Pairs.{Pair, AllBelow, AllFrom, IsBlock}
 use Rattle.map_chain.proofs.Lists.{get_taken, rising_below, rising_from}
 use Rattle.map_chain.proofs.block.Block.find.Goals as goal
-use Rattle.map_chain.proofs.block.Block.find.Goals.{else-middle-self-via-then-middle-self+else-self-middle, else-middle-self-via-else-middle-self}
+use Rattle.map_chain.proofs.block.Block.find.Goals.{else-middle-self-via-then-middle-self+else-self-middle}
+use Rattle.map_chain.proofs.block.Block.find.Goals.{else-middle-self-via-else-middle-self}
 
 -- as many pairs are seen as the block has
 long : (len high : ℕ) (pairs now : List Pair) → IsBlock len high pairs → take len pairs ≡ now → length now ≡ len
-long len high pairs now v is = let full = v.full in let within = v.within in sym (ap (λ (ps : List Pair). length ps) is) ∙ length-take-le len pairs (omega arith)
+long len high pairs now v is =
+    let full = v.full in let within = v.within in
+    sym (ap (λ (ps : List Pair). length ps) is) ∙ length-take-le len pairs (omega arith)
 
-seen : (len high : ℕ) (pairs now : List Pair) → IsBlock len high pairs → take len pairs ≡ now → (m : ℕ) → m < len → slice_get now m ≡ Some (get_or pairs m (0, 0))
+seen : (len high : ℕ) (pairs now : List Pair) → IsBlock len high pairs → take len pairs ≡ now → (m : ℕ) → m < len
+    → slice_get now m ≡ Some (get_or pairs m (0, 0))
 seen len high pairs now v is m h =
-    let full = v.full in let within = v.within in subst (λ (ps : List Pair). slice_get ps m ≡ Some (get_or pairs m (0, 0))) is (get_taken pairs len m (0, 0) h (omega arith))
+    let full = v.full in let within = v.within in
+    subst (λ (ps : List Pair). slice_get ps m ≡ Some (get_or pairs m (0, 0))) is
+    (get_taken pairs len m (0, 0) h (omega arith))
 
 pub loop-low-init : goal.loop-low-init
 loop-low-init c =
@@ -27,7 +34,8 @@ loop-low-init c =
 
 pub bounds-self-inside-middle : goal.bounds-self-inside-middle
 bounds-self-inside-middle c =
-    let v = c.self.invariant in let within = v.within in let i = c.loop-low.invariant in let a = i.ordered in let b = i.within in omega arith
+    let v = c.self.invariant in let within = v.within in let i = c.loop-low.invariant in let a = i.ordered in
+    let b = i.within in omega arith
 
 pub loop-low-preserved-then-self-middle : goal.loop-low-preserved-then-self-middle
 loop-low-preserved-then-self-middle c =
@@ -39,7 +47,8 @@ loop-low-preserved-then-self-middle c =
       ordered = omega arith;
       within = omega arith;
       few = omega arith;
-      before = subst (λ (k : ℕ). AllBelow c.args.local (take k c.args.self.now)) next (rising_below c.args.local c.args.self.now m (get_or s.pairs m (0, 0)) c.requires at c.if-self-middle.true);
+      before = subst (λ (k : ℕ). AllBelow c.args.local (take k c.args.self.now)) next
+          (rising_below c.args.local c.args.self.now m (get_or s.pairs m (0, 0)) c.requires at c.if-self-middle.true);
       after = i.after;
     }
 

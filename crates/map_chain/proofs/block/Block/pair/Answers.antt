@@ -8,5 +8,7 @@ pub returns : goal.returns
 returns c =
     let s = c.self.inside in let v = c.self.invariant in let full = v.full in let within = v.within in
     let long = length-take-le s.len s.pairs (omega arith) in
-    let near : c.args.k < length (take s.len s.pairs) = subst (λ (ps : List Pair). c.args.k < length ps) (sym c.self.view_is) c.requires in
-    subst (λ (ps : List Pair). slice_get ps c.args.k ≡ Some (get_or s.pairs c.args.k (0, 0))) c.self.view_is (get_taken s.pairs s.len c.args.k (0, 0) (omega arith) (omega arith))
+    let near : c.args.k < length (take s.len s.pairs) = subst (λ (ps : List Pair). c.args.k < length ps)
+    (sym c.self.view_is) c.requires in
+    subst (λ (ps : List Pair). slice_get ps c.args.k ≡ Some (get_or s.pairs c.args.k (0, 0))) c.self.view_is
+    (get_taken s.pairs s.len c.args.k (0, 0) (omega arith) (omega arith))

@@ -8,7 +8,8 @@ pub invariant_of-self : goal.invariant_of-self
 invariant_of-self c =
     let s = c.self.inside in let v = c.self.invariant in let full = v.full in let within = v.within in
     let long = length-take-le s.len s.pairs (omega arith) in
-    let short : length (take s.len s.pairs) < 64 = subst (λ (ps : List Pair). length ps < 64) (sym c.self.view_is) c.requires in
+    let short : length (take s.len s.pairs) < 64 = subst (λ (ps : List Pair). length ps < 64)
+    (sym c.self.view_is) c.requires in
     let x : Pair = (c.args.local, c.args.text) in
     record {
       full = length-set s.pairs s.len x ∙ full;

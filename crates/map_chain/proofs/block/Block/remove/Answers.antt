@@ -13,6 +13,17 @@ invariant_of-self c =
     let s = c.self.inside in let v = c.self.invariant in let full = v.full in let within = v.within in
     let kept = c.close_gap.auto.pairs in let ps = c.close_gap.new.pairs in
     elim c.if-self-eq0.branch [
-      | then-self-eq0 w ↦ record { full = kept ∙ full; within = omega arith; top = w.self-is ∙ sym (ap (λ (n : ℕ). highest (take n ps)) w.if-self-eq0.true) }
-      | else-self-eq0 w ↦ let some = w.if-self-eq0.false in record { full = kept ∙ full; within = omega arith; top = w.self-is ∙ sym (top_of ps (s.len - 1) (s.len - 1 - 1) (omega arith) (omega arith)) }
+      | then-self-eq0 w ↦ record {
+        full = kept ∙ full;
+        within = omega arith;
+        top = w.self-is
+            ∙ sym (ap (λ (n : ℕ). highest (take n ps)) w.if-self-eq0.true);
+      }
+      | else-self-eq0 w ↦ let some = w.if-self-eq0.false in
+          record {
+            full = kept ∙ full;
+            within = omega arith;
+            top = w.self-is
+                ∙ sym (top_of ps (s.len - 1) (s.len - 1 - 1) (omega arith) (omega arith));
+          }
     ]

@@ -14,7 +14,8 @@ use Rattle.map_chain.proofs.Indexing.{places_length, place_at}
 use Rattle.map_chain.proofs.Keys.{keys_length, before_nearest, passed_reaches}
 use Rattle.map_chain.proofs.blocks.Blocks.seek.Goals as goal
 
-module _ (n : ℕ) (bs : Placed) (x : Index) (v : IsIndexOf x bs) (i : ℕ) (ks : List ℕ) (is : ks ≡ x.keys.items) (at : IsNearest n ks i) where
+module _ (n : ℕ) (bs : Placed) (x : Index) (v : IsIndexOf x bs) (i : ℕ) (ks : List ℕ) (is : ks ≡ x.keys.items)
+    (at : IsNearest n ks i) where
   near : IsNearest n x.keys.items i
   near = subst (λ (ls : List ℕ). IsNearest n ls i) is at
 
@@ -29,17 +30,21 @@ pub index-at-requires : goal.index-at-requires
 index-at-requires c =
     let bs = c.args.self.now in let x = c.args.index.now in let v = c.requires.index in let long = x.places.ok.0 in
     let places = places_length x.places.items bs v.places in
-    let within = inside c.args.local bs x v c.nearest-i.result c.deref.result.now c.deref.ensures.value c.nearest-i.ensures in omega arith
+    let within = inside c.args.local bs x v c.nearest-i.result c.deref.result.now c.deref.ensures.value
+    c.nearest-i.ensures in omega arith
 
 pub block-requires : goal.block-requires
 block-requires c =
-    let bs = c.args.self.now in let x = c.args.index.now in let v = c.requires.index in let i : ℕ = c.nearest-i.result in
+    let bs = c.args.self.now in let x = c.args.index.now in let v = c.requires.index in
+    let i : ℕ = c.nearest-i.result in
     let ks = c.deref.result.now in let is = c.deref.ensures.value in let at = c.nearest-i.ensures in
-    lies_at c.args.local bs x v i ks is at i c.index-at.result.now (inside c.args.local bs x v i ks is at) c.index-at.ensures
+    lies_at c.args.local bs x v i ks is at i c.index-at.result.now
+    (inside c.args.local bs x v i ks is at) c.index-at.ensures
 
 pub returns-then-local-high : goal.returns-then-local-high
 returns-then-local-high c =
-    let bs = c.args.self.now in let x = c.args.index.now in let v = c.requires.index in let i : ℕ = c.nearest-i.result in
+    let bs = c.args.self.now in let x = c.args.index.now in let v = c.requires.index in
+    let i : ℕ = c.nearest-i.result in
     let at = near c.args.local bs x v i c.deref.result.now c.deref.ensures.value c.nearest-i.ensures in
     let high = c.high.ensures in let test = c.if-local-high.true in
     record {
@@ -51,32 +56,43 @@ returns-then-local-high c =
 
 pub returns-then-i-len : goal.returns-then-i-len
 returns-then-i-len c =
-    let n : ℕ = c.args.local in let bs = c.args.self.now in let x = c.args.index.now in let i : ℕ = c.nearest-i.result in
+    let n : ℕ = c.args.local in let bs = c.args.self.now in let x = c.args.index.now in
+    let i : ℕ = c.nearest-i.result in
     let places = places_length x.places.items bs c.requires.index.places in let long = x.places.ok.0 in
-    let high = c.high.ensures in let test = c.if-local-high.false in let len = c.len.ensures in let last = c.if-i-len.true in
-    let below = below_all n bs i c.index-at.result.now.ptr c.block.result.now c.block.ensures c.requires.order.0 c.requires.order.1 (omega arith) in
+    let high = c.high.ensures in let test = c.if-local-high.false in let len = c.len.ensures in
+    let last = c.if-i-len.true in
+    let below = below_all n bs i c.index-at.result.now.ptr c.block.result.now c.block.ensures c.requires.order.0
+    c.requires.order.1 (omega arith) in
     subst (λ (cs : Placed). AllBelow n (pairs_of cs)) (take_all (suc i) bs (omega arith)) below
 
 pub index-requires : goal.index-requires
 index-requires c =
     let bs = c.args.self.now in let x = c.args.index.now in let v = c.requires.index in let long = x.places.ok.0 in
     let places = places_length x.places.items bs v.places in let len = c.len.ensures in let more = c.if-i-len.false in
-    let within = inside c.args.local bs x v c.nearest-i.result c.deref.result.now c.deref.ensures.value c.nearest-i.ensures in omega arith
+    let within = inside c.args.local bs x v c.nearest-i.result c.deref.result.now c.deref.ensures.value
+    c.nearest-i.ensures in omega arith
 
 pub returns : goal.returns
 returns c =
-    let n : ℕ = c.args.local in let bs = c.args.self.now in let x = c.args.index.now in let v = c.requires.index in let i : ℕ = c.nearest-i.result in
+    let n : ℕ = c.args.local in let bs = c.args.self.now in let x = c.args.index.now in let v = c.requires.index in
+    let i : ℕ = c.nearest-i.result in
     let ks = c.deref.result.now in let is = c.deref.ensures.value in let near_one = c.nearest-i.ensures in
     let at = near n bs x v i ks is near_one in let within = inside n bs x v i ks is near_one in
-    let places = places_length x.places.items bs v.places in let keys = keys_length x.keys.items bs v.keys in let long = x.places.ok.0 in
-    let high = c.high.ensures in let test = c.if-local-high.false in let len = c.len.ensures in let more = c.if-i-len.false in
+    let places = places_length x.places.items bs v.places in let keys = keys_length x.keys.items bs v.keys in
+    let long = x.places.ok.0 in
+    let high = c.high.ensures in let test = c.if-local-high.false in let len = c.len.ensures in
+    let more = c.if-i-len.false in
     let next : suc i ≡ i + 1 = omega arith in let p : Ptr = c.index.result.now.ptr in
-    let found = node_at bs (i + 1) p (lies_at n bs x v i ks is near_one (i + 1) c.index.result.now (omega arith) c.index.ensures) in
-    let passed : n < get_or x.keys.items (i + 1) 0 = subst (λ (j : ℕ). n < get_or x.keys.items j 0) next (at.passed (omega arith)) in
+    let found = node_at bs (i + 1) p
+    (lies_at n bs x v i ks is near_one (i + 1) c.index.result.now (omega arith) c.index.ensures) in
+    let passed : n < get_or x.keys.items (i + 1) 0 = subst (λ (j : ℕ). n < get_or x.keys.items j 0) next
+    (at.passed (omega arith)) in
     record {
       pairs = found.0;
       is = found.1;
       before = subst (λ (j : ℕ). AllBelow n (pairs_of (take j bs))) next
-          (below_all n bs i c.index-at.result.now.ptr c.block.result.now c.block.ensures c.requires.order.0 c.requires.order.1 (omega arith));
-      reached = passed_reaches n x.keys.items bs (i + 1) p found.0 v.keys found.1 (filled_at bs (i + 1) p found.0 c.requires.order.1 found.1).0 passed;
+          (below_all n bs i c.index-at.result.now.ptr c.block.result.now c.block.ensures c.requires.order.0
+          c.requires.order.1 (omega arith));
+      reached = passed_reaches n x.keys.items bs (i + 1) p found.0 v.keys found.1
+          (filled_at bs (i + 1) p found.0 c.requires.order.1 found.1).0 passed;
     }

@@ -15,6 +15,9 @@ use Rattle.map_chain.proofs.nodes.Nodes.TheLaw.Statement.{statement}
 use Rattle.map_chain.proofs.Sharing.{nodes_lent_laws, Lends-nodes}
 
 pub shares : (T A : RattleType) (g : Ghosts A.Denot) (L : Laws T) (N : Laws A) → statement T A g L N
-shares T A g L N = of_Lends (C.struct T A g) (C.the_codes T.Denot A.Denot T.coded A.coded (marker.the_row RawPtr).coded) (C.the_heap T A g) (C.the_lent T A g)
-    (λ d p. nodes_lent_laws T L.shr_laws d.nodes) (copy_shared (marker.the_field RawPtr) (field_copy (marker.the_type RawPtr) tt), tt)
-    (λ M 𝓤 𝓛 d p. Lends-nodes 𝓛 (C.the_row T A g).lives T (g.dealloc_token d.alloc) L (Incl-trans (meet_⊑_left (T.lives ++ (A.lives ++ [])) _) (meet_⊑_left T.lives (A.lives ++ []))) d.nodes)
+shares T A g L N = of_Lends (C.struct T A g) (C.the_codes T.Denot A.Denot T.coded A.coded (marker.the_row RawPtr).coded)
+    (C.the_heap T A g) (C.the_lent T A g)
+    (λ d p. nodes_lent_laws T L.shr_laws d.nodes)
+    (copy_shared (marker.the_field RawPtr) (field_copy (marker.the_type RawPtr) tt), tt)
+    (λ M 𝓤 𝓛 d p. Lends-nodes 𝓛 (C.the_row T A g).lives T (g.dealloc_token d.alloc) L
+    (Incl-trans (meet_⊑_left (T.lives ++ (A.lives ++ [])) _) (meet_⊑_left T.lives (A.lives ++ []))) d.nodes)

@@ -4,5 +4,6 @@ use Rattle.core.specs.declared.alloc.Allocator.{Ghosts}
 use Rattle.map_chain.proofs.Crosses.{Nodes-send}
 use Rattle.map_chain.specs.contracts.nodes.Nodes.{the_row}
 
-pub send : (T A : RattleType) (g : Ghosts A.Denot) → IsSend T → IsSend A → Frees g g.dealloc_token → IsSend (the_row T A g)
+pub send : (T A : RattleType) (g : Ghosts A.Denot) → IsSend T → IsSend A → Frees g g.dealloc_token
+    → IsSend (the_row T A g)
 send T A g s t f = Nodes-send T A g s f
