@@ -1,7 +1,11 @@
-use Rattle.std.specs.Prelude.{ℕ, zero, suc, ◌+◌, Bool, true, false, nat_le, nat_lt, ◌==◌, ◌&&◌, ◌||◌, List, [], ◌∷◌, length, take, drop, take_while}
+use Rattle.std.specs.Prelude.{ℕ, zero, suc, ◌+◌, Bool, true, false, nat_le, nat_lt, ◌==◌, ◌&&◌}
+use Rattle.std.specs.Prelude.{◌||◌, List, [], ◌∷◌, length, take, drop, take_while, codes}
 use Rattle.kom_types.specs.declared.byte_kind.ByteKind.TheVariants as kind
+use Rattle.kom_types.specs.declared.side.Side.{Side}
+use Rattle.kom_types.specs.declared.side.Side.TheVariants as side
 use Rattle.kom_types.specs.ByteKind.{is_blank, is_digit, kind_of}
-use Rattle.kom_types.specs.Token.{Token, Digits, Text, Open, Close, Star, number_of, is_integer}
+use Rattle.kom_types.specs.Token.{Token, Digits, Text, Open, Close, Star, Signed, number_of}
+use Rattle.kom_types.specs.Token.{is_integer}
 
 -- What some bytes are to a rule that reads them from the left: at fault nowhere yet, and more is
 -- wanted; exactly the whole of what it asks; or at fault.
@@ -39,13 +43,29 @@ run_at digits (byte ∷ tail) = elim (byte == 72) [
   ]
 ]
 
+-- a sign, and a run of 1 to 16 digits directly after it with what is after that
+abbrev pub signed_run_at : ℕ → List ℕ → List ℕ → Form Cut
+signed_run_at sign digits [] = elim (nat_le (length digits) 16) [ true ↦ Prefix | false ↦ Unfit ]
+signed_run_at sign digits (byte ∷ tail) =
+    elim (nat_le 1 (length digits) && nat_le (length digits) 16) [
+      | true ↦ Whole (record { token = Signed sign digits; tail = byte ∷ tail })
+      | false ↦ Unfit
+    ]
+
+-- the token that begins with this sign: only a server's lines have one
+abbrev pub signed_at : Side → ℕ → List ℕ → Form Cut
+signed_at side.Client sign bytes = Unfit
+signed_at side.Server sign bytes =
+    signed_run_at sign (take_while is_digit bytes) (drop_while is_digit bytes)
+
 -- the token that begins with this byte
-abbrev pub token_at : ℕ → List ℕ → Form Cut
-token_at byte bytes = elim (kind_of byte) [
+abbrev pub token_at : Side → ℕ → List ℕ → Form Cut
+token_at side byte bytes = elim (kind_of byte) [
   | kind.Digit ↦ run_at (byte ∷ take_while is_digit bytes) (drop_while is_digit bytes)
   | kind.Open ↦ Whole (record { token = Open; tail = bytes })
   | kind.Close ↦ Whole (record { token = Close; tail = bytes })
   | kind.Star ↦ Whole (record { token = Star; tail = bytes })
+  | kind.Sign ↦ signed_at side byte bytes
   | kind.Blank ↦ Unfit
   | kind.LineFeed ↦ Unfit
   | kind.Hollerith ↦ Unfit
@@ -69,16 +89,16 @@ with_token token (Whole tokens) = Whole (token ∷ tokens)
 with_token token Unfit = Unfit
 
 -- the tokens of a line from here to its line feed; a line has fewer than `most` of them
-abbrev pub tokens_at : ℕ → List ℕ → Form (List Token)
-tokens_at zero bytes = Unfit
-tokens_at (suc most) bytes = elim (drop_while is_blank bytes) [
+abbrev pub tokens_at : Side → ℕ → List ℕ → Form (List Token)
+tokens_at side zero bytes = Unfit
+tokens_at side (suc most) bytes = elim (drop_while is_blank bytes) [
   | [] ↦ Prefix
   | byte ∷ tail ↦ elim (byte == 10) [
     | true ↦ ended tail
-    | false ↦ elim (token_at byte tail) [
+    | false ↦ elim (token_at side byte tail) [
       | Prefix ↦ Prefix
       | Whole cut ↦ elim (may_follow cut.tail) [
-        | true ↦ with_token cut.token (tokens_at most cut.tail)
+        | true ↦ with_token cut.token (tokens_at side most cut.tail)
         | false ↦ Unfit
       ]
       | Unfit ↦ Unfit
@@ -88,8 +108,8 @@ tokens_at (suc most) bytes = elim (drop_while is_blank bytes) [
 
 -- A line: blanks, tokens with at least one blank between two, blanks, and a line feed that is not
 -- inside a string. (Protocol A, "Client-Server Protocol".)
-abbrev pub line_form : List ℕ → Form (List Token)
-line_form bytes = tokens_at (length bytes + 1) bytes
+abbrev pub line_form : Side → List ℕ → Form (List Token)
+line_form side bytes = tokens_at side (length bytes + 1) bytes
 
 -- exactly so many bytes
 abbrev pub exactly : ℕ → List ℕ → Form (List ℕ)
@@ -111,14 +131,34 @@ name_at digits (byte ∷ tail) = elim (byte == 72 && is_name_length digits) [
   | false ↦ Unfit
 ]
 
--- The greeting: the letter `A`, blanks, and the user name as a Hollerith string. The blanks are
--- this server's choice: a client in wide use sends one. (Protocol A, "Connecting to the LysKOM
+-- A client's greeting: the letter `A`, blanks, and the user name as a Hollerith string. The blanks
+-- are this server's choice: a client in wide use sends one. (Protocol A, "Connecting to the LysKOM
 -- server".)
-abbrev pub greeting_form : List ℕ → Form (List ℕ)
-greeting_form [] = Prefix
-greeting_form (letter ∷ bytes) = elim (letter == 65) [
+abbrev pub client_greeting : List ℕ → Form (List ℕ)
+client_greeting [] = Prefix
+client_greeting (letter ∷ bytes) = elim (letter == 65) [
   | true ↦
       let name = drop_while is_blank bytes in
       name_at (take_while is_digit name) (drop_while is_digit name)
   | false ↦ Unfit
 ]
+
+-- exactly these letters, which name no user
+abbrev pub letters_at : List ℕ → List ℕ → Form (List ℕ)
+letters_at [] [] = Whole []
+letters_at [] (byte ∷ bytes) = Unfit
+letters_at (letter ∷ letters) [] = Prefix
+letters_at (letter ∷ letters) (byte ∷ bytes) = elim (byte == letter) [
+  | true ↦ letters_at letters bytes
+  | false ↦ Unfit
+]
+
+-- the bytes of a server's greeting
+abbrev pub welcome : List ℕ
+welcome = codes "LysKOM\n"
+
+-- The greeting of a stream: a client's, or a server's answer to it. (Protocol A, "Connecting to the
+-- LysKOM server".)
+abbrev pub greeting_form : Side → List ℕ → Form (List ℕ)
+greeting_form side.Client bytes = client_greeting bytes
+greeting_form side.Server bytes = letters_at welcome bytes

@@ -3,7 +3,13 @@ pub mod Token
 pub mod Grammar
 pub mod Stream
 pub mod Reading
+pub mod Times
+pub mod spellings
 pub mod Printing
 pub mod Sessions
 pub mod calls
+pub mod Names
+pub mod Mappings
+pub mod AuxItems
 pub mod Rows
+pub mod TableRows

@@ -1,33 +1,44 @@
-use Rattle.std.specs.Prelude.{ℕ, ◌==◌, true, false, List, [], ◌∷◌, Option, Some, None, option_map, option_and_then, find}
+use Rattle.std.specs.Prelude.{ℕ, ◌==◌, List, [], ◌∷◌, ◌++◌, Option, Some, None, option_map}
+use Rattle.std.specs.Prelude.{option_and_then, find}
 use Rattle.std.specs.Option.{option_or}
 use Rattle.kom_types.specs.declared.calls.Call.{Call}
 use Rattle.kom_types.specs.declared.calls.Call.TheVariants.{Refused}
-use Rattle.kom_types.specs.Token.{Token, Digits, Text, Open, Close, Star, number_of, is_integer}
+use Rattle.kom_types.specs.Token.{Token, integer_of}
+use Rattle.kom_types.specs.calls.Arguments.{Taken, Took, Departs, Malformed, BadBool, LongArray}
 use Rattle.kom_types.specs.calls.Pattern.{Pattern}
 use Rattle.kom_types.specs.calls.Sessions as Sessions
-use Rattle.kom_types.specs.Stream.{Line, Fault, Malformed, LineTooLong, stream_of}
-
--- the integer that a token spells, if it spells one
-abbrev pub integer_of : Token → Option ℕ
-integer_of (Digits digits) =
-    elim (is_integer digits) [ true ↦ Some (number_of digits) | false ↦ None ]
-integer_of (Text bytes) = None
-integer_of Open = None
-integer_of Close = None
-integer_of Star = None
+use Rattle.kom_types.specs.calls.Server as Server
+use Rattle.kom_types.specs.calls.Persons as Persons
+use Rattle.kom_types.specs.calls.Conferences as Conferences
+use Rattle.kom_types.specs.calls.Texts as Texts
+use Rattle.kom_types.specs.calls.Memberships as Memberships
+use Rattle.kom_types.specs.calls.AuxItems as AuxItems
+use Rattle.kom_types.specs.Stream.{Line, Fault, stream_of}
+use Rattle.kom_types.specs.Stream as stream
 
 -- the patterns of all calls
-abbrev pub patterns : List Pattern
-patterns = Sessions.patterns
+unfoldable pub patterns : List Pattern
+patterns =
+    Sessions.patterns ++ Server.patterns ++ Persons.patterns ++ Conferences.patterns
+    ++ Texts.patterns ++ Memberships.patterns ++ AuxItems.patterns
+
+-- The call that arguments come to: the one that they make; or what the reader refuses, error 61
+-- for an integer in place of a truth value and 46 for an array that is too long; or none where they
+-- depart from the pattern otherwise.
+abbrev pub call_told : Taken Call → Option Call
+call_told (Took call tail) = Some call
+call_told (Departs Malformed) = None
+call_told (Departs BadBool) = Some (Refused 61 0)
+call_told (Departs LongArray) = Some (Refused 46 0)
 
 -- the call that arguments make by a pattern, if one was found; a number that is not known is
 -- refused with error 2, status 0, whatever follows it
 abbrev pub call_by : Option Pattern → List Token → Option Call
-call_by (Some pattern) arguments = pattern.reads arguments
+call_by (Some pattern) arguments = call_told (pattern.reads arguments)
 call_by None arguments = Some (Refused 2 0)
 
 -- the call of a number and its arguments, or none where they depart from its pattern
-abbrev pub call_of : ℕ → List Token → Option Call
+unfoldable pub call_of : ℕ → List Token → Option Call
 call_of number arguments = call_by (find (λ pattern. pattern.number == number) patterns) arguments
 
 -- a line that was read: the client's reference, and the call
@@ -53,8 +64,8 @@ first_malformed (line ∷ lines) =
 
 -- where a stream's fault stands
 abbrev pub place_of : Fault → ℕ
-place_of (Malformed place) = place
-place_of (LineTooLong place) = place
+place_of (stream.Malformed place) = place
+place_of (stream.LineTooLong place) = place
 
 -- The place at which a stream departs from the protocol: that of its first malformed line, or else
 -- of its own fault.

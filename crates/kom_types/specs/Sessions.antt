@@ -1,5 +1,6 @@
 -- A session: its seat, which is all that a call may read of it, and what waits for it.
-use Rattle.std.specs.Prelude.{ℕ, ◌+◌, Bool, true, false, ◌==◌, ◌&&◌, nat_le, nat_lt, List, [], ◌∷◌, ◌++◌, length, take, drop, take_while, bit_and, bit_or, if◌then◌else◌}
+use Rattle.std.specs.Prelude.{ℕ, ◌+◌, Bool, true, false, ◌==◌, ◌&&◌, nat_le, nat_lt, List, [], ◌∷◌}
+use Rattle.std.specs.Prelude.{◌++◌, length, take, drop, take_while, bit_and, bit_or, if◌then◌else◌}
 use Rattle.kom_types.specs.declared.items.Item.{Item}
 use Rattle.kom_types.specs.declared.seats.Seat.{Seat}
 use Rattle.kom_types.specs.declared.session_changes.SessionChange.{SessionChange}

@@ -1,4 +1,7 @@
-use Rattle.std.specs.Prelude.{ℕ, ◌+◌, ◌^◌, Bool, true, false, nat_lt, List, [], ◌∷◌, ◌++◌, length, Option, Some, None}
+use Rattle.std.specs.Prelude.{ℕ, ◌+◌, ◌^◌, Bool, true, false, nat_lt, List, [], ◌∷◌, ◌++◌, length}
+use Rattle.std.specs.Prelude.{Option, Some, None}
+use Rattle.kom_types.specs.declared.side.Side.{Side}
+use Rattle.kom_types.specs.declared.side.Side.TheVariants as side
 use Rattle.kom_types.specs.Token.{Token}
 use Rattle.kom_types.specs.Grammar.{Form, Prefix, Whole, Unfit, line_form, greeting_form}
 
@@ -21,8 +24,9 @@ pub record Split : Type 0 where
   pub fault : Option Fault
 
 -- how many bytes a line has at most, its line feed counted
-abbrev pub longest_line : ℕ
-longest_line = 2097152
+abbrev pub longest_line : Side → ℕ
+longest_line side.Client = 2097152
+longest_line side.Server = 4194304
 
 -- how many bytes a stream has at most
 abbrev pub longest_stream : ℕ
@@ -47,11 +51,12 @@ verdict place too_long (Whole unit) = elim (nat_lt place longest_stream) [
   | false ↦ Fails (Malformed place)
 ]
 
-abbrev pub line_verdict : ℕ → List ℕ → Verdict (List Token)
-line_verdict place prefix = verdict place (nat_lt longest_line (length prefix)) (line_form prefix)
+abbrev pub line_verdict : Side → ℕ → List ℕ → Verdict (List Token)
+line_verdict side place prefix =
+    verdict place (nat_lt (longest_line side) (length prefix)) (line_form side prefix)
 
-abbrev pub greeting_verdict : ℕ → List ℕ → Verdict (List ℕ)
-greeting_verdict place prefix = verdict place false (greeting_form prefix)
+abbrev pub greeting_verdict : Side → ℕ → List ℕ → Verdict (List ℕ)
+greeting_verdict side place prefix = verdict place false (greeting_form side prefix)
 
 -- a line before the others; a blank one is skipped
 abbrev pub with_line : List Token → ℕ → Split → Split
@@ -66,24 +71,29 @@ stopped_in text fault = record { greeting = None; lines = []; rest = text; fault
 -- The lines of a stream, from the byte at `place` on: each is the shortest prefix of what is left
 -- that is whole. `text` is the prefix that has been looked at. The first byte that makes a prefix
 -- unfit or too long is the fault.
-abbrev pub lines_from : ℕ → List ℕ → List ℕ → Split
-lines_from place text [] = stopped_in text None
-lines_from place text (byte ∷ bytes) = elim (line_verdict place (text ++ byte ∷ [])) [
-  | GoesOn ↦ lines_from (place + 1) (text ++ byte ∷ []) bytes
-  | Ends tokens ↦ with_line tokens place (lines_from (place + 1) [] bytes)
+abbrev pub lines_from : Side → ℕ → List ℕ → List ℕ → Split
+lines_from side place text [] = stopped_in text None
+lines_from side place text (byte ∷ bytes) = elim (line_verdict side place (text ++ byte ∷ [])) [
+  | GoesOn ↦ lines_from side (place + 1) (text ++ byte ∷ []) bytes
+  | Ends tokens ↦ with_line tokens place (lines_from side (place + 1) [] bytes)
   | Fails fault ↦ stopped_in text (Some fault)
 ]
 
 -- the same of the greeting, which is the shortest prefix of the stream that is whole, and of the
 -- lines after it
-abbrev pub greeting_from : ℕ → List ℕ → List ℕ → Split
-greeting_from place text [] = stopped_in text None
-greeting_from place text (byte ∷ bytes) = elim (greeting_verdict place (text ++ byte ∷ [])) [
-  | GoesOn ↦ greeting_from (place + 1) (text ++ byte ∷ []) bytes
-  | Ends name ↦ record (lines_from (place + 1) [] bytes) { greeting = Some name }
-  | Fails fault ↦ stopped_in text (Some fault)
-]
+abbrev pub greeting_from : Side → ℕ → List ℕ → List ℕ → Split
+greeting_from side place text [] = stopped_in text None
+greeting_from side place text (byte ∷ bytes) =
+    elim (greeting_verdict side place (text ++ byte ∷ [])) [
+      | GoesOn ↦ greeting_from side (place + 1) (text ++ byte ∷ []) bytes
+      | Ends name ↦ record (lines_from side (place + 1) [] bytes) { greeting = Some name }
+      | Fails fault ↦ stopped_in text (Some fault)
+    ]
 
--- A client's stream, whole: a greeting followed by lines.
+-- The stream of a client or of a server, whole: a greeting followed by lines.
+abbrev pub stream_by : Side → List ℕ → Split
+stream_by side bytes = greeting_from side 0 [] bytes
+
+-- A client's stream.
 abbrev pub stream_of : List ℕ → Split
-stream_of bytes = greeting_from 0 [] bytes
+stream_of bytes = stream_by side.Client bytes

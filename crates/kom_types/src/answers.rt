@@ -24,7 +24,7 @@ pub enum Refusal {
 }
 
 /// What an act is answered.
-#[derive(Debug, Drop)]
+#[derive(Drop)]
 pub enum Answer {
     /// The number of the new session.
     Connected(u32),

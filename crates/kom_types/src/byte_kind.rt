@@ -18,6 +18,8 @@ pub enum ByteKind {
     Close,
     /// The contents of an array that are not there.
     Star,
+    /// A sign before the digits of a reference or of a message: `=`, `%` or `:`.
+    Sign,
     /// Any other byte, which stands inside strings alone.
     Other,
 }
@@ -34,6 +36,7 @@ pub fn kind_of_byte(byte: u8) -> ByteKind
         b'{' => ByteKind::Open,
         b'}' => ByteKind::Close,
         b'*' => ByteKind::Star,
+        b'=' | b'%' | b':' => ByteKind::Sign,
         _ => ByteKind::Other,
     }
 }

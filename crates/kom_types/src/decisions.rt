@@ -1,5 +1,5 @@
-use crate::calls::Reply;
 use crate::effects::Effect;
+use crate::replies::Reply;
 use crate::sequence::Sequence;
 use crate::session_changes::SessionChange;
 

@@ -4,30 +4,57 @@
 
 mod acts;
 mod answers;
+mod aux_items;
+mod boxed;
 mod byte_kind;
 mod calls;
+mod conferences;
 mod decisions;
 mod effects;
 mod items;
 mod lists;
+mod memberships;
+mod messages;
+mod persons;
+mod replies;
 mod rows;
 mod seats;
 mod sequence;
+mod server;
 mod session_changes;
+mod sessions;
 mod shortage;
+mod side;
+mod texts;
 mod times;
 
 pub use acts::{Act, Entry, Record};
 pub use answers::{Answer, Refusal, Why};
+pub use aux_items::{Adder, AuxChange, AuxInput, AuxInputs, AuxRow, AuxRows, Object};
+pub use boxed::Boxed;
 pub use byte_kind::{ByteKind, kind_of_byte};
-pub use calls::{Call, Reply};
+pub use calls::Call;
+pub use conferences::{Conference, ConferenceName, ConferenceNames, NewConference, UConference};
 pub use decisions::{ChangeList, Decision, EffectList};
-pub use effects::Effect;
+pub use effects::{ConfField, Counter, Effect, PersonField};
 pub use items::Item;
-pub use lists::{Bytes, Words};
-pub use rows::worked_rows;
+pub use lists::{Bytes, Numbers, Words};
+pub use memberships::{
+    Member, Members, Membership, Memberships, RangesShown, ReadRange, ReadRanges,
+};
+pub use messages::{ChangedItems, Message, NewName, SentMessage};
+pub use persons::{NewPerson, PasswordChange, Person};
+pub use replies::Reply;
+pub use rows::{worked_rows, worked_tables};
 pub use seats::Seat;
 pub use sequence::Sequence;
+pub use server::{Info, VersionInfo};
 pub use session_changes::SessionChange;
+pub use sessions::{ClientVersion, DynamicSession, DynamicSessions, StaticSession};
 pub use shortage::Memory;
-pub use times::{LAST_MOMENT, Moment};
+pub use side::Side;
+pub use texts::{
+    Block, Link, LocalText, Mapping, Mark, Marks, MiscInfo, MiscInfos, MiscInput, MiscInputs,
+    NewText, Recipient, TextStat,
+};
+pub use times::{LAST_MOMENT, Moment, Time};

@@ -1,8 +1,13 @@
-ghost use Rattle.std.specs.Prelude.{◌≡◌, ◌<◌, ◌↔◌, ℕ, List, [], ◌∷◌, ◌++◌, length, IsTrue, IfOk, OnOk, OnErr, slice_get};
+ghost use Rattle.std.specs.Prelude.{◌≡◌, ◌<◌, ◌↔◌, ℕ, List, [], ◌∷◌, ◌++◌, length, IsTrue, IfOk};
+ghost use Rattle.std.specs.Prelude.{OnOk, OnErr, slice_get};
 
+use crate::sequence::Sequence;
 use crate::shortage::Memory;
 use std::alloc::Global;
 use std::marker::Model;
+
+/// A list of numbers.
+pub type Numbers = Sequence<u32>;
 
 /// A list of bytes.
 #[derive(Debug, Drop)]

@@ -1,7 +1,13 @@
 ghost use Rattle.kom_types.specs.Rows.{Rows};
+ghost use Rattle.kom_types.specs.TableRows.{TableRows};
 
 /// A law alone: the definitions of the stream, its reading and its printing give what was worked
 /// out by hand.
 pub fn worked_rows()
     ensures { Rows }
+{}
+
+/// A law alone: the definitions of names, mappings and aux-items give what was worked out by hand.
+pub fn worked_tables()
+    ensures { TableRows }
 {}

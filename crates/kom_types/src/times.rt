@@ -1,5 +1,6 @@
-ghost use Rattle.std.specs.Prelude.{◌≡◌, ℕ, ◌≤◌, ◌<◌, ◌↔◌, min, Ok, IsSome, IfSome};
+ghost use Rattle.std.specs.Prelude.{◌≡◌, ℕ, ◌+◌, ◌≤◌, ◌<◌, ◌↔◌, min, Ok, IsSome, IfSome, pos, ◌≤ℤ◌};
 
+use jiff_core::civil::Date;
 use std::marker::Model;
 
 /// The last moment: the end of the year 9999.
@@ -58,6 +59,61 @@ impl Moment {
     }
 }
 
+/// A moment by the calendar, in UTC. (Protocol A, "Time".)
+#[derive(Clone, Copy, Debug, PartialEq, Eq)]
+pub struct Time {
+    pub seconds: u8,
+    pub minutes: u8,
+    pub hours: u8,
+    /// From 1 on.
+    pub day: u8,
+    /// From 0 on.
+    pub month: u8,
+    /// Since 1900.
+    pub year: u32,
+    /// Sunday is 0.
+    pub weekday: u8,
+    /// From 0 on.
+    pub yearday: u16,
+    /// Whether summer time is in use: never, in UTC.
+    pub dst: bool,
+}
+
+impl Time {
+    ghost use Rattle.kom_types.specs.Times.{time_of};
+
+    /// The calendar time of a moment, in UTC. Takes no memory.
+    pub fn of(moment: Moment) -> Time
+        ensures { result ≡ time_of moment }
+    {
+        let seconds = moment.seconds();
+        let days = (seconds / 86_400) as u32;
+        let second = (seconds % 86_400) as u32;
+        let date = Date::from_days_since_min(days + DAYS_TO_1970);
+        Time {
+            seconds: (second % 60) as u8,
+            minutes: (second / 60 % 60) as u8,
+            hours: (second / 3600) as u8,
+            day: date.day,
+            month: date.month - 1,
+            year: years_since_1900(date.year),
+            weekday: ((days + 4) % 7) as u8,
+            yearday: date.day_of_year() - 1,
+            dst: false,
+        }
+    }
+}
+
+// The days from the first date of `jiff`, at the beginning of the year -9999, to that of 1970.
+const DAYS_TO_1970: u32 = 4_371_587;
+
+fn years_since_1900(year: i16) -> u32
+    requires { pos 1900 ≤ℤ year }
+    ensures { pos (result + 1900) ≡ year }
+{
+    year as u32 - 1900
+}
+
 #[cfg(test)]
 mod tests {
     use super::*;
@@ -69,5 +125,44 @@ mod tests {
         assert!(rt; Moment::new(253_402_300_799).is_some());
         assert!(rt; Moment::new(253_402_300_800).is_none());
         assert!(rt; matches!(Moment::at_most(3).clone(), Ok(Moment(3))));
+    }
+
+    #[test]
+    fn times_of_moments(rt: HostRuntime) {
+        assert_eq!(rt; Time::of(Moment(0)), time([0, 0, 0, 1, 0], 70, 4, 0));
+        assert_eq!(rt;
+            Time::of(Moment(951_782_400)),
+            time([0, 0, 0, 29, 1], 100, 2, 59)
+        );
+        assert_eq!(rt;
+            Time::of(Moment(1_795_000_000)),
+            time([40, 6, 11, 18, 10], 126, 3, 321)
+        );
+        assert_eq!(rt;
+            Time::of(Moment(4_107_542_399)),
+            time([59, 59, 23, 28, 1], 200, 0, 58)
+        );
+        assert_eq!(rt;
+            Time::of(Moment(4_107_542_400)),
+            time([0, 0, 0, 1, 2], 200, 1, 59)
+        );
+        let last = time([59, 59, 23, 31, 11], 8099, 5, 364);
+        assert_eq!(rt; Time::of(Moment(LAST_MOMENT)), last);
+    }
+
+    // The seconds, minutes, hours, day and month; the year; the day of the week and of the year.
+    fn time(parts: [u8; 5], year: u32, weekday: u8, yearday: u16) -> Time {
+        let [seconds, minutes, hours, day, month] = parts;
+        Time {
+            seconds,
+            minutes,
+            hours,
+            day,
+            month,
+            year,
+            weekday,
+            yearday,
+            dst: false,
+        }
     }
 }

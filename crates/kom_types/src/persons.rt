@@ -1,0 +1,50 @@
+use crate::aux_items::AuxInputs;
+use crate::lists::Bytes;
+use crate::times::Moment;
+
+/// A person as it is shown. (Protocol A, "Persons".)
+#[derive(Drop)]
+pub struct Person {
+    /// The user name and host of its last login.
+    pub user: Bytes,
+    /// The sixteen bits wheel, admin, statistic, create-pers, create-conf, change-name and ten
+    /// spare ones, the first bit highest.
+    pub privileges: u16,
+    /// The eight bits unread-is-secret and seven reserved ones, the first bit highest.
+    pub flags: u8,
+    pub last_login: Moment,
+    /// A text, or 0.
+    pub user_area: u32,
+    /// Seconds.
+    pub time_present: u32,
+    pub sessions: u32,
+    pub created_lines: u32,
+    pub created_bytes: u32,
+    pub read_texts: u32,
+    pub text_fetches: u32,
+    pub created_persons: u32,
+    pub created_conferences: u32,
+    pub first_created_local: u32,
+    pub created_texts: u32,
+    pub marks: u32,
+    pub conferences: u32,
+}
+
+/// A person that is to be made.
+#[derive(Drop)]
+pub struct NewPerson {
+    pub name: Bytes,
+    pub password: Bytes,
+    /// The eight bits of a person's flags.
+    pub flags: u8,
+    pub aux_items: AuxInputs,
+}
+
+/// A person's new password.
+#[derive(Drop)]
+pub struct PasswordChange {
+    pub person: u32,
+    /// The password of the caller's person.
+    pub old_password: Bytes,
+    pub new_password: Bytes,
+}
