@@ -4,18 +4,22 @@ use Rattle.std.specs.List.{take_while, prefix_len}
 use Rattle.std.proofs.lemmas.Bool.{cases_Bool}
 use Rattle.kom_types.specs.Grammar.{drop_while}
 
-pub take_while-yes : (test : ℕ → Bool) (byte : ℕ) (bytes : List ℕ) → test byte ≡ true → take_while test (byte ∷ bytes) ≡ byte ∷ take_while test bytes
+pub take_while-yes : (test : ℕ → Bool) (byte : ℕ) (bytes : List ℕ) → test byte ≡ true
+    → take_while test (byte ∷ bytes) ≡ byte ∷ take_while test bytes
 take_while-yes test byte bytes passes =
     let one_more : 1 + prefix_len test bytes ≡ suc (prefix_len test bytes) = omega arith in
     rw (passes, one_more) refl
 
-pub take_while-no : (test : ℕ → Bool) (byte : ℕ) (bytes : List ℕ) → test byte ≡ false → take_while test (byte ∷ bytes) ≡ []
+pub take_while-no : (test : ℕ → Bool) (byte : ℕ) (bytes : List ℕ) → test byte ≡ false
+    → take_while test (byte ∷ bytes) ≡ []
 take_while-no test byte bytes fails = rw fails refl
 
-pub drop_while-yes : (test : ℕ → Bool) (byte : ℕ) (bytes : List ℕ) → test byte ≡ true → drop_while test (byte ∷ bytes) ≡ drop_while test bytes
+pub drop_while-yes : (test : ℕ → Bool) (byte : ℕ) (bytes : List ℕ) → test byte ≡ true
+    → drop_while test (byte ∷ bytes) ≡ drop_while test bytes
 drop_while-yes test byte bytes passes = rw (passes, drop_while) refl
 
-pub drop_while-no : (test : ℕ → Bool) (byte : ℕ) (bytes : List ℕ) → test byte ≡ false → drop_while test (byte ∷ bytes) ≡ byte ∷ bytes
+pub drop_while-no : (test : ℕ → Bool) (byte : ℕ) (bytes : List ℕ) → test byte ≡ false
+    → drop_while test (byte ∷ bytes) ≡ byte ∷ bytes
 drop_while-no test byte bytes fails = rw (fails, drop_while) refl
 
 -- the list is empty, or its first byte fails the test

@@ -4,7 +4,7 @@ use Rattle.std.proofs.lemmas.Bool.{cases_Bool}
 use Rattle.std.proofs.lemmas.Bool.Decides.{nat_tests}
 use Rattle.kom_types.specs.declared.byte_kind.ByteKind.{ByteKind}
 use Rattle.kom_types.specs.declared.byte_kind.ByteKind.TheVariants as kind
-use Rattle.kom_types.specs.ByteKind.{is_blank, is_digit, kind_of}
+use Rattle.kom_types.specs.ByteKind.{is_blank, is_digit, is_sign, kind_of}
 use Rattle.kom_types.specs.Grammar.{may_follow}
 
 -- what the tests say of a byte
@@ -23,9 +23,11 @@ pub data Look (byte : ℕ) : Type 0 where
   open_brace : Looks byte kind.Open false false false false → Look byte
   close_brace : Looks byte kind.Close false false false false → Look byte
   star : Looks byte kind.Star false false false false → Look byte
+  sign_byte : Looks byte kind.Sign false false false false → Look byte
   other : Looks byte kind.Other false false false false → Look byte
 
-blank_alone : (byte : ℕ) → is_blank byte ≡ true → (eqb byte 10 ≡ false) × ((is_digit byte ≡ false) × (eqb byte 72 ≡ false))
+blank_alone : (byte : ℕ) → is_blank byte ≡ true
+    → (eqb byte 10 ≡ false) × ((is_digit byte ≡ false) × (eqb byte 72 ≡ false))
 blank_alone byte e = grind (arith, nat_tests)
 
 feed_alone : (byte : ℕ) → eqb byte 10 ≡ true → (is_digit byte ≡ false) × (eqb byte 72 ≡ false)
@@ -36,14 +38,38 @@ digit_alone byte e = grind (arith, nat_tests)
 
 look_on : (byte : ℕ) → is_blank byte ≡ false → eqb byte 10 ≡ false → is_digit byte ≡ false → Look byte
 look_on byte b f d = elim (cases_Bool (eqb byte 72)) [
-  | inl h ↦ hollerith (record { kind_is = rw (b, f, d, h) refl; blank_is = b; feed_is = f; digit_is = d; hollerith_is = h })
+  | inl h ↦ hollerith
+      (record { kind_is = rw (b, f, d, h) refl; blank_is = b; feed_is = f; digit_is = d; hollerith_is = h })
   | inr h ↦ elim (cases_Bool (eqb byte 123)) [
-    | inl o ↦ open_brace (record { kind_is = rw (b, f, d, h, o) refl; blank_is = b; feed_is = f; digit_is = d; hollerith_is = h })
+    | inl o ↦ open_brace
+        (record { kind_is = rw (b, f, d, h, o) refl; blank_is = b; feed_is = f; digit_is = d; hollerith_is = h })
     | inr o ↦ elim (cases_Bool (eqb byte 125)) [
-      | inl c ↦ close_brace (record { kind_is = rw (b, f, d, h, o, c) refl; blank_is = b; feed_is = f; digit_is = d; hollerith_is = h })
+      | inl c ↦ close_brace
+          (record { kind_is = rw (b, f, d, h, o, c) refl; blank_is = b; feed_is = f; digit_is = d; hollerith_is = h })
       | inr c ↦ elim (cases_Bool (eqb byte 42)) [
-        | inl s ↦ star (record { kind_is = rw (b, f, d, h, o, c, s) refl; blank_is = b; feed_is = f; digit_is = d; hollerith_is = h })
-        | inr s ↦ other (record { kind_is = rw (b, f, d, h, o, c, s) refl; blank_is = b; feed_is = f; digit_is = d; hollerith_is = h })
+        | inl s ↦ star (record {
+          kind_is = rw (b, f, d, h, o, c, s) refl;
+          blank_is = b;
+          feed_is = f;
+          digit_is = d;
+          hollerith_is = h;
+        })
+        | inr s ↦ elim (cases_Bool (is_sign byte)) [
+          | inl g ↦ sign_byte (record {
+            kind_is = rw (b, f, d, h, o, c, s, g) refl;
+            blank_is = b;
+            feed_is = f;
+            digit_is = d;
+            hollerith_is = h;
+          })
+          | inr g ↦ other (record {
+            kind_is = rw (b, f, d, h, o, c, s, g) refl;
+            blank_is = b;
+            feed_is = f;
+            digit_is = d;
+            hollerith_is = h;
+          })
+        ]
       ]
     ]
   ]
@@ -51,16 +77,33 @@ look_on byte b f d = elim (cases_Bool (eqb byte 72)) [
 
 pub look : (byte : ℕ) → Look byte
 look byte = elim (cases_Bool (is_blank byte)) [
-  | inl b ↦ let others = blank_alone byte b in blank (record { kind_is = rw b refl; blank_is = b; feed_is = others.0; digit_is = others.1.0; hollerith_is = others.1.1 })
+  | inl b ↦ let others = blank_alone byte b in
+      blank (record {
+        kind_is = rw b refl;
+        blank_is = b;
+        feed_is = others.0;
+        digit_is = others.1.0;
+        hollerith_is = others.1.1;
+      })
   | inr b ↦ elim (cases_Bool (eqb byte 10)) [
-    | inl f ↦ let others = feed_alone byte f in feed (record { kind_is = rw (b, f) refl; blank_is = b; feed_is = f; digit_is = others.0; hollerith_is = others.1 })
+    | inl f ↦ let others = feed_alone byte f in
+        feed
+        (record { kind_is = rw (b, f) refl; blank_is = b; feed_is = f; digit_is = others.0; hollerith_is = others.1 })
     | inr f ↦ elim (cases_Bool (is_digit byte)) [
-      | inl d ↦ digit (record { kind_is = rw (b, f, d) refl; blank_is = b; feed_is = f; digit_is = d; hollerith_is = digit_alone byte d })
+      | inl d ↦ digit (record {
+        kind_is = rw (b, f, d) refl;
+        blank_is = b;
+        feed_is = f;
+        digit_is = d;
+        hollerith_is = digit_alone byte d;
+      })
       | inr d ↦ look_on byte b f d
     ]
   ]
 ]
 
 -- whether a byte may follow a token
-pub follows : (byte : ℕ) (bytes : List ℕ) (b f : Bool) → is_blank byte ≡ b → eqb byte 10 ≡ f → may_follow (byte ∷ bytes) ≡ (b || f)
-follows byte bytes b f blank_is feed_is = ap (λ (x : Bool). x || eqb byte 10) blank_is ∙ ap (λ (x : Bool). b || x) feed_is
+pub follows : (byte : ℕ) (bytes : List ℕ) (b f : Bool) → is_blank byte ≡ b → eqb byte 10 ≡ f
+    → may_follow (byte ∷ bytes) ≡ (b || f)
+follows byte bytes b f blank_is feed_is =
+    ap (λ (x : Bool). x || eqb byte 10) blank_is ∙ ap (λ (x : Bool). b || x) feed_is

@@ -1,6 +1,8 @@
 -- A line that has begun, and what a piece of the stream makes of it.
-use Rattle.std.specs.Prelude.{◌≡◌, ℕ, ◌+◌, ◌-◌, ◌<◌, ◌≤◌, List, [], ◌∷◌, ◌++◌, length, take, drop, Some, None, Result, Ok, Err}
+use Rattle.std.specs.Prelude.{◌≡◌, ℕ, ◌+◌, ◌-◌, ◌<◌, ◌≤◌, List, [], ◌∷◌, ◌++◌, length, take, drop}
+use Rattle.std.specs.Prelude.{Some, None, Result, Ok, Err}
 use Rattle.kom_types.specs.declared.shortage.Memory.{Memory}
+use Rattle.kom_types.specs.declared.side.Side.{Side}
 use Rattle.kom_types.specs.Token.{Token}
 use Rattle.kom_types.specs.Stream as stream
 use Rattle.kom_framing.specs.declared.fault.Fault.{Fault}
@@ -22,9 +24,9 @@ fault_seen (fault.Malformed place) = stream.Malformed place
 fault_seen (fault.LineTooLong place) = stream.LineTooLong place
 
 -- what is kept is that of a line that goes on
-pub record IsLine (line : BegunLine) : Type 0 where
-  pub begun : IsBegun line.text.items line.spans.items line.lexer
-  pub short : length line.text.items ≤ stream.longest_line
+pub record IsLine (side : Side) (line : BegunLine) : Type 0 where
+  pub begun : IsBegun side line.text.items line.spans.items line.lexer
+  pub short : length line.text.items ≤ stream.longest_line side
 
 abbrev pub IsGoing : State → Type 0
 IsGoing (Going tokens mode) = Unit {0}
@@ -36,24 +38,26 @@ abbrev pub Extends : List Span → List Span → Type 0
 Extends old new = take (length old) new ≡ old
 
 -- the line ends with the last of so many bytes of a window
-pub record EndsIn (text window : List ℕ) (spans : List Span) (count : ℕ) : Type 0 where
+pub record EndsIn (side : Side) (text window : List ℕ) (spans : List Span)
+    (count : ℕ) : Type 0 where
   pub some : 1 ≤ count
   pub within : count ≤ length window
-  pub ended : walk (text ++ take count window) ≡ Ended (tokens_of (text ++ take count window) spans)
+  pub ended : walk side (text ++ take count window)
+      ≡ Ended (tokens_of (text ++ take count window) spans)
   pub spans_within : AreWithin (length text + count) spans
 
 -- the byte of a window at this index is the first that fits nowhere
-pub record IsUnfitAt (text window : List ℕ) (at : ℕ) : Type 0 where
+pub record IsUnfitAt (side : Side) (text window : List ℕ) (at : ℕ) : Type 0 where
   pub within : at < length window
-  pub going : IsGoing (walk (text ++ take at window))
-  pub stuck : walk (text ++ take (at + 1) window) ≡ Stuck
+  pub going : IsGoing (walk side (text ++ take at window))
+  pub stuck : walk side (text ++ take (at + 1) window) ≡ Stuck
 
 -- how a window was read after these bytes of the line
-abbrev pub Reads : Result Reading Memory → List ℕ → List ℕ → List Span → Type 0
-Reads (Ok (reading.Goes after)) text window spans = IsBegun (text ++ window) spans after
-Reads (Ok (reading.Ends count)) text window spans = EndsIn text window spans count
-Reads (Ok (reading.Unfit at)) text window spans = IsUnfitAt text window at
-Reads (Err memory) text window spans = Unit {0}
+abbrev pub Reads : Side → Result Reading Memory → List ℕ → List ℕ → List Span → Type 0
+Reads side (Ok (reading.Goes after)) text window spans = IsBegun side (text ++ window) spans after
+Reads side (Ok (reading.Ends count)) text window spans = EndsIn side text window spans count
+Reads side (Ok (reading.Unfit at)) text window spans = IsUnfitAt side text window at
+Reads side (Err memory) text window spans = Unit {0}
 
 -- the line is as it was
 pub record IsSame (old new : BegunLine) : Type 0 where
@@ -73,47 +77,58 @@ pub record Adds (old new : BegunLine) : Type 0 where
   pub lexer : new.lexer ≡ old.lexer
 
 -- how a window was taken, where an error may leave spans that were added
-abbrev pub Tries : Result Reading Memory → BegunLine → List ℕ → BegunLine → Type 0
-Tries (Ok (reading.Goes after)) old window new = Grows old new window × IsBegun new.text.items new.spans.items new.lexer
-Tries (Ok (reading.Ends count)) old window new = Grows old new (take count window) × EndsIn old.text.items window new.spans.items count
-Tries (Ok (reading.Unfit at)) old window new = Adds old new × IsUnfitAt old.text.items window at
-Tries (Err memory) old window new = Adds old new
+abbrev pub Tries : Side → Result Reading Memory → BegunLine → List ℕ → BegunLine → Type 0
+Tries side (Ok (reading.Goes after)) old window new =
+    Grows old new window × IsBegun side new.text.items new.spans.items new.lexer
+Tries side (Ok (reading.Ends count)) old window new =
+    Grows old new (take count window) × EndsIn side old.text.items window new.spans.items count
+Tries side (Ok (reading.Unfit at)) old window new =
+    Adds old new × IsUnfitAt side old.text.items window at
+Tries side (Err memory) old window new = Adds old new
 
 -- how a window was taken
-abbrev pub Takes : Result Reading Memory → BegunLine → List ℕ → BegunLine → Type 0
-Takes (Ok (reading.Goes after)) old window new = Grows old new window × IsLine new
-Takes (Ok (reading.Ends count)) old window new = Grows old new (take count window) × EndsIn old.text.items window new.spans.items count
-Takes (Ok (reading.Unfit at)) old window new = IsSame old new × IsUnfitAt old.text.items window at
-Takes (Err memory) old window new = IsSame old new
+abbrev pub Takes : Side → Result Reading Memory → BegunLine → List ℕ → BegunLine → Type 0
+Takes side (Ok (reading.Goes after)) old window new = Grows old new window × IsLine side new
+Takes side (Ok (reading.Ends count)) old window new =
+    Grows old new (take count window) × EndsIn side old.text.items window new.spans.items count
+Takes side (Ok (reading.Unfit at)) old window new =
+    IsSame old new × IsUnfitAt side old.text.items window at
+Takes side (Err memory) old window new = IsSame old new
 
 -- the stream from this place on ends with this fault before another line is whole
-pub record FailsAt (place : ℕ) (text piece : List ℕ) (found : Fault) : Type 0 where
+pub record FailsAt (side : Side) (place : ℕ) (text piece : List ℕ) (found : Fault) : Type 0 where
   pub rest : List ℕ
-  pub split : stream.lines_from place text piece ≡ stream.stopped_in rest (Some (fault_seen found))
+  pub split : stream.lines_from side place text piece
+      ≡ stream.stopped_in rest (Some (fault_seen found))
 
 -- the line takes the whole piece, and goes on
-pub record ScansOn (place : ℕ) (old : BegunLine) (piece : List ℕ) (new : BegunLine) : Type 0 where
+pub record ScansOn (side : Side) (place : ℕ) (old : BegunLine) (piece : List ℕ) (new : BegunLine)
+    : Type 0 where
   pub grows : Grows old new piece
-  pub line : IsLine new
+  pub line : IsLine side new
   pub early : place + length piece ≤ stream.longest_stream
-  pub split : stream.lines_from place old.text.items piece ≡ stream.stopped_in new.text.items None
+  pub split : stream.lines_from side place old.text.items piece
+      ≡ stream.stopped_in new.text.items None
 
 -- the line ends with the last of so many bytes of the piece
-pub record ScansTo (count place : ℕ) (old : BegunLine) (piece : List ℕ) (new : BegunLine) : Type 0 where
+pub record ScansTo (side : Side) (count place : ℕ) (old : BegunLine) (piece : List ℕ)
+    (new : BegunLine) : Type 0 where
   pub grows : Grows old new (take count piece)
   pub some : 1 ≤ count
   pub within : count ≤ length piece
   pub early : place + count ≤ stream.longest_stream
   pub spans_within : AreWithin (length new.text.items) new.spans.items
-  pub split : stream.lines_from place old.text.items piece
-      ≡ stream.with_line (tokens_of new.text.items new.spans.items) (place + count - 1) (stream.lines_from (place + count) [] (drop count piece))
+  pub split : stream.lines_from side place old.text.items piece
+      ≡ stream.with_line (tokens_of new.text.items new.spans.items) (place + count - 1)
+      (stream.lines_from side (place + count) [] (drop count piece))
 
 -- how a line went through a piece of the stream that begins at this place
-abbrev pub Scans : Result Scan Memory → ℕ → BegunLine → List ℕ → BegunLine → Type 0
-Scans (Ok scan.Goes) place old piece new = ScansOn place old piece new
-Scans (Ok (scan.Ends count)) place old piece new = ScansTo count place old piece new
-Scans (Ok (scan.Fails found)) place old piece new = FailsAt place old.text.items piece found × IsLine new
-Scans (Err memory) place old piece new = IsSame old new
+abbrev pub Scans : Side → Result Scan Memory → ℕ → BegunLine → List ℕ → BegunLine → Type 0
+Scans side (Ok scan.Goes) place old piece new = ScansOn side place old piece new
+Scans side (Ok (scan.Ends count)) place old piece new = ScansTo side count place old piece new
+Scans side (Ok (scan.Fails found)) place old piece new =
+    FailsAt side place old.text.items piece found × IsLine side new
+Scans side (Err memory) place old piece new = IsSame old new
 
 -- the unit that a line is
 abbrev pub units_at : List Token → ℕ → List StreamUnit

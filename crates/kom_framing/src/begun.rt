@@ -1,17 +1,17 @@
-ghost use Rattle.std.specs.Prelude.{◌≡◌, ℕ, ◌+◌, ◌-◌, ◌<◌, ◌≤◌, ◌++◌, length, IfOk, option_to_list};
+ghost use Rattle.std.specs.Prelude.{◌≡◌, ◌+◌, ◌-◌, ◌≤◌, ◌++◌, IfOk, option_to_list};
 ghost use Rattle.std.specs.VecDeque.{deque_len, deque_capacity};
 ghost use Rattle.kom_types.specs.Stream as stream;
-ghost use Rattle.kom_framing.specs.BegunGreetings.{IsBegunGreeting};
-ghost use Rattle.kom_framing.specs.BegunLines.{IsLine};
 ghost use Rattle.kom_framing.specs.WholeLines.{AreLines};
-ghost use Rattle.kom_framing.specs.Advancing.{IsBegunUnit, begun_seen, units_ended, CanEnd, Advances, Follows};
+ghost use Rattle.kom_framing.specs.Advancing.{IsBegunUnit, IsMark, Restores, ScansUnit};
+ghost use Rattle.kom_framing.specs.Advancing.{units_ended, CanEnd, Advances, Follows};
 ghost use Rattle.kom_framing.specs.Room.{HasRoom};
 
 use crate::fault::Fault;
-use crate::greeting::Greeting;
+use crate::greeting::{Greeting, Phase};
+use crate::lexer::Lexer;
 use crate::lines::{BegunLine, Lines, Scan, lines_of};
 use crate::units::Unit;
-use kom_types::{Bytes, Memory};
+use kom_types::{Bytes, Memory, Side};
 use std::collections::VecDeque;
 use std::mem;
 
@@ -20,6 +20,22 @@ use std::mem;
 pub enum BegunUnit {
     Greeting(Greeting),
     Line(BegunLine),
+}
+
+/// How much of a unit has come, to go back to.
+#[derive(Clone, Copy, Debug)]
+pub enum Mark {
+    /// How far the greeting has come, and how many bytes of its name.
+    Greeting {
+        phase: Phase,
+        name: usize,
+    },
+    /// How far the last token has come, and how many bytes and whole tokens of the line.
+    Line {
+        lexer: Lexer,
+        text: usize,
+        spans: usize,
+    },
 }
 
 /// How the unit that has begun went on with a piece of the stream.
@@ -35,17 +51,19 @@ pub enum Advanced {
 
 /// Takes a piece of the stream, or changes nothing.
 pub fn follow(
+    side: Side,
     units: &mut VecDeque<Unit>,
     begun: &mut BegunUnit,
     place: u64,
     piece: &[u8],
 ) -> Result<Option<Fault>, Memory>
-    requires kept { IsBegunUnit begun.old }
+    requires kept { IsBegunUnit side begun.old }
     requires early { place ≤ stream.longest_stream }
-    ensures follows { Follows result units.old.items begun.old place piece.now units.new.items begun.new }
-    ensures kept { IsBegunUnit begun.new }
+    ensures follows { Follows side result units.old.items begun.old place piece.now units.new.items
+        begun.new }
+    ensures kept { IsBegunUnit side begun.new }
 {
-    match advance(units, begun, place, piece)? {
+    match advance(side, units, begun, place, piece)? {
         Advanced::Goes => Ok(None),
         Advanced::Fails(found) => Ok(Some(found)),
         Advanced::Ends(count, lines) => {
@@ -58,100 +76,104 @@ pub fn follow(
     }
 }
 
-// Goes on with the unit that has begun, and has room for the units that have ended, or changes nothing.
+// Goes on with the unit that has begun, and has room for the units that have ended, or changes
+// nothing.
 fn advance(
+    side: Side,
     units: &mut VecDeque<Unit>,
     begun: &mut BegunUnit,
     place: u64,
     piece: &[u8],
 ) -> Result<Advanced, Memory>
-    requires kept { IsBegunUnit begun.old }
+    requires kept { IsBegunUnit side begun.old }
     requires early { place ≤ stream.longest_stream }
-    ensures advances { Advances result units.old.items begun.old place piece.now begun.new }
+    ensures advances { Advances side result units.old.items begun.old place piece.now begun.new }
     ensures units { units.new.items ≡ units.old.items }
     ensures room { IfOk result (HasRoom (deque_len units.new) (deque_capacity units.new)) }
 {
-    match begun {
-        BegunUnit::Greeting(greeting) => advance_greeting(units, greeting, place, piece),
-        BegunUnit::Line(line) => advance_line(units, line, place, piece),
-    }
-}
-
-fn advance_greeting(
-    units: &mut VecDeque<Unit>,
-    greeting: &mut Greeting,
-    place: u64,
-    piece: &[u8],
-) -> Result<Advanced, Memory>
-    requires kept { IsBegunGreeting greeting.old }
-    requires early { place ≤ stream.longest_stream }
-    ensures advances { Advances result units.old.items (BegunUnit.Greeting greeting.old) place piece.now (BegunUnit.Greeting greeting.new) }
-    ensures units { units.new.items ≡ units.old.items }
-    ensures room { IfOk result (HasRoom (deque_len units.new) (deque_capacity units.new)) }
-{
-    let known = greeting.name.len();
-    let phase = greeting.phase;
-    match greeting.scan(place, piece)? {
+    let mark = begun.mark();
+    match begun.scan(side, place, piece)? {
         Scan::Goes => Ok(Advanced::Goes),
         Scan::Fails(found) => Ok(Advanced::Fails(found)),
-        Scan::Ends(count) => {
-            match lines_after(units, place + count as u64, &piece[count..]) {
-                Ok(lines) => Ok(Advanced::Ends(count, lines)),
-                Err(Memory) => {
-                    greeting.name.truncate(known);
-                    greeting.phase = phase;
-                    Err(Memory)
-                }
+        Scan::Ends(count) => match lines_after(side, units, place + count as u64, &piece[count..]) {
+            Ok(lines) => Ok(Advanced::Ends(count, lines)),
+            Err(Memory) => {
+                begun.go_back(mark);
+                Err(Memory)
             }
-        }
-    }
-}
-
-fn advance_line(
-    units: &mut VecDeque<Unit>,
-    line: &mut BegunLine,
-    place: u64,
-    piece: &[u8],
-) -> Result<Advanced, Memory>
-    requires kept { IsLine line.old }
-    requires early { place ≤ stream.longest_stream }
-    ensures advances { Advances result units.old.items (BegunUnit.Line line.old) place piece.now (BegunUnit.Line line.new) }
-    ensures units { units.new.items ≡ units.old.items }
-    ensures room { IfOk result (HasRoom (deque_len units.new) (deque_capacity units.new)) }
-{
-    let known = line.text.len();
-    let spans = line.spans.len();
-    let lexer = line.lexer;
-    match line.scan(place, piece)? {
-        Scan::Goes => Ok(Advanced::Goes),
-        Scan::Fails(found) => Ok(Advanced::Fails(found)),
-        Scan::Ends(count) => {
-            match lines_after(units, place + count as u64, &piece[count..]) {
-                Ok(lines) => Ok(Advanced::Ends(count, lines)),
-                Err(Memory) => {
-                    line.text.truncate(known);
-                    line.spans.truncate(spans);
-                    line.lexer = lexer;
-                    Err(Memory)
-                }
-            }
-        }
+        },
     }
 }
 
 // The lines after the end of a unit, with room for them and for the unit.
-fn lines_after(units: &mut VecDeque<Unit>, place: u64, rest: &[u8]) -> Result<Lines, Memory>
+fn lines_after(
+    side: Side,
+    units: &mut VecDeque<Unit>,
+    place: u64,
+    rest: &[u8],
+) -> Result<Lines, Memory>
     requires { place ≤ stream.longest_stream }
-    ensures lines { IfOk result (λ lines. AreLines lines place rest.now) }
-    ensures room { IfOk result (λ lines. deque_len units.new + (deque_len lines.whole + 1) ≤ deque_capacity units.new) }
+    ensures lines { IfOk result (λ lines. AreLines side lines place rest.now) }
+    ensures room { IfOk result
+        (λ lines. deque_len units.new + (deque_len lines.whole + 1) ≤ deque_capacity units.new) }
     ensures units { units.new.items ≡ units.old.items }
 {
-    let lines = lines_of(*units.allocator(), place, rest)?;
+    let lines = lines_of(*units.allocator(), side, place, rest)?;
     units.reserve(lines.whole.len() + 1)?;
     Ok(lines)
 }
 
 impl BegunUnit {
+    // How much of the unit has come.
+    fn mark(&self) -> Mark
+        ensures { IsMark result self.now }
+    {
+        match self {
+            BegunUnit::Greeting(greeting) => Mark::Greeting {
+                phase: greeting.phase,
+                name: greeting.name.len(),
+            },
+            BegunUnit::Line(line) => Mark::Line {
+                lexer: line.lexer,
+                text: line.text.len(),
+                spans: line.spans.len(),
+            },
+        }
+    }
+
+    // Takes the bytes of a piece that belong to the unit.
+    fn scan(&mut self, side: Side, place: u64, piece: &[u8]) -> Result<Scan, Memory>
+        requires kept { IsBegunUnit side self.old }
+        requires early { place ≤ stream.longest_stream }
+        ensures { ScansUnit side result place self.old piece.now self.new }
+    {
+        match self {
+            BegunUnit::Greeting(greeting) => greeting.scan(place, piece),
+            BegunUnit::Line(line) => line.scan(side, place, piece),
+        }
+    }
+
+    // Takes away what came after the mark.
+    fn go_back(&mut self, mark: Mark)
+        ensures { Restores mark self.old self.new }
+    {
+        match mark {
+            Mark::Greeting { phase, name } => {
+                if let BegunUnit::Greeting(greeting) = self {
+                    greeting.name.truncate(name);
+                    greeting.phase = phase;
+                }
+            }
+            Mark::Line { lexer, text, spans } => {
+                if let BegunUnit::Line(line) = self {
+                    line.text.truncate(text);
+                    line.spans.truncate(spans);
+                    line.lexer = lexer;
+                }
+            }
+        }
+    }
+
     // The unit that ends at that place, if it is no blank line.
     fn into_unit(self, end: u64) -> Option<Unit>
         requires { CanEnd self }

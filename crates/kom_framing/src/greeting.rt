@@ -1,25 +1,30 @@
 ghost use Rattle.std.specs.Prelude.{◌≡◌, ◌≢◌, ℕ, ◌+◌, ◌^◌, ◌<◌, ◌≤◌, List, [], Ok, length, take};
-ghost use Rattle.kom_types.specs.ByteKind.{kind_of};
+ghost use Rattle.std.specs.Prelude.{get_or};
+ghost use Rattle.kom_types.specs.Grammar.{welcome};
 ghost use Rattle.kom_types.specs.Stream as stream;
-ghost use Rattle.kom_framing.specs.BegunGreetings.{IsBegunGreeting, IsGreeting, greeting_kept, Hears, IsLength, Lengthens, ScansGreeting, Turns};
-ghost use Rattle.kom_framing.specs.Splitting as splitting;
+ghost use Rattle.kom_framing.specs.BegunGreetings.{IsBegunGreeting, IsGreeting, greeting_kept};
+ghost use Rattle.kom_framing.specs.BegunGreetings.{Hears, IsLength, Lengthens, ScansGreeting};
+ghost use Rattle.kom_framing.specs.BegunGreetings.{Turns, AreLetters};
+ghost use Rattle.kom_framing.specs.Splitting.{opening_of};
 
 use crate::fault::Fault;
 use crate::lines::{LONGEST_STREAM, Scan};
-use kom_types::{ByteKind, Memory, kind_of_byte};
+use kom_types::{ByteKind, Memory, Side, kind_of_byte};
 use std::alloc::Global;
 
 /// How far a greeting has come.
 #[derive(Clone, Copy, Debug)]
 pub enum Phase {
-    /// Nothing has come.
+    /// Nothing of a client's greeting.
     Nothing,
-    /// The letter, and perhaps blanks.
+    /// Its letter, and perhaps blanks.
     Letter,
     /// So many digits of the name's length, and the number that they spell.
     Length { digits: usize, number: usize },
     /// The name's length, and perhaps bytes of the name.
     Name { length: usize },
+    /// So many letters of a server's greeting.
+    Letters { heard: usize },
 }
 
 /// A greeting that has begun.
@@ -50,12 +55,15 @@ pub enum Heard {
 
 impl Greeting {
     /// A greeting of which nothing has come.
-    pub fn new(alloc: Global) -> Greeting
+    pub fn new(alloc: Global, side: Side) -> Greeting
         ensures greeting { IsBegunGreeting result }
-        ensures nothing { greeting_kept result ≡ splitting.Nothing }
+        ensures nothing { greeting_kept result ≡ opening_of side [] }
     {
         Greeting {
-            phase: Phase::Nothing,
+            phase: match side {
+                Side::Client => Phase::Nothing,
+                Side::Server => Phase::Letters { heard: 0 },
+            },
             name: Vec::new(alloc),
         }
     }
@@ -95,7 +103,8 @@ fn window_of(place: u64, piece: &[u8]) -> &[u8]
     ensures prefix { result.now ≡ take (length result.now) piece.now }
     ensures within { length result.now ≤ length piece.now }
     ensures place { place + length result.now ≤ stream.longest_stream }
-    ensures full { length result.now ≢ length piece.now → place + length result.now ≡ stream.longest_stream }
+    ensures full { length result.now ≢ length piece.now
+        → place + length result.now ≡ stream.longest_stream }
 {
     let left = LONGEST_STREAM - place;
     if left < piece.len() as u64 {
@@ -134,6 +143,7 @@ fn hear_byte(phase: Phase, byte: u8, name: &mut Vec<u8>) -> Result<Turn, Memory>
         Phase::Nothing => Ok(turn_at_start(byte)),
         Phase::Letter => Ok(turn_after_letter(byte)),
         Phase::Length { digits, number } => Ok(turn_in_length(digits, number, byte)),
+        Phase::Letters { heard } => Ok(turn_in_letters(heard, byte)),
         Phase::Name { length } => {
             name.push(byte)?;
             if name.len() == length {
@@ -174,7 +184,8 @@ fn turn_after_letter(byte: u8) -> Turn
 fn turn_in_length(digits: usize, number: usize, byte: u8) -> Turn
     requires few { digits ≤ 4 }
     requires small { number < 10 ^ digits }
-    ensures { (turned : List ℕ) → IsLength digits number turned → Turns (Ok result) (Phase.Length digits number) turned byte turned }
+    ensures { (turned : List ℕ) → IsLength digits number turned
+        → Turns (Ok result) (Phase.Length digits number) turned byte turned }
 {
     match kind_of_byte(byte) {
         ByteKind::Digit => {
@@ -196,5 +207,37 @@ fn turn_in_length(digits: usize, number: usize, byte: u8) -> Turn
             }
         }
         _ => Turn::Unfit,
+    }
+}
+
+// A byte after so many letters of a server's greeting.
+fn turn_in_letters(heard: usize, byte: u8) -> Turn
+    requires { heard < 7 }
+    ensures { (turned : List ℕ) → AreLetters heard turned
+        → Turns (Ok result) (Phase.Letters heard) turned byte turned }
+{
+    if byte != letter_at(heard) {
+        Turn::Unfit
+    } else if heard < 6 {
+        let heard = heard + 1;
+        Turn::Goes(Phase::Letters { heard })
+    } else {
+        Turn::Ends
+    }
+}
+
+// The letter after so many of a server's greeting.
+fn letter_at(heard: usize) -> u8
+    requires { heard < 7 }
+    ensures { result ≡ get_or welcome heard 0 }
+{
+    match heard {
+        0 => b'L',
+        1 => b'y',
+        2 => b's',
+        3 => b'K',
+        4 => b'O',
+        5 => b'M',
+        _ => b'\n',
     }
 }

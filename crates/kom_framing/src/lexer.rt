@@ -1,8 +1,9 @@
-ghost use Rattle.std.specs.Prelude.{◌≡◌, ℕ, ◌+◌, ◌-◌, ◌^◌, ◌<◌, ◌≤◌, List, ◌++◌, length, take, drop};
+ghost use Rattle.std.specs.Prelude.{◌≡◌, ℕ, ◌+◌, ◌-◌, ◌^◌, ◌<◌, ◌≤◌, List, ◌++◌, length, take};
+ghost use Rattle.std.specs.Prelude.{drop};
 ghost use Rattle.kom_types.specs.ByteKind.{kind_of};
-ghost use Rattle.kom_framing.specs.Scanning.{IsLexer, IsRun, IsMove, Does, step_by};
+ghost use Rattle.kom_framing.specs.Scanning.{IsLexer, IsRun, IsAfterSign, IsMove, Does, step_by};
 
-use kom_types::{ByteKind, kind_of_byte};
+use kom_types::{ByteKind, Side, kind_of_byte};
 
 /// A token, by the bytes of its line that it has: the first, and the first after it.
 #[derive(Clone, Copy, Debug)]
@@ -12,6 +13,8 @@ pub enum Span {
     Open,
     Close,
     Star,
+    /// From the sign on.
+    Signed(usize, usize),
 }
 
 /// How far a line has come.
@@ -25,6 +28,8 @@ pub enum Lexer {
     Inside { start: usize, lacking: usize },
     /// Directly after a token.
     Past,
+    /// After the sign at `start`, and perhaps digits.
+    AfterSign { start: usize },
 }
 
 /// What the next bytes are to a line.
@@ -39,21 +44,23 @@ pub enum Step {
 }
 
 impl Lexer {
-    /// Looks at the bytes of a window from `at` on, after the bytes of the line that came before the window.
-    pub fn step(self, text: &[u8], window: &[u8], at: usize) -> Step
+    /// Looks at the bytes of a window from `at` on, after the bytes of the line that came before
+    /// the window.
+    pub fn step(self, side: Side, text: &[u8], window: &[u8], at: usize) -> Step
         requires lexer { IsLexer self (text.now ++ take at window.now) }
         requires some { at < length window.now }
         requires room { length text.now + length window.now < 2 ^ 64 }
-        ensures { Does result self (text.now ++ take at window.now) (drop at window.now) }
+        ensures { Does side result self (text.now ++ take at window.now) (drop at window.now) }
     {
         let place = text.len() + at;
         match self {
-            Lexer::Between => step_between(place, window[at]),
+            Lexer::Between => step_between(side, place, window[at]),
             Lexer::Run { start, number } => step_in_run(start, number, place, window[at]),
             Lexer::Inside { start, lacking } => {
                 step_inside(start, lacking, place, window.len() - at)
             }
             Lexer::Past => step_after(None, window[at]),
+            Lexer::AfterSign { start } => step_after_sign(start, place, window[at]),
         }
     }
 }
@@ -70,8 +77,9 @@ fn step_after(span: Option<Span>, byte: u8) -> Step
 }
 
 // A byte where a token may begin, after so many bytes.
-fn step_between(place: usize, byte: u8) -> Step
-    ensures { (bytes : List ℕ) → length bytes ≡ place → IsMove result Lexer.Between bytes byte }
+fn step_between(side: Side, place: usize, byte: u8) -> Step
+    ensures { (bytes : List ℕ) → length bytes ≡ place
+        → IsMove side result Lexer.Between bytes byte }
 {
     match kind_of_byte(byte) {
         ByteKind::Blank => Step::Goes(1, None, Lexer::Between),
@@ -84,6 +92,13 @@ fn step_between(place: usize, byte: u8) -> Step
         ByteKind::Open => Step::Goes(1, Some(Span::Open), Lexer::Past),
         ByteKind::Close => Step::Goes(1, Some(Span::Close), Lexer::Past),
         ByteKind::Star => Step::Goes(1, Some(Span::Star), Lexer::Past),
+        ByteKind::Sign => match side {
+            Side::Client => Step::Unfit,
+            Side::Server => {
+                let start = place;
+                Step::Goes(1, None, Lexer::AfterSign { start })
+            }
+        },
         ByteKind::Hollerith | ByteKind::Other => Step::Unfit,
     }
 }
@@ -94,7 +109,8 @@ fn step_in_run(start: usize, number: u64, place: usize, byte: u8) -> Step
     requires short { place ≤ start + 16 }
     requires small { number < 10 ^ (place - start) }
     requires room { place + 1 < 2 ^ 64 }
-    ensures { (bytes : List ℕ) → length bytes ≡ place → IsRun start number bytes → IsMove result (Lexer.Run start number) bytes byte }
+    ensures { (side : Side) (bytes : List ℕ) → length bytes ≡ place → IsRun start number bytes
+        → IsMove side result (Lexer.Run start number) bytes byte }
 {
     match kind_of_byte(byte) {
         ByteKind::Digit => {
@@ -116,6 +132,32 @@ fn step_in_run(start: usize, number: u64, place: usize, byte: u8) -> Step
     }
 }
 
+// A byte after a sign and perhaps digits, after so many bytes.
+fn step_after_sign(start: usize, place: usize, byte: u8) -> Step
+    requires begun { start < place }
+    requires short { place ≤ start + 17 }
+    ensures { (side : Side) (bytes : List ℕ) → length bytes ≡ place → IsAfterSign start bytes
+        → IsMove side result (Lexer.AfterSign start) bytes byte }
+{
+    let digits = place - start - 1;
+    match kind_of_byte(byte) {
+        ByteKind::Digit => {
+            if digits < 16 {
+                Step::Goes(1, None, Lexer::AfterSign { start })
+            } else {
+                Step::Unfit
+            }
+        }
+        _ => {
+            if digits == 0 {
+                Step::Unfit
+            } else {
+                step_after(Some(Span::Signed(start, place)), byte)
+            }
+        }
+    }
+}
+
 // The `H` before a string of that many bytes.
 fn step_into(start: usize, lacking: usize) -> Step
     ensures none { lacking ≡ 0 → result ≡ Step.Goes 1 (Some (Span.Text start start)) Lexer.Past }
@@ -133,7 +175,8 @@ fn step_inside(start: usize, lacking: usize, place: usize, left: usize) -> Step
     requires lacks { 1 ≤ lacking }
     requires some { 1 ≤ left }
     requires room { place + left < 2 ^ 64 }
-    ensures { (bytes tail : List ℕ) → length bytes ≡ place → length tail ≡ left → start ≤ place → Does result (Lexer.Inside start lacking) bytes tail }
+    ensures { (side : Side) (bytes tail : List ℕ) → length bytes ≡ place → length tail ≡ left
+        → start ≤ place → Does side result (Lexer.Inside start lacking) bytes tail }
 {
     if lacking <= left {
         Step::Goes(

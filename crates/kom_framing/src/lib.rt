@@ -1,4 +1,5 @@
-//! The splitter of a client's stream into its greeting and its lines, and the writer of replies.
+//! The splitter of a stream, a client's or a server's, into its greeting and its lines, and the
+//! writer of replies.
 #![tactic(auto)]
 
 mod begun;

@@ -5,7 +5,7 @@ use crate::lexer::Span;
 use crate::token::Token;
 use std::marker::Model;
 
-/// A line of a client's stream that is not blank.
+/// A line of a stream that is not blank.
 #[derive(Debug, Drop)]
 pub struct Line {
     text: Vec<u8>,
@@ -74,5 +74,6 @@ fn token_in(text: &[u8], span: Span) -> Token<'_>
         Span::Open => Token::Open,
         Span::Close => Token::Close,
         Span::Star => Token::Star,
+        Span::Signed(start, end) => Token::Signed(text[start], &text[start + 1..end]),
     }
 }

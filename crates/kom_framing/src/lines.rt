@@ -1,21 +1,26 @@
-ghost use Rattle.std.specs.Prelude.{◌≡◌, ◌≢◌, ℕ, ◌+◌, ◌-◌, ◌<◌, ◌≤◌, [], ◌∷◌, ◌++◌, length, take, drop, OnOk, OnErr, IfOk, option_to_list};
+ghost use Rattle.std.specs.Prelude.{◌≡◌, ◌≢◌, ◌+◌, ◌-◌, ◌<◌, ◌≤◌, [], ◌++◌, length, take, OnOk};
+ghost use Rattle.std.specs.Prelude.{OnErr, IfOk, option_to_list};
 ghost use Rattle.kom_types.specs.Stream as stream;
 ghost use Rattle.kom_framing.specs.Spans.{tokens_of, AreWithin};
 ghost use Rattle.kom_framing.specs.Scanning.{IsBegun};
-ghost use Rattle.kom_framing.specs.BegunLines.{IsLine, Extends, Reads, Tries, Takes, FailsAt, Scans, units_at};
+ghost use Rattle.kom_framing.specs.BegunLines.{IsLine, Extends, Reads, Tries, Takes, FailsAt};
+ghost use Rattle.kom_framing.specs.BegunLines.{Scans, units_at};
 ghost use Rattle.kom_framing.specs.WholeLines.{AreLines};
 
 use crate::fault::Fault;
 use crate::lexer::{Lexer, Span, Step};
 use crate::line::Line;
 use crate::units::Unit;
-use kom_types::Memory;
+use kom_types::{Memory, Side};
 use std::alloc::Global;
 use std::collections::VecDeque;
 use std::mem;
 
-/// How many bytes a line has at most, its line feed counted.
-pub const LONGEST_LINE: usize = 2_097_152;
+// How many bytes a client's line has at most, its line feed counted.
+const LONGEST_LINE: usize = 2_097_152;
+
+// How many bytes a server's line has at most, its line feed counted.
+const LONGEST_REPLY: usize = 4_194_304;
 
 /// How many bytes a stream has at most.
 pub const LONGEST_STREAM: u64 = 1 << 62;
@@ -59,7 +64,7 @@ impl BegunLine {
     /// A line of which nothing has come.
     pub fn new(alloc: Global) -> BegunLine
         ensures text { result.text.items ≡ [] }
-        ensures line { IsLine result }
+        ensures line { (side : Side) → IsLine side result }
     {
         BegunLine {
             text: Vec::new(alloc),
@@ -69,19 +74,19 @@ impl BegunLine {
     }
 
     /// Takes the bytes of a piece that belong to the line.
-    pub fn scan(&mut self, place: u64, piece: &[u8]) -> Result<Scan, Memory>
-        requires line { IsLine self.old }
+    pub fn scan(&mut self, side: Side, place: u64, piece: &[u8]) -> Result<Scan, Memory>
+        requires line { IsLine side self.old }
         requires early { place ≤ stream.longest_stream }
-        ensures { Scans result place self.old piece.now self.new }
+        ensures { Scans side result place self.old piece.now self.new }
     {
-        let window = window_of(self.text.len(), place, piece);
-        match self.take(window)? {
+        let window = window_of(side, self.text.len(), place, piece);
+        match self.take(side, window)? {
             Reading::Goes(_) => {
                 if window.len() == piece.len() {
                     return Ok(Scan::Goes);
                 }
                 let place = place + window.len() as u64;
-                Ok(Scan::Fails(self.fault_at(place, &piece[window.len()..])))
+                Ok(Scan::Fails(self.fault_at(side, place, &piece[window.len()..])))
             }
             Reading::Ends(count) => Ok(Scan::Ends(count)),
             Reading::Unfit(at) => Ok(Scan::Fails(Fault::Malformed(place + at as u64))),
@@ -89,13 +94,13 @@ impl BegunLine {
     }
 
     // Takes the bytes of a window that belong to the line, or leaves the line as it was.
-    fn take(&mut self, window: &[u8]) -> Result<Reading, Memory>
-        requires line { IsLine self.old }
-        requires room { length self.old.text.items + length window.now ≤ stream.longest_line }
-        ensures { Takes result self.old window.now self.new }
+    fn take(&mut self, side: Side, window: &[u8]) -> Result<Reading, Memory>
+        requires line { IsLine side self.old }
+        requires room { length self.old.text.items + length window.now ≤ stream.longest_line side }
+        ensures { Takes side result self.old window.now self.new }
     {
         let known = self.spans.len();
-        match self.try_take(window) {
+        match self.try_take(side, window) {
             Ok(Reading::Goes(lexer)) => Ok(Reading::Goes(lexer)),
             Ok(Reading::Ends(count)) => Ok(Reading::Ends(count)),
             Ok(Reading::Unfit(at)) => {
@@ -110,12 +115,18 @@ impl BegunLine {
     }
 
     // Takes the bytes of a window that belong to the line.
-    fn try_take(&mut self, window: &[u8]) -> Result<Reading, Memory>
-        requires line { IsLine self.old }
-        requires room { length self.old.text.items + length window.now ≤ stream.longest_line }
-        ensures { Tries result self.old window.now self.new }
+    fn try_take(&mut self, side: Side, window: &[u8]) -> Result<Reading, Memory>
+        requires line { IsLine side self.old }
+        requires room { length self.old.text.items + length window.now ≤ stream.longest_line side }
+        ensures { Tries side result self.old window.now self.new }
     {
-        match read_window(self.text.as_slice(), self.lexer, window, &mut self.spans)? {
+        match read_window(
+            side,
+            self.text.as_slice(),
+            self.lexer,
+            window,
+            &mut self.spans,
+        )? {
             Reading::Goes(lexer) => {
                 self.text.extend_from_slice(window)?;
                 self.lexer = lexer;
@@ -130,13 +141,14 @@ impl BegunLine {
     }
 
     // The fault of a byte that is one too many, or fits nowhere.
-    fn fault_at(&self, place: u64, rest: &[u8]) -> Fault
-        requires line { IsLine self.now }
+    fn fault_at(&self, side: Side, place: u64, rest: &[u8]) -> Fault
+        requires line { IsLine side self.now }
         requires some { 0 < length rest.now }
-        requires full { place < stream.longest_stream → stream.longest_line ≤ length self.now.text.items }
-        ensures { FailsAt place self.now.text.items rest.now result }
+        requires full { place < stream.longest_stream
+            → stream.longest_line side ≤ length self.now.text.items }
+        ensures { FailsAt side place self.now.text.items rest.now result }
     {
-        match self.lexer.step(self.text.as_slice(), rest, 0) {
+        match self.lexer.step(side, self.text.as_slice(), rest, 0) {
             Step::Unfit => Fault::Malformed(place),
             _ if place < LONGEST_STREAM => Fault::LineTooLong(place),
             _ => Fault::Malformed(place),
@@ -146,7 +158,8 @@ impl BegunLine {
     /// The line, whose line feed is at that place, if it is not blank.
     pub fn into_unit(self, end: u64) -> Option<Unit>
         requires { AreWithin (length self.text.items) self.spans.items }
-        ensures { option_to_list result ≡ units_at (tokens_of self.text.items self.spans.items) end }
+        ensures { option_to_list result
+            ≡ units_at (tokens_of self.text.items self.spans.items) end }
     {
         if self.spans.is_empty() {
             None
@@ -157,16 +170,18 @@ impl BegunLine {
 }
 
 // The bytes at the start of a piece that a line of so many bytes may have.
-fn window_of(begun: usize, place: u64, piece: &[u8]) -> &[u8]
-    requires begun { begun ≤ stream.longest_line }
+fn window_of(side: Side, begun: usize, place: u64, piece: &[u8]) -> &[u8]
+    requires begun { begun ≤ stream.longest_line side }
     requires early { place ≤ stream.longest_stream }
     ensures prefix { result.now ≡ take (length result.now) piece.now }
     ensures within { length result.now ≤ length piece.now }
-    ensures short { begun + length result.now ≤ stream.longest_line }
+    ensures short { begun + length result.now ≤ stream.longest_line side }
     ensures place { place + length result.now ≤ stream.longest_stream }
-    ensures full { length result.now ≢ length piece.now → place + length result.now < stream.longest_stream → stream.longest_line ≤ begun + length result.now }
+    ensures full { length result.now ≢ length piece.now
+        → place + length result.now < stream.longest_stream
+        → stream.longest_line side ≤ begun + length result.now }
 {
-    let count = piece.len().min(LONGEST_LINE - begun);
+    let count = piece.len().min(longest_line(side) - begun);
     let left = LONGEST_STREAM - place;
     if left < count as u64 {
         &piece[..left as usize]
@@ -175,22 +190,33 @@ fn window_of(begun: usize, place: u64, piece: &[u8]) -> &[u8]
     }
 }
 
+// How many bytes a line has at most, its line feed counted.
+fn longest_line(side: Side) -> usize
+    ensures { result ≡ stream.longest_line side }
+{
+    match side {
+        Side::Client => LONGEST_LINE,
+        Side::Server => LONGEST_REPLY,
+    }
+}
+
 // Reads the bytes of a window, and adds the tokens that end in it.
 fn read_window(
+    side: Side,
     text: &[u8],
     lexer: Lexer,
     window: &[u8],
     spans: &mut Vec<Span>,
 ) -> Result<Reading, Memory>
-    requires begun { IsBegun text.now spans.old.items lexer }
-    requires room { length text.now + length window.now ≤ stream.longest_line }
-    ensures reads { Reads result text.now window.now spans.new.items }
+    requires begun { IsBegun side text.now spans.old.items lexer }
+    requires room { length text.now + length window.now ≤ stream.longest_line side }
+    ensures reads { Reads side result text.now window.now spans.new.items }
     ensures extends { Extends spans.old.items spans.new.items }
 {
     let mut lexer = lexer;
     let mut at = 0;
     while at < window.len() {
-        match lexer.step(text, window, at) {
+        match lexer.step(side, text, window, at) {
             Step::Goes(count, span, next) => {
                 keep(spans, span)?;
                 lexer = next;
@@ -221,15 +247,15 @@ fn keep(spans: &mut Vec<Span>, span: Option<Span>) -> Result<(), Memory>
 }
 
 /// The lines of a piece of the stream that begins with a line, at this place.
-pub fn lines_of(alloc: Global, place: u64, piece: &[u8]) -> Result<Lines, Memory>
+pub fn lines_of(alloc: Global, side: Side, place: u64, piece: &[u8]) -> Result<Lines, Memory>
     requires { place ≤ stream.longest_stream }
-    ensures { IfOk result (λ lines. AreLines lines place piece.now) }
+    ensures { IfOk result (λ lines. AreLines side lines place piece.now) }
 {
     let mut whole = VecDeque::new(alloc);
     let mut begun = BegunLine::new(alloc);
     let mut at = 0;
     while at < piece.len() {
-        match begun.scan(place + at as u64, &piece[at..])? {
+        match begun.scan(side, place + at as u64, &piece[at..])? {
             Scan::Goes => {
                 return Ok(Lines {
                     whole,

@@ -1,14 +1,15 @@
-ghost use Rattle.std.specs.Prelude.{◌≡◌, ◌↔◌, ℕ, List, [], ◌∷◌, ◌++◌, Err, Some, IsNone, IfNone, IfSome, MatchOption};
+ghost use Rattle.std.specs.Prelude.{◌≡◌, ◌↔◌, ℕ, List, [], ◌∷◌, ◌++◌, Err, Some, IsNone, IfNone};
+ghost use Rattle.std.specs.Prelude.{IfSome, MatchOption};
 ghost use Rattle.kom_types.specs.Stream as stream;
 ghost use Rattle.kom_framing.specs.declared.units.Unit.{Unit as StreamUnit};
-ghost use Rattle.kom_framing.specs.Splitting.{IsAt, Answers, refusal_at};
+ghost use Rattle.kom_framing.specs.Splitting.{IsAt, IsAtBy, Answers, refusal_at};
 ghost use Rattle.kom_framing.specs.Refusing.{refused_by};
 
 use crate::begun::{BegunUnit, follow};
 use crate::fault::Fault;
 use crate::greeting::Greeting;
 use crate::units::Unit;
-use kom_types::Memory;
+use kom_types::{Memory, Side};
 use std::alloc::Global;
 use std::collections::VecDeque;
 use std::error::Error;
@@ -38,9 +39,10 @@ impl fmt::Display for FeedRefusal {
 
 impl Error for FeedRefusal {}
 
-/// Splits a client's stream, which comes in any pieces, into its greeting and its lines.
+/// Splits a stream, which comes in any pieces, into its greeting and its lines.
 #[derive(Debug, Drop)]
 pub struct Splitter {
+    side: Side,
     units: VecDeque<Unit>,
     begun: BegunUnit,
     place: u64,
@@ -56,19 +58,41 @@ impl Model for Splitter {
 
     ghost Value = { Splitting };
 
-    ghost view = { λ s. record { held = s.units.items; begun = begun_seen s.begun; place = s.place; fault = option_map fault_seen s.fault } };
+    ghost view = { λ s. record {
+      side = s.side;
+      held = s.units.items;
+      begun = begun_seen s.begun;
+      place = s.place;
+      fault = option_map fault_seen s.fault;
+    } };
 
-    ghost invariant = { λ s. IsBegunUnit s.begun × (s.place ≤ stream.longest_stream) };
+    ghost invariant = { λ s. IsBegunUnit s.side s.begun × (s.place ≤ stream.longest_stream) };
 }
 
 impl Splitter {
-    /// A splitter to which nothing was fed.
+    /// A splitter of a client's stream, to which nothing was fed.
     pub fn new(alloc: Global) -> Splitter
         ensures { IsAt result [] [] }
     {
+        Splitter::at_start(alloc, Side::Client)
+    }
+
+    /// A splitter of the stream that a server writes, as a client reads it, to which nothing was
+    /// fed.
+    pub fn of_replies(alloc: Global) -> Splitter
+        ensures { IsAtBy Side.Server result [] [] }
+    {
+        Splitter::at_start(alloc, Side::Server)
+    }
+
+    // A splitter to which nothing was fed.
+    fn at_start(alloc: Global, side: Side) -> Splitter
+        ensures { IsAtBy side result [] [] }
+    {
         Splitter {
+            side,
             units: VecDeque::new(alloc),
-            begun: BegunUnit::Greeting(Greeting::new(alloc)),
+            begun: BegunUnit::Greeting(Greeting::new(alloc, side)),
             place: 0,
             fault: None,
         }
@@ -76,13 +100,23 @@ impl Splitter {
 
     /// Takes the next piece of the stream. After a fault each later feed answers the same.
     pub fn feed(&mut self, piece: &[u8]) -> Result<(), FeedRefusal>
-        ensures fed { (fed : List ℕ) (taken : List StreamUnit) → IsAt self.old fed taken → Answers result (fed ++ piece.now) self.new taken }
+        ensures fed { (side : Side) (fed : List ℕ) (taken : List StreamUnit)
+            → IsAtBy side self.old fed taken
+            → Answers side result (fed ++ piece.now) self.new taken }
+        ensures side { self.new.side ≡ self.old.side }
         ensures unchanged { result ≡ Err FeedRefusal.Memory → self.new ≡ self.old }
-        ensures again { (found : stream.Fault) → self.old.fault ≡ Some found → (result ≡ Err (refusal_at found)) × (self.new ≡ self.old) }
+        ensures again { (found : stream.Fault) → self.old.fault ≡ Some found
+            → (result ≡ Err (refusal_at found)) × (self.new ≡ self.old) }
     {
         match self.fault {
             Some(found) => Err(refusal_of(found)),
-            None => match follow(&mut self.units, &mut self.begun, self.place, piece) {
+            None => match follow(
+                self.side,
+                &mut self.units,
+                &mut self.begun,
+                self.place,
+                piece,
+            ) {
                 Ok(None) => {
                     self.place += piece.len() as u64;
                     Ok(())
@@ -100,9 +134,12 @@ impl Splitter {
     pub fn next_unit(&mut self) -> Option<Unit>
         ensures none { IsNone result ↔ (self.old.held ≡ []) }
         ensures unchanged { IfNone result (self.new ≡ self.old) }
-        ensures some { IfSome result (λ unit. self.old ≡ record self.new { held = unit ∷ self.new.held }) }
-        ensures at { (fed : List ℕ) (taken : List StreamUnit) → IsAt self.old fed taken
-            → MatchOption result (IsAt self.new fed taken) (λ unit. IsAt self.new fed (taken ++ unit ∷ [])) }
+        ensures some { IfSome result
+            (λ unit. self.old ≡ record self.new { held = unit ∷ self.new.held }) }
+        ensures at { (side : Side) (fed : List ℕ) (taken : List StreamUnit)
+            → IsAtBy side self.old fed taken
+            → MatchOption result (IsAtBy side self.new fed taken)
+            (λ unit. IsAtBy side self.new fed (taken ++ unit ∷ [])) }
     {
         self.units.pop_front()
     }

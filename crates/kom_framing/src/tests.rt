@@ -59,6 +59,10 @@ fn show_token(shown: &mut Vec<u8>, token: Token<'_>) -> Result<(), AllocError> {
         Token::Open => shown.extend_from_slice(b"{"),
         Token::Close => shown.extend_from_slice(b"}"),
         Token::Star => shown.extend_from_slice(b"*"),
+        Token::Signed(sign, digits) => {
+            shown.push(sign)?;
+            shown.extend_from_slice(digits)
+        }
     }
 }
 
@@ -82,15 +86,27 @@ fn feed(
     }
 }
 
-// The units and the fault of a stream of which so many bytes come first, and then so many at a time.
+// The units and the fault of a client's stream of which so many bytes come first, and then so many
+// at a time.
 fn outcome(
     alloc: Global,
     stream: &[u8],
     first: usize,
     step: usize,
 ) -> Result<(Vec<u8>, Option<FeedRefusal>), AllocError> {
+    outcome_by(Splitter::new(alloc), alloc, stream, first, step)
+}
+
+// The same by this splitter.
+fn outcome_by(
+    splitter: Splitter,
+    alloc: Global,
+    stream: &[u8],
+    first: usize,
+    step: usize,
+) -> Result<(Vec<u8>, Option<FeedRefusal>), AllocError> {
     let step = step.max(1);
-    let mut splitter = Splitter::new(alloc);
+    let mut splitter = splitter;
     let mut shown = Vec::new(alloc);
     let first = first.min(stream.len());
     let mut fault = feed(&mut splitter, &mut shown, &stream[..first])?;
@@ -147,6 +163,8 @@ fn streams_are_split_wherever_they_are_cut(rt: HostRuntime) -> Result<(), Fail> 
         faulty(b"A1Ha0H0\n", b"Aa;", 6),
         faulty(b"A1HaH\n", b"Aa;", 4),
         faulty(b"A1Ha1 +5\n", b"Aa;", 6),
+        faulty(b"A1Ha1 =2\n", b"Aa;", 6),
+        faulty(b"A1Ha%1\n", b"Aa;", 4),
         faulty(b"A1Ha1 \0\n", b"Aa;", 6),
         faulty(b"A1Ha1\xa02\n", b"Aa;", 5),
         faulty(b"A1Ha\xb1\n", b"Aa;", 4),
@@ -157,6 +175,60 @@ fn streams_are_split_wherever_they_are_cut(rt: HostRuntime) -> Result<(), Fail> 
         for first in 0..=row.stream.len() {
             for step in [1, 3, 100] {
                 let (units, fault) = outcome(rt.alloc(), row.stream, first, step)?;
+                let stream = row.stream;
+                assert_eq!(rt;
+                    units.as_slice(),
+                    row.units,
+                    "of {stream:?} from {first} by {step}"
+                );
+                assert_eq!(rt; fault, row.fault, "of {stream:?} from {first} by {step}");
+            }
+        }
+    }
+    Ok(())
+}
+
+#[test]
+fn replies_are_split_wherever_they_are_cut(rt: HostRuntime) -> Result<(), Fail> {
+    let rows = [
+        whole(b"", b""),
+        whole(b"LysKO", b""),
+        whole(b"LysKOM", b""),
+        whole(b"LysKOM\n", b"A;"),
+        whole(
+            b"LysKOM\n=1 1\n:2 9 5 1\n%2 14 1\n",
+            b"A; =1 1@11; :2 9 5 1@20; %2 14 1@28;",
+        ),
+        whole(
+            b"LysKOM\n=3\n\n=7 0 *\r\n:3 12 0 5 2Hyo\n",
+            b"A; =3@9; =7 0 *@18; :3 12 0 5 \"yo\"@33;",
+        ),
+        whole(b"LysKOM\n1 =2 %3\t:4 =5\n", b"A; 1 =2 %3 :4 =5@20;"),
+        whole(b"LysKOM\n=0000000000000012\n", b"A; =0000000000000012@24;"),
+        whole(b"LysKOM\n=1 3H=%:\n", b"A; =1 \"=%:\"@15;"),
+        whole(b"LysKOM\n=1", b"A;"),
+        whole(b"LysKOM\n=1 4294967295H", b"A;"),
+        faulty(b"LysKOM\n=00000000000000012\n", b"A;", 24),
+        faulty(b"LysKOM\n%%Protocol error.\n", b"A;", 8),
+        faulty(b"LysKOM\n= 1\n", b"A;", 8),
+        faulty(b"LysKOM\n=\n", b"A;", 8),
+        faulty(b"LysKOM\n=H\n", b"A;", 8),
+        faulty(b"LysKOM\n=1H\n", b"A;", 9),
+        faulty(b"LysKOM\n=1{ }\n", b"A;", 9),
+        faulty(b"LysKOM\n=1=2\n", b"A;", 9),
+        faulty(b"LysKOM\n1=2\n", b"A;", 8),
+        faulty(b"LysKOM\n=1 1\n+2\n", b"A; =1 1@11;", 12),
+        faulty(b"LysKOM\n=1\xa02\n", b"A;", 9),
+        faulty(b"Lyskom", b"", 3),
+        faulty(b"LysKOM\r\n", b"", 6),
+        faulty(b"LysKOM =1 1\n", b"", 6),
+        faulty(b"A1Ha", b"", 0),
+    ];
+    for row in &rows {
+        for first in 0..=row.stream.len() {
+            for step in [1, 3, 100] {
+                let splitter = Splitter::of_replies(rt.alloc());
+                let (units, fault) = outcome_by(splitter, rt.alloc(), row.stream, first, step)?;
                 let stream = row.stream;
                 assert_eq!(rt;
                     units.as_slice(),
@@ -184,10 +256,9 @@ fn a_name_has_at_most_1024_bytes(rt: HostRuntime) -> Result<(), Fail> {
     Ok(())
 }
 
-// A greeting, and after it a line of one string of so many bytes that begins with these bytes.
+// These bytes, so many blanks, and an end.
 fn long_line(alloc: Global, begin: &[u8], count: usize, end: &[u8]) -> Result<Vec<u8>, AllocError> {
-    let mut stream = b"A0H".to_vec(alloc)?;
-    stream.extend_from_slice(begin)?;
+    let mut stream = begin.to_vec(alloc)?;
     stream.extend_from_slice(vec![in alloc; b' '; count]?.as_slice())?;
     stream.extend_from_slice(end)?;
     Ok(stream)
@@ -195,10 +266,10 @@ fn long_line(alloc: Global, begin: &[u8], count: usize, end: &[u8]) -> Result<Ve
 
 #[test]
 fn a_line_has_at_most_2097152_bytes(rt: HostRuntime) -> Result<(), Fail> {
-    let longest = long_line(rt.alloc(), b"2097143H", 2_097_143, b"\n")?;
-    let longer = long_line(rt.alloc(), b"2097144H", 2_097_144, b"\n")?;
-    let blank = long_line(rt.alloc(), b"", 2_097_152, b"\n")?;
-    let unfit = long_line(rt.alloc(), b"", 2_097_152, b"+\n")?;
+    let longest = long_line(rt.alloc(), b"A0H2097143H", 2_097_143, b"\n")?;
+    let longer = long_line(rt.alloc(), b"A0H2097144H", 2_097_144, b"\n")?;
+    let blank = long_line(rt.alloc(), b"A0H", 2_097_152, b"\n")?;
+    let unfit = long_line(rt.alloc(), b"A0H", 2_097_152, b"+\n")?;
     // With the second step a piece ends with the last byte that the line may have.
     for step in [70_000, 2_097_154, 2_097_155, 3_000_000] {
         let (units, fault) = outcome(rt.alloc(), longest.as_slice(), 1, step)?;
@@ -212,6 +283,29 @@ fn a_line_has_at_most_2097152_bytes(rt: HostRuntime) -> Result<(), Fail> {
         }
         let (_, fault) = outcome(rt.alloc(), unfit.as_slice(), 1, step)?;
         assert_eq!(rt; fault, Some(FeedRefusal::Malformed(2_097_155)));
+    }
+    Ok(())
+}
+
+#[test]
+fn a_line_of_replies_has_at_most_4194304_bytes(rt: HostRuntime) -> Result<(), Fail> {
+    let longest = long_line(rt.alloc(), b"LysKOM\n=1 4194292H", 4_194_292, b"\n")?;
+    let longer = long_line(rt.alloc(), b"LysKOM\n=1 4194293H", 4_194_293, b"\n")?;
+    let unfit = long_line(rt.alloc(), b"LysKOM\n", 4_194_304, b"+\n")?;
+    // With the first step a piece ends with the last byte that the line may have.
+    for step in [4_194_310, 5_000_000] {
+        let splitter = Splitter::of_replies(rt.alloc());
+        let (units, fault) = outcome_by(splitter, rt.alloc(), longest.as_slice(), 1, step)?;
+        assert!(rt; units.as_slice().ends_with(b" \"@4194310;"));
+        assert_eq!(rt; units.len(), 4_194_292 + 17);
+        assert_eq!(rt; fault, None);
+        let splitter = Splitter::of_replies(rt.alloc());
+        let (units, fault) = outcome_by(splitter, rt.alloc(), longer.as_slice(), 1, step)?;
+        assert_eq!(rt; units.as_slice(), b"A;".as_slice());
+        assert_eq!(rt; fault, Some(FeedRefusal::LineTooLong(4_194_311)));
+        let splitter = Splitter::of_replies(rt.alloc());
+        let (_, fault) = outcome_by(splitter, rt.alloc(), unfit.as_slice(), 1, step)?;
+        assert_eq!(rt; fault, Some(FeedRefusal::Malformed(4_194_311)));
     }
     Ok(())
 }
@@ -247,7 +341,7 @@ fn an_announced_length_takes_no_memory(rt: HostRuntime) -> Result<(), Fail> {
 
 #[test]
 fn a_fault_is_answered_again_and_units_stay(rt: HostRuntime) -> Result<(), Fail> {
-    let blank = long_line(rt.alloc(), b"", 2_097_153, b"\n")?;
+    let blank = long_line(rt.alloc(), b"A0H", 2_097_153, b"\n")?;
     let malformed = (
         b"A1Ha1 2\n3 x\n4 5\n".as_slice(),
         FeedRefusal::Malformed(10),

@@ -11,4 +11,6 @@ pub enum Token<'a> {
     Close,
     /// The star in place of an array's elements.
     Star,
+    /// A sign, and the run of digits directly after it: only a server's lines have one.
+    Signed(u8, &'a [u8]),
 }

@@ -1,13 +1,17 @@
-ghost use Rattle.std.specs.Prelude.{◌≡◌, ℕ, ◌-◌, ◌≤◌, if◌then◌else◌, true, List, [], ◌∷◌, ◌++◌, length, take, OnOk, OnErr};
+ghost use Rattle.std.specs.Prelude.{◌≡◌, ◌-◌, ◌≤◌, if◌then◌else◌, true, [], ◌∷◌, ◌++◌, length};
+ghost use Rattle.std.specs.Prelude.{take, OnOk, OnErr};
 ghost use Rattle.std.specs.Fmt.{decimal};
-ghost use Rattle.kom_framing.specs.Writing.{put, put_word, is_sign, bit_string, hollerith, end_line};
+ghost use Rattle.kom_types.specs.spellings.Words.{bit_string, hollerith};
+ghost use Rattle.kom_types.specs.ByteKind.{is_sign};
+ghost use Rattle.kom_framing.specs.Writing.{put, put_word, end_line};
 
 use itoa::Buffer;
 use kom_types::Memory;
 use std::alloc::Global;
 use std::marker::Model;
 
-/// Where a writer stood: how much it had written, and whether the next word was to follow without a space.
+/// Where a writer stood: how much it had written, and whether the next word was to follow without a
+/// space.
 #[derive(Clone, Copy, Debug)]
 pub struct Place {
     pub length: usize,
@@ -121,7 +125,8 @@ impl Writer {
 
     /// Forgets what was written since the writer stood there.
     pub fn cut_back(&mut self, place: Place)
-        ensures { self.new ≡ record { bytes = take place.length self.old.bytes; joined = place.joined } }
+        ensures { self.new
+            ≡ record { bytes = take place.length self.old.bytes; joined = place.joined } }
     {
         self.out.truncate(place.length);
         self.joined = place.joined;
@@ -179,7 +184,8 @@ fn append(out: &mut Vec<u8>, prefix: &[u8], back: &[u8]) -> Result<(), Memory>
 
 // Adds what stands before a string, its length, an `H` and its bytes at the end, or nothing.
 fn append_string(out: &mut Vec<u8>, space: &[u8], length: &[u8], text: &[u8]) -> Result<(), Memory>
-    ensures ok { OnOk result (out.new.items ≡ out.old.items ++ space.now ++ (length.now ++ 72 ∷ text.now)) }
+    ensures ok { OnOk result
+        (out.new.items ≡ out.old.items ++ space.now ++ (length.now ++ 72 ∷ text.now)) }
     ensures err { OnErr result (out.new.items ≡ out.old.items) }
 {
     let start = out.len();

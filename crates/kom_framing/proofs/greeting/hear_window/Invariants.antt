@@ -7,7 +7,8 @@ use Rattle.kom_framing.proofs.greeting.hear_window.Given as goal
 abbrev pub invariant-loop-at : goal.invariant-loop-at
 invariant-loop-at l = record {
   within : l.at ≤ length l.window;
-  heard : onward (Going (opening_kept l.fn.phase l.fn.name.items)) (take l.at l.window) ≡ Going (opening_kept l.phase l.name.items);
+  heard : onward (Going (opening_kept l.fn.phase l.fn.name.items)) (take l.at l.window)
+      ≡ Going (opening_kept l.phase l.name.items);
   kept : IsGreeting l.phase l.name.items;
   lengthens : Lengthens l.fn.name.items l.name.items;
 }

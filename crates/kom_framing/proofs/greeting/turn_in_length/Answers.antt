@@ -1,8 +1,8 @@
 use Rattle.std.proofs.Common.{◌≡◌, arith, sym, ◌∙◌}
 use Rattle.kom_types.specs.declared.byte_kind.ByteKind.TheVariants as kind
 use Rattle.kom_types.specs.ByteKind.{kind_of}
-use Rattle.kom_framing.proofs.StepLaws.{digit_bounds}
-use Rattle.kom_framing.proofs.GreetingLaws.{length_fits, length_more}
+use Rattle.kom_framing.proofs.Steps.{digit_bounds}
+use Rattle.kom_framing.proofs.BegunGreetings.{length_fits, length_more}
 use Rattle.kom_framing.proofs.greeting.turn_in_length.Goals as goal
 
 pub overflow_mul-number : goal.overflow_mul-number
@@ -15,4 +15,6 @@ overflow_add-number c =
     omega (arith, length_fits c.args.digits c.args.number c.requires.few c.requires.small)
 
 pub returns-then-digits-lt4 : goal.returns-then-digits-lt4
-returns-then-digits-lt4 c = λ turned kept. length_more c.args.digits c.args.number c.args.byte turned (sym c.kind_of_byte.ensures ∙ c.in-Digit.is) c.if-digits-lt4.true kept
+returns-then-digits-lt4 c =
+    λ turned kept. length_more c.args.digits c.args.number c.args.byte turned
+    (sym c.kind_of_byte.ensures ∙ c.in-Digit.is) c.if-digits-lt4.true kept

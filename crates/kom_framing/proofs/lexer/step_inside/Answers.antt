@@ -1,9 +1,14 @@
 use Rattle.std.proofs.Common.{arith}
-use Rattle.kom_framing.proofs.StepLaws.{string_ends, string_goes}
+use Rattle.kom_framing.proofs.Steps.{string_ends, string_goes}
 use Rattle.kom_framing.proofs.lexer.step_inside.Goals as goal
 
 pub returns-then-lacking-left : goal.returns-then-lacking-left
-returns-then-lacking-left c = λ bytes tail at whole begun. string_ends c.args.start c.args.lacking c.args.place bytes tail c.requires.lacks (omega arith) at begun
+returns-then-lacking-left c =
+    λ side bytes tail at whole begun. string_ends side c.args.start c.args.lacking c.args.place bytes tail
+    c.requires.lacks
+    (omega arith) at begun
 
 pub returns-else-lacking-left : goal.returns-else-lacking-left
-returns-else-lacking-left c = λ bytes tail at whole begun. string_goes c.args.start c.args.lacking c.args.left c.args.place bytes tail c.requires.some (omega arith) whole at begun
+returns-else-lacking-left c =
+    λ side bytes tail at whole begun. string_goes side c.args.start c.args.lacking c.args.left c.args.place bytes tail
+    c.requires.some (omega arith) whole at begun

@@ -1,4 +1,4 @@
-use Rattle.std.proofs.Common.{◌≡◌, ◌+◌, ◌-◌, List, ℕ, [], drop, arith, sym, subst, ap, ◌∙◌}
+use Rattle.std.proofs.Common.{rules, ◌≡◌, ◌+◌, ◌-◌, List, ℕ, [], drop, arith, sym, subst, ap, ◌∙◌}
 use Rattle.std.specs.Prelude.{option_to_list}
 use Rattle.std.proofs.lemmas.List.{length-drop}
 use Rattle.kom_types.specs.Stream as stream
@@ -7,23 +7,43 @@ use Rattle.kom_framing.specs.declared.lines.BegunLine.{BegunLine}
 use Rattle.kom_framing.specs.Spans.{tokens_of}
 use Rattle.kom_framing.specs.BegunLines.{ScansTo, units_at, IsLine}
 use Rattle.kom_framing.specs.WholeLines.{Continues}
-use Rattle.kom_framing.proofs.WholeLinesLaws.{piece_left, continues_line}
+use Rattle.kom_framing.proofs.WholeLines.{piece_left, continues_line}
 use Rattle.kom_framing.proofs.lines.lines_of.Goals as goal
+
+pub loop-at-init : goal.loop-at-init
+loop-at-init c = record {
+  within = search rules;
+  early = search rules;
+  fresh = search rules;
+  line = c.new-begun.ensures.line c.args.side;
+  split = search rules;
+}
 
 pub loop-at-preserved : goal.loop-at-preserved
 loop-at-preserved c =
     let inv = c.loop-at.invariant in
-    let scanned : ScansTo c.in-Ends.count (c.args.place + c.loop-at.at) c.loop-at.begun (drop c.loop-at.at c.args.piece.now) c.scan.new.self =
-    subst (λ (rest : List ℕ). ScansTo c.in-Ends.count (c.args.place + c.loop-at.at) c.loop-at.begun rest c.scan.new.self) (piece_left c.args.piece.now c.loop-at.at) (rw c.in-Ends.is at c.in_ok-scan.ensures) in
+    let scanned : ScansTo c.args.side c.in-Ends.count (c.args.place + c.loop-at.at) c.loop-at.begun
+    (drop c.loop-at.at c.args.piece.now) c.scan.new.self =
+    subst (λ (rest : List ℕ). ScansTo c.args.side c.in-Ends.count (c.args.place + c.loop-at.at) c.loop-at.begun rest
+    c.scan.new.self) (piece_left c.args.piece.now c.loop-at.at) (rw c.in-Ends.is at c.in_ok-scan.ensures) in
     let taken = c.replace-line.ensures in
-    let ended : option_to_list c.into_unit.result ≡ units_at (tokens_of c.scan.new.self.text.items c.scan.new.self.spans.items) (c.args.place + (c.loop-at.at + c.in-Ends.count) - 1) =
-    c.into_unit.ensures ∙ ap (λ (l : BegunLine). units_at (tokens_of l.text.items l.spans.items) (c.args.place + (c.loop-at.at + c.in-Ends.count) - 1)) taken.value in
+    let ended : option_to_list c.into_unit.result
+    ≡ units_at (tokens_of c.scan.new.self.text.items c.scan.new.self.spans.items)
+    (c.args.place + (c.loop-at.at + c.in-Ends.count) - 1) =
+    c.into_unit.ensures
+    ∙ ap (λ (l : BegunLine). units_at (tokens_of l.text.items l.spans.items)
+    (c.args.place + (c.loop-at.at + c.in-Ends.count) - 1)) taken.value in
     record {
       within = omega (arith, scanned.within, length-drop c.loop-at.at c.args.piece.now);
       early = omega (arith, scanned.early);
       fresh = rw taken.after c.new.ensures.text;
-      line = subst IsLine (sym taken.after) c.new.ensures.line;
-      split = subst (λ (us : List StreamUnit). Continues us (stream.lines_from (c.args.place + (c.loop-at.at + c.in-Ends.count)) [] (drop (c.loop-at.at + c.in-Ends.count) c.args.piece.now)) (stream.lines_from c.args.place [] c.args.piece.now))
+      line = subst (IsLine c.args.side) (sym taken.after) (c.new.ensures.line c.args.side);
+      split =
+          subst (λ (us : List StreamUnit). Continues us
+          (stream.lines_from c.args.side (c.args.place + (c.loop-at.at + c.in-Ends.count)) []
+          (drop (c.loop-at.at + c.in-Ends.count) c.args.piece.now))
+          (stream.lines_from c.args.side c.args.place [] c.args.piece.now))
           (sym c.in_ok-add-in-Ends.ensures.ok)
-          (continues_line c.args.place c.loop-at.at c.in-Ends.count c.args.piece.now c.loop-at.whole.items (option_to_list c.into_unit.result) c.loop-at.begun c.scan.new.self inv.fresh scanned ended inv.split);
+          (continues_line c.args.side c.args.place c.loop-at.at c.in-Ends.count c.args.piece.now c.loop-at.whole.items
+          (option_to_list c.into_unit.result) c.loop-at.begun c.scan.new.self inv.fresh scanned ended inv.split);
     }

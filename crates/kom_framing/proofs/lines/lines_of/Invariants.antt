@@ -10,8 +10,9 @@ invariant-loop-at l = record {
   within : l.at ≤ length l.piece;
   early : l.place + l.at ≤ longest_stream;
   fresh : l.begun.text.items ≡ [];
-  line : IsLine l.begun;
-  split : Continues l.whole.items (lines_from (l.place + l.at) [] (drop l.at l.piece)) (lines_from l.place [] l.piece);
+  line : IsLine l.side l.begun;
+  split : Continues l.whole.items (lines_from l.side (l.place + l.at) [] (drop l.at l.piece))
+      (lines_from l.side l.place [] l.piece);
 }
 
 abbrev pub decreases-loop-at : goal.decreases-loop-at

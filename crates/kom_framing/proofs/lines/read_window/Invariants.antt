@@ -7,7 +7,7 @@ use Rattle.kom_framing.proofs.lines.read_window.Given as goal
 abbrev pub invariant-loop-at : goal.invariant-loop-at
 invariant-loop-at l = record {
   within : l.at ≤ length l.window;
-  begun : IsBegun (l.text ++ take l.at l.window) l.spans.items l.lexer;
+  begun : IsBegun l.side (l.text ++ take l.at l.window) l.spans.items l.lexer;
   extends : Extends l.fn.spans.items l.spans.items;
 }
 

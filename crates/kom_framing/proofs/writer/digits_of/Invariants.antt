@@ -1,5 +1,5 @@
 use Rattle.std.proofs.Common.{◌≡◌, ◌-◌, ◌++◌, length, take}
-use Rattle.kom_framing.specs.Writing.{bit_string}
+use Rattle.kom_types.specs.spellings.Words.{bit_string}
 use Rattle.kom_framing.proofs.writer.digits_of.Given as goal
 
 -- the digits so far and those to come are the number's

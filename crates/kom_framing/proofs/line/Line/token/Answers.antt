@@ -4,19 +4,32 @@ use Rattle.std.proofs.lemmas.List.{length-map}
 use Rattle.kom_types.specs.Stream as stream
 use Rattle.kom_framing.specs.declared.lexer.Span.{Span}
 use Rattle.kom_framing.specs.Spans.{token_of}
-use Rattle.kom_framing.proofs.SpanLaws.{within_at, token_at_index}
+use Rattle.kom_framing.proofs.Spans.{within_at, token_at_index}
 use Rattle.kom_framing.proofs.line.Line.token.Goals as goal
 
 pub token_in-requires : goal.token_in-requires
 token_in-requires c =
     let spans : List Span = c.self.inside.spans.items in
-    let below : c.args.index < length spans = omega (arith, c.requires, ap (λ (l : stream.Line). length l.tokens) c.self.view_is, length-map spans (token_of c.self.inside.text.items)) in
-    rw (c.as_slice.ensures.value, c.index.ensures) (within_at (length c.self.inside.text.items) spans c.args.index c.index.result.now c.self.invariant below)
+    let below : c.args.index < length spans =
+    omega (
+      arith,
+      c.requires,
+      ap (λ (l : stream.Line). length l.tokens) c.self.view_is,
+      length-map spans (token_of c.self.inside.text.items),
+    ) in
+    rw (c.as_slice.ensures.value, c.index.ensures)
+    (within_at (length c.self.inside.text.items) spans c.args.index c.index.result.now c.self.invariant below)
 
 pub returns : goal.returns
 returns c =
     let spans : List Span = c.self.inside.spans.items in
-    let below : c.args.index < length spans = omega (arith, c.requires, ap (λ (l : stream.Line). length l.tokens) c.self.view_is, length-map spans (token_of c.self.inside.text.items)) in
+    let below : c.args.index < length spans =
+    omega (
+      arith,
+      c.requires,
+      ap (λ (l : stream.Line). length l.tokens) c.self.view_is,
+      length-map spans (token_of c.self.inside.text.items),
+    ) in
     let seen = c.token_in.ensures in
     sym (ap (λ (l : stream.Line). slice_get l.tokens c.args.index) c.self.view_is)
     ∙ token_at_index c.self.inside.text.items spans c.args.index c.index.result.now below
