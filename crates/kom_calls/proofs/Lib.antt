@@ -1,1 +1,3 @@
+mod Gathering
 mod Readings
+mod Tables

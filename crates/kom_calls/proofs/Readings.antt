@@ -1,60 +1,145 @@
 -- How a line reads that begins with a reference and a call number.
-use Rattle.std.proofs.Common.{◌≡◌, ◌≢◌, ℕ, ◌==◌, eqb, false, List, [], ◌∷◌, Some, None, Err, drop, option_map, refl, ap, ap₂, sym, ◌∙◌}
-use Rattle.std.specs.Prelude.{Option, option_and_then, slice_get}
-use Rattle.std.specs.List.{find, AllByRecursion}
-use Rattle.std.proofs.lemmas.Bool.{ne_eqb}
+use Rattle.std.proofs.Common.{◌≡◌, ℕ, eqb, Bool, true, false, List, [], ◌∷◌, Some, None, Ok, Err, option_map, refl, ap}
+use Rattle.std.proofs.Common.{sym, subst, ◌∙◌}
+use Rattle.std.specs.Prelude.{Option, option_and_then}
+use Rattle.std.proofs.lemmas.Bool.{eqb-true}
 use Rattle.kom_types.specs.declared.calls.Call.{Call}
 use Rattle.kom_types.specs.declared.calls.Call.TheVariants.{Refused}
-use Rattle.kom_types.specs.Token.{Token}
-use Rattle.kom_types.specs.Reading.{Request, reading_of, integer_of, patterns, call_by, call_of}
+use Rattle.kom_types.specs.Token.{Token, integer_of}
+use Rattle.kom_types.specs.Reading.{Request, reading_of, patterns, call_by, call_of}
+use Rattle.kom_types.specs.calls.Arguments.{Taken, Took, Departs, Malformed, integer}
 use Rattle.kom_types.specs.calls.Pattern.{Pattern}
-use Rattle.kom_calls.specs.declared.reader.CallFault.{CallFault}
-use Rattle.kom_calls.specs.declared.reader.CallFault.TheVariants as fault
-use Rattle.kom_calls.specs.Reads.{reading_told, call_told, Tells}
+use Rattle.kom_calls.specs.declared.fault.ArgumentFault.{ArgumentFault}
+use Rattle.kom_calls.specs.declared.fault.ArgumentFault.TheVariants as fault
+use Rattle.kom_calls.specs.Telling.{Departed}
+use Rattle.kom_calls.specs.Reads.{ReadsBy, pattern_of, takes_room}
+use Rattle.kom_calls.specs.Lines.{line_takes_room}
+
+-- what a token is to the rule of an integer, by the integer that it spells
+abbrev integer_by : Option ℕ → List Token → Taken ℕ
+integer_by spelled tail = elim spelled [ Some number ↦ Took number tail | None ↦ Departs Malformed ]
+
+took : (spelled : Option ℕ) (tail rest : List Token) (number : ℕ) → integer_by spelled tail ≡ Took number rest →
+    (spelled ≡ Some number) × (tail ≡ rest)
+took (Some n) tail rest number taken =
+    let same : n ≡ number = cc in
+    let left : tail ≡ rest = cc in
+    (ap Some same, left)
+took None tail rest number taken = cc
+
+departed : (spelled : Option ℕ) (tail : List Token) (found : ArgumentFault) →
+    Departed false (integer_by spelled tail) found → spelled ≡ None
+departed (Some n) tail fault.Malformed taken = cc
+departed (Some n) tail fault.BadBool taken = cc
+departed (Some n) tail fault.LongArray taken = cc
+departed (Some n) tail fault.Memory taken = cc
+departed None tail found taken = refl
 
 -- a call with the line's reference
 abbrev pub with_reference : ℕ → Option Call → Option Request
 with_reference reference read = option_map (λ call. record { reference = reference; call = call }) read
 
--- the reading of a reference and a number, if they are there, and of the arguments
-abbrev read_with : Option ℕ → Option ℕ → List Token → Option Request
-read_with reference number arguments =
-    option_and_then (λ r. option_and_then (λ n. with_reference r (call_of n arguments)) number) reference
-
-reads_two : (tokens : List Token) (a b : Token) → slice_get tokens 0 ≡ Some a → slice_get tokens 1 ≡ Some b →
-    reading_of tokens ≡ read_with (integer_of a) (integer_of b) (drop 2 tokens)
+-- a line without a reference is malformed
+pub no_reference : (tokens : List Token) (found : ArgumentFault) → Departed false (integer tokens) found →
+    reading_of tokens ≡ None
 unfolding reading_of
-reads_two [] a b first second = cc
-reads_two (x ∷ []) a b first second = cc
-reads_two (x ∷ y ∷ rest) a b first second =
-    let x_is : x ≡ a = cc in
-    let y_is : y ≡ b = cc in
-    ap₂ (λ t u. read_with (integer_of t) (integer_of u) rest) x_is y_is
+no_reference [] found taken = refl
+no_reference (x ∷ []) found taken = refl
+no_reference (x ∷ y ∷ rest) found taken =
+    ap (option_and_then (λ r. option_and_then (λ n. with_reference r (call_of n rest)) (integer_of y)))
+    (departed (integer_of x) (y ∷ rest) found taken)
+
+-- a line without a call number is malformed
+pub no_number : (tokens after : List Token) (reference : ℕ) (found : ArgumentFault) →
+    integer tokens ≡ Took reference after → Departed false (integer after) found → reading_of tokens ≡ None
+unfolding reading_of
+no_number [] after reference found first second = refl
+no_number (x ∷ []) after reference found first second = refl
+no_number (x ∷ y ∷ rest) after reference found first second =
+    let a = took (integer_of x) (y ∷ rest) after reference first in
+    let b = departed (integer_of y) rest found
+    (subst (λ ts. Departed false (integer ts) found) (sym a.1) second) in
+    rw (a.0, b) refl
 
 -- a line with a reference and a number reads as the call of that number
-pub reads_call : (tokens : List Token) (a b : Token) (reference number : ℕ) → slice_get tokens 0 ≡ Some a →
-    slice_get tokens 1 ≡ Some b → Some reference ≡ integer_of a → Some number ≡ integer_of b →
-    reading_of tokens ≡ with_reference reference (call_of number (drop 2 tokens))
-reads_call tokens a b reference number first second p q =
-    reads_two tokens a b first second ∙ ap₂ (λ r n. read_with r n (drop 2 tokens)) (sym p) (sym q)
+pub reads_call : (tokens after rest : List Token) (reference number : ℕ) → integer tokens ≡ Took reference after →
+    integer after ≡ Took number rest →
+    reading_of tokens ≡ with_reference reference (call_by (pattern_of number patterns) rest)
+unfolding reading_of call_of
+reads_call [] after rest reference number first second = cc
+reads_call (x ∷ []) after rest reference number first second =
+    let a = took (integer_of x) [] after reference first in
+    let b : integer [] ≡ Took number rest = subst (λ ts. integer ts ≡ Took number rest) (sym a.1) second in
+    cc
+reads_call (x ∷ y ∷ left) after rest reference number first second =
+    let a = took (integer_of x) (y ∷ left) after reference first in
+    let b = took (integer_of y) left rest number (subst (λ ts. integer ts ≡ Took number rest) (sym a.1) second) in
+    rw (a.0, b.0, b.1) refl
 
--- a fault that tells this reference reads as it does with the reference
-pub told_err : (reference : ℕ) (found : CallFault) → Tells reference found →
-    with_reference reference (call_told (Err found)) ≡ reading_told (Err found)
-told_err reference (fault.Unknown told) same = ap (λ r. with_reference r (Some (Refused 2 0))) (sym same)
-told_err reference fault.Malformed tells = refl
+-- and it takes room where that call does
+pub takes_room_of : (tokens after rest : List Token) (reference number : ℕ) → integer tokens ≡ Took reference after →
+    integer after ≡ Took number rest → line_takes_room tokens ≡ takes_room number
+takes_room_of [] after rest reference number first second = cc
+takes_room_of (x ∷ []) after rest reference number first second =
+    let a = took (integer_of x) [] after reference first in
+    let b : integer [] ≡ Took number rest = subst (λ ts. integer ts ≡ Took number rest) (sym a.1) second in
+    cc
+takes_room_of (x ∷ y ∷ left) after rest reference number first second =
+    let a = took (integer_of x) (y ∷ left) after reference first in
+    let b = took (integer_of y) left rest number (subst (λ ts. integer ts ≡ Took number rest) (sym a.1) second) in
+    rw (b.0, line_takes_room) refl
 
--- no pattern has the number
-abbrev pub NoneHas : ℕ → List Pattern → Type 0
-NoneHas number some = AllByRecursion (λ pattern. pattern.number ≢ number) some
+-- what a result by a pattern says of the call
+pub told_call : (found : Option Pattern) (tokens rest : List Token) (call : Call) →
+    ReadsBy found tokens (Ok (Some call)) rest → call_by found tokens ≡ Some call
+told_call None tokens rest call reads = absurd reads
+told_call (Some pattern) tokens rest call reads = rw reads.0 refl
 
-find-none : (number : ℕ) (some : List Pattern) → NoneHas number some →
-    find (λ pattern. pattern.number == number) some ≡ None
-find-none number [] none = refl
-find-none number (pattern ∷ some) none =
-    let other : eqb pattern.number number ≡ false = ne_eqb _ _ none.0 in rw other (find-none number some none.1)
+pub told_unknown : (found : Option Pattern) (tokens rest : List Token) → ReadsBy found tokens (Ok None) rest →
+    call_by found tokens ≡ Some (Refused 2 0)
+told_unknown None tokens rest reads = refl
+told_unknown (Some pattern) tokens rest reads = absurd reads
 
--- a call that has no pattern is refused
-pub call_of-unknown : (number : ℕ) (arguments : List Token) → NoneHas number patterns →
-    call_of number arguments ≡ Some (Refused 2 0)
-call_of-unknown number arguments none = ap (λ found. call_by found arguments) (find-none number patterns none)
+pub told_malformed : (found : Option Pattern) (tokens rest : List Token) →
+    ReadsBy found tokens (Err fault.Malformed) rest → call_by found tokens ≡ None
+told_malformed None tokens rest reads = absurd reads
+told_malformed (Some pattern) tokens rest reads = rw reads refl
+
+pub told_bad_bool : (found : Option Pattern) (tokens rest : List Token) →
+    ReadsBy found tokens (Err fault.BadBool) rest → call_by found tokens ≡ Some (Refused 61 0)
+told_bad_bool None tokens rest reads = absurd reads
+told_bad_bool (Some pattern) tokens rest reads = rw reads refl
+
+pub told_long_array : (found : Option Pattern) (tokens rest : List Token) →
+    ReadsBy found tokens (Err fault.LongArray) rest → call_by found tokens ≡ Some (Refused 46 0)
+told_long_array None tokens rest reads = absurd reads
+told_long_array (Some pattern) tokens rest reads = rw reads refl
+
+-- the pattern that is found has the number
+first_has : (number : ℕ) (pattern found : Pattern) (some : List Pattern) (same : Bool) →
+    eqb pattern.number number ≡ same → (pattern_of number some ≡ Some found → found.number ≡ number) →
+    pattern_of number (pattern ∷ some) ≡ Some found → found.number ≡ number
+first_has number pattern found some true same later is =
+    let first : Some pattern ≡ Some found = rw same at is in
+    let it : pattern ≡ found = cc in
+    ap (λ (p : Pattern). p.number) (sym it) ∙ eqb-true pattern.number number same
+first_has number pattern found some false same later is = later (rw same at is)
+
+has_number : (number : ℕ) (found : Pattern) (some : List Pattern) → pattern_of number some ≡ Some found →
+    found.number ≡ number
+has_number number found [] is = cc
+has_number number found (pattern ∷ some) is =
+    first_has number pattern found some (eqb pattern.number number) refl (has_number number found some) is
+
+with_pattern : (found : Option Pattern) (tokens rest : List Token) → ReadsBy found tokens (Err fault.Memory) rest →
+    (pattern : Pattern) × (found ≡ Some pattern) × (takes_room pattern.number ≡ true)
+with_pattern None tokens rest reads = absurd reads
+with_pattern (Some pattern) tokens rest reads = (pattern, refl, reads)
+
+-- memory runs out only where the call of the number takes room
+pub told_memory : (number : ℕ) (tokens rest : List Token) →
+    ReadsBy (pattern_of number patterns) tokens (Err fault.Memory) rest → takes_room number ≡ true
+told_memory number tokens rest reads =
+    let found = with_pattern (pattern_of number patterns) tokens rest reads in
+    let same : found.0.number ≡ number = has_number number found.0 patterns found.1 in
+    ap takes_room (sym same) ∙ found.2

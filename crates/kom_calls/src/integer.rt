@@ -1,6 +1,5 @@
 ghost use Rattle.std.specs.Prelude.{◌≡◌, ◌<◌, ◌≤◌, ◌^◌, length};
-ghost use Rattle.kom_types.specs.Token.{number_of};
-ghost use Rattle.kom_types.specs.Reading.{integer_of};
+ghost use Rattle.kom_types.specs.Token.{number_of, integer_of};
 ghost use Rattle.kom_framing.specs.Spans.{token_seen};
 
 use kom_framing::Token;
@@ -17,7 +16,7 @@ pub(crate) fn integer(token: Token<'_>) -> Option<u32>
                 None
             }
         }
-        Token::Text(_) | Token::Open | Token::Close | Token::Star => None,
+        Token::Text(_) | Token::Open | Token::Close | Token::Star | Token::Signed(_, _) => None,
     }
 }
 

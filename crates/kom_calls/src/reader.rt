@@ -1,49 +1,80 @@
-ghost use Rattle.std.specs.Prelude.{◌≡◌, ◌≤◌, IfOk, IfErr, length, drop};
-ghost use Rattle.kom_types.specs.Reading.{reading_of, call_of};
-ghost use Rattle.kom_calls.specs.Reads.{reading_told, call_told, IsKnown, Tells};
+ghost use Rattle.std.specs.Prelude.{◌≡◌, IfOk};
+ghost use Rattle.kom_types.specs.Reading.{patterns, reading_of};
+ghost use Rattle.kom_calls.specs.Reads.{ReadsBy, IsKnown, pattern_of};
+ghost use Rattle.kom_calls.specs.Lines.{Tells, NeedsRoom};
 
-use crate::integer::integer;
-use crate::sessions::who_am_i;
+use crate::arguments::Arguments;
+use crate::aux_items::aux_item_call;
+use crate::conferences::conference_call;
+use crate::fault::ArgumentFault;
+use crate::memberships::membership_call;
+use crate::persons::person_call;
+use crate::server::server_call;
+use crate::sessions::session_call;
+use crate::texts::text_call;
 use kom_framing::Line;
 use kom_types::Call;
+use std::alloc::Global;
 
-/// Why a line is no call that the server knows.
+/// Why a line is no call that the server knows. A reference that is told is the line's.
 #[derive(Clone, Copy, Debug, PartialEq, Eq)]
 pub enum CallFault {
-    /// No call has this number; the line's reference is told.
+    /// No call has this number.
     Unknown(u32),
+    /// An integer that is neither 0 nor 1 stands in place of a truth value.
+    BadBool(u32),
+    /// An array is too long.
+    LongArray(u32),
     /// The line departs from the pattern of its call, or has no reference and call number.
     Malformed,
+    /// Memory was wanted for a string or an array and could not be had.
+    Memory,
 }
 
-/// The reference of a line, and its call with the arguments.
-#[tactic(auto, unfolding(kom_types::specs::Reading::reading_of))]
-pub fn read_call(line: &Line) -> Result<(u32, Call), CallFault>
-    ensures reading { reading_of line.now.tokens ≡ reading_told result }
+/// The reference of a line, and its call with the arguments, which are allocated there.
+pub fn read_call(alloc: Global, line: &Line) -> Result<(u32, Call), CallFault>
+    ensures reading { Tells (reading_of line.now.tokens) result }
     ensures known { IfOk result (λ read. IsKnown read.1) }
+    ensures room { NeedsRoom result line.now.tokens }
 {
-    if line.len() < 2 {
+    let mut arguments = Arguments::of(alloc, line);
+    let Ok(reference) = arguments.integer() else {
         return Err(CallFault::Malformed);
+    };
+    let Ok(number) = arguments.integer() else {
+        return Err(CallFault::Malformed);
+    };
+    match call_by_number(number, &mut arguments) {
+        Ok(Some(call)) => Ok((reference, call)),
+        Ok(None) => Err(CallFault::Unknown(reference)),
+        Err(ArgumentFault::Malformed) => Err(CallFault::Malformed),
+        Err(ArgumentFault::BadBool) => Err(CallFault::BadBool(reference)),
+        Err(ArgumentFault::LongArray) => Err(CallFault::LongArray(reference)),
+        Err(ArgumentFault::Memory) => Err(CallFault::Memory),
     }
-    let Some(reference) = integer(line.token(0)) else {
-        return Err(CallFault::Malformed);
-    };
-    let Some(number) = integer(line.token(1)) else {
-        return Err(CallFault::Malformed);
-    };
-    let call = read_by_number(number, reference, line)?;
-    Ok((reference, call))
 }
 
-/// The call of a number, with the arguments that stand after it in the line.
-fn read_by_number(number: u32, reference: u32, line: &Line) -> Result<Call, CallFault>
-    requires { 2 ≤ length line.now.tokens }
-    ensures call { call_of number (drop 2 line.now.tokens) ≡ call_told result }
-    ensures known { IfOk result IsKnown }
-    ensures told { IfErr result (Tells reference) }
+/// The call that has this number, if one has.
+fn call_by_number(number: u32, arguments: &mut Arguments<'_>) -> Result<Option<Call>, ArgumentFault>
+    ensures { ReadsBy (pattern_of number patterns) arguments.old result arguments.new }
 {
-    match number {
-        56 => who_am_i(line).ok_or(CallFault::Malformed),
-        _ => Err(CallFault::Unknown(reference)),
+    if let Some(call) = session_call(number, arguments)? {
+        return Ok(Some(call));
     }
+    if let Some(call) = server_call(number, arguments)? {
+        return Ok(Some(call));
+    }
+    if let Some(call) = person_call(number, arguments)? {
+        return Ok(Some(call));
+    }
+    if let Some(call) = conference_call(number, arguments)? {
+        return Ok(Some(call));
+    }
+    if let Some(call) = text_call(number, arguments)? {
+        return Ok(Some(call));
+    }
+    if let Some(call) = membership_call(number, arguments)? {
+        return Ok(Some(call));
+    }
+    aux_item_call(number, arguments)
 }
