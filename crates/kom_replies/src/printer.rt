@@ -1,9 +1,11 @@
-ghost use Rattle.std.specs.Prelude.{◌≡◌, ◌++◌, true, List, [], ◌∷◌, ℕ, OnOk, OnErr};
-ghost use Rattle.kom_types.specs.Printing.{line_of, words_of_reply, print_of};
-ghost use Rattle.kom_replies.specs.Items.{with_item};
+ghost use Rattle.std.specs.Prelude.{◌≡◌, true, OnOk, OnErr};
+ghost use Rattle.kom_replies.specs.Items.{with_item, with_words, words_of, Keeps};
 
+use crate::messages::write_message;
+use crate::replies::write_reply;
+use crate::words::write_word;
 use kom_framing::Writer;
-use kom_types::{Item, Memory, Reply};
+use kom_types::{Item, Memory};
 
 /// The greeting's answer, without the line's end.
 pub(crate) const HELLO: &[u8] = b"LysKOM";
@@ -29,53 +31,21 @@ pub fn print_item(item: &Item, out: &mut Writer) -> Result<(), Memory>
 fn write_item(item: &Item, out: &mut Writer) -> Result<(), Memory>
     requires { out.old.joined ≡ true }
     ensures ok { OnOk result (out.new ≡ with_item item.now out.old) }
-    ensures err { (more : List ℕ) × (out.new.bytes ≡ out.old.bytes ++ more) }
+    ensures keeps { Keeps out.old out.new }
 {
     write_words(item, out)?;
     out.end_line()
 }
 
 /// The words of an item, without the line's end.
-#[tactic(auto, unfolding(kom_types::specs::Printing::print_of))]
 fn write_words(item: &Item, out: &mut Writer) -> Result<(), Memory>
-    requires { out.old.joined ≡ true }
-    ensures ok { OnOk result (out.new.bytes ++ 10 ∷ [] ≡ out.old.bytes ++ print_of item.now) }
-    ensures err { (more : List ℕ) × (out.new.bytes ≡ out.old.bytes ++ more) }
+    ensures ok { OnOk result (out.new ≡ with_words (words_of item.now) out.old) }
+    ensures keeps { Keeps out.old out.new }
 {
     match item {
         Item::Hello => write_word(HELLO, out),
         Item::Reply { reference, body } => write_reply(*reference, body, out),
+        Item::Message(message) => write_message(message, out),
         Item::Fault => write_word(FAULT, out),
-    }
-}
-
-/// A line's one word.
-fn write_word(word: &[u8], out: &mut Writer) -> Result<(), Memory>
-    requires { out.old.joined ≡ true }
-    ensures ok { OnOk result (out.new.bytes ++ 10 ∷ [] ≡ out.old.bytes ++ line_of (word.now ∷ [])) }
-    ensures err { (more : List ℕ) × (out.new.bytes ≡ out.old.bytes ++ more) }
-{
-    out.word(word)
-}
-
-/// The words of a reply.
-fn write_reply(reference: u32, body: &Reply, out: &mut Writer) -> Result<(), Memory>
-    requires { out.old.joined ≡ true }
-    ensures ok { OnOk result (out.new.bytes ++ 10 ∷ []
-        ≡ out.old.bytes ++ line_of (words_of_reply reference body.now)) }
-    ensures err { (more : List ℕ) × (out.new.bytes ≡ out.old.bytes ++ more) }
-{
-    match body {
-        Reply::Number(number) => {
-            out.mark(b'=')?;
-            out.number(reference)?;
-            out.number(*number)
-        }
-        Reply::Refused(code, status) => {
-            out.mark(b'%')?;
-            out.number(reference)?;
-            out.number(*code)?;
-            out.number(*status)
-        }
     }
 }
