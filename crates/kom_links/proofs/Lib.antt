@@ -1,3 +1,7 @@
 pub mod Cuts
+pub mod KeptDesks
+pub mod Marking
+pub mod OpenKept
+pub mod Opening
 pub mod Scripted
 pub mod Told

@@ -1,7 +1,8 @@
 -- The reads that a link in memory tells, as marks are added and as its output grows.
-use Rattle.std.proofs.Common.{◌≡◌, ◌≤◌, ◌∙◌, ℕ, Bool, List, [], ◌∷◌, ◌++◌, map, take, length, Option, Some, None, option_map, IfSome, refl, ap, subst, arith}
+use Rattle.std.proofs.Common.{◌≡◌, ◌≤◌, ◌∙◌, ℕ, Bool, List, [], ◌∷◌, ◌++◌, map, take, length, Option, Some, None}
+use Rattle.std.proofs.Common.{option_map, IfSome, refl, ap, arith}
 use Rattle.std.proofs.lemmas.List.{map-append, take-append-le, take_all}
-use Rattle.std.proofs.lemmas.List.Elements.{All-append, All-cons, All-nil, All-tail}
+use Rattle.std.proofs.lemmas.List.Elements.{All-tail}
 use Rattle.std.specs.List.{All}
 use Rattle.std.specs.Option.{ForSome}
 use Rattle.kom_links.specs.declared.read_log.ReadMark.{ReadMark}
@@ -58,17 +59,3 @@ looked input output written taken waited seen old (Some after) all same gains =
           ∙ ap (λ p. before ++ record { taken = take taken input; put = p; waited = waited } ∷ []) whole
           ∙ ap (λ w. before ++ record { taken = take taken input; put = output; waited = w } ∷ []) same,
     )
-
--- a mark that is added is of such a prefix too
-pub told_added : (size : ℕ) (mark : ReadMark) (old new : Option (List ReadMark)) → mark.put ≤ size →
-    ForSome old (All (IsWithin size)) → Gains old mark new → ForSome new (All (IsWithin size))
-told_added size mark old None le told gains marks is = absurd cc
-told_added size mark old (Some after) le told gains marks is =
-    let e : gains.0 ++ mark ∷ [] ≡ marks = cc in
-    let last : All (IsWithin size) (mark ∷ []) = All-cons (IsWithin size) mark [] le (All-nil (IsWithin size)) in
-    subst (All (IsWithin size)) e (All-append (IsWithin size) gains.0 (mark ∷ []) (told gains.0 gains.1) last)
-
--- and they stay so, as more is put
-pub told_grown : (size more : ℕ) (log : Option (List ReadMark)) → size ≤ more → ForSome log (All (IsWithin size)) →
-    ForSome log (All (IsWithin more))
-told_grown size more log le told marks is = λ k d lt. omega (arith, told marks is k d lt)

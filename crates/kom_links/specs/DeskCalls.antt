@@ -1,5 +1,7 @@
 -- What the calls of a desk say.
-use Rattle.std.specs.Prelude.{◌≡◌, ◌≢◌, ℕ, ◌≤◌, ◌^◌, ◌==◌, ◌||◌, ◌⊎◌, nat_le, Bool, true, false, List, [], ◌∷◌, ◌++◌, Option, Some, None, Result, Ok, Err, IfOk, IfErr, OnOk, OnErr, if◌then◌else◌}
+use Rattle.std.specs.Prelude.{◌≡◌, ◌≢◌, ℕ, ◌≤◌, ◌^◌, ◌==◌, ◌||◌, ◌⊎◌, nat_le, Bool, true, false}
+use Rattle.std.specs.Prelude.{List, [], ◌∷◌, ◌++◌, Option, Some, None, Result, Ok, Err, IfOk, IfErr}
+use Rattle.std.specs.Prelude.{OnOk, OnErr, if◌then◌else◌}
 use Rattle.kom_types.specs.declared.acts.Act.{Act}
 use Rattle.kom_types.specs.declared.acts.Act.TheVariants as act
 use Rattle.kom_types.specs.declared.acts.Record.{Record}
@@ -9,9 +11,10 @@ use Rattle.kom_links.specs.declared.desk.DeskFault.{DeskFault}
 use Rattle.kom_links.specs.declared.desk.DeskFault.TheVariants as fault
 use Rattle.kom_links.specs.Records.{has_session, is_open}
 
--- What contracts see of a desk: the number of its pass; the records of the acts that it made; for each session the lists of
--- items that its drains gave, one for each drain, and the first fault that it was answered, where 0 stands for no session;
--- and whether it answered that no turn of the server's lock is left.
+-- What contracts see of a desk: the number of its pass; the records of the acts that it made; for
+-- each session the lists of items that its drains gave, one for each drain, and the first fault
+-- that it was answered, where 0 stands for no session; and whether it answered that no turn of the
+-- server's lock is left.
 pub record DeskView : Type 0 where
   pub pass : ℕ
   pub mine : List Record
@@ -33,7 +36,11 @@ ChangesAt session value old new = (new session ≡ value) × StaysBut session ol
 
 -- the record of an act of this session, made by this pass at this moment
 abbrev pub record_of : ℕ → ℕ → Act → ℕ → Bool → Record
-record_of pass moment act session short = record { entry = record { pass = pass; moment = moment; act = act }; session = session; short = short }
+record_of pass moment act session short = record {
+  entry = record { pass = pass; moment = moment; act = act };
+  session = session;
+  short = short;
+}
 
 -- the first fault, after this was answered
 abbrev pub first_fault : {X : Type 0} → Option DeskFault → Result X DeskFault → Option DeskFault
@@ -59,8 +66,8 @@ is_lock_full (Err fault.Memory) = false
 abbrev pub most_sessions : ℕ
 most_sessions = 4294967295
 
--- Why a connect may be refused: the server was shut down or its store refused a flush; the numbers of sessions are used up,
--- or the turns of the lock; or memory ran out.
+-- Why a connect may be refused: the server was shut down or its store refused a flush; the numbers
+-- of sessions are used up, or the turns of the lock; or memory ran out.
 abbrev pub IsConnectFault : DeskFault → Type 0
 IsConnectFault (fault.Gone why.Absent) = ⊥
 IsConnectFault (fault.Gone why.Dropped) = ⊥
@@ -93,45 +100,57 @@ IsLockFault (fault.Gone why) = ⊥
 IsLockFault (fault.Full number) = 2 ^ 62 ≤ number
 IsLockFault fault.Memory = ⊥
 
--- A session was connected, by a number that no record of the desk has: nothing was given to it, and it has no fault. Or the
--- desk refused, which is noted where no session is meant.
-pub record Connects (old : DeskView) (moment : ℕ) (user host : List ℕ) (answer : Result ℕ DeskFault) (new : DeskView) : Type 0 where
-  pub added : IfOk answer (λ session. new.mine ≡ old.mine ++ record_of old.pass moment (act.Connect user host) session false ∷ [])
+-- A session was connected, by a number that no record of the desk has: nothing was given to it, and
+-- it has no fault. Or the desk refused, which is noted where no session is meant.
+pub record Connects (old : DeskView) (moment : ℕ) (user host : List ℕ)
+    (answer : Result ℕ DeskFault) (new : DeskView) : Type 0 where
+  pub added : IfOk answer (λ session. new.mine
+      ≡ old.mine ++ record_of old.pass moment (act.Connect user host) session false ∷ [])
   pub new_number : IfOk answer (λ session. (session ≢ 0) × (has_session session old.mine ≡ false))
   pub given : IfOk answer (λ session. ChangesAt session [] old.gave_to new.gave_to)
   pub fault : IfOk answer (λ session. ChangesAt session None old.fault_to new.fault_to)
   pub none_added : OnErr answer (new.mine ≡ old.mine)
   pub none_given : OnErr answer (StaysForAll old.gave_to new.gave_to)
-  pub noted : OnErr answer (ChangesAt 0 (first_fault (old.fault_to 0) answer) old.fault_to new.fault_to)
+  pub noted : OnErr answer
+      (ChangesAt 0 (first_fault (old.fault_to 0) answer) old.fault_to new.fault_to)
   pub why : IfErr answer IsConnectFault
   pub lock_full : new.lock_full ≡ (old.lock_full || is_lock_full answer)
   pub pass : new.pass ≡ old.pass
 
 -- What an act of a session leaves: a fault is noted at that session, and nothing else changes.
-pub record NotesAt {X : Type 0} (old : DeskView) (session : ℕ) (answer : Result X DeskFault) (new : DeskView) : Type 0 where
+pub record NotesAt {X : Type 0} (old : DeskView) (session : ℕ) (answer : Result X DeskFault)
+    (new : DeskView) : Type 0 where
   pub none_added : OnErr answer (new.mine ≡ old.mine)
-  pub noted : ChangesAt session (first_fault (old.fault_to session) answer) old.fault_to new.fault_to
+  pub noted : ChangesAt session (first_fault (old.fault_to session) answer) old.fault_to
+      new.fault_to
   pub lock_full : new.lock_full ≡ (old.lock_full || is_lock_full answer)
   pub pass : new.pass ≡ old.pass
 
 -- An act of a session was made, and its record was added; or the desk refused.
-pub record Acts {X : Type 0} (old : DeskView) (moment : ℕ) (act : Act) (session : ℕ) (answer : Result X DeskFault) (new : DeskView) : Type 0 where
+pub record Acts {X : Type 0} (old : DeskView) (moment : ℕ) (act : Act) (session : ℕ)
+    (answer : Result X DeskFault) (new : DeskView) : Type 0 where
   pub added : OnOk answer (new.mine ≡ old.mine ++ record_of old.pass moment act session false ∷ [])
   pub given : StaysForAll old.gave_to new.gave_to
   pub why : IfErr answer IsActFault
   pub rest : NotesAt old session answer new
 
 -- The same of a call, which may have been answered that memory ran out.
-pub record Calls {X : Type 0} (old : DeskView) (moment : ℕ) (act : Act) (session : ℕ) (answer : Result X DeskFault) (new : DeskView) : Type 0 where
-  pub added : OnOk answer ((short : Bool) × (new.mine ≡ old.mine ++ record_of old.pass moment act session short ∷ []))
+pub record Calls {X : Type 0} (old : DeskView) (moment : ℕ) (act : Act) (session : ℕ)
+    (answer : Result X DeskFault) (new : DeskView) : Type 0 where
+  pub added : OnOk answer ((short : Bool)
+      × (new.mine ≡ old.mine ++ record_of old.pass moment act session short ∷ []))
   pub given : StaysForAll old.gave_to new.gave_to
   pub why : IfErr answer IsActFault
   pub rest : NotesAt old session answer new
 
--- A session was drained of these items, which were given to it; or the desk refused, and there are none.
-pub record Drains {X : Type 0} (old : DeskView) (moment session : ℕ) (items : List Item) (answer : Result X DeskFault) (new : DeskView) : Type 0 where
-  pub added : OnOk answer (new.mine ≡ old.mine ++ record_of old.pass moment (act.Drain session) session false ∷ [])
-  pub given : OnOk answer (ChangesAt session (old.gave_to session ++ items ∷ []) old.gave_to new.gave_to)
+-- A session was drained of these items, which were given to it; or the desk refused, and there are
+-- none.
+pub record Drains {X : Type 0} (old : DeskView) (moment session : ℕ) (items : List Item)
+    (answer : Result X DeskFault) (new : DeskView) : Type 0 where
+  pub added : OnOk answer (new.mine
+      ≡ old.mine ++ record_of old.pass moment (act.Drain session) session false ∷ [])
+  pub given : OnOk answer
+      (ChangesAt session (old.gave_to session ++ items ∷ []) old.gave_to new.gave_to)
   pub none_given : OnErr answer (StaysForAll old.gave_to new.gave_to × (items ≡ []))
   pub why : IfErr answer IsActFault
   pub rest : NotesAt old session answer new
@@ -143,11 +162,14 @@ is_noted records session = session == 0 || is_open session records
 -- a fault that is of no session is noted so
 abbrev pub NotesEverywhere : (Option DeskFault → Option DeskFault) → DeskView → DeskView → Type 0
 NotesEverywhere note old new = (session : ℕ) →
-    new.fault_to session ≡ (if is_noted old.mine session then note (old.fault_to session) else old.fault_to session)
+    new.fault_to session
+    ≡ (if is_noted old.mine session then note (old.fault_to session) else old.fault_to session)
 
--- A flush that is refused adds nothing; one that the store refuses, for which the desk is stopped, may add its short record.
+-- A flush that is refused adds nothing; one that the store refuses, for which the desk is stopped,
+-- may add its short record.
 abbrev pub AddsNoneOrShort : DeskView → ℕ → DeskFault → DeskView → Type 0
-AddsNoneOrShort old moment (fault.Gone why.Stopped) new = (new.mine ≡ old.mine) ⊎ (new.mine ≡ old.mine ++ record_of old.pass moment act.Flush 0 true ∷ [])
+AddsNoneOrShort old moment (fault.Gone why.Stopped) new = (new.mine ≡ old.mine)
+    ⊎ (new.mine ≡ old.mine ++ record_of old.pass moment act.Flush 0 true ∷ [])
 AddsNoneOrShort old moment (fault.Gone why.Absent) new = new.mine ≡ old.mine
 AddsNoneOrShort old moment (fault.Gone why.Dropped) new = new.mine ≡ old.mine
 AddsNoneOrShort old moment (fault.Gone why.Overrun) new = new.mine ≡ old.mine
@@ -155,7 +177,8 @@ AddsNoneOrShort old moment (fault.Full number) new = new.mine ≡ old.mine
 AddsNoneOrShort old moment fault.Memory new = new.mine ≡ old.mine
 
 -- What was done so far was made stable; or the desk refused.
-pub record Flushes {X : Type 0} (old : DeskView) (moment : ℕ) (answer : Result X DeskFault) (new : DeskView) : Type 0 where
+pub record Flushes {X : Type 0} (old : DeskView) (moment : ℕ) (answer : Result X DeskFault)
+    (new : DeskView) : Type 0 where
   pub added : OnOk answer (new.mine ≡ old.mine ++ record_of old.pass moment act.Flush 0 false ∷ [])
   pub none_added : IfErr answer (λ fault. AddsNoneOrShort old moment fault new)
   pub given : StaysForAll old.gave_to new.gave_to
@@ -165,14 +188,17 @@ pub record Flushes {X : Type 0} (old : DeskView) (moment : ℕ) (answer : Result
   pub pass : new.pass ≡ old.pass
 
 -- A session was closed, unless no turn of the lock is left.
-pub record Closes {X : Type 0} (old : DeskView) (moment session : ℕ) (answer : Result X DeskFault) (new : DeskView) : Type 0 where
-  pub added : OnOk answer (new.mine ≡ old.mine ++ record_of old.pass moment (act.Close session) session false ∷ [])
+pub record Closes {X : Type 0} (old : DeskView) (moment session : ℕ)
+    (answer : Result X DeskFault) (new : DeskView) : Type 0 where
+  pub added : OnOk answer (new.mine
+      ≡ old.mine ++ record_of old.pass moment (act.Close session) session false ∷ [])
   pub given : StaysForAll old.gave_to new.gave_to
   pub why : IfErr answer IsLockFault
   pub rest : NotesAt old session answer new
 
 -- The desk was asked whether it is stopped, which makes no act.
-pub record AsksStopped (old : DeskView) (answer : Result Bool DeskFault) (new : DeskView) : Type 0 where
+pub record AsksStopped (old : DeskView) (answer : Result Bool DeskFault)
+    (new : DeskView) : Type 0 where
   pub mine : new.mine ≡ old.mine
   pub given : StaysForAll old.gave_to new.gave_to
   pub noted : NotesEverywhere (λ first. first_stop first answer) old new

@@ -1,5 +1,7 @@
 -- What contracts see of gates, sinks and worlds, and what their calls and those of clocks say.
-use Rattle.std.specs.Prelude.{◌≡◌, ℕ, ◌+◌, ◌≤◌, ◌||◌, Bool, true, false, List, [], ◌∷◌, ◌++◌, length, take, Option, Some, None, option_map, IfSome, Result, Ok, Err, OnOk, OnErr}
+use Rattle.std.specs.Prelude.{◌≡◌, ℕ, ◌+◌, ◌≤◌, ◌||◌, Bool, true, false, List, [], ◌∷◌, ◌++◌}
+use Rattle.std.specs.Prelude.{length, take, Option, Some, None, option_map, IfSome, Result, Ok, Err}
+use Rattle.std.specs.Prelude.{OnOk, OnErr}
 use Rattle.kom_links.specs.declared.asked.Asked.{Asked}
 use Rattle.kom_links.specs.declared.gate.Next.{Next}
 use Rattle.kom_links.specs.declared.gate.Next.TheVariants as next

@@ -6,4 +6,6 @@ pub mod Streams
 pub mod Talk
 pub mod Script
 pub mod Asking
+pub mod PlannedItems
+pub mod Marks
 pub mod Memories

@@ -1,7 +1,10 @@
 -- What contracts see of the objects in memory: what each was made with, how far it has come, and
 -- what a link gives and takes by its plan.
-use Rattle.std.specs.Prelude.{◌≡◌, ◌≤◌, ◌+◌, ◌==◌, ◌⊎◌, ℕ, min, if◌then◌else◌, Bool, true, false, List, [], ◌∷◌, length, take, drop, map, Option, Some, option_map, codes}
+use Rattle.std.specs.Prelude.{◌≡◌, ◌≤◌, ◌+◌, ◌==◌, ◌⊎◌, ◌||◌, ℕ, min, if◌then◌else◌, Bool, true}
+use Rattle.std.specs.Prelude.{false, List, [], ◌∷◌, length, take, drop, map, Option, Some, None}
+use Rattle.std.specs.Prelude.{option_map, codes}
 use Rattle.std.specs.List.{AllByRecursion}
+use Rattle.kom_links.specs.declared.desk.DeskFault.{DeskFault}
 use Rattle.kom_links.specs.declared.gate.Next.{Next}
 use Rattle.kom_links.specs.declared.gate.Next.TheVariants as next
 use Rattle.kom_links.specs.declared.link.Got.{Got}
@@ -16,9 +19,13 @@ use Rattle.kom_links.specs.declared.memory_gate.Client.{Client}
 use Rattle.kom_links.specs.declared.memory_gate.MemoryGate.{MemoryGate}
 use Rattle.kom_links.specs.declared.memory_sink.MemorySink.{MemorySink}
 use Rattle.kom_links.specs.declared.memory_clock.MemoryClock.{MemoryClock}
+use Rattle.kom_links.specs.declared.memory_desk.MemoryDesk.{MemoryDesk}
 use Rattle.kom_links.specs.declared.memory_world.GatePlan.{GatePlan}
 use Rattle.kom_links.specs.declared.memory_world.MemoryWorld.{MemoryWorld}
+use Rattle.kom_links.specs.DeskCalls.{DeskView, StaysForAll, ChangesAt, NotesEverywhere}
+use Rattle.kom_links.specs.Marks.{first_of, says_lock_full, fault_in}
 use Rattle.kom_links.specs.Outside.{Look, LinkView}
+use Rattle.kom_links.specs.PlannedItems.{given_in}
 
 -- how a link gives and takes its bytes
 abbrev pub plan_of : MemoryLink → LinkPlan
@@ -139,6 +146,50 @@ world_moments_of world = world.moments.items
 -- the numbers of the writes that fail at the next sink of a world
 abbrev pub sink_fails_of : MemoryWorld → List ℕ
 sink_fails_of world = world.sink_fails.items
+
+-- what contracts see of a desk in memory
+abbrev pub desk_view : MemoryDesk → DeskView
+desk_view desk = record {
+  pass = desk.pass;
+  mine = desk.records.items;
+  gave_to = given_in desk.drains.items;
+  fault_to = fault_in desk.marks.items;
+  lock_full = desk.is_lock_full;
+}
+
+-- a desk of this pass that has made no act and returned no fault
+pub record IsNewDesk (number : ℕ) (desk : DeskView) : Type 0 where
+  pub pass : desk.pass ≡ number
+  pub none_made : desk.mine ≡ []
+  pub none_given : (session : ℕ) → desk.gave_to session ≡ []
+  pub no_fault : (session : ℕ) → desk.fault_to session ≡ None
+  pub lock : desk.lock_full ≡ false
+
+-- contracts see the same of two desks
+pub record IsSameDesk (old new : DeskView) : Type 0 where
+  pub pass : new.pass ≡ old.pass
+  pub mine : new.mine ≡ old.mine
+  pub given : StaysForAll old.gave_to new.gave_to
+  pub faults : StaysForAll old.fault_to new.fault_to
+  pub lock_full : new.lock_full ≡ old.lock_full
+
+-- a fault was noted at this session, and nothing else changed
+pub record NotesFault (old : DeskView) (session : ℕ) (fault : DeskFault)
+    (new : DeskView) : Type 0 where
+  pub pass : new.pass ≡ old.pass
+  pub mine : new.mine ≡ old.mine
+  pub given : StaysForAll old.gave_to new.gave_to
+  pub noted : ChangesAt session (first_of (old.fault_to session) fault) old.fault_to new.fault_to
+  pub lock_full : new.lock_full ≡ (old.lock_full || says_lock_full fault)
+
+-- a fault that is of no session was noted, and nothing else changed
+pub record NotesFaultEverywhere (old : DeskView) (fault : DeskFault)
+    (new : DeskView) : Type 0 where
+  pub pass : new.pass ≡ old.pass
+  pub mine : new.mine ≡ old.mine
+  pub given : StaysForAll old.gave_to new.gave_to
+  pub noted : NotesEverywhere (λ first. first_of first fault) old new
+  pub lock_full : new.lock_full ≡ (old.lock_full || says_lock_full fault)
 
 -- what contracts see of a new link in memory whose client sends these bytes
 abbrev pub new_link : List ℕ → LinkView

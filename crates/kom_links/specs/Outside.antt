@@ -1,19 +1,21 @@
 -- What the calls of the outside's objects say.
-use Rattle.std.specs.Prelude.{◌≡◌, ℕ, ◌-◌, ◌^◌, ◌<◌, ◌≤◌, ◌⊎◌, ◌||◌, Bool, true, false, IsTrue, List, [], ◌∷◌, ◌++◌, length, take, Option, Some, option_map, IfSome}
+use Rattle.std.specs.Prelude.{◌≡◌, ℕ, ◌-◌, ◌^◌, ◌<◌, ◌≤◌, ◌⊎◌, ◌||◌, Bool, true, false, IsTrue}
+use Rattle.std.specs.Prelude.{List, [], ◌∷◌, ◌++◌, length, take, Option, Some, option_map, IfSome}
 use Rattle.kom_links.specs.declared.link.Got.{Got}
 use Rattle.kom_links.specs.declared.link.Got.TheVariants as got
 use Rattle.kom_links.specs.declared.link.Took.{Took}
 use Rattle.kom_links.specs.declared.link.Took.TheVariants as took
 
--- One read of a link: what had been taken from it and put to it before, and whether the read found nothing ready.
+-- One read of a link: what had been taken from it and put to it before, and whether the read found
+-- nothing ready.
 pub record Look : Type 0 where
   pub taken : List ℕ
   pub put : List ℕ
   pub waited : Bool
 
--- What contracts see of a link: where its peer is; the bytes that its reads gave so far, those that they have yet to give,
--- and those that its writes took, each where the link tells them; whether a read answered End; how often the link failed;
--- and its reads, where it tells them.
+-- What contracts see of a link: where its peer is; the bytes that its reads gave so far, those that
+-- they have yet to give, and those that its writes took, each where the link tells them; whether a
+-- read answered End; how often the link failed; and its reads, where it tells them.
 pub record LinkView : Type 0 where
   pub host : List ℕ
   pub taken : Option (List ℕ)
@@ -46,7 +48,8 @@ is_end got.NotYet = false
 is_end got.End = true
 is_end got.Failed = false
 
--- what a read may answer: at least one byte and at most as many as there is room for, or a fault that was counted
+-- what a read may answer: at least one byte and at most as many as there is room for, or a fault
+-- that was counted
 abbrev pub MayRead : ℕ → ℕ → ℕ → Got → Type 0
 MayRead room before after (got.Some count) = (0 < count) × (count ≤ room)
 MayRead room before after got.NotYet = Unit {0}
@@ -77,7 +80,8 @@ is_not_yet got.NotYet = true
 is_not_yet got.End = false
 is_not_yet got.Failed = false
 
--- Where a link tells its reads after one, it told them before, with what was taken and put till then, and this one is the last.
+-- Where a link tells its reads after one, it told them before, with what was taken and put till
+-- then, and this one is the last.
 abbrev pub Looks : LinkView → Got → LinkView → Type 0
 Looks old answer new = IfSome new.reads (λ after. (before : List Look) × (taken put : List ℕ) ×
     (old.reads ≡ Some before) × (old.taken ≡ Some taken) × (old.put ≡ Some put)

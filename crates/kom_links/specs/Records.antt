@@ -24,11 +24,13 @@ is_close (act.Close session) = true
 
 -- these records have the Connect of the session
 abbrev pub has_connect : ℕ → List Record → Bool
-has_connect session records = list_any (λ made. is_connect made.entry.act && made.session == session) records
+has_connect session records =
+    list_any (λ made. is_connect made.entry.act && made.session == session) records
 
 -- these records have the Close of the session
 abbrev pub has_close : ℕ → List Record → Bool
-has_close session records = list_any (λ made. is_close made.entry.act && made.session == session) records
+has_close session records =
+    list_any (λ made. is_close made.entry.act && made.session == session) records
 
 -- one of these records is of the session
 abbrev pub has_session : ℕ → List Record → Bool

@@ -1,6 +1,8 @@
 -- What a link is to the records that its bytes led to. (Protocol A, "Client-Server Protocol", and
 -- this server's own rule on when replies are sent.)
-use Rattle.std.specs.Prelude.{◌≡◌, ◌≢◌, ℕ, ◌+◌, ◌==◌, ◌⊎◌, Bool, true, false, IsTrue, nat_lt, List, [], ◌∷◌, ◌++◌, length, map, filter, flat_map, take, Option, Some, None, IsSome}
+use Rattle.std.specs.Prelude.{◌≡◌, ◌≢◌, ℕ, ◌+◌, ◌==◌, ◌⊎◌, Bool, true, false, IsTrue, nat_lt, List}
+use Rattle.std.specs.Prelude.{[], ◌∷◌, ◌++◌, length, map, filter, flat_map, take, Option, Some}
+use Rattle.std.specs.Prelude.{None, IsSome}
 use Rattle.std.specs.List.{list_all}
 use Rattle.kom_types.specs.declared.acts.Act.TheVariants as act
 use Rattle.kom_types.specs.declared.acts.Record.{Record}

@@ -2,7 +2,8 @@ ghost use Rattle.std.specs.Prelude.{◌≡◌, ◌≤◌, List, length, IfOk};
 ghost use Rattle.kom_types.specs.declared.items.Item.{Item as Taken};
 ghost use Rattle.kom_types.specs.declared.acts.Act.TheVariants as act;
 ghost use Rattle.kom_links.specs.Records.{IsOpen};
-ghost use Rattle.kom_links.specs.DeskCalls.{DeskView, Connects, Acts, Calls, Drains, Flushes, Closes, AsksStopped};
+ghost use Rattle.kom_links.specs.DeskCalls.{DeskView, Connects, Acts, Calls, Drains, Flushes};
+ghost use Rattle.kom_links.specs.DeskCalls.{Closes, AsksStopped};
 
 use arrayvec::ArrayVec;
 use kom_types::{Call, Item, Moment, Why};
@@ -18,8 +19,8 @@ pub enum DeskFault {
     Memory,
 }
 
-/// Where one pass hands in the acts of the sessions that it serves. Each call but `stopped` makes one act, at the moment that
-/// it is handed.
+/// Where one pass hands in the acts of the sessions that it serves. Each call but `stopped` makes
+/// one act, at the moment that it is handed.
 pub trait Desk {
     ghost view: { Self → DeskView };
 
@@ -37,7 +38,8 @@ pub trait Desk {
         call: Call,
     ) -> Result<(), DeskFault>
         requires { IsOpen session (view self.old).mine }
-        ensures { Calls (view self.old) moment (act.Call session reference call) session result (view self.new) };
+        ensures { Calls (view self.old) moment (act.Call session reference call) session result
+            (view self.new) };
 
     /// Says that a session's stream is at fault.
     fn broken(&mut self, moment: Moment, session: u32) -> Result<(), DeskFault>

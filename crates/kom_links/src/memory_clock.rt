@@ -1,4 +1,5 @@
-ghost use Rattle.std.specs.Prelude.{◌≡◌, ◌<◌, ℕ, [], Some, None, IfSome, length, vec_len, if◌then◌else◌, ◌==◌, ◌^◌, ◌-◌};
+ghost use Rattle.std.specs.Prelude.{◌≡◌, ◌<◌, ℕ, [], Some, None, IfSome, length, vec_len};
+ghost use Rattle.std.specs.Prelude.{if◌then◌else◌, ◌==◌, ◌^◌, ◌-◌};
 ghost use Rattle.kom_links.specs.Doors.{Gains};
 ghost use Rattle.kom_links.specs.Script.{next_call, moment_at, readings};
 

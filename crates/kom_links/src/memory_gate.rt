@@ -1,5 +1,6 @@
 ghost use Rattle.std.specs.VecDeque.{deque_len};
-ghost use Rattle.std.specs.Prelude.{◌≡◌, ◌-◌, ◌≤◌, ◌<◌, ◌↔◌, false, [], ◌∷◌, ◌++◌, Some, None, length, vec_capacity, IfOk, IfSome, if◌then◌else◌};
+ghost use Rattle.std.specs.Prelude.{◌≡◌, ◌-◌, ◌≤◌, ◌<◌, ◌↔◌, false, [], ◌∷◌, ◌++◌, Some, None};
+ghost use Rattle.std.specs.Prelude.{length, vec_capacity, IfOk, IfSome, if◌then◌else◌};
 ghost use Rattle.kom_links.specs.Outside.{IsFresh};
 ghost use Rattle.kom_links.specs.Doors.{IfLink, Admits, TakesBack};
 ghost use Rattle.kom_links.specs.Script.{next_call, faults_after, Fails, Waits};
@@ -77,7 +78,8 @@ impl MemoryGate {
 }
 
 impl Gate for MemoryGate {
-    ghost use Rattle.kom_links.specs.Memories.{clients_of, script_of, calls_of, next_failed, IsLinkOfFirst, StaysWithNoLink};
+    ghost use Rattle.kom_links.specs.Memories.{clients_of, script_of, calls_of, next_failed};
+    ghost use Rattle.kom_links.specs.Memories.{IsLinkOfFirst, StaysWithNoLink};
 
     type Link = MemoryLink;
 

@@ -1,4 +1,5 @@
-ghost use Rattle.std.specs.Prelude.{◌≡◌, ◌<◌, ◌≤◌, ◌+◌, ◌==◌, ◌&&◌, ◌↔◌, [], Some, All, not, is_some, take, drop, length, vec_len, codes};
+ghost use Rattle.std.specs.Prelude.{◌≡◌, ◌<◌, ◌≤◌, ◌+◌, ◌==◌, ◌&&◌, ◌↔◌, [], Some, All, not};
+ghost use Rattle.std.specs.Prelude.{is_some, take, drop, length, vec_len, codes};
 ghost use Rattle.std.specs.List.{list_any};
 ghost use Rattle.std.specs.Option.{ForSome};
 ghost use Rattle.kom_links.specs.Outside.{Reads, Writes, read_bytes};
@@ -88,7 +89,8 @@ pub struct MemoryLink {
 }
 
 impl MemoryLink {
-    ghost use Rattle.kom_links.specs.Memories.{plan_of, reads_of, writes_of, place_of, left_of, IsMost, new_link};
+    ghost use Rattle.kom_links.specs.Memories.{plan_of, reads_of, writes_of, place_of, left_of};
+    ghost use Rattle.kom_links.specs.Memories.{IsMost, new_link};
 
     /// A link whose client sends these bytes and then ends its stream.
     pub fn new(alloc: Global, input: Vec<u8>, plan: LinkPlan) -> MemoryLink
@@ -156,7 +158,9 @@ fn copy_to_start(into: &mut [u8], from: &[u8])
 }
 
 impl Link for MemoryLink {
-    ghost use Rattle.kom_links.specs.Memories.{plan_of, reads_of, writes_of, place_of, left_of, read_failed, write_failed, GivesMost, TakesMost, told_reads};
+    ghost use Rattle.kom_links.specs.Memories.{plan_of, reads_of, writes_of, place_of, left_of};
+    ghost use Rattle.kom_links.specs.Memories.{read_failed, write_failed, GivesMost, TakesMost};
+    ghost use Rattle.kom_links.specs.Memories.{told_reads};
 
     ghost view = { λ link. record {
       host = codes "memory";

@@ -67,7 +67,9 @@ impl MemoryWorld {
 }
 
 impl World for MemoryWorld {
-    ghost use Rattle.kom_links.specs.Memories.{clients_of, script_of, calls_of, moments_of, readings_of, fails_of, sink_writes_of, gate_plan_of, world_moments_of, sink_fails_of};
+    ghost use Rattle.kom_links.specs.Memories.{clients_of, script_of, calls_of, moments_of};
+    ghost use Rattle.kom_links.specs.Memories.{readings_of, fails_of, sink_writes_of, gate_plan_of};
+    ghost use Rattle.kom_links.specs.Memories.{world_moments_of, sink_fails_of};
 
     type Gate = MemoryGate;
 

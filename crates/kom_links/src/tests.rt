@@ -1,7 +1,7 @@
 use crate::{
     Client, Clock, Gate, GatePlan, Got, Link, LinkPlan, MemoryClock, MemoryGate, MemoryLink,
     MemorySink, MemoryWorld, Next, Script, Served, SessionEnd, Sink, StdWorld, Took, World,
-    WorldFault,
+    WorldFault, has_risen,
 };
 use kom_types::Moment;
 use std::alloc::{AllocError, Global};
@@ -47,6 +47,13 @@ fn a_link_keeps_to_its_plan(rt: HostRuntime) -> Result<(), Fail> {
     assert_eq!(rt; link.output(), b"xyxy".as_slice());
     assert_eq!(rt; link.faults(), 2);
     assert_eq!(rt; link.host(), b"memory".as_slice());
+    Ok(())
+}
+
+#[test]
+fn a_count_of_faults_rises_and_stands_still_at_its_end(rt: HostRuntime) -> Result<(), Fail> {
+    assert!(rt; has_risen(1, 2) && !has_risen(2, 2));
+    assert!(rt; has_risen(u64::MAX - 1, u64::MAX) && has_risen(u64::MAX, u64::MAX));
     Ok(())
 }
 

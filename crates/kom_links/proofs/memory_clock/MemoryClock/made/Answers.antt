@@ -1,4 +1,5 @@
-use Rattle.std.proofs.Common.{◌≡◌, ℕ, zero, suc, Bool, true, false, cond, List, [], ◌∷◌, length, Some, None, IfSome, refl, arith, length-append}
+use Rattle.std.proofs.Common.{◌≡◌, ℕ, zero, suc, Bool, true, false, cond, List, [], ◌∷◌, length, Some, None, IfSome}
+use Rattle.std.proofs.Common.{refl, arith, length-append}
 use Rattle.kom_links.specs.Script.{readings, moment_at}
 use Rattle.kom_links.proofs.memory_clock.MemoryClock.made.Goals as goal
 
