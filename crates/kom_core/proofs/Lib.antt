@@ -1,4 +1,7 @@
 pub mod Rows
+pub mod Finding
+pub mod Messages
+pub mod Defining
 pub mod Sending
 pub mod Making
 pub mod Soundness

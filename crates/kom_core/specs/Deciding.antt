@@ -1,9 +1,13 @@
 -- What a call of an entry comes to.
-use Rattle.std.specs.Prelude.{◌≡◌, true, false, List, None}
+use Rattle.std.specs.Prelude.{◌≡◌, ℕ, true, false, List, Option, Some, None}
 use Rattle.kom_types.specs.declared.acts.Act.{Act}
 use Rattle.kom_types.specs.declared.acts.Act.TheVariants as act
 use Rattle.kom_types.specs.declared.acts.Entry.{Entry}
 use Rattle.kom_types.specs.declared.decisions.Decision.{Decision}
+use Rattle.kom_types.specs.declared.items.Item.{Item}
+use Rattle.kom_types.specs.declared.items.Item.TheVariants as item
+use Rattle.kom_types.specs.declared.replies.Reply.{Reply}
+use Rattle.kom_types.specs.declared.seats.Seat.{Seat}
 use Rattle.kom_model.specs.State.{State}
 use Rattle.kom_model.specs.calls.Call.{Definition}
 use Rattle.kom_model.specs.Decide.{asked_in, decided, is_firm}
@@ -18,6 +22,25 @@ IsCall (act.Broken session) = ⊥
 IsCall (act.Drain session) = ⊥
 IsCall act.Flush = ⊥
 IsCall (act.Close session) = ⊥
+
+-- the messages that a session accepts, as a bit for each: none where it is not there
+abbrev pub bits_accepted : Option Seat → ℕ
+bits_accepted (Some seat) = seat.accepted
+bits_accepted None = 0
+
+-- the item is a reply
+abbrev pub IsReply : Item → Type 0
+IsReply item.Hello = ⊥
+IsReply (item.Reply reference body) = Unit {0}
+IsReply (item.Message message) = ⊥
+IsReply item.Fault = ⊥
+
+-- the item is a reply, and this stands in it
+abbrev pub HasBody : Reply → Item → Type 0
+HasBody body item.Hello = ⊥
+HasBody body (item.Reply reference other) = body ≡ other
+HasBody body (item.Message message) = ⊥
+HasBody body item.Fault = ⊥
 
 -- a call of this definition comes to this
 abbrev pub Defines : Definition → Decision → Type 0

@@ -1,11 +1,12 @@
 -- What a step of the server comes to.
-use Rattle.std.specs.Prelude.{◌≡◌, ℕ, ◌+◌, Bool, true, false, List, [], ◌∷◌, ◌++◌, Option, Some, None, Result, Ok, Err}
+use Rattle.std.specs.Prelude.{◌≡◌, ℕ, ◌+◌, Bool, true, false, List, [], ◌∷◌, ◌++◌, Option, Some}
+use Rattle.std.specs.Prelude.{None, Result, Ok, Err}
 use Rattle.kom_types.specs.declared.acts.Act.{Act}
 use Rattle.kom_types.specs.declared.acts.Act.TheVariants as act
 use Rattle.kom_types.specs.declared.acts.Entry.{Entry}
 use Rattle.kom_types.specs.declared.acts.Record.{Record}
 use Rattle.kom_types.specs.declared.answers.Refusal.{Refusal}
-use Rattle.kom_types.specs.declared.calls.Reply.TheVariants as reply
+use Rattle.kom_types.specs.declared.replies.Reply.TheVariants as reply
 use Rattle.kom_types.specs.declared.decisions.Decision.{Decision}
 use Rattle.kom_types.specs.declared.items.Item.TheVariants as item
 use Rattle.kom_types.specs.declared.session_changes.SessionChange.{SessionChange}
@@ -15,7 +16,8 @@ use Rattle.kom_model.specs.State.{State}
 use Rattle.kom_model.specs.Refusal.{refusal_of}
 use Rattle.kom_model.specs.Decide.{asked_in, is_firm}
 use Rattle.kom_model.specs.ToWhom.{Delivery}
-use Rattle.kom_model.specs.After.{session_in, moment_of, queue_all, reply_to, carry_out, sent, after}
+use Rattle.kom_model.specs.After.{session_in, moment_of, queue_all, reply_to, carry_out, sent}
+use Rattle.kom_model.specs.After.{after}
 use Rattle.kom_core.specs.declared.server_state.Made.{Made}
 use Rattle.kom_core.specs.Acts.{kind_of}
 use Rattle.kom_core.specs.Deciding.{Decides, DecidesFirm, SendsMessages}

@@ -2,7 +2,7 @@ ghost use Rattle.std.specs.Prelude.{◌≡◌, IfOk, IsOk};
 ghost use Rattle.kom_core.specs.Deciding.{IsCall, SendsMessages, DecidesFirm};
 
 use crate::server_state::State;
-use kom_types::{Decision, Entry, Item, Memory};
+use kom_types::{Act, Decision, Entry, Item, Memory};
 use std::marker::Model;
 
 /// An item for a session.
@@ -33,10 +33,7 @@ pub(crate) fn fan_out(
     ensures firm { DecidesFirm state.now entry.now → IsOk result }
 {
     match &entry.act {
-        kom_types::Act::Call { call, .. } => match call {
-            kom_types::Call::WhoAmI => Ok(Vec::new(state.allocator())),
-            kom_types::Call::Refused(_, _) => Ok(Vec::new(state.allocator())),
-        },
+        Act::Call { .. } => Ok(Vec::new(state.allocator())),
         _ => unreachable!(),
     }
 }

@@ -83,7 +83,10 @@ impl Core {
                 });
                 Ok(made.answer)
             }
-            Err(refusal) => Ok(AnswerKind::Refused(refusal)),
+            Err(refusal) => {
+                drop(entry);
+                Ok(AnswerKind::Refused(refusal))
+            }
         }
     }
 

@@ -1,8 +1,9 @@
-ghost use Rattle.std.specs.Prelude.{◌≡◌, ◌+◌, ◌^◌, ◌<◌, ◌||◌, [], false, max, None, IfOk, OnErr, IsOk};
+ghost use Rattle.std.specs.Prelude.{◌≡◌, ◌+◌, ◌^◌, ◌<◌, ◌==◌, ◌||◌, [], find, false, max, None};
+ghost use Rattle.std.specs.Prelude.{option_copied, IfOk, OnErr, IsOk};
 ghost use Rattle.kom_types.specs.Sessions.{waiting_limits, queued};
-ghost use Rattle.kom_model.specs.State.{IsSound, empty as empty_state};
+ghost use Rattle.kom_model.specs.State.{IsSound, empty as empty_state, seats_of};
 ghost use Rattle.kom_model.specs.Refusal.{refusal_of as refusal_of_act};
-ghost use Rattle.kom_model.specs.After.{moment_of};
+ghost use Rattle.kom_model.specs.After.{moment_of as moment_of_entry};
 ghost use Rattle.kom_core.specs.Acts.{items_of, TakesNone};
 ghost use Rattle.kom_core.specs.Steps.{Changes, Steps, counted};
 
@@ -13,7 +14,7 @@ mod refusing;
 
 use crate::answer_kind::AnswerKind;
 use arrayvec::ArrayVec;
-use kom_types::{Entry, Item, Memory, Moment, Refusal};
+use kom_types::{Entry, Item, Memory, Moment, Refusal, Seat};
 use sessions::Sessions;
 use std::alloc::Global;
 use std::marker::Model;
@@ -77,6 +78,20 @@ impl State {
 
     pub(crate) fn allocator(&self) -> Global {
         self.alloc
+    }
+
+    /// All that a call may read of a session, if it is there.
+    pub(crate) fn seat(&self, session: u32) -> Option<&Seat>
+        ensures { option_copied result ≡ find (λ seat. seat.number == session) (seats_of self.now) }
+    {
+        Some(self.sessions.get(session)?.seat())
+    }
+
+    /// The moment of an entry for which the pass's clock gave this one.
+    pub(crate) fn moment_of(&self, given: Moment) -> Moment
+        ensures { result ≡ moment_of_entry self.now given }
+    {
+        later(self.moment, given)
     }
 
     /// Whether it was shut down or its store refused a flush.

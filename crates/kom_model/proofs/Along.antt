@@ -1,5 +1,6 @@
 -- A legal history, and what it gives to a session and leaves waiting for it.
-use Rattle.std.proofs.Common.{◌≡◌, ℕ, ◌==◌, ◌⊎◌, Bool, true, false, cond, List, [], ◌∷◌, ◌++◌, refl, sym, ap, ◌∙◌, inl, inr, append_assoc}
+use Rattle.std.proofs.Common.{◌≡◌, ℕ, ◌==◌, ◌⊎◌, Bool, true, false, cond, List, [], ◌∷◌, ◌++◌, refl}
+use Rattle.std.proofs.Common.{sym, ap, ◌∙◌, inl, inr, append_assoc}
 use Rattle.std.specs.List.{flat_map}
 use Rattle.std.proofs.lemmas.Bool.{cases_eq}
 use Rattle.std.proofs.lemmas.Grind.{flat_map-append}
@@ -12,11 +13,13 @@ use Rattle.kom_types.specs.Sessions.{Waiting}
 use Rattle.kom_model.specs.State.{State, IsSound}
 use Rattle.kom_model.specs.After.{after}
 use Rattle.kom_model.specs.Legal.{IsLegal, state_after}
-use Rattle.kom_model.specs.Out.{items_of, waiting_for, given_from, drained_from, given_by, given_along, queued_for, queued_along, out_of}
+use Rattle.kom_model.specs.Out.{items_of, waiting_for, given_from, drained_from, given_by}
+use Rattle.kom_model.specs.Out.{given_along, queued_for, queued_along, out_of}
 use Rattle.kom_model.specs.Laws.{all_given}
 use Rattle.kom_model.proofs.Soundness.{IsSound-after}
 use Rattle.kom_model.proofs.Moving.{taken_by, added_by, Closes, record_moves}
-use Rattle.kom_model.proofs.Closing.{IsOver, IsOver-after, IsOver-state_after, taken-over, closed-over}
+use Rattle.kom_model.proofs.Closing.{IsOver, IsOver-after, IsOver-state_after, taken-over}
+use Rattle.kom_model.proofs.Closing.{closed-over}
 
 -- what the records of a history take of what waits for the session
 abbrev pub taken_along : ℕ → State → List Record → List Waiting

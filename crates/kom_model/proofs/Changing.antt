@@ -3,7 +3,8 @@ use Rattle.std.proofs.Common.{◌≡◌, ℕ, ◌==◌, true, false, cond, List,
 use Rattle.kom_types.specs.declared.seats.Seat.{Seat}
 use Rattle.kom_types.specs.declared.session_changes.SessionChange.{SessionChange}
 use Rattle.kom_types.specs.declared.session_changes.SessionChange.TheVariants as change
-use Rattle.kom_types.specs.Sessions.{Waiting, changed_session, changed_seat, changed, with_invisible}
+use Rattle.kom_types.specs.Sessions.{Waiting, changed_session, changed_seat, changed}
+use Rattle.kom_types.specs.Sessions.{with_invisible}
 use Rattle.kom_model.specs.State.{State}
 use Rattle.kom_model.specs.After.{make_change, make_changes}
 use Rattle.kom_model.proofs.Keeping.{KeepsRows, KeepsRows-same, KeepsRows-changed, KeepsRows-then}

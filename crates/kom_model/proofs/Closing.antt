@@ -1,5 +1,6 @@
 -- A session that was closed is given nothing more.
-use Rattle.std.proofs.Common.{◌≡◌, ℕ, ◌+◌, ◌≤◌, Bool, true, false, eqb, List, [], ◌∷◌, map, Option, Some, None, refl, sym, ap, ◌∙◌, inl, inr, arith}
+use Rattle.std.proofs.Common.{◌≡◌, ℕ, ◌+◌, ◌≤◌, Bool, true, false, eqb, List, [], ◌∷◌, map, Option}
+use Rattle.std.proofs.Common.{Some, None, refl, sym, ap, ◌∙◌, inl, inr, arith}
 use Rattle.std.specs.List.{find}
 use Rattle.std.specs.Option.{IsSome}
 use Rattle.std.proofs.lemmas.Bool.{cases_eq, ne_eqb, eq-eqb}
@@ -8,10 +9,13 @@ use Rattle.kom_types.specs.declared.acts.Act.TheVariants as act
 use Rattle.kom_types.specs.declared.acts.Record.{Record}
 use Rattle.kom_types.specs.Sessions.{Session, waiting_limits, is_session, drained}
 use Rattle.kom_model.specs.State.{State, IsSound, session_of}
-use Rattle.kom_model.specs.After.{moment_of, decision_at, apply_all, deliveries, acted, after, MayFollow}
+use Rattle.kom_model.specs.After.{moment_of, decision_at, apply_all, deliveries, acted, after}
+use Rattle.kom_model.specs.After.{MayFollow}
 use Rattle.kom_model.specs.Legal.{state_after}
 use Rattle.kom_model.specs.Refusal.{close_refused}
-use Rattle.kom_model.proofs.Finding.{changed_row, KeepsNumbers, find-changed_same, find-changed_other, find-added_other, find-removed_same, find-removed_other, drawn-found}
+use Rattle.kom_model.proofs.Finding.{changed_row, KeepsNumbers, find-changed_same}
+use Rattle.kom_model.proofs.Finding.{find-changed_other, find-added_other, find-removed_same}
+use Rattle.kom_model.proofs.Finding.{find-removed_other, drawn-found}
 use Rattle.kom_model.proofs.Keeping.{absent-kept}
 use Rattle.kom_model.proofs.Queueing.{Grows, queue_all-rows}
 use Rattle.kom_model.proofs.Changing.{Stays, make_changes-stay, make_changes-rows}

@@ -1,5 +1,6 @@
 -- What the drains of a session give is, in the end, all that it is to be sent.
-use Rattle.std.proofs.Common.{◌≡◌, ℕ, ◌≤◌, Bool, true, false, cond, ◌&&◌, List, [], ◌∷◌, ◌++◌, Option, Some, None, refl, sym, ap, ◌∙◌, subst, append_assoc, arith}
+use Rattle.std.proofs.Common.{◌≡◌, ℕ, ◌≤◌, Bool, true, false, cond, ◌&&◌, List, [], ◌∷◌, ◌++◌}
+use Rattle.std.proofs.Common.{Option, Some, None, refl, sym, ap, ◌∙◌, subst, append_assoc, arith}
 use Rattle.std.proofs.lemmas.List.{append-nil, map-append}
 use Rattle.kom_types.specs.declared.acts.Act.TheVariants as act
 use Rattle.kom_types.specs.declared.acts.Record.{Record}
@@ -20,7 +21,8 @@ use Rattle.kom_model.proofs.Draining.{AllFrom-nothing_drained}
 use Rattle.kom_model.proofs.Flushing.{flushed-stable, stable-state_after}
 use Rattle.kom_model.proofs.Moving.{taken_by}
 use Rattle.kom_model.proofs.Closing.{IsOver, IsOver-state_after}
-use Rattle.kom_model.proofs.Along.{taken_along, added_along, given-taken, out-added, MovesAlong, history_moves}
+use Rattle.kom_model.proofs.Along.{taken_along, added_along, given-taken, out-added, MovesAlong}
+use Rattle.kom_model.proofs.Along.{history_moves}
 
 state_after-append : (state : State) (one two : List Record) →
     state_after state (one ++ two) ≡ state_after (state_after state one) two

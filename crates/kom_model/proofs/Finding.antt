@@ -1,5 +1,7 @@
 -- Which row is found after a change of the rows.
-use Rattle.std.proofs.Common.{◌≡◌, ℕ, ◌≤◌, true, false, cond, not, eqb, List, [], ◌∷◌, ◌++◌, map, Option, Some, None, refl, sym, ap, ◌∙◌, inl, inr, if◌then◌else◌, arith}
+use Rattle.std.proofs.Common.{◌≡◌, ℕ, ◌≤◌, true, false, cond, not, eqb, List, [], ◌∷◌, ◌++◌, map}
+use Rattle.std.proofs.Common.{Option, Some, None, refl, sym, ap, ◌∙◌, inl, inr, if◌then◌else◌}
+use Rattle.std.proofs.Common.{arith}
 use Rattle.std.specs.List.{find, filter, AllByRecursion}
 use Rattle.std.specs.Option.{option_map, IsSome}
 use Rattle.std.proofs.lemmas.Bool.{cases_Bool, eqb-true, eq-eqb, ne_eqb}
@@ -12,14 +14,6 @@ changed_row number change row = if is_session number row then change row else ro
 -- a change that keeps the numbers of sessions
 abbrev pub KeepsNumbers : (Session → Session) → Type 0
 KeepsNumbers change = (row : Session) → (change row).seat.number ≡ row.seat.number
-
-pub number-changed_row : (number : ℕ) (change : Session → Session) → KeepsNumbers change → (row : Session) →
-    (changed_row number change row).seat.number ≡ row.seat.number
-number-changed_row number change keeps row =
-    elim (is_session number row) as (λ b. (cond b (change row) row).seat.number ≡ row.seat.number) [
-      | true ↦ keeps row
-      | false ↦ refl
-    ]
 
 other_step : (number n : ℕ) (row changed : Session) (found found' : Option Session) →
     changed.seat.number ≡ row.seat.number → (n ≡ number → ⊥) → found' ≡ found →

@@ -1,5 +1,7 @@
 -- One record, and what it gives to a session and leaves waiting for it.
-use Rattle.std.proofs.Common.{◌≡◌, ℕ, ◌==◌, ◌+◌, Bool, true, false, cond, eqb, List, [], ◌∷◌, ◌++◌, length, map, drop, Option, Some, None, refl, sym, ap, ◌∙◌, inl, inr, arith, append_assoc, if◌then◌else◌}
+use Rattle.std.proofs.Common.{◌≡◌, ℕ, ◌==◌, ◌+◌, Bool, true, false, cond, eqb, List, [], ◌∷◌, ◌++◌}
+use Rattle.std.proofs.Common.{length, map, drop, Option, Some, None, refl, sym, ap, ◌∙◌, inl, inr}
+use Rattle.std.proofs.Common.{arith, append_assoc, if◌then◌else◌}
 use Rattle.std.specs.List.{find}
 use Rattle.std.specs.Option.{option_map}
 use Rattle.std.proofs.lemmas.Bool.{cases_eq, ne_eqb, eq-eqb}
@@ -12,7 +14,8 @@ use Rattle.kom_types.specs.Sessions.{Waiting, Session, is_session, drained, drai
 use Rattle.kom_model.specs.State.{State, IsSound, session_of}
 use Rattle.kom_model.specs.After.{moment_of, decision_at, apply_all, acted, sent, after}
 use Rattle.kom_model.specs.Out.{waiting_in, waiting_for, drained_from}
-use Rattle.kom_model.proofs.Finding.{find-changed_same, find-changed_other, find-added_same, find-added_other, find-removed_other, find-undrawn}
+use Rattle.kom_model.proofs.Finding.{find-changed_same, find-changed_other, find-added_same}
+use Rattle.kom_model.proofs.Finding.{find-added_other, find-removed_other, find-undrawn}
 use Rattle.kom_model.proofs.Keeping.{waiting-kept}
 use Rattle.kom_model.proofs.Queueing.{Grows}
 use Rattle.kom_model.proofs.Changing.{Stays, make_changes-stay}

@@ -1,5 +1,6 @@
 -- What queueing adds to the rows, by the entry that is made.
-use Rattle.std.proofs.Common.{◌≡◌, ℕ, true, false, cond, List, [], ◌∷◌, ◌++◌, refl, sym, ap, ◌∙◌, append_assoc}
+use Rattle.std.proofs.Common.{◌≡◌, ℕ, true, false, cond, List, [], ◌∷◌, ◌++◌, refl, sym, ap, ◌∙◌}
+use Rattle.std.proofs.Common.{append_assoc}
 use Rattle.std.proofs.lemmas.List.{append-nil}
 use Rattle.kom_types.specs.declared.items.Item.{Item}
 use Rattle.kom_types.specs.Sessions.{Waiting, Session, Limits, fits, queued}
@@ -7,7 +8,8 @@ use Rattle.kom_model.specs.State.{State}
 use Rattle.kom_model.specs.ToWhom.{Delivery}
 use Rattle.kom_model.specs.After.{with_session, queue_all}
 use Rattle.kom_model.proofs.Order.{AllAt}
-use Rattle.kom_model.proofs.Keeping.{KeepsRow, KeepsRows, KeepsRows-same, KeepsRows-changed, KeepsRows-then}
+use Rattle.kom_model.proofs.Keeping.{KeepsRow, KeepsRows, KeepsRows-same, KeepsRows-changed}
+use Rattle.kom_model.proofs.Keeping.{KeepsRows-then}
 
 -- the entry at this place queued more
 abbrev pub Grows : ℕ → List Waiting → List Waiting → Type 0

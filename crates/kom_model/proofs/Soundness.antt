@@ -1,5 +1,6 @@
 -- A sound state stays sound.
-use Rattle.std.proofs.Common.{◌≡◌, ℕ, ◌+◌, ◌≤◌, Bool, true, false, cond, List, [], ◌∷◌, ◌++◌, refl, ap, subst, arith}
+use Rattle.std.proofs.Common.{◌≡◌, ℕ, ◌+◌, ◌≤◌, Bool, true, false, cond, List, [], ◌∷◌, ◌++◌, refl}
+use Rattle.std.proofs.Common.{ap, subst, arith}
 use Rattle.std.specs.List.{filter}
 use Rattle.kom_types.specs.declared.acts.Act.{Act}
 use Rattle.kom_types.specs.declared.acts.Act.TheVariants as act
@@ -7,11 +8,14 @@ use Rattle.kom_types.specs.declared.acts.Record.{Record}
 use Rattle.kom_types.specs.declared.decisions.Decision.{Decision}
 use Rattle.kom_types.specs.Sessions.{Waiting, Session, waiting_limits, drained, drained_count}
 use Rattle.kom_model.specs.State.{State, IsSound, IsInOrder}
-use Rattle.kom_model.specs.After.{moment_of, deliveries, decision_at, carry_out, apply_all, acted, sent, after}
+use Rattle.kom_model.specs.After.{moment_of, deliveries, decision_at, carry_out, apply_all, acted}
+use Rattle.kom_model.specs.After.{sent, after}
 use Rattle.kom_model.specs.Legal.{state_after}
 use Rattle.kom_model.proofs.Order.{IsInOrder-drop, IsInOrder-append}
-use Rattle.kom_model.proofs.Keeping.{KeepsRows, KeepsRows-changed, KeepsRows-weaken, KeepsOrder, AllOrdered, ordered-kept}
-use Rattle.kom_model.proofs.Numbers.{drawn-kept, apart-kept, drawn-added, apart-added, drawn-filtered, apart-filtered}
+use Rattle.kom_model.proofs.Keeping.{KeepsRows, KeepsRows-changed, KeepsRows-weaken, KeepsOrder}
+use Rattle.kom_model.proofs.Keeping.{AllOrdered, ordered-kept}
+use Rattle.kom_model.proofs.Numbers.{drawn-kept, apart-kept, drawn-added, apart-added}
+use Rattle.kom_model.proofs.Numbers.{drawn-filtered, apart-filtered}
 use Rattle.kom_model.proofs.Queueing.{Grows, queue_all-rows, queue_all-grows}
 use Rattle.kom_model.proofs.Changing.{Stays, make_changes-stay, make_changes-rows}
 

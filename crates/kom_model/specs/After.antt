@@ -1,16 +1,18 @@
 -- One step of the server.
-use Rattle.std.specs.Prelude.{◌≡◌, ℕ, ◌+◌, max, not, ◌||◌, Bool, true, false, List, [], ◌∷◌, ◌++◌, map, filter, if◌then◌else◌}
+use Rattle.std.specs.Prelude.{◌≡◌, ℕ, ◌+◌, max, not, ◌||◌, Bool, true, false, List, [], ◌∷◌, ◌++◌}
+use Rattle.std.specs.Prelude.{map, filter, if◌then◌else◌}
 use Rattle.kom_types.specs.declared.acts.Act.{Act}
 use Rattle.kom_types.specs.declared.acts.Act.TheVariants as act
 use Rattle.kom_types.specs.declared.acts.Record.{Record}
 use Rattle.kom_types.specs.declared.calls.Call.{Call}
-use Rattle.kom_types.specs.declared.calls.Reply.{Reply}
-use Rattle.kom_types.specs.declared.calls.Reply.TheVariants as reply
+use Rattle.kom_types.specs.declared.replies.Reply.{Reply}
+use Rattle.kom_types.specs.declared.replies.Reply.TheVariants as reply
 use Rattle.kom_types.specs.declared.decisions.Decision.{Decision}
 use Rattle.kom_types.specs.declared.effects.Effect.{Effect}
 use Rattle.kom_types.specs.declared.items.Item.TheVariants as item
 use Rattle.kom_types.specs.declared.session_changes.SessionChange.{SessionChange}
-use Rattle.kom_types.specs.Sessions.{Session, Limits, waiting_limits, fresh_session, is_session, queued, drained, changed_session, changed, is_stop}
+use Rattle.kom_types.specs.Sessions.{Session, Limits, waiting_limits, fresh_session, is_session}
+use Rattle.kom_types.specs.Sessions.{queued, drained, changed_session, changed, is_stop}
 use Rattle.kom_model.specs.State.{Db, State}
 use Rattle.kom_model.specs.Decide.{asked_in, decision_of, is_firm}
 use Rattle.kom_model.specs.Refusal.{IsPossible}
@@ -91,7 +93,7 @@ deliveries state made = elim made.entry.act [
   | act.Close session ↦ []
 ]
 
--- What an effect makes of the stored rows: there are no effects yet.
+-- What an effect makes of the stored rows: there are none yet, so it changes nothing.
 abbrev pub apply : Effect → Db → Db
 apply effect db = db
 

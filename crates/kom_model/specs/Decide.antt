@@ -1,12 +1,17 @@
 -- What a call is answered and changes. (Protocol A, "Protocol Requests".)
 use Rattle.std.specs.Prelude.{ℕ, Bool, true, false, ◌==◌, ◌||◌, ◌&&◌, not, is_some, Some, None}
+use Rattle.std.specs.Prelude.{length, nat_le, if◌then◌else◌}
 use Rattle.kom_types.specs.declared.calls.Call.{Call}
 use Rattle.kom_types.specs.declared.calls.Call.TheVariants as call
 use Rattle.kom_types.specs.declared.decisions.Decision.{Decision}
+use Rattle.kom_types.specs.declared.items.Item.TheVariants as item
+use Rattle.kom_types.specs.Printing.{print_of}
 use Rattle.kom_types.specs.calls.Numbers.{number_of_call}
 use Rattle.kom_model.specs.State.{State, seats_of}
 use Rattle.kom_model.specs.Kinds.{firm_numbers, accept_async, is_among}
-use Rattle.kom_model.specs.calls.Call.{Asked, Definition, refuse}
+use Rattle.kom_model.specs.calls.Call.{Asked, Definition, refuse, refused}
+use Rattle.kom_model.specs.calls.AuxItems as AuxItems
+use Rattle.kom_model.specs.calls.Server as Server
 use Rattle.kom_model.specs.calls.Sessions as Sessions
 
 -- what a call in this state may read, at this moment
@@ -20,24 +25,41 @@ asked_in state moment session reference =
       reference = reference;
     }
 
--- The definition of each call.
+-- The definition of each call. One that the server does not make yet is refused as an unknown one.
 abbrev pub definition_of : Asked → Call → Definition
+definition_of asked call.GetTime = Server.get_time asked
 definition_of asked call.WhoAmI = Sessions.who_am_i asked
-definition_of asked (call.Refused code status) = Sessions.refused code status
+definition_of asked call.GetVersionInfo = Server.get_version_info
+definition_of asked (call.AcceptAsync numbers) = Sessions.accept_async asked numbers
+definition_of asked call.QueryAsync = Sessions.query_async asked
+definition_of asked call.GetInfo = Server.get_info
+definition_of asked call.QueryPredefinedAuxItems = AuxItems.query_predefined_aux_items
+definition_of asked (call.Refused code status) = refused code status
+definition_of asked other = refused 2 0
 
 -- what a definition comes to
 abbrev pub decided : Definition → Decision
 decided definition =
     elim definition.early [ Some refused ↦ refuse refused | None ↦ definition.rest ]
 
+-- how many bytes the line of a reply has at most
+abbrev pub longest_reply : ℕ
+longest_reply = 4194304
+
+-- the last guard of every call: a reply whose line would be longer is refused, and nothing changes
+abbrev pub limited : ℕ → Decision → Decision
+limited reference decision =
+    if nat_le (length (print_of (item.Reply reference decision.reply))) longest_reply then decision
+    else refuse (record { code = 46; status = 0 })
+
 -- What a session's call comes to.
 unfoldable pub decision_of : Asked → Call → Decision
-decision_of asked call = decided (definition_of asked call)
+decision_of asked call = limited asked.reference (decided (definition_of asked call))
 
 -- whether the reader refused the call
 abbrev pub was_refused : Call → Bool
-was_refused call.WhoAmI = false
 was_refused (call.Refused code status) = true
+was_refused other = false
 
 -- A firm call is never answered that memory ran out: it is of those that take none, or the reader
 -- refused it, or an early guard does, unless it makes a change all the same.

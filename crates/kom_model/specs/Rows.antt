@@ -6,15 +6,15 @@ use Rattle.kom_types.specs.declared.acts.Record.{Record}
 use Rattle.kom_types.specs.declared.answers.Refusal.TheVariants.{Gone, Full}
 use Rattle.kom_types.specs.declared.answers.Why.TheVariants.{Dropped, Overrun, Stopped, Absent}
 use Rattle.kom_types.specs.declared.calls.Call.TheVariants as call
-use Rattle.kom_types.specs.declared.calls.Reply.TheVariants as reply
+use Rattle.kom_types.specs.declared.replies.Reply.TheVariants as reply
 use Rattle.kom_types.specs.declared.items.Item.{Item}
 use Rattle.kom_types.specs.declared.items.Item.TheVariants as item
 use Rattle.kom_types.specs.declared.seats.Seat.{Seat}
 use Rattle.kom_types.specs.declared.session_changes.SessionChange.TheVariants as change
 use Rattle.kom_types.specs.Sessions.{Waiting, Session, Limits, waiting_limits}
 use Rattle.kom_model.specs.State.{NoRows, State, empty, IsSound}
-use Rattle.kom_model.specs.calls.Call.{Asked}
-use Rattle.kom_model.specs.Decide.{is_firm}
+use Rattle.kom_model.specs.calls.Call.{Asked, answer, unguarded, refused}
+use Rattle.kom_model.specs.Decide.{asked_in, definition_of, decision_of, limited, is_firm}
 use Rattle.kom_model.specs.ToWhom.{Delivery}
 use Rattle.kom_model.specs.Refusal.{refusal_of}
 use Rattle.kom_model.specs.After.{MayFollow, queue_all, make_changes, after}
@@ -279,3 +279,29 @@ pub record Rows : Type 0 where
   pub then_close : refusal_of after_refused_flush (act.Close 1) ≡ None
   pub last_session : refusal_of (counted 4294967294) (act.Connect [] []) ≡ None
   pub full : refusal_of (counted 4294967295) (act.Connect [] []) ≡ Some (Full 4294967295)
+  pub some_messages : (asked : Asked) →
+      definition_of asked (call.AcceptAsync (5 ∷ 23 ∷ 15 ∷ 3 ∷ []))
+      ≡ record {
+        early = None;
+        rest = record {
+          reply = reply.Refused 50 23;
+          effects = [];
+          changes = change.Accept asked.session 32800 ∷ [];
+        };
+      }
+  pub no_messages : (asked : Asked) →
+      definition_of asked (call.AcceptAsync [])
+      ≡ unguarded (record {
+        reply = reply.Done;
+        effects = [];
+        changes = change.Accept asked.session 0 ∷ [];
+      })
+  pub accepted_messages :
+      definition_of (asked_in (alone (record ceder { accepted = 32800 })) 12 1 7) call.QueryAsync
+      ≡ unguarded (answer (reply.Numbers (5 ∷ 15 ∷ [])))
+  pub time_of_the_entry :
+      decision_of (asked_in met 951782400 1 7) call.GetTime ≡ answer (reply.Time 951782400)
+  pub not_made_yet : (asked : Asked) → definition_of asked (call.DeleteConf 6) ≡ refused 2 0
+  pub firm_not_made : (asked : Asked) → is_firm asked (call.DeleteConf 6) ≡ true
+  pub not_firm : (asked : Asked) → is_firm asked (call.AcceptAsync []) ≡ false
+  pub short_enough : limited 7 (answer (reply.Number 1)) ≡ answer (reply.Number 1)

@@ -1,7 +1,6 @@
 -- The messages that a call sends.
 use Rattle.std.specs.Prelude.{ℕ, List, []}
 use Rattle.kom_types.specs.declared.calls.Call.{Call}
-use Rattle.kom_types.specs.declared.calls.Call.TheVariants as call
 use Rattle.kom_types.specs.declared.decisions.Decision.{Decision}
 use Rattle.kom_types.specs.declared.items.Item.{Item}
 use Rattle.kom_model.specs.calls.Call.{Asked}
@@ -14,5 +13,4 @@ pub record Delivery : Type 0 where
 -- The messages of a call that came to this, in the order of the table of messages and, for each, by
 -- rising session. No call that is built sends any.
 abbrev pub messages_of : Asked → Call → Decision → List Delivery
-messages_of asked call.WhoAmI decision = []
-messages_of asked (call.Refused code status) decision = []
+messages_of asked call decision = []

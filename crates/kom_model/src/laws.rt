@@ -1,4 +1,5 @@
-ghost use Rattle.kom_model.specs.Laws.{GivesPrefixes, GivesStable, GivesAllBefore, GivesAllToDropped, StaysSound, FitsWithin};
+ghost use Rattle.kom_model.specs.Laws.{GivesPrefixes, GivesStable, GivesAllBefore};
+ghost use Rattle.kom_model.specs.Laws.{GivesAllToDropped, StaysSound, FitsWithin};
 
 /// A law alone: what drains give is a prefix of what the session is to be sent, of stable entries,
 /// and in the end all of it.

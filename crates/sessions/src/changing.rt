@@ -1,5 +1,6 @@
 ghost use Rattle.std.specs.Prelude.{◌≡◌, true};
-ghost use Rattle.kom_types.specs.Sessions.{changed_session, changed_seat, with_person, with_invisible, with_active};
+ghost use Rattle.kom_types.specs.Sessions.{changed_session, changed_seat, with_person};
+ghost use Rattle.kom_types.specs.Sessions.{with_invisible, with_active};
 
 use kom_types::{Bytes, Moment, Seat, SessionChange};
 

@@ -1,4 +1,5 @@
-ghost use Rattle.std.specs.Prelude.{◌≡◌, ◌^◌, ◌-◌, ◌++◌, ◌∷◌, [], length, min, map, take, drop, false, if◌then◌else◌, IfOk, MatchOption, IsTrue, ◌↔◌};
+ghost use Rattle.std.specs.Prelude.{◌≡◌, ◌^◌, ◌-◌, ◌++◌, ◌∷◌, [], length, min, map, take, drop};
+ghost use Rattle.std.specs.Prelude.{false, if◌then◌else◌, IfOk, MatchOption, IsTrue, ◌↔◌};
 ghost use Rattle.kom_types.specs.Printing.{print_of};
 ghost use Rattle.kom_types.specs.Sessions.{fits, waiting_limits, drained_count};
 ghost use Rattle.sessions.specs.Outboxes.{is_below_first, TakesFirstBelow};
@@ -69,7 +70,10 @@ impl Outbox {
                 self.printed += len;
                 true
             }
-            Err(_full) => false,
+            Err(full) => {
+                drop(full);
+                false
+            }
         }
     }
 

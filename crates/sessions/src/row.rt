@@ -1,6 +1,7 @@
 ghost use Rattle.std.specs.Prelude.{◌≡◌, ◌^◌, ◌-◌, [], length, min, map, take, IfOk, IsTrue, ◌↔◌};
 ghost use Rattle.kom_types.specs.Printing.{print_of};
-ghost use Rattle.kom_types.specs.Sessions.{waiting_limits, fresh_seat, fresh_session, queued, drained_count, drained, changed};
+ghost use Rattle.kom_types.specs.Sessions.{waiting_limits, fresh_seat, fresh_session, queued};
+ghost use Rattle.kom_types.specs.Sessions.{drained_count, drained, changed};
 ghost use Rattle.sessions.specs.Rows.{takes};
 
 use crate::changing::change_seat;

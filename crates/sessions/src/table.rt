@@ -1,6 +1,9 @@
-ghost use Rattle.std.specs.Prelude.{◌≡◌, ◌^◌, ◌-◌, ◌++◌, ◌∷◌, [], not, false, None, min, map, filter, find, length, take, option_copied, IfSome, OnOk, OnErr, IsSome, IsTrue, ◌↔◌, MatchOption};
+ghost use Rattle.std.specs.Prelude.{◌≡◌, ◌^◌, ◌-◌, ◌++◌, ◌∷◌, [], not, false, None, min, map};
+ghost use Rattle.std.specs.Prelude.{filter, find, length, take, option_copied, IfSome, OnOk, OnErr};
+ghost use Rattle.std.specs.Prelude.{IsSome, IsTrue, ◌↔◌, MatchOption};
 ghost use Rattle.kom_types.specs.Printing.{print_of};
-ghost use Rattle.kom_types.specs.Sessions.{is_session, waiting_limits, queued, drained_count, drained, changed_session, is_stop, changed};
+ghost use Rattle.kom_types.specs.Sessions.{is_session, waiting_limits, queued, drained_count};
+ghost use Rattle.kom_types.specs.Sessions.{drained, changed_session, is_stop, changed};
 ghost use Rattle.sessions.specs.Rows.{AllBelow, IsRising, IsAt, with_row, takes};
 
 use crate::changing::session_of;

@@ -26,6 +26,8 @@ impl State {
         if self.sessions.get(session).is_some() {
             let len = printed_len(&item);
             self.sessions.queue(session, item, len, self.entries);
+        } else {
+            drop(item);
         }
     }
 }

@@ -1,6 +1,7 @@
 ghost use Rattle.std.specs.Prelude.{◌≡◌};
 ghost use Rattle.kom_model.specs.State.{session_of};
-ghost use Rattle.kom_model.specs.Refusal.{refusal_of, call_refused, drain_refused, close_refused, connect_refused, unless_store_refused};
+ghost use Rattle.kom_model.specs.Refusal.{refusal_of, call_refused, drain_refused, close_refused};
+ghost use Rattle.kom_model.specs.Refusal.{connect_refused, unless_store_refused};
 
 use super::State;
 use kom_types::{Act, Refusal, Why};

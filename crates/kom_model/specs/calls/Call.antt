@@ -1,7 +1,7 @@
 -- What the definition of a call is made of.
-use Rattle.std.specs.Prelude.{ℕ, List, [], Option, None}
-use Rattle.kom_types.specs.declared.calls.Reply.{Reply}
-use Rattle.kom_types.specs.declared.calls.Reply.TheVariants as reply
+use Rattle.std.specs.Prelude.{ℕ, ◌==◌, List, [], Option, Some, None, find}
+use Rattle.kom_types.specs.declared.replies.Reply.{Reply}
+use Rattle.kom_types.specs.declared.replies.Reply.TheVariants as reply
 use Rattle.kom_types.specs.declared.decisions.Decision.{Decision}
 use Rattle.kom_types.specs.declared.seats.Seat.{Seat}
 use Rattle.kom_model.specs.State.{Db}
@@ -14,6 +14,10 @@ pub record Asked : Type 0 where
   pub moment : ℕ
   pub session : ℕ
   pub reference : ℕ
+
+-- the seat of the caller's session
+abbrev pub seat_of : Asked → Option Seat
+seat_of asked = find (λ seat. seat.number == asked.session) asked.seats
 
 -- a refusal: the error's code and its status
 pub record Refused : Type 0 where
@@ -37,3 +41,9 @@ refuse refused = answer (reply.Refused refused.code refused.status)
 -- no guard refuses the call
 abbrev pub unguarded : Decision → Definition
 unguarded decision = record { early = None; rest = decision }
+
+-- a guard refuses the call before anything else is looked at
+abbrev pub refused : ℕ → ℕ → Definition
+refused code status =
+    let refusal : Refused = record { code = code; status = status } in
+    record { early = Some refusal; rest = refuse refusal }

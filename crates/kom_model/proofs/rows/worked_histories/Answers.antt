@@ -3,6 +3,7 @@ use Rattle.std.proofs.Common.{◌≡◌, true, false, refl, arith}
 use Rattle.std.specs.List.{IsDistinct}
 use Rattle.std.specs.Fmt.{digits}
 use Rattle.kom_types.specs.declared.acts.Record.{Record}
+use Rattle.kom_types.specs.Times.{time_of, day_from, month_from}
 use Rattle.kom_types.specs.Printing.{print_of}
 use Rattle.kom_model.specs.State.{State}
 use Rattle.kom_model.specs.Decide.{decision_of, is_firm}
@@ -16,7 +17,7 @@ may : (state : State) (made : Record) → IsPossible state made.entry.act →
 may state made possible session short = record { possible = possible; session = session; short = short }
 
 pub returns : goal.returns
-unfolding IsDistinct digits print_of decision_of is_firm
+unfolding IsDistinct digits time_of day_from month_from print_of decision_of is_firm
 returns c = record {
   connected = refl;
   answered = refl;
@@ -87,4 +88,12 @@ returns c = record {
   then_close = refl;
   last_session = refl;
   full = refl;
+  some_messages = λ asked. refl;
+  no_messages = λ asked. refl;
+  accepted_messages = refl;
+  time_of_the_entry = refl;
+  not_made_yet = λ asked. refl;
+  firm_not_made = λ asked. refl;
+  not_firm = λ asked. refl;
+  short_enough = refl;
 }

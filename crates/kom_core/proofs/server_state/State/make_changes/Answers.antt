@@ -1,4 +1,3 @@
-use Rattle.std.proofs.Common.{◌≡◌, refl}
 use Rattle.kom_core.proofs.Rows.{make_changes-push}
 use Rattle.kom_core.proofs.server_state.State.make_changes.Goals as goal
 

@@ -1,4 +1,3 @@
-use Rattle.std.proofs.Common.{◌≡◌, refl}
 use Rattle.kom_core.proofs.Rows.{stop_made}
 use Rattle.kom_core.proofs.server_state.State.stop.Goals as goal
 
