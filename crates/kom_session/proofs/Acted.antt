@@ -1,37 +1,35 @@
 -- The acts of a stream's units.
-use Rattle.std.proofs.Common.{◌≡◌, ◌≢◌, ℕ, ◌+◌, ◌<◌, ◌≤◌, ◌⊎◌, Bool, true, false, inl, inr, List, [], ◌∷◌, ◌++◌, length, map, Option, Some, None, Result, Ok, Err, refl, sym, ◌∙◌, ap, ap₂, subst, subst₂, append-nil, append_assoc, arith}
-use Rattle.std.specs.Prelude.{⊤, flat_map, option_map, IfOk}
+use Rattle.std.proofs.Common.{◌≡◌, ◌≢◌, ℕ, ◌+◌, ◌<◌, ◌≤◌, Bool, true, false, inl, inr, List, [], ◌∷◌, ◌++◌, length, map, Option, Some, None, Result, Ok, Err, refl, sym, ◌∙◌, ap, subst, subst₂, append-nil, append_assoc, arith}
+use Rattle.std.specs.Prelude.{⊤}
 use Rattle.std.proofs.lemmas.List.{map-append}
 use Rattle.kom_types.specs.declared.acts.Act.TheVariants as act
 use Rattle.kom_types.specs.declared.acts.Record.{Record}
 use Rattle.kom_types.specs.declared.calls.Call.{Call}
 use Rattle.kom_types.specs.declared.items.Item.{Item}
-use Rattle.kom_types.specs.Stream.{Line, stream_of}
-use Rattle.kom_types.specs.Reading.{Request, reading_of, place_of}
+use Rattle.kom_types.specs.Stream.{Line}
+use Rattle.kom_types.specs.Reading.{Request, reading_of}
 use Rattle.kom_framing.specs.declared.units.Unit.{Unit as StreamUnit}
 use Rattle.kom_framing.specs.declared.units.Unit.TheVariants as unit
-use Rattle.kom_framing.specs.Splitting.{IsAt, units_of}
+use Rattle.kom_framing.specs.Splitting.{IsAt}
 use Rattle.kom_links.specs.declared.desk.DeskFault.{DeskFault}
 use Rattle.kom_links.specs.declared.served.SessionEnd.{SessionEnd}
 use Rattle.kom_links.specs.declared.served.SessionEnd.TheVariants as end
 use Rattle.kom_links.specs.Outside.{LinkView}
 use Rattle.kom_links.specs.Doors.{Gains}
-use Rattle.kom_links.specs.Records.{is_open, has_session, IsOpen}
-use Rattle.kom_links.specs.DeskCalls.{DeskView, record_of, first_fault, IsConnectFault, Connects as ConnectsOf, Calls, Acts, NotesAt}
-use Rattle.kom_links.specs.Talk.{Step, Connects, Asks, Breaks, steps_of, requests_in, printed, AreTimed}
+use Rattle.kom_links.specs.Records.{is_open, IsOpen}
+use Rattle.kom_links.specs.DeskCalls.{DeskView, record_of, first_fault, Connects as ConnectsOf, Calls, Acts, NotesAt}
+use Rattle.kom_links.specs.Talk.{Step, Connects, Asks, Breaks, steps_of, printed, AreTimed}
 use Rattle.kom_session.specs.declared.flow.Phase.{Phase}
 use Rattle.kom_session.specs.declared.flow.Phase.TheVariants as phase
-use Rattle.kom_session.specs.Course.{IsSettled, IsRecent, IsCourse}
-use Rattle.kom_session.specs.Ends.{IsOwn}
-use Rattle.kom_session.specs.Known.{Known, Seen, seen, awake, with_line, HasRoom, HasSession, Keeps, LeavesOthers}
-use Rattle.kom_session.specs.Serving.{Party, Nobody, Somebody, Past, AreFirst, IsFaultAfter, IsNobody, IsSomebody, IsParty, IsPhase, IsServed, AreCalled, IsServing, IsTaking, IsFaulty, Plans, IsFinal, IsLast, IsOver, IsHeard}
-use Rattle.kom_session.specs.Waits.{AreAnswered}
-use Rattle.kom_session.proofs.Times.{timed_more, timed_skip}
+use Rattle.kom_session.specs.Course.{IsRecent, IsCourse}
+use Rattle.kom_session.specs.Known.{Known, Seen, seen, awake, with_line, HasRoom, LeavesOthers}
+use Rattle.kom_session.specs.Serving.{Party, Nobody, Somebody, Past, AreFirst, IsFaultAfter, IsPhase, IsServed, IsServing, IsTaking, IsFaulty, Plans, IsFinal, IsLast, IsOver, IsHeard}
+use Rattle.kom_session.proofs.Times.{timed_more}
 use Rattle.kom_session.proofs.Courses.{open_push, open_tail, own_step-same, recent_settled, recent_other, recent_call, course_started, course_called, course_broken}
-use Rattle.kom_session.proofs.Others.{others_trans, others_open, act_leaves}
+use Rattle.kom_session.proofs.Others.{others_open, act_leaves}
 use Rattle.kom_session.proofs.Served.{Pushes, push, served_still, served_split}
-use Rattle.kom_session.proofs.Stepped.{ok_fault, err_fault, noted_some, first_nil, second_nil}
-use Rattle.kom_session.proofs.Units.{begins, first_calls, line_not_first, greeting_once, no_greeting, fault_at_line, fault_tail_all, short_greeting}
+use Rattle.kom_session.proofs.Stepped.{ok_fault, err_fault, noted_some}
+use Rattle.kom_session.proofs.Units.{begins, first_calls, line_not_first, greeting_once, fault_at_line, short_greeting}
 
 -- ---- an act of the session
 

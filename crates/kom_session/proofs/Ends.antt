@@ -1,5 +1,5 @@
 -- From the end that the loop gives to the end of the service.
-use Rattle.std.proofs.Common.{◌≡◌, ◌≢◌, ℕ, zero, suc, ◌^◌, ◌<◌, ◌≤◌, ◌⊎◌, ◌==◌, ◌&&◌, ◌||◌, not, Bool, true, false, inl, inr, List, [], ◌∷◌, ◌++◌, length, Option, Some, None, Result, Ok, Err, refl, sym, ◌∙◌, ap, ap₂, subst, subst₂, append-nil, append_assoc, ne_eqb, le-leb, arith}
+use Rattle.std.proofs.Common.{◌≡◌, ◌≢◌, ℕ, zero, suc, ◌^◌, ◌<◌, ◌⊎◌, ◌==◌, ◌&&◌, ◌||◌, not, Bool, true, false, inl, inr, List, [], ◌∷◌, ◌++◌, length, Option, Some, None, Result, Ok, Err, refl, sym, ◌∙◌, ap, ap₂, subst, subst₂, append-nil, append_assoc, ne_eqb, le-leb, arith}
 use Rattle.std.specs.Prelude.{⊤, IfSome, IsSome, IsTrue}
 use Rattle.std.specs.List.{AllByRecursion}
 use Rattle.std.proofs.lemmas.List.Folds.{list_any-append}
@@ -25,7 +25,7 @@ use Rattle.kom_session.specs.declared.flow.Phase.TheVariants as phase
 use Rattle.kom_session.specs.Course.{IsSettled}
 use Rattle.kom_session.specs.Ends.{IsEndOf, HasCause, TellsFault, IsOwn, IsUntouched, given_to, end_at, ending_of, ending}
 use Rattle.kom_session.specs.Known.{Known, Seen, seen, LeavesOthers}
-use Rattle.kom_session.specs.Serving.{Party, Nobody, Somebody, Past, owed_to, IsFaultAfter, IsNobody, IsSomebody, IsParty, IsPhase, IsServed, IsServing, IsBetween, IsRefused, Climbs, Plans, IsHeard, IsOver}
+use Rattle.kom_session.specs.Serving.{Party, Nobody, Somebody, Past, owed_to, IsFaultAfter, IsSomebody, IsParty, IsPhase, IsServed, IsBetween, Climbs, Plans, IsHeard, IsOver}
 use Rattle.kom_session.specs.Waits.{AreAnswered, NoneWaits}
 use Rattle.kom_session.proofs.Times.{timed_none, timed_more, timed_skip}
 use Rattle.kom_session.proofs.Talks.{EndFacts, SilentFacts, talk_closed, talk_open, talk_silent}

@@ -1,8 +1,9 @@
 pub mod Acted
 pub mod Courses
 pub mod Ends
-pub mod Going
+pub mod Finishing
 pub mod Others
+pub mod Reading
 pub mod Served
 pub mod Stepped
 pub mod Steps

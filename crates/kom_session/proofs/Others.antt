@@ -1,17 +1,15 @@
 -- What the service of a session leaves alone.
-use Rattle.std.proofs.Common.{◌≡◌, ◌≢◌, ℕ, ◌==◌, ◌≤◌, ◌⊎◌, ◌&&◌, ◌||◌, Bool, true, false, not, inl, inr, List, [], ◌∷◌, ◌++◌, Option, Some, None, Result, Ok, Err, refl, sym, ◌∙◌, ap, ap₂, subst, ne_eqb, eq-eqb, arith}
+use Rattle.std.proofs.Common.{◌≡◌, ◌≢◌, ℕ, ◌==◌, ◌⊎◌, ◌&&◌, ◌||◌, Bool, true, false, not, inl, inr, List, [], ◌∷◌, ◌++◌, Option, Some, None, Result, Ok, Err, refl, sym, ◌∙◌, ap, ap₂, subst, ne_eqb, arith}
 use Rattle.std.specs.Prelude.{IsSome, if◌then◌else◌}
-use Rattle.std.specs.List.{list_any}
 use Rattle.std.proofs.lemmas.List.Folds.{list_any-append}
-use Rattle.kom_types.specs.declared.acts.Act.{Act}
 use Rattle.kom_types.specs.declared.acts.Act.TheVariants as act
 use Rattle.kom_types.specs.declared.acts.Record.{Record}
 use Rattle.kom_types.specs.declared.answers.Why.TheVariants as why
 use Rattle.kom_links.specs.declared.desk.DeskFault.{DeskFault}
 use Rattle.kom_links.specs.declared.desk.DeskFault.TheVariants as fault
 use Rattle.kom_links.specs.Outside.{LinkView}
-use Rattle.kom_links.specs.Records.{is_connect, is_close, has_connect, has_close, has_session, is_open, IsOpen}
-use Rattle.kom_links.specs.DeskCalls.{DeskView, record_of, first_fault, first_stop, is_noted, AddsNoneOrShort, NotesAt, Connects, Drains, Acts, Calls, Flushes, Closes, AsksStopped, NotesEverywhere}
+use Rattle.kom_links.specs.Records.{is_connect, is_close, has_connect, has_close, is_open}
+use Rattle.kom_links.specs.DeskCalls.{DeskView, record_of, first_fault, first_stop, is_noted, AddsNoneOrShort, NotesAt, Flushes, AsksStopped, NotesEverywhere}
 use Rattle.kom_session.specs.Known.{Seen, seen, Puts, LeavesOthers}
 
 -- ---- who is open

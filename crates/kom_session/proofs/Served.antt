@@ -1,12 +1,11 @@
 -- The service of a link, one step more at a time.
-use Rattle.std.proofs.Common.{◌≡◌, ◌≢◌, ℕ, ◌+◌, ◌==◌, ◌<◌, ◌⊎◌, ◌||◌, Bool, true, false, inl, inr, List, [], ◌∷◌, ◌++◌, length, Option, Some, None, Result, Ok, Err, refl, sym, ◌∙◌, ap, ap₂, subst, subst₂, append-nil, append_assoc, eq-eqb, arith}
-use Rattle.std.specs.Prelude.{⊤, IfSome, flat_map}
+use Rattle.std.proofs.Common.{◌≡◌, ◌≢◌, ℕ, ◌==◌, ◌⊎◌, ◌||◌, Bool, true, false, inl, inr, List, [], ◌∷◌, ◌++◌, Option, Some, None, Result, Ok, Err, refl, sym, ◌∙◌, ap, ap₂, subst, append-nil, append_assoc, eq-eqb}
+use Rattle.std.specs.Prelude.{IfSome, flat_map}
 use Rattle.std.specs.List.{AllByRecursion}
 use Rattle.std.proofs.lemmas.Grind.{flat_map-append}
 use Rattle.kom_types.specs.declared.acts.Act.TheVariants as act
 use Rattle.kom_types.specs.declared.acts.Record.{Record}
 use Rattle.kom_types.specs.declared.answers.Why.TheVariants as why
-use Rattle.kom_types.specs.declared.calls.Call.{Call}
 use Rattle.kom_types.specs.declared.items.Item.{Item}
 use Rattle.kom_types.specs.Printing.{print_of}
 use Rattle.kom_types.specs.Reading.{Request}
@@ -16,18 +15,18 @@ use Rattle.kom_links.specs.declared.desk.DeskFault.TheVariants as fault
 use Rattle.kom_links.specs.Outside.{Look, LinkView, grown}
 use Rattle.kom_links.specs.Doors.{Gains}
 use Rattle.kom_links.specs.Records.{is_open, IsOpen}
-use Rattle.kom_links.specs.DeskCalls.{DeskView, record_of, first_fault, first_stop, is_noted, AddsNoneOrShort, Drains as DrainsOf, Flushes as FlushesOf, AsksStopped, NotesAt}
-use Rattle.kom_links.specs.Talk.{Step, Connects, Asks, Breaks, Flushes, Drains, steps_of, requests_in, drains_in, printed, AreTimed}
+use Rattle.kom_links.specs.DeskCalls.{DeskView, record_of, first_fault, first_stop, is_noted, AddsNoneOrShort, Drains as DrainsOf, Flushes as FlushesOf, AsksStopped}
+use Rattle.kom_links.specs.Talk.{Step, Flushes, Drains, steps_of, printed, AreTimed}
 use Rattle.kom_session.specs.declared.flow.Phase.{Phase}
 use Rattle.kom_session.specs.declared.flow.Phase.TheVariants as phase
 use Rattle.kom_session.specs.Course.{IsFlushed, IsSettled, IsRecent, IsCourse}
 use Rattle.kom_session.specs.Ends.{IsOwn}
 use Rattle.kom_session.specs.Known.{Known, Seen, seen, awake, Puts, HasSession, LeavesOthers}
-use Rattle.kom_session.specs.Serving.{Party, Nobody, Somebody, Past, owed_to, AreFirst, IsFaultAfter, IsNobody, IsSomebody, IsParty, IsPhase, IsServed}
-use Rattle.kom_session.specs.Waits.{IsAnswered, IsChecked, AreAnswered}
+use Rattle.kom_session.specs.Serving.{Party, Nobody, Somebody, Past, owed_to, IsSomebody, IsParty, IsPhase, IsServed}
+use Rattle.kom_session.specs.Waits.{AreAnswered}
 use Rattle.kom_session.proofs.Steps.{steps-append}
 use Rattle.kom_session.proofs.Times.{timed_more, timed_skip}
-use Rattle.kom_session.proofs.Courses.{open_push, own_step-same, drain_steps, course_flushed, course_drained, recent_settled, recent_other, flushed_push, flushed_drained, settled_drained, settled_after, settled_settles}
+use Rattle.kom_session.proofs.Courses.{open_push, drain_steps, course_flushed, course_drained, recent_settled, recent_other, flushed_push, flushed_drained, settled_drained, settled_after, settled_settles}
 use Rattle.kom_session.proofs.Others.{others_trans, puts_leaves, stop_leaves, flush_leaves, act_leaves, others_open, noted_here}
 
 -- ---- what is put

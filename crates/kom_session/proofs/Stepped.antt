@@ -1,18 +1,15 @@
 -- What each answer of the desk leaves of a service.
-use Rattle.std.proofs.Common.{◌≡◌, ◌≢◌, ℕ, ◌+◌, ◌<◌, ◌⊎◌, Bool, true, false, inl, inr, List, [], ◌∷◌, ◌++◌, length, map, Option, Some, None, Result, Ok, Err, refl, sym, ◌∙◌, ap, subst, append-nil, append_assoc, arith}
+use Rattle.std.proofs.Common.{◌≡◌, ◌≢◌, ℕ, true, false, List, [], ◌∷◌, ◌++◌, length, Option, Some, None, Ok, Err, refl, subst}
 use Rattle.std.specs.Prelude.{⊤, flat_map}
 use Rattle.kom_types.specs.declared.answers.Why.TheVariants as why
 use Rattle.kom_types.specs.declared.items.Item.{Item}
-use Rattle.kom_types.specs.declared.acts.Record.{Record}
 use Rattle.kom_types.specs.Printing.{print_of}
 use Rattle.kom_links.specs.declared.desk.DeskFault.{DeskFault}
 use Rattle.kom_links.specs.declared.desk.DeskFault.TheVariants as fault
 use Rattle.kom_links.specs.Doors.{Gains}
-use Rattle.kom_links.specs.Records.{IsOpen}
 use Rattle.kom_links.specs.DeskCalls.{DeskView, first_fault, first_stop, Drains as DrainsOf, Flushes as FlushesOf, AsksStopped}
-use Rattle.kom_session.specs.declared.flow.Phase.{Phase}
 use Rattle.kom_session.specs.declared.flow.Phase.TheVariants as phase
-use Rattle.kom_session.specs.Known.{Known, Seen, seen, awake, HasSession, Keeps}
+use Rattle.kom_session.specs.Known.{Known, Seen, seen, awake}
 use Rattle.kom_session.specs.Serving.{Past, IsServed}
 use Rattle.kom_session.proofs.Served.{served_asked, flush_made, flush_refused, drained_some, drained_none, drain_refused}
 
@@ -47,10 +44,6 @@ pub noted_some : (cause : Option DeskFault) (reason : DeskFault)
     → first_fault {X = ⊤} cause (Err reason) ≡ None → ⊥
 noted_some None reason e = cc
 noted_some (Some first) reason e = cc
-
-pub noted_first : (cause : Option DeskFault) (reason : DeskFault)
-    → first_fault {X = ⊤} cause (Err reason) ≡ None → cause ≡ None
-noted_first cause reason e = absurd (noted_some cause reason e)
 
 with_cause : {start : Seen} {past : Past}
     (known : Known) {now : Seen} {cause cause' : Option DeskFault} → cause ≡ cause'
@@ -154,10 +147,6 @@ drained_err {X} {known = known} s some moment reason items desk gave drains gain
 pub first_nil : {X : Type 0} (xs ys : List X) → xs ++ ys ≡ [] → xs ≡ []
 first_nil [] ys e = refl
 first_nil (x ∷ xs) ys e = absurd (cc)
-
-pub second_nil : {X : Type 0} (xs ys : List X) → xs ++ ys ≡ [] → ys ≡ []
-second_nil [] ys e = e
-second_nil (x ∷ xs) ys e = absurd (cc)
 
 pub nil_of : {X : Type 0} (xs : List X) → length xs ≡ 0 → xs ≡ []
 nil_of [] e = refl

@@ -3,6 +3,7 @@ use Rattle.std.proofs.Common.{◌≡◌, ℕ, suc, ◌+◌, ◌<◌, ◌≤◌, 
 use Rattle.std.specs.Option.{option_or}
 use Rattle.std.proofs.lemmas.List.{length-map}
 use borrow.Author.Tests.{le-ltb}
+use Rattle.kom_types.specs.declared.side.Side.TheVariants as side
 use Rattle.kom_types.specs.Token.{Token}
 use Rattle.kom_types.specs.Grammar.{Form, Prefix, Whole, Unfit, line_form, greeting_form}
 use Rattle.kom_types.specs.Stream.{Line, Fault, Malformed, LineTooLong, Split, Verdict, GoesOn, Ends, Fails, verdict, longest_stream, longest_line, line_verdict, greeting_verdict, with_line, stopped_in, lines_from, greeting_from, stream_of}
@@ -73,13 +74,13 @@ line_step place text on next (Ends (token ∷ tokens)) at h k = (omega arith, k)
 line_step place text on next (Fails fault) at h k = omega (arith, at)
 
 pub ends_rise_from : (place : ℕ) (text bytes : List ℕ)
-    → let split = lines_from place text bytes in AreRising place split.lines split.fault
+    → let split = lines_from side.Client place text bytes in AreRising place split.lines split.fault
 ends_rise_from place text [] = tt
 ends_rise_from place text (byte ∷ bytes) =
-    line_step place text (lines_from (place + 1) (text ++ byte ∷ []) bytes)
-    (lines_from (place + 1) [] bytes) (line_verdict place (text ++ byte ∷ []))
-    (verdict_place place (nat_lt longest_line (length (text ++ byte ∷ [])))
-    (line_form (text ++ byte ∷ [])))
+    line_step place text (lines_from side.Client (place + 1) (text ++ byte ∷ []) bytes)
+    (lines_from side.Client (place + 1) [] bytes) (line_verdict side.Client place (text ++ byte ∷ []))
+    (verdict_place place (nat_lt (longest_line side.Client) (length (text ++ byte ∷ [])))
+    (line_form side.Client (text ++ byte ∷ [])))
     (ends_rise_from (place + 1) (text ++ byte ∷ []) bytes) (ends_rise_from (place + 1) [] bytes)
 
 greeting_step : (place : ℕ) (text : List ℕ) (on next : Split) (found : Verdict (List ℕ))
@@ -98,12 +99,12 @@ greeting_step place text on next (Ends name) at h k =
     rising_before place (place + 1) next.lines next.fault (omega arith) k
 greeting_step place text on next (Fails fault) at h k = omega (arith, at)
 
-greeting_rises : (place : ℕ) (text bytes : List ℕ) → IsRising place (greeting_from place text bytes)
+greeting_rises : (place : ℕ) (text bytes : List ℕ) → IsRising place (greeting_from side.Client place text bytes)
 greeting_rises place text [] = tt
 greeting_rises place text (byte ∷ bytes) =
-    greeting_step place text (greeting_from (place + 1) (text ++ byte ∷ []) bytes)
-    (lines_from (place + 1) [] bytes) (greeting_verdict place (text ++ byte ∷ []))
-    (verdict_place place false (greeting_form (text ++ byte ∷ [])))
+    greeting_step place text (greeting_from side.Client (place + 1) (text ++ byte ∷ []) bytes)
+    (lines_from side.Client (place + 1) [] bytes) (greeting_verdict side.Client place (text ++ byte ∷ []))
+    (verdict_place place false (greeting_form side.Client (text ++ byte ∷ [])))
     (greeting_rises (place + 1) (text ++ byte ∷ []) bytes) (ends_rise_from (place + 1) [] bytes)
 
 pub ends_rise : (bytes : List ℕ) → AreRising 0 (stream_of bytes).lines (stream_of bytes).fault
@@ -123,12 +124,12 @@ silent_step place text on next GoesOn h none = h none
 silent_step place text on next (Ends name) h none = cc
 silent_step place text on next (Fails fault) h none = refl
 
-silent_from : (place : ℕ) (text bytes : List ℕ) → (greeting_from place text bytes).greeting ≡ None
-    → (greeting_from place text bytes).lines ≡ []
+silent_from : (place : ℕ) (text bytes : List ℕ) → (greeting_from side.Client place text bytes).greeting ≡ None
+    → (greeting_from side.Client place text bytes).lines ≡ []
 silent_from place text [] none = refl
 silent_from place text (byte ∷ bytes) none =
-    silent_step place text (greeting_from (place + 1) (text ++ byte ∷ []) bytes)
-    (lines_from (place + 1) [] bytes) (greeting_verdict place (text ++ byte ∷ []))
+    silent_step place text (greeting_from side.Client (place + 1) (text ++ byte ∷ []) bytes)
+    (lines_from side.Client (place + 1) [] bytes) (greeting_verdict side.Client place (text ++ byte ∷ []))
     (silent_from (place + 1) (text ++ byte ∷ []) bytes) none
 
 pub no_lines_before_greeting : (bytes : List ℕ) → (stream_of bytes).greeting ≡ None

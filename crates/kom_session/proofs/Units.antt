@@ -4,6 +4,7 @@ use Rattle.std.specs.Prelude.{option_to_list, option_map, IfSome}
 use Rattle.std.proofs.lemmas.List.{length-map}
 use Rattle.std.proofs.lemmas.Bool.{eqb-true, leb-true}
 use Rattle.std.proofs.Math.Seq.{take-append_seam}
+use Rattle.kom_types.specs.declared.side.Side.TheVariants as side
 use Rattle.kom_types.specs.ByteKind.{is_blank, is_digit}
 use Rattle.kom_types.specs.Token.{Token, number_of}
 use Rattle.kom_types.specs.Grammar.{Form, Prefix, Whole, Unfit, drop_while, exactly, is_name_length, name_at, greeting_form}
@@ -226,13 +227,13 @@ line_step place text (Fails fault) on on' next next' p q =
     record { greeting = inr refl; more = []; lines_are = refl }
 
 lines_grow : (place : ℕ) (text bytes more : List ℕ)
-    → Grows (lines_from place text bytes) (lines_from place text (bytes ++ more))
-lines_grow place text [] more = stopped_grows text None (lines_from place text more)
+    → Grows (lines_from side.Client place text bytes) (lines_from side.Client place text (bytes ++ more))
+lines_grow place text [] more = stopped_grows text None (lines_from side.Client place text more)
 lines_grow place text (byte ∷ bytes) more =
-    line_step place text (line_verdict place (text ++ byte ∷ []))
-    (lines_from (place + 1) (text ++ byte ∷ []) bytes)
-    (lines_from (place + 1) (text ++ byte ∷ []) (bytes ++ more))
-    (lines_from (place + 1) [] bytes) (lines_from (place + 1) [] (bytes ++ more))
+    line_step place text (line_verdict side.Client place (text ++ byte ∷ []))
+    (lines_from side.Client (place + 1) (text ++ byte ∷ []) bytes)
+    (lines_from side.Client (place + 1) (text ++ byte ∷ []) (bytes ++ more))
+    (lines_from side.Client (place + 1) [] bytes) (lines_from side.Client (place + 1) [] (bytes ++ more))
     (lines_grow (place + 1) (text ++ byte ∷ []) bytes more)
     (lines_grow (place + 1) [] bytes more)
 
@@ -257,13 +258,13 @@ greeting_step place text (Fails fault) on on' next next' p q =
     record { greeting = inr refl; more = []; lines_are = refl }
 
 stream_grows : (place : ℕ) (text bytes more : List ℕ)
-    → Grows (greeting_from place text bytes) (greeting_from place text (bytes ++ more))
-stream_grows place text [] more = stopped_grows text None (greeting_from place text more)
+    → Grows (greeting_from side.Client place text bytes) (greeting_from side.Client place text (bytes ++ more))
+stream_grows place text [] more = stopped_grows text None (greeting_from side.Client place text more)
 stream_grows place text (byte ∷ bytes) more =
-    greeting_step place text (greeting_verdict place (text ++ byte ∷ []))
-    (greeting_from (place + 1) (text ++ byte ∷ []) bytes)
-    (greeting_from (place + 1) (text ++ byte ∷ []) (bytes ++ more))
-    (lines_from (place + 1) [] bytes) (lines_from (place + 1) [] (bytes ++ more))
+    greeting_step place text (greeting_verdict side.Client place (text ++ byte ∷ []))
+    (greeting_from side.Client (place + 1) (text ++ byte ∷ []) bytes)
+    (greeting_from side.Client (place + 1) (text ++ byte ∷ []) (bytes ++ more))
+    (lines_from side.Client (place + 1) [] bytes) (lines_from side.Client (place + 1) [] (bytes ++ more))
     (stream_grows (place + 1) (text ++ byte ∷ []) bytes more)
     (lines_grow (place + 1) [] bytes more)
 
@@ -331,7 +332,7 @@ letter_short : (is_letter : Bool) (form : Form (List ℕ)) → IsShortForm form
 letter_short true form h = h
 letter_short false form h = tt
 
-greeting_short : (bytes : List ℕ) → IsShortForm (greeting_form bytes)
+greeting_short : (bytes : List ℕ) → IsShortForm (greeting_form side.Client bytes)
 greeting_short [] = tt
 greeting_short (letter ∷ bytes) =
     let name = drop_while is_blank bytes in
@@ -381,12 +382,12 @@ short_step text (Ends name) on next h k = h
 short_step text (Fails fault) on next h k = tt
 
 short_from : (place : ℕ) (text bytes : List ℕ)
-    → IfSome (greeting_from place text bytes).greeting (λ name. length name ≤ 1024)
+    → IfSome (greeting_from side.Client place text bytes).greeting (λ name. length name ≤ 1024)
 short_from place text [] = tt
 short_from place text (byte ∷ bytes) =
-    short_step text (greeting_verdict place (text ++ byte ∷ []))
-    (greeting_from (place + 1) (text ++ byte ∷ []) bytes) (lines_from (place + 1) [] bytes)
-    (verdict_short place false (greeting_form (text ++ byte ∷ []))
+    short_step text (greeting_verdict side.Client place (text ++ byte ∷ []))
+    (greeting_from side.Client (place + 1) (text ++ byte ∷ []) bytes) (lines_from side.Client (place + 1) [] bytes)
+    (verdict_short place false (greeting_form side.Client (text ++ byte ∷ []))
     (greeting_short (text ++ byte ∷ []))) (short_from (place + 1) (text ++ byte ∷ []) bytes)
 
 -- a greeting's user name has at most 1,024 bytes

@@ -6,7 +6,8 @@ use Rattle.kom_types.specs.declared.acts.Record.{Record}
 use Rattle.kom_types.specs.declared.items.Item.{Item}
 use Rattle.kom_types.specs.Reading.{Request}
 use Rattle.kom_links.specs.Records.{IsOpen}
-use Rattle.kom_links.specs.Talk.{Step, Connects, Asks, Breaks, Flushes, Drains, Closes, steps_of, requests_in, drains_in, breaks_in, IsSpaced}
+use Rattle.kom_links.specs.Talk.{Step, Connects, Asks, Breaks, Flushes, Drains, Closes, steps_of}
+use Rattle.kom_links.specs.Talk.{requests_in, drains_in, breaks_in, IsSpaced}
 
 -- neither a Connect nor a call, nor that the stream is at fault
 abbrev pub is_still : Step → Bool

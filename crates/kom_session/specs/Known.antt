@@ -1,5 +1,6 @@
 -- What is known of a conversation, and of what is outside it.
-use Rattle.std.specs.Prelude.{◌≡◌, ◌≢◌, ℕ, ◌+◌, ◌≤◌, ◌<◌, ◌⊎◌, ◌++◌, false, List, drop, flat_map, Option, None, IsSome}
+use Rattle.std.specs.Prelude.{◌≡◌, ◌≢◌, ℕ, ◌+◌, ◌≤◌, ◌<◌, ◌⊎◌, ◌++◌, false, List, drop, flat_map}
+use Rattle.std.specs.Prelude.{Option, None, IsSome}
 use Rattle.kom_types.specs.Printing.{print_of}
 use Rattle.kom_framing.specs.Splitting.{Splitting}
 use Rattle.kom_links.specs.declared.desk.DeskFault.{DeskFault}

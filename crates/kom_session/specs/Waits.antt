@@ -1,9 +1,11 @@
 -- Nothing waits unanswered while the server waits for its client.
-use Rattle.std.specs.Prelude.{◌≡◌, ◌≢◌, ℕ, Bool, true, false, List, [], ◌∷◌, ◌++◌, length, Option, Some, None}
+use Rattle.std.specs.Prelude.{◌≡◌, ◌≢◌, ℕ, Bool, true, false, List, [], ◌∷◌, ◌++◌, length, Option}
+use Rattle.std.specs.Prelude.{Some, None}
 use Rattle.kom_types.specs.declared.items.Item.{Item}
 use Rattle.kom_types.specs.Stream.{stream_of}
 use Rattle.kom_links.specs.Outside.{Look}
-use Rattle.kom_links.specs.Talk.{Step, Connects, Asks, Breaks, Flushes, Drains, Closes, requests_in, printed, Settles}
+use Rattle.kom_links.specs.Talk.{Step, Connects, Asks, Breaks, Flushes, Drains, Closes, requests_in}
+use Rattle.kom_links.specs.Talk.{printed, Settles}
 use Rattle.kom_session.specs.Course.{IsSettled}
 
 -- what the drains among some steps gave, a list for each

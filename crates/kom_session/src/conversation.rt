@@ -1,4 +1,6 @@
-ghost use Rattle.std.specs.Prelude.{◌≡◌, ◌≢◌, ◌⊎◌, ℕ, ◌++◌, ◌≤◌, List, [], ◌∷◌, length, true, false, Option, Some, None, option_map, IfOk, IfNone, flat_map, drop, Err, Result, ⊤};
+ghost use Rattle.std.specs.Prelude.{◌≡◌, ◌≢◌, ◌⊎◌, ℕ, ◌++◌, ◌≤◌, List, [], ◌∷◌, length, true};
+ghost use Rattle.std.specs.Prelude.{false, Option, Some, None, option_map, IfOk, IfNone, flat_map};
+ghost use Rattle.std.specs.Prelude.{drop, Err, Result, ⊤};
 ghost use Rattle.kom_types.specs.Stream.{Line as StreamLine, stream_of};
 ghost use Rattle.kom_types.specs.Reading.{reading_of, place_of};
 ghost use Rattle.kom_types.specs.Printing.{print_of};
@@ -13,8 +15,10 @@ ghost use Rattle.kom_links.specs.declared.served.SessionEnd.TheVariants as end;
 ghost use Rattle.kom_session.specs.declared.flow.Phase.TheVariants as phase;
 ghost use Rattle.kom_session.specs.declared.flow.Sent.TheVariants as sent;
 ghost use Rattle.kom_session.specs.declared.flow.Turn.TheVariants as turn;
-ghost use Rattle.kom_session.specs.Known.{awake, with_line, known, Seen, seen, HasSession, HasRoom, Keeps, Puts};
-ghost use Rattle.kom_session.specs.Serving.{Past, ServesOn, IsServing, IsTaking, IsFaulty, IsLast, Turns};
+ghost use Rattle.kom_session.specs.Known.{awake, with_line, known, Seen, seen, HasSession, HasRoom};
+ghost use Rattle.kom_session.specs.Known.{Keeps, Puts};
+ghost use Rattle.kom_session.specs.Serving.{Past, ServesOn, IsServing, IsTaking, IsFaulty, IsLast};
+ghost use Rattle.kom_session.specs.Serving.{Turns};
 
 use crate::flow::{Phase, Sent, Turn};
 use arrayvec::ArrayVec;
@@ -31,6 +35,8 @@ const BLOCK: usize = 65_536;
 /// What is known of a link that is served. Its steps do not wait: who calls them does.
 #[derive(Drop)]
 pub(crate) struct Conversation {
+    // Where the arguments of its calls are allocated.
+    alloc: Global,
     splitter: Splitter,
     writer: Writer,
     // How many of the bytes in the writer were written.
@@ -57,6 +63,7 @@ impl Conversation {
             } }
     {
         Conversation {
+            alloc,
             splitter: Splitter::new(alloc),
             writer: Writer::new(alloc),
             written: 0,
@@ -185,15 +192,22 @@ impl Conversation {
             → Turns result start past (known self.new)
             (seen (K.view desk.new) link (C.gave clock.new)) }
     {
-        match read_call(line) {
+        match read_call(self.alloc, line) {
             Ok((reference, call)) => self.make_call(desk, clock, reference, call),
             Err(CallFault::Unknown(reference)) => {
                 self.make_call(desk, clock, reference, Call::Refused(2, 0))
+            }
+            Err(CallFault::BadBool(reference)) => {
+                self.make_call(desk, clock, reference, Call::Refused(61, 0))
+            }
+            Err(CallFault::LongArray(reference)) => {
+                self.make_call(desk, clock, reference, Call::Refused(46, 0))
             }
             Err(CallFault::Malformed) => {
                 self.tell_broken(desk, clock);
                 Turn::Last(SessionEnd::Broken(line.end()))
             }
+            Err(CallFault::Memory) => Turn::Ends(SessionEnd::Memory),
         }
     }
 

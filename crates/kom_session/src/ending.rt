@@ -1,17 +1,8 @@
-ghost use Rattle.std.specs.Prelude.{◌≡◌, true, false};
-ghost use Rattle.kom_links.specs.Outside.{Rose};
+ghost use Rattle.std.specs.Prelude.{◌≡◌};
 ghost use Rattle.kom_session.specs.Ends.{end_at, ending};
 
 use kom_links::{DeskFault, SessionEnd};
 use kom_types::Why;
-
-/// Whether faults rose from one count to another, which stands still at its type's end.
-pub(crate) fn has_risen(before: u64, after: u64) -> bool
-    ensures risen { result ≡ true → Rose before after }
-    ensures still { result ≡ false → Rose before after → ⊥ }
-{
-    before < after || after == u64::MAX
-}
 
 /// The end of a service that was to end so: a fault of the link goes before all, and the desk's
 /// first fault before all but out of memory.

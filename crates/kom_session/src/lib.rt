@@ -4,6 +4,8 @@
 mod conversation;
 mod ending;
 mod flow;
+#[cfg(test)]
+mod planned_tests;
 mod serving;
 mod settling;
 #[cfg(test)]

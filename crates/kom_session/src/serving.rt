@@ -1,4 +1,5 @@
-ghost use Rattle.std.specs.Prelude.{◌≡◌, ◌≢◌, ◌<◌, ◌++◌, [], ℕ, List, length, Some, None, option_map, IfSome, IsTrue};
+ghost use Rattle.std.specs.Prelude.{◌≡◌, ◌≢◌, ◌<◌, ◌++◌, [], ℕ, List, length, Some, None};
+ghost use Rattle.std.specs.Prelude.{option_map, IfSome, IsTrue};
 ghost use Rattle.std.specs.List.{AllByRecursion};
 ghost use Rattle.kom_types.specs.declared.acts.Record.{Record};
 ghost use Rattle.kom_types.specs.Stream.{stream_of};
@@ -8,15 +9,18 @@ ghost use Rattle.kom_links.specs.Records.{has_connect};
 ghost use Rattle.kom_links.specs.Talk.{IsTalk, AreTimed, steps_of};
 ghost use Rattle.kom_session.specs.declared.flow.Next.TheVariants as next;
 ghost use Rattle.kom_session.specs.Ends.{HasCause, TellsFault, IsOwn, IsUntouched, Tells, given_to};
-ghost use Rattle.kom_session.specs.Known.{known, Seen, seen, HasSession, HasRoom, Keeps, LeavesOthers};
-ghost use Rattle.kom_session.specs.Serving.{Past, ServesOn, IsServing, IsBetween, HasRead, HasWaited, IsOver, IsLast, Serves, ServesUnits, GoesOn, Settled};
+ghost use Rattle.kom_session.specs.Known.{known, Seen, seen, HasSession, HasRoom, Keeps};
+ghost use Rattle.kom_session.specs.Known.{LeavesOthers};
+ghost use Rattle.kom_session.specs.Serving.{Past, ServesOn, IsServing, IsBetween, HasRead};
+ghost use Rattle.kom_session.specs.Serving.{HasWaited, IsOver, IsLast, Serves, ServesUnits, GoesOn};
+ghost use Rattle.kom_session.specs.Serving.{Settled};
 ghost use Rattle.kom_session.specs.Waits.{NoneWaits};
 
 use crate::conversation::Conversation;
-use crate::ending::{end_of, has_risen};
+use crate::ending::end_of;
 use crate::flow::{Flow, Next, Turn, ended_by};
 use crate::settling::{send, settle};
-use kom_links::{Clock, Desk, Got, Link, Served, SessionEnd};
+use kom_links::{Clock, Desk, Got, Link, Served, SessionEnd, has_risen};
 use std::alloc::Global;
 use std::sync::Wait;
 

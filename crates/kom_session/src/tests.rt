@@ -1,8 +1,7 @@
-//! What a conversation tells of its stream, and which end goes before which. The loop as a whole
-//! is tested through the top call, in the crate above.
+//! What a conversation tells of its stream, and which end goes before which.
 
 use crate::conversation::Conversation;
-use crate::ending::{end_of, has_risen};
+use crate::ending::end_of;
 use crate::flow::{Flow, ended_by};
 use kom_links::{DeskFault, SessionEnd};
 use kom_types::Why;
@@ -66,7 +65,6 @@ fn the_first_of_two_causes_gives_the_end(rt: HostRuntime) -> Result<(), Fail> {
     for (risen, planned, cause, end) in rows {
         assert!(rt; end_of(risen, planned, cause) == end);
     }
-    assert!(rt; has_risen(1, 2) && !has_risen(2, 2) && has_risen(u64::MAX, u64::MAX));
     assert!(rt; ended_by(Flow::Open, SessionEnd::Stopped) == SessionEnd::Stopped);
     assert!(rt; ended_by(Flow::Lost, SessionEnd::Stopped) == SessionEnd::LinkFault);
     assert!(rt; ended_by(Flow::NoMemory, SessionEnd::Stopped) == SessionEnd::Memory);

@@ -1,5 +1,5 @@
 use Rattle.kom_session.specs.Known.{known, seen}
-use Rattle.kom_session.proofs.Going.{finished}
+use Rattle.kom_session.proofs.Finishing.{finished}
 use Rattle.kom_session.proofs.serving.finish.Goals as goal
 
 pub returns : goal.returns

@@ -1,5 +1,6 @@
 use Rattle.kom_session.specs.Known.{known, seen}
-use Rattle.kom_session.proofs.Going.{settled_on, settled_room, due_session}
+use Rattle.kom_session.proofs.Finishing.{settled_on}
+use Rattle.kom_session.proofs.Reading.{settled_room, due_session}
 use Rattle.kom_session.proofs.serving.serve_batch.Goals as goal
 
 pub settle_on-requires-clause-session : goal.settle_on-requires-clause-session

@@ -1,8 +1,7 @@
-use Rattle.std.proofs.Common.{◌≡◌, ◌∙◌, sym, ap, None, subst}
+use Rattle.std.proofs.Common.{◌∙◌, sym, ap}
 use Rattle.kom_session.specs.Known.{Known, known, seen}
-use Rattle.kom_session.specs.Serving.{ServesOn}
 use Rattle.kom_session.proofs.Served.{served_open}
-use Rattle.kom_session.proofs.Going.{stream_faulty, nobody_over}
+use Rattle.kom_session.proofs.Reading.{stream_faulty, nobody_over}
 use Rattle.kom_session.proofs.serving.serve_fault.Goals as goal
 
 pub tell_broken-requires-clause-session : goal.tell_broken-requires-clause-session

@@ -1,5 +1,4 @@
-use Rattle.std.proofs.Common.{◌≡◌, ◌<◌, ◌^◌, ◌∙◌, Bool, true, false, Option, None, [], List, ℕ, sym, subst, subst₂, arith}
-use Rattle.std.specs.Prelude.{IfSome}
+use Rattle.std.proofs.Common.{◌≡◌, ◌<◌, ◌^◌, Bool, true, false, Option, [], ℕ, sym, subst, subst₂, arith}
 use Rattle.kom_links.specs.declared.desk.DeskFault.{DeskFault}
 use Rattle.kom_links.specs.declared.served.SessionEnd.TheVariants as end
 use Rattle.kom_links.specs.Outside.{Rose}
@@ -47,10 +46,10 @@ returns-clause-talk g c =
     let after : ℕ = (g.L.Link.view s.new.link).faults in
     let still : risen ≡ false → Rose before after → ⊥ =
     subst₂ (λ (a b : ℕ). risen ≡ false → Rose a b → ⊥) c.faults-faults.ensures c.faults.ensures
-    c.has_risen.ensures.still in
+    (λ e rose. let risen_so = c.has_risen.ensures.1 rose in cc) in
     let rises : risen ≡ true → Rose before after =
     subst₂ (λ (a b : ℕ). risen ≡ true → Rose a b) c.faults-faults.ensures c.faults.ensures
-    c.has_risen.ensures.risen in
+    c.has_risen.ensures.0 in
     let fits : after < 2 ^ 64 = omega (arith, c.faults.type_inv, c.faults.ensures) in
     let lost : s.result ≡ end.LinkFault → risen ≡ true =
     λ e. lost_risen risen before after still (heard_lost over.1 e) fits in
@@ -96,10 +95,10 @@ returns-clause-session g c =
     let after : ℕ = (g.L.Link.view s.new.link).faults in
     let still : risen ≡ false → Rose before after → ⊥ =
     subst₂ (λ (a b : ℕ). risen ≡ false → Rose a b → ⊥) c.faults-faults.ensures c.faults.ensures
-    c.has_risen.ensures.still in
+    (λ e rose. let risen_so = c.has_risen.ensures.1 rose in cc) in
     let rises : risen ≡ true → Rose before after =
     subst₂ (λ (a b : ℕ). risen ≡ true → Rose a b) c.faults-faults.ensures c.faults.ensures
-    c.has_risen.ensures.risen in
+    c.has_risen.ensures.0 in
     let fits : after < 2 ^ 64 = omega (arith, c.faults.type_inv, c.faults.ensures) in
     let lost : s.result ≡ end.LinkFault → risen ≡ true =
     λ e. lost_risen risen before after still (heard_lost over.1 e) fits in
@@ -128,10 +127,10 @@ returns-clause-waits g c =
     let after : ℕ = (g.L.Link.view s.new.link).faults in
     let still : risen ≡ false → Rose before after → ⊥ =
     subst₂ (λ (a b : ℕ). risen ≡ false → Rose a b → ⊥) c.faults-faults.ensures c.faults.ensures
-    c.has_risen.ensures.still in
+    (λ e rose. let risen_so = c.has_risen.ensures.1 rose in cc) in
     let rises : risen ≡ true → Rose before after =
     subst₂ (λ (a b : ℕ). risen ≡ true → Rose a b) c.faults-faults.ensures c.faults.ensures
-    c.has_risen.ensures.risen in
+    c.has_risen.ensures.0 in
     let fits : after < 2 ^ 64 = omega (arith, c.faults.type_inv, c.faults.ensures) in
     let lost : s.result ≡ end.LinkFault → risen ≡ true =
     λ e. lost_risen risen before after still (heard_lost over.1 e) fits in
@@ -160,10 +159,10 @@ returns-clause-cause g c =
     let after : ℕ = (g.L.Link.view s.new.link).faults in
     let still : risen ≡ false → Rose before after → ⊥ =
     subst₂ (λ (a b : ℕ). risen ≡ false → Rose a b → ⊥) c.faults-faults.ensures c.faults.ensures
-    c.has_risen.ensures.still in
+    (λ e rose. let risen_so = c.has_risen.ensures.1 rose in cc) in
     let rises : risen ≡ true → Rose before after =
     subst₂ (λ (a b : ℕ). risen ≡ true → Rose a b) c.faults-faults.ensures c.faults.ensures
-    c.has_risen.ensures.risen in
+    c.has_risen.ensures.0 in
     let fits : after < 2 ^ 64 = omega (arith, c.faults.type_inv, c.faults.ensures) in
     let lost : s.result ≡ end.LinkFault → risen ≡ true =
     λ e. lost_risen risen before after still (heard_lost over.1 e) fits in
@@ -197,10 +196,10 @@ returns-clause-others g c =
     let after : ℕ = (g.L.Link.view s.new.link).faults in
     let still : risen ≡ false → Rose before after → ⊥ =
     subst₂ (λ (a b : ℕ). risen ≡ false → Rose a b → ⊥) c.faults-faults.ensures c.faults.ensures
-    c.has_risen.ensures.still in
+    (λ e rose. let risen_so = c.has_risen.ensures.1 rose in cc) in
     let rises : risen ≡ true → Rose before after =
     subst₂ (λ (a b : ℕ). risen ≡ true → Rose a b) c.faults-faults.ensures c.faults.ensures
-    c.has_risen.ensures.risen in
+    c.has_risen.ensures.0 in
     let fits : after < 2 ^ 64 = omega (arith, c.faults.type_inv, c.faults.ensures) in
     let lost : s.result ≡ end.LinkFault → risen ≡ true =
     λ e. lost_risen risen before after still (heard_lost over.1 e) fits in

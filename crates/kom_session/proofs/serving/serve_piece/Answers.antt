@@ -1,8 +1,8 @@
-use Rattle.std.proofs.Common.{◌≡◌, ◌++◌, ◌∙◌, ap, ℕ, List, option_map}
+use Rattle.std.proofs.Common.{◌∙◌, ap, ℕ, List, option_map}
 use Rattle.kom_types.specs.Reading.{place_of}
 use Rattle.kom_types.specs.Stream.{stream_of}
-use Rattle.kom_session.specs.Known.{Known, known, seen}
-use Rattle.kom_session.proofs.Going.{piece_fed, piece_unfed, has_room, no_fault}
+use Rattle.kom_session.specs.Known.{Known, known}
+use Rattle.kom_session.proofs.Reading.{piece_fed, piece_unfed, has_room, no_fault}
 use Rattle.kom_session.proofs.serving.serve_piece.Goals as goal
 
 pub returns-in_default : goal.returns-in_default

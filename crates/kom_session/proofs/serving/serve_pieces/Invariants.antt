@@ -1,5 +1,5 @@
 -- All that was read was served.
-use Rattle.std.proofs.Common.{List, ◌<◌, length}
+use Rattle.std.proofs.Common.{List}
 use Rattle.kom_framing.specs.declared.units.Unit.{Unit as StreamUnit}
 use Rattle.kom_session.specs.Known.{known, Seen, seen}
 use Rattle.kom_session.specs.Serving.{Past, IsBetween}

@@ -1,4 +1,4 @@
-use Rattle.kom_session.proofs.Going.{read_piece, read_waited, read_ended, read_failed}
+use Rattle.kom_session.proofs.Reading.{read_piece, read_waited, read_ended, read_failed}
 use Rattle.kom_session.proofs.serving.serve_read.Goals as goal
 
 pub serve_piece-requires : goal.serve_piece-requires

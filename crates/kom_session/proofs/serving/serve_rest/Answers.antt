@@ -1,5 +1,6 @@
 use Rattle.kom_session.specs.Known.{known, seen}
-use Rattle.kom_session.proofs.Going.{settled_between, due_session, between}
+use Rattle.kom_session.proofs.Finishing.{settled_between}
+use Rattle.kom_session.proofs.Reading.{due_session, between}
 use Rattle.kom_session.proofs.serving.serve_rest.Goals as goal
 
 pub settle_on-requires-clause-session : goal.settle_on-requires-clause-session

@@ -1,4 +1,4 @@
-use Rattle.kom_session.proofs.Going.{never_read}
+use Rattle.kom_session.proofs.Reading.{never_read}
 use Rattle.kom_session.proofs.serving.serve_stream.Goals as goal
 
 pub returns-in_default : goal.returns-in_default

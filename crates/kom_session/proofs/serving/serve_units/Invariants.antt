@@ -1,5 +1,5 @@
 -- The units so far were served.
-use Rattle.std.proofs.Common.{◌≡◌, ◌≤◌, List}
+use Rattle.std.proofs.Common.{◌≡◌, List}
 use Rattle.kom_framing.specs.declared.units.Unit.{Unit as StreamUnit}
 use Rattle.kom_session.specs.Known.{known, Seen, seen, HasRoom}
 use Rattle.kom_session.specs.Serving.{Past, IsServing}

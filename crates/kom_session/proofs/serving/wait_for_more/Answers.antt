@@ -2,7 +2,8 @@ use Rattle.std.proofs.Common.{◌≡◌, ◌≢◌, ◌∙◌, sym, ap, is_some,
 use Rattle.kom_framing.specs.Splitting.{Splitting}
 use Rattle.kom_links.specs.declared.desk.DeskFault.{DeskFault}
 use Rattle.kom_session.specs.Known.{Known, known, seen}
-use Rattle.kom_session.proofs.Going.{some_of, none_of, woken, waited_asked, waited_last, waited_over, settled_between}
+use Rattle.kom_session.proofs.Finishing.{settled_between}
+use Rattle.kom_session.proofs.Reading.{some_of, none_of, woken, waited_asked, waited_last, waited_over}
 use Rattle.kom_session.proofs.serving.wait_for_more.Goals as goal
 
 pub returns-then-is_some : goal.returns-then-is_some

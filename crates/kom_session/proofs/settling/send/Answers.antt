@@ -1,7 +1,6 @@
-use Rattle.std.proofs.Common.{rules, arith, refl, ◌≤◌, ◌∙◌, ap}
-use Rattle.kom_session.specs.Known.{Known, known, seen, Keeps}
-use Rattle.kom_session.specs.Serving.{ServesOn}
-use Rattle.kom_session.proofs.Going.{serves_none, serves_trans, keeps_none, keeps_trans, sent_keeps, sent_on}
+use Rattle.std.proofs.Common.{rules, arith, refl, ◌∙◌, ap}
+use Rattle.kom_session.specs.Known.{Known, known, seen}
+use Rattle.kom_session.proofs.Reading.{serves_none, serves_trans, keeps_none, keeps_trans, sent_keeps, sent_on}
 use Rattle.kom_session.proofs.settling.send.Goals as goal
 
 pub loop-init : goal.loop-init

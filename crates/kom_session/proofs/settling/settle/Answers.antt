@@ -1,6 +1,5 @@
-use Rattle.std.proofs.Common.{rules, arith, ◌≡◌, ◌∙◌}
-use Rattle.kom_session.specs.Known.{known}
-use Rattle.kom_session.proofs.Going.{serves_trans, keeps_trans, session_same, climbs_after}
+use Rattle.std.proofs.Common.{rules, arith, ◌∙◌}
+use Rattle.kom_session.proofs.Reading.{serves_trans, keeps_trans, session_same}
 use Rattle.kom_session.proofs.settling.settle.Goals as goal
 
 pub loop-init : goal.loop-init

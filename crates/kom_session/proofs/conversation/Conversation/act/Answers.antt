@@ -1,5 +1,5 @@
-use Rattle.std.proofs.Common.{◌∷◌, [], ◌++◌, refl, List}
-use Rattle.kom_framing.specs.declared.units.Unit.{Unit as StreamUnit}
+use Rattle.std.proofs.Common.{◌∷◌, [], ◌++◌, refl}
+use Rattle.kom_types.specs.declared.side.Side.TheVariants as side
 use Rattle.kom_framing.specs.declared.units.Unit.TheVariants as unit
 use Rattle.kom_framing.specs.Splitting.{IsAt}
 use Rattle.kom_session.specs.Known.{seen, known}
@@ -12,7 +12,7 @@ pub connect-requires : goal.connect-requires
 connect-requires g c =
     let r = c.requires.serving in
     let at : IsAt c.next_unit.new.self r.1.fed (r.2 ++ unit.Hello c.in-Some-Hello.user ∷ []) =
-    rw c.in-Some-Hello.field-0-is at (c.in-Some-Hello.ensures.at r.1.fed r.2 r.3.at) in
+    rw c.in-Some-Hello.field-0-is at (c.in-Some-Hello.ensures.at side.Client r.1.fed r.2 r.3.at) in
     name_short r.2 c.in-Some-Hello.user
     (taking {start = r.0} {past = r.1} {known = known c.args.self.now} {now = seen
     (g.K.Desk.view c.args.desk.now) (g.L.Link.view c.args.link.now)
@@ -24,7 +24,7 @@ pub make_line-requires-clause-session : goal.make_line-requires-clause-session
 make_line-requires-clause-session g c =
     let r = c.requires.serving in
     let at : IsAt c.next_unit.new.self r.1.fed (r.2 ++ unit.Line c.in-Some-Line.line ∷ []) =
-    rw c.in-Some-Line.field-0-is at (c.in-Some-Line.ensures.at r.1.fed r.2 r.3.at) in
+    rw c.in-Some-Line.field-0-is at (c.in-Some-Line.ensures.at side.Client r.1.fed r.2 r.3.at) in
     let t : IsTaking r.0 r.1 r.2 (unit.Line c.in-Some-Line.line)
     (record (known c.args.self.now) { splitting = c.next_unit.new.self })
     (seen (g.K.Desk.view c.args.desk.now) (g.L.Link.view c.args.link.now)
@@ -40,7 +40,7 @@ make_line-requires-clause-session g c =
 pub returns-in-Some-Hello : goal.returns-in-Some-Hello
 returns-in-Some-Hello g c = λ start past units s.
     let at : IsAt c.next_unit.new.self past.fed (units ++ unit.Hello c.in-Some-Hello.user ∷ []) =
-    rw c.in-Some-Hello.field-0-is at (c.in-Some-Hello.ensures.at past.fed units s.at) in
+    rw c.in-Some-Hello.field-0-is at (c.in-Some-Hello.ensures.at side.Client past.fed units s.at) in
     c.connect.ensures start past units
     (taking {known = known c.args.self.now} units (unit.Hello c.in-Some-Hello.user)
     (record (known c.args.self.now) { splitting = c.next_unit.new.self }) s at refl)
@@ -48,7 +48,7 @@ returns-in-Some-Hello g c = λ start past units s.
 pub returns-in-Some-Line : goal.returns-in-Some-Line
 returns-in-Some-Line g c = λ start past units s.
     let at : IsAt c.next_unit.new.self past.fed (units ++ unit.Line c.in-Some-Line.line ∷ []) =
-    rw c.in-Some-Line.field-0-is at (c.in-Some-Line.ensures.at past.fed units s.at) in
+    rw c.in-Some-Line.field-0-is at (c.in-Some-Line.ensures.at side.Client past.fed units s.at) in
     c.make_line.ensures start past units (g.L.Link.view c.args.link.now)
     (taking {known = known c.args.self.now} units (unit.Line c.in-Some-Line.line)
     (record (known c.args.self.now) { splitting = c.next_unit.new.self }) s at refl)

@@ -1,5 +1,3 @@
-use Rattle.std.proofs.Common.{ℕ, List, subst₂}
-use Rattle.kom_links.specs.DeskCalls.{Connects}
 use Rattle.kom_session.proofs.Acted.{greeting_connected, greeting_refused}
 use Rattle.kom_session.proofs.conversation.Conversation.connect.Goals as goal
 

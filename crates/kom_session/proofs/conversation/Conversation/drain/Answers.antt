@@ -1,4 +1,4 @@
-use Rattle.std.proofs.Common.{◌≡◌, [], drop, ap, ◌∙◌, sym, ◌++◌, rules, tests, List}
+use Rattle.std.proofs.Common.{◌≡◌, [], drop, ap, ◌∙◌, ◌++◌, rules, tests, List}
 use Rattle.std.specs.Prelude.{flat_map}
 use Rattle.kom_types.specs.declared.items.Item.{Item}
 use Rattle.kom_types.specs.Printing.{print_of}

@@ -1,7 +1,4 @@
-use Rattle.std.proofs.Common.{◌≡◌, inl, inr, sym, subst}
-use Rattle.kom_session.specs.declared.flow.Turn.{Turn}
-use Rattle.kom_session.specs.Known.{known, seen}
-use Rattle.kom_session.specs.Serving.{Turns}
+use Rattle.std.proofs.Common.{inl, inr}
 use Rattle.kom_session.proofs.Acted.{call_made, call_last, call_ends}
 use Rattle.kom_session.proofs.conversation.Conversation.make_call.Goals as goal
 
