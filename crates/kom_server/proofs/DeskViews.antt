@@ -24,7 +24,7 @@ use Rattle.kom_server.specs.Faults.{FaultTable, first_of, fault_in, is_open_in, 
 use Rattle.kom_server.specs.Desks.{Kept, desk_view, AreNoted}
 use Rattle.kom_server.specs.Making.{Makes, Refuses, Joins, Leaves}
 use Rattle.kom_server.proofs.Histories.{given_along-append, gives_none, given_before, undrawn_absent, connects-state_after}
-use Rattle.kom_server.proofs.FaultLaws.{noted_here, noted_there, everywhere_noted, closed_fault, fault_same, open_same, row_some, none_there, fault_connected, first_is}
+use Rattle.kom_server.proofs.ChangedFaults.{noted_here, noted_there, everywhere_noted, closed_fault, fault_same, open_same, row_some, none_there, fault_connected, first_is}
 use Rattle.kom_server.proofs.Refusals.{lock_any, call_told, drain_told, flush_told, connect_told}
 
 -- ---- what was given

@@ -257,19 +257,6 @@ session_of-connect n (made ∷ history) connected =
       | inr later ↦ or_second (eqb made.session n) (has_session n history) (session_of-connect n history later)
     ]
 
--- a session of whose number there was no record was connected by the records after
-pub connect_tail : (n : ℕ) (history added : List Record) → has_session n history ≡ false →
-    has_connect n (history ++ added) ≡ true → has_connect n added ≡ true
-connect_tail n [] added absent connected = connected
-connect_tail n (made ∷ history) added absent connected =
-    let none : (eqb made.session n ≡ false) × (has_session n history ≡ false) = or_none _ _ absent in
-    elim (or_cases (is_connect made.entry.act && (made.session == n)) (has_connect n (history ++ added)) connected) [
-      | inl here ↦
-          absurd (not_both (eqb made.session n) (and_both (is_connect made.entry.act) (made.session == n) here).1
-          none.0)
-      | inr later ↦ connect_tail n history added none.1 later
-    ]
-
 pub connect_more : (n : ℕ) (history added : List Record) → has_connect n history ≡ true →
     has_connect n (history ++ added) ≡ true
 connect_more n [] added connected = cc

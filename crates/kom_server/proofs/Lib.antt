@@ -1,10 +1,10 @@
 pub mod Writing
 pub mod Stepping
 pub mod Histories
-pub mod FaultLaws
-pub mod NotedLaws
-pub mod DeskLaws
+pub mod ChangedFaults
+pub mod TrueFaults
+pub mod StandingDesk
 pub mod Refusals
 pub mod DeskViews
 pub mod Within
-pub mod ServedLaws
+pub mod GrownHistories

@@ -1,5 +1,6 @@
 -- The first faults that a desk answered.
-use Rattle.std.specs.Prelude.{ℕ, ◌==◌, Bool, false, List, map, find, Option, Some, None, if◌then◌else◌}
+use Rattle.std.specs.Prelude.{ℕ, ◌==◌, Bool, false, List, map, find, Option, Some, None}
+use Rattle.std.specs.Prelude.{if◌then◌else◌}
 use Rattle.kom_links.specs.declared.desk.DeskFault.{DeskFault}
 use Rattle.kom_server.specs.declared.faults.Noted.{Noted}
 

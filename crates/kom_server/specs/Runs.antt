@@ -1,5 +1,7 @@
 -- What a run leaves that serves gates, one for each of its passes.
-use Rattle.std.specs.Prelude.{◌≡◌, ◌≢◌, ℕ, ◌+◌, ◌<◌, ◌==◌, ◌⊎◌, nat_eq, Bool, true, false, not, IsTrue, List, [], ◌∷◌, length, map, filter, flat_map, codes, Option, Some, None, IfSome}
+use Rattle.std.specs.Prelude.{◌≡◌, ◌≢◌, ℕ, ◌+◌, ◌<◌, ◌==◌, ◌⊎◌, nat_eq, Bool, true, false, not}
+use Rattle.std.specs.Prelude.{IsTrue, List, [], ◌∷◌, length, map, filter, flat_map, codes, Option}
+use Rattle.std.specs.Prelude.{Some, None, IfSome}
 use Rattle.std.specs.List.{list_any, AllByRecursion, IsDistinct}
 use Rattle.kom_types.specs.declared.acts.Act.TheVariants as act
 use Rattle.kom_types.specs.declared.acts.Record.{Record}

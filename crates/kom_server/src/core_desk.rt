@@ -1,6 +1,8 @@
-ghost use Rattle.std.specs.Prelude.{◌≡◌, ℕ, Bool, ◌+◌, ◌^◌, ◌<◌, ◌||◌, [], None, Some, IfOk, IfErr, IsOk, OnOk, OnErr};
+ghost use Rattle.std.specs.Prelude.{◌≡◌, ℕ, Bool, ◌+◌, ◌^◌, ◌<◌, ◌||◌, List, [], None, Some, IfOk};
+ghost use Rattle.std.specs.Prelude.{IfErr, IsOk, OnOk, OnErr};
 ghost use Rattle.std.specs.List.{AllByRecursion};
 ghost use Rattle.kom_types.specs.declared.acts.Act.TheVariants as act;
+ghost use Rattle.kom_types.specs.declared.items.Item.{Item as TakenItem};
 ghost use Rattle.kom_core.specs.Acts.{items_of, TakesNone};
 ghost use Rattle.kom_links.specs.Records.{IsOpen};
 ghost use Rattle.kom_model.specs.State.{empty};
@@ -143,6 +145,21 @@ impl CoreDesk {
         }
     }
 
+    /// Makes an act that neither connects nor closes a session nor takes items, and logs its record.
+    fn make_alone(&mut self, moment: Moment, act: Act) -> Result<(), DeskFault>
+        requires { IsBetween act }
+        ensures made { OnOk result ((short : Bool) × (items : List TakenItem)
+            × Makes self.old self.new moment act short items) }
+        ensures refused { IfErr result (λ fault. Refuses self.old self.new act fault) }
+        ensures legal { IsLegal empty self.old.pass.seen }
+        ensures noted { AreNoted self.old.pass.seen self.old.faults }
+    {
+        let mut items = ArrayVec::new();
+        let made = self.make(moment, act, &mut items);
+        drop(items);
+        made
+    }
+
     /// Connects a session, with room for its row and for the Close of each session that stands
     /// then.
     fn join(&mut self, moment: Moment, user: &[u8], host: &[u8]) -> Result<u32, DeskFault>
@@ -278,14 +295,14 @@ impl Desk for CoreDesk {
             reference,
             call,
         };
-        match self.make(moment, act, &mut ArrayVec::new()) {
+        match self.make_alone(moment, act) {
             Ok(()) => Ok(()),
             Err(fault) => Err(self.note_at(session, fault)),
         }
     }
 
     fn broken(&mut self, moment: Moment, session: u32) -> Result<(), DeskFault> {
-        match self.make(moment, Act::Broken { session }, &mut ArrayVec::new()) {
+        match self.make_alone(moment, Act::Broken { session }) {
             Ok(()) => Ok(()),
             Err(fault) => Err(self.note_at(session, fault)),
         }
@@ -304,7 +321,7 @@ impl Desk for CoreDesk {
     }
 
     fn flush(&mut self, moment: Moment) -> Result<(), DeskFault> {
-        match self.make(moment, Act::Flush, &mut ArrayVec::new()) {
+        match self.make_alone(moment, Act::Flush) {
             Ok(()) => Ok(()),
             Err(fault) => Err(self.note_everywhere(fault)),
         }

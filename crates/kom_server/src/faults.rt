@@ -1,4 +1,5 @@
-ghost use Rattle.std.specs.Prelude.{◌≡◌, ◌+◌, ◌<◌, ◌++◌, ◌∷◌, [], map, filter, None, true, false, OnOk, if◌then◌else◌};
+ghost use Rattle.std.specs.Prelude.{◌≡◌, ◌+◌, ◌<◌, ◌++◌, ◌∷◌, [], map, filter, None, true, false};
+ghost use Rattle.std.specs.Prelude.{OnOk, if◌then◌else◌};
 ghost use Rattle.kom_server.specs.Faults.{is_row, with_fault, noted_at, noted_at_none};
 ghost use Rattle.kom_server.specs.Faults.{noted_everywhere, closed_at};
 

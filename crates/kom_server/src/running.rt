@@ -1,4 +1,4 @@
-ghost use Rattle.std.specs.Prelude.{◌≡◌, ◌≢◌, ◌<◌, ◌⊎◌, ◌↔◌, [], ◌∷◌, map, length, true, false};
+ghost use Rattle.std.specs.Prelude.{◌≡◌, ◌⊎◌, ◌↔◌, [], ◌∷◌, map, length, true, false};
 ghost use Rattle.std.specs.Prelude.{codes, IsTrue, IsNone, IsSome, IfSome, IsSomeAnd, is_some};
 ghost use Rattle.std.specs.List.{AllByRecursion};
 ghost use Rattle.kom_links.specs.Outside.{IsNothing, Rose};
@@ -8,7 +8,7 @@ ghost use Rattle.kom_server.specs.Runs.{IsRefused, HasUsage, Opens, IsRun, HasFa
 use crate::core_desk::CoreDesk;
 use crate::outcome::{Closing, Outcome};
 use crate::serving::serve_gate;
-use kom_links::{Gate, Sink, World};
+use kom_links::{Gate, Sink, World, has_risen};
 use kom_types::Words;
 use std::alloc::Global;
 use std::sync::Wait;
@@ -96,13 +96,6 @@ fn command_of(words: &Words) -> Option<Command>
     } else {
         None
     }
-}
-
-/// Whether faults rose from one count to another, which stands still at its type's end.
-fn has_risen(before: u64, after: u64) -> bool
-    ensures { IsTrue result ↔ Rose before after }
-{
-    before < after || after == u64::MAX
 }
 
 /// Serves the sessions at the gate over standard input and output, until the gate ends or fails,

@@ -89,7 +89,7 @@ fn a_client_is_answered_by_its_lines(rt: HostRuntime) -> Result<(), Fail> {
     let alloc = rt.alloc();
     // What the client sends, how many bytes a read and a write give and take at most, what is put,
     // and how it ends.
-    let rows: [(&[u8], usize, &[u8], SessionEnd); 13] = [
+    let rows: [(&[u8], usize, &[u8], SessionEnd); 17] = [
         (ASKS, 0, ANSWERS, SessionEnd::End),
         (ASKS, 1, ANSWERS, SessionEnd::End),
         (
@@ -108,7 +108,36 @@ fn a_client_is_answered_by_its_lines(rt: HostRuntime) -> Result<(), Fail> {
             b"LysKOM\n%7 2 0\n",
             SessionEnd::End,
         ),
-        (b"A1Ha\n1 25 1\n", 0, b"LysKOM\n%1 2 0\n", SessionEnd::End),
+        (
+            b"A1Ha\n1 25 1\n",
+            0,
+            b"LysKOM\n%%Protocol error.\n",
+            SessionEnd::Broken(11),
+        ),
+        (
+            b"A1Ha\n1 25 1 0 0\n",
+            0,
+            b"LysKOM\n%1 2 0\n",
+            SessionEnd::End,
+        ),
+        (
+            b"A1Ha\n1 35\n2 75\n3 94\n4 96\n5 55 0\n",
+            0,
+            b"LysKOM\n=1 0 0 0 29 1 100 2 59 0\n=2 11 4Hkomd 3H1.0\n=3 10000 1 2 3 4 0 0 *\n=4 12 { 1 2 3 4 5 6 7 8 10 13 14 15 }\n%5 2 0\n",
+            SessionEnd::End,
+        ),
+        (
+            b"A1Ha\n1 80 0 *\n2 80 0 { }\n3 80 3 { 5 23 15 }\n4 81\n",
+            2,
+            b"LysKOM\n=1\n=2\n%3 50 23\n=4 2 { 5 15 }\n",
+            SessionEnd::End,
+        ),
+        (
+            b"A1Ha\n1 80 2049 { }\n2 76 0H 2 1\n3 76 0H 2\n",
+            0,
+            b"LysKOM\n%1 46 0\n%2 61 0\n%3 61 0\n",
+            SessionEnd::End,
+        ),
         (
             b"A5Hceder\n1 +5\n",
             0,

@@ -1,5 +1,5 @@
 use Rattle.std.proofs.Common.{◌≡◌, [], ◌∷◌, ◌∙◌}
-use Rattle.kom_server.proofs.ServedLaws.{sole, run_alone}
+use Rattle.kom_server.proofs.GrownHistories.{sole, run_alone}
 use Rattle.kom_server.proofs.running.once.Goals as goal
 
 pub returns-clause-once : goal.returns-clause-once

@@ -1,4 +1,4 @@
-use Rattle.kom_server.proofs.ServedLaws.{serves_one, given_back}
+use Rattle.kom_server.proofs.GrownHistories.{serves_one, given_back}
 use Rattle.kom_server.proofs.serving.serve_one.Goals as goal
 
 pub serve_link-served-requires-clause-untouched : goal.serve_link-served-requires-clause-untouched

@@ -1,5 +1,5 @@
-use Rattle.kom_server.proofs.NotedLaws.{noted_forgotten}
-use Rattle.kom_server.proofs.DeskLaws.{stands_faults}
+use Rattle.kom_server.proofs.TrueFaults.{noted_forgotten}
+use Rattle.kom_server.proofs.StandingDesk.{stands_faults}
 use Rattle.kom_server.proofs.core_desk.CoreDesk.forget.Goals as goal
 
 pub invariant_of-self : goal.invariant_of-self

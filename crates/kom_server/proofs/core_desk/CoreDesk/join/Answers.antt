@@ -2,7 +2,7 @@ use Rattle.std.proofs.Common.{◌≡◌, ◌+◌, ◌≤◌, true, List, [], ◌
 use Rattle.kom_server.specs.declared.faults.Noted.{Noted}
 use Rattle.kom_types.specs.declared.acts.Entry.{Entry}
 use Rattle.kom_server.specs.Desks.{Kept}
-use Rattle.kom_server.proofs.DeskLaws.{Ready, entries_within, refused_only, stands_still, stands_joined}
+use Rattle.kom_server.proofs.StandingDesk.{Ready, entries_within, refused_only, stands_still, stands_joined}
 use Rattle.kom_server.proofs.core_desk.CoreDesk.join.Goals as goal
 
 pub act_and_log-requires-clause-bound : goal.act_and_log-requires-clause-bound

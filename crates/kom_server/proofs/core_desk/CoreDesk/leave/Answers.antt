@@ -2,7 +2,7 @@ use Rattle.std.proofs.Common.{◌≡◌, Ok, subst, sym, rules}
 use Rattle.kom_core.specs.declared.answer_kind.AnswerKind.TheVariants as kind
 use Rattle.kom_links.specs.Records.{IsOpen}
 use Rattle.kom_server.specs.Desks.{Kept}
-use Rattle.kom_server.proofs.DeskLaws.{entries_within, close_room, stands_left, left_taken}
+use Rattle.kom_server.proofs.StandingDesk.{entries_within, close_room, stands_left, left_taken}
 use Rattle.kom_server.proofs.core_desk.CoreDesk.leave.Goals as goal
 use Rattle.kom_server.proofs.core_desk.CoreDesk.leave.Goals.{in_default-via-in-Ok+in_default, in_default-via-in_default}
 

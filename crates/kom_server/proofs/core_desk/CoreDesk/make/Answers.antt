@@ -1,7 +1,7 @@
 use Rattle.std.proofs.Common.{◌≡◌, ◌+◌, ◌≤◌, length, ap, ◌∙◌, rules, arith}
 use Rattle.kom_types.specs.declared.acts.Entry.{Entry}
 use Rattle.kom_server.specs.Desks.{Kept}
-use Rattle.kom_server.proofs.DeskLaws.{Ready, entries_within, stands_asked}
+use Rattle.kom_server.proofs.StandingDesk.{Ready, entries_within, stands_asked}
 use Rattle.kom_server.proofs.core_desk.CoreDesk.make.Goals as goal
 
 pub act_and_log-requires-clause-bound : goal.act_and_log-requires-clause-bound

@@ -1,8 +1,8 @@
 use Rattle.std.proofs.Common.{Some, subst, sym}
 use Rattle.kom_server.specs.Faults.{FaultTable}
 use Rattle.kom_server.specs.Desks.{Kept, IsKnown, AreNoted}
-use Rattle.kom_server.proofs.NotedLaws.{noted_none}
-use Rattle.kom_server.proofs.DeskLaws.{stands_faults}
+use Rattle.kom_server.proofs.TrueFaults.{noted_none}
+use Rattle.kom_server.proofs.StandingDesk.{stands_faults}
 use Rattle.kom_server.proofs.core_desk.CoreDesk.note_at_none.Goals as goal
 
 pub invariant_of-self : goal.invariant_of-self

@@ -4,16 +4,16 @@ use Rattle.kom_server.proofs.core_desk.CoreDeskDesk.flush.Goals as goal
 
 pub note_everywhere-requires : goal.note_everywhere-requires
 note_everywhere-requires c session =
-    known_still c.args.self.now.pass.seen c.make.new.self.pass.seen session c.in-Err.fault c.in-Err.ensures.refused.seen
+    known_still c.args.self.now.pass.seen c.make_alone.new.self.pass.seen session c.in-Err.fault c.in-Err.ensures.refused.seen
     (flush_told c.args.self.now.pass.seen session c.in-Err.fault c.in-Err.ensures.refused.cause)
 
 pub returns-in-Ok : goal.returns-in-Ok
 returns-in-Ok c =
-    flushes_made c.args.self.now c.make.new.self c.args.moment _
-    (c.in-Ok.ensures.made.0, c.make.new.items.items, c.in-Ok.ensures.made.1)
+    flushes_made c.args.self.now c.make_alone.new.self c.args.moment _
+    c.in-Ok.ensures.made
 
 pub returns-in-Err : goal.returns-in-Err
 returns-in-Err c =
-    flushes_refused c.args.self.now c.make.new.self c.note_everywhere.new.self c.args.moment c.in-Err.fault
+    flushes_refused c.args.self.now c.make_alone.new.self c.note_everywhere.new.self c.args.moment c.in-Err.fault
     c.note_everywhere.result c.in-Err.ensures.noted c.in-Err.ensures.refused c.note_everywhere.ensures.result
     c.note_everywhere.ensures.pass c.note_everywhere.ensures.faults

@@ -27,7 +27,7 @@ use Rattle.kom_server.specs.Desks.{Kept, AreNoted, Stands}
 use Rattle.kom_server.specs.Making.{IsBetween, Logs, Logged}
 use Rattle.kom_server.proofs.Stepping.{length-between, length-connected, length-closed}
 use Rattle.kom_server.proofs.Histories.{legal-append, state_after-append, entries-state_after, open_stands, one_fewer}
-use Rattle.kom_server.proofs.NotedLaws.{noted_between, noted_closed, noted_connected, noted_same}
+use Rattle.kom_server.proofs.TrueFaults.{noted_between, noted_closed, noted_connected, noted_same}
 
 -- ---- without an act
 

@@ -23,7 +23,7 @@ use Rattle.kom_server.specs.Desks.{WasOnce, WasStopped, WasFull, IsKnown, AreApa
 use Rattle.kom_server.specs.Making.{IsBetween}
 use Rattle.kom_server.proofs.Stepping.{connects_in-append}
 use Rattle.kom_server.proofs.Histories.{or_second, or_none, connects-state_after, connects_within, undrawn_absent}
-use Rattle.kom_server.proofs.FaultLaws.{found_pushed_other, found_pushed_same, found_none, if_open, found_open, noted_or, noted_there, noted_opened, everywhere_noted, everywhere_opened, closed_fault, closed_here, closed_there, all_pushed, all_filtered, all_turned, apart_filtered, apart_pushed, apart_noted, apart_everywhere, apart_closed, drawn_noted, drawn_everywhere, drawn_closed}
+use Rattle.kom_server.proofs.ChangedFaults.{found_pushed_other, found_pushed_same, found_none, if_open, found_open, noted_or, noted_there, noted_opened, everywhere_noted, everywhere_opened, closed_fault, closed_here, closed_there, all_pushed, all_filtered, all_turned, apart_filtered, apart_pushed, apart_noted, apart_everywhere, apart_closed, drawn_noted, drawn_everywhere, drawn_closed}
 
 -- ---- who is open after one record more
 

@@ -33,7 +33,7 @@ use Rattle.kom_server.specs.Runs.{given_of, IsCause, TellsOf, Talks, sessions_of
 use Rattle.kom_server.specs.Serving.{Serves, OneIsOut}
 use Rattle.kom_server.proofs.Stepping.{IsPlain}
 use Rattle.kom_server.proofs.Histories.{or_first, or_second, not_both, legal_tail, given_along-append, plain, session_of-connect, connect_more, connect_rear, fresh_before}
-use Rattle.kom_server.proofs.NotedLaws.{was_more, stopped_more, full_more}
+use Rattle.kom_server.proofs.TrueFaults.{was_more, stopped_more, full_more}
 use Rattle.kom_server.proofs.Within.{IsApart, talk_within}
 
 all_append : {X : Type 0} (P : X → Type 0) (xs ys : List X) → AllByRecursion P xs → AllByRecursion P ys →
