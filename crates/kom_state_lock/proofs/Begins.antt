@@ -23,9 +23,6 @@ module _ {A : Type 0} where
   pub begins_whole : (xs ys : List A) → IsPrefix xs ys → length ys ≤ length xs → xs ≡ ys
   begins_whole xs ys p short = no_rest xs ys p.0 p.1 short
 
-  pub begins_length : (xs ys : List A) → IsPrefix xs ys → length xs ≤ length ys
-  begins_length xs ys p = omega (arith, ap length p.1, length-append xs p.0)
-
   longer_by : (xs ys : List A) (b : Bool) (P : List A → Type 0) → (leb (length xs) (length ys) ≡ b)
       → (leb (length xs) (length ys) ≡ true → P ys) → (leb (length xs) (length ys) ≡ false → P xs)
       → P (if b then ys else xs)

@@ -32,9 +32,6 @@ module _ {B E : Type 0} where
     pub each : All (IsIn v) gone
     pub drawn : Contains (map drawn_by gone) v.drawn
 
-  pub is_in_own : (table : TableId) (v : View B E) (p : PassModel B E) → pass_model table v ≡ p → IsIn v p
-  is_in_own table v p e = subst (IsIn v) e record { mine = inl (refl, refl); seen = inl refl; drawn = omega arith }
-
   -- what a seat knew it knows after it takes in another
   is_in_joined : (v w : View B E) (p : PassModel B E) → IsIn v p → IsIn (joining v w) p
   is_in_joined v w p is = record {
@@ -55,15 +52,6 @@ module _ {B E : Type 0} where
   is_in_other table v w p e =
       subst (IsIn (joining v w)) e record { mine = inr (0, refl); seen = inr (1, refl); drawn = omega arith }
 
-  pub first_gathered : (table : TableId) (all rest : List (PassModel B E)) (p : PassModel B E) (v : View B E)
-      → all ≡ rest ++ p ∷ [] → pass_model table v ≡ p → AreGathered all rest v
-  first_gathered table all rest p v e is = record {
-    gone = p ∷ [];
-    parts = e;
-    each = All-cons (IsIn v) p [] (is_in_own table v p is) (λ k d h. absurd (omega arith));
-    drawn = contains_first p.drawn v.drawn [] (sym (ap (λ (q : PassModel B E). q.drawn) is));
-  }
-
   pub one_gathered : (table : TableId) (all rest rest' : List (PassModel B E)) (p : PassModel B E) (v w n : View B E)
       → AreGathered all rest v → rest ≡ rest' ++ p ∷ [] → pass_model table w ≡ p → n ≡ joining v w
       → AreGathered all rest' n
@@ -81,16 +69,6 @@ module _ {B E : Type 0} where
           | inr other ↦ contains_first p.drawn (max v.drawn w.drawn) (map drawn_by before.gone) (sym d ∙ sym other)
         ];
       }
-
-  nothing_left : (all rest gone : List (PassModel B E)) → all ≡ rest ++ gone → length rest ≡ 0 → gone ≡ all
-  nothing_left all [] gone e none = sym e
-  nothing_left all (p ∷ rest) gone e none = absurd (omega arith)
-
-  pub all_gathered : (all rest : List (PassModel B E)) (v : View B E) → AreGathered all rest v → length rest ≡ 0
-      → All (IsIn v) all × Contains (map drawn_by all) v.drawn
-  all_gathered all rest v g none =
-      let same : g.gone ≡ all = nothing_left all rest g.gone g.parts none in
-      (subst (All (IsIn v)) same g.each, subst (λ l. Contains (map drawn_by l) v.drawn) same g.drawn)
 
   pub some_pass : (all : List (PassModel B E)) (n : ℕ) → Contains (map number_of all) n → 0 < length all
   some_pass [] n c = absurd (let h = c.1 in omega arith)

@@ -1,31 +1,14 @@
 -- All passes of a hall, in order, are what closing the hall asks.
 use Rattle.std.proofs.Common.{◌≡◌, ℕ, zero, suc, ◌<◌, ◌+◌, List, [], ◌∷◌, ◌++◌, length, map, get_or, All, Contains}
-use Rattle.std.proofs.Common.{Option, Some, slice_get, take, sym, refl, ap, ◌∙◌, subst, arith, length-append}
+use Rattle.std.proofs.Common.{Option, Some, take, sym, refl, ap, ◌∙◌, subst, arith, length-append}
 use Rattle.std.specs.Prelude.{slice_index_or}
 use Rattle.std.specs.Option.{option_to_list}
 use Rattle.std.proofs.Math.Seq.{take-append_seam}
 use native.Mathlib.Decide.{ℕ_discrete}
 use Rattle.kom_state_lock.specs.Passes.{HallModel, PassModel, IsPassOf, HoldsNoTurn, IsReady, AreReady, AreReadyButLast}
-use Rattle.kom_state_lock.specs.Passes.{IsReadyLast, AreNewPasses, new_pass, number_of}
+use Rattle.kom_state_lock.specs.Passes.{IsReadyLast, number_of}
 
 module _ {B E : Type 0} where
-  get_is : (passes : List (PassModel B E)) (k : ℕ) (d p : PassModel B E) → slice_get passes k ≡ Some p
-      → slice_index_or passes k d ≡ p
-  get_is [] k d p e = absurd cc
-  get_is (x ∷ passes) zero d p e = cc
-  get_is (x ∷ passes) (suc k) d p e = get_is passes k d p e
-
-  -- new passes are ready
-  pub new_ready : (hall : HallModel B) (passes : List (PassModel B E)) → AreNewPasses hall.table hall.passes passes
-      → AreReady hall passes
-  new_ready hall passes new = record {
-    long = new.0;
-    each = λ k d low.
-        let p : PassModel B E = new_pass hall.table k in
-        let is : p ≡ slice_index_or passes k d = sym (get_is passes k d p (new.1 k (omega (arith, new.0)))) in
-        subst (IsReady hall k) is record { table = refl; number = refl; free = tt };
-  }
-
   pub ready_table : (hall : HallModel B) (passes : List (PassModel B E)) → AreReady hall passes
       → All (λ p. p.table ≡ hall.table) passes
   ready_table hall passes ready k d low = (ready.each k d low).table

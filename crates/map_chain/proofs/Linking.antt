@@ -64,11 +64,6 @@ module _ {X : Type 0} where
   node_at (n ∷ ns) zero p e = let at : n.0 ≡ p = cc in (n.1, ap (λ q. Some (q, n.1)) at)
   node_at (n ∷ ns) (suc i) p e = node_at ns i p e
 
-  pub IsAt-within : (ns : List (Ptr × X)) (i : ℕ) (p : Ptr) → IsAt ns i p → i < length ns
-  IsAt-within [] i p e = cc
-  IsAt-within (n ∷ ns) zero p e = omega arith
-  IsAt-within (n ∷ ns) (suc i) p e = let below : i < length ns = IsAt-within ns i p e in omega arith
-
   pub get-within : (xs : List X) (i : ℕ) (x : X) → slice_get xs i ≡ Some x → i < length xs
   get-within [] i x e = cc
   get-within (y ∷ ys) zero x e = omega arith

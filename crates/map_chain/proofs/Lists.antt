@@ -39,12 +39,6 @@ module _ {X : Type 0} where
   gap_left d ps j x after = drop-set-lt (suc (suc j)) ps j x (omega arith) ∙ drop-one (suc j) ps ∙ ap (drop 1) after
       ∙ sym (drop-one (suc j) d)
 
-  pub gap_starts : (d : List X) (k : ℕ) → take k d ≡ remove (take (suc k) d) k
-  gap_starts [] zero = refl
-  gap_starts [] (suc k) = refl
-  gap_starts (x ∷ xs) zero = refl
-  gap_starts (x ∷ xs) (suc k) = ap (λ (l : List X). x ∷ l) (gap_starts xs k)
-
   pub get_taken : (xs : List X) (n i : ℕ) (d : X) → i < n → i < length xs
       → slice_get (take n xs) i ≡ Some (get_or xs i d)
   get_taken [] n i d h m = absurd (omega arith)

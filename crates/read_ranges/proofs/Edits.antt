@@ -116,16 +116,16 @@ join_form : (xs : List Range) (at : ℕ) (v : Range) → at < length xs → remo
 join_form xs at v within =
     let next : suc (at + 1) ≡ at + 1 + 1 = omega arith in
     ap (λ k. take (at + 1) (set xs at v) ++ drop k (set xs at v)) next
-    ∙ ap (λ front. front ++ drop (at + 1 + 1) (set xs at v)) (take_more_set xs at v within)
+    ∙ ap (λ before. before ++ drop (at + 1 + 1) (set xs at v)) (take_more_set xs at v within)
     ∙ ap (λ back. (take at xs ++ v ∷ []) ++ back) (drop-set-lt (at + 1 + 1) xs at v (omega arith))
     ∙ append_assoc (take at xs) (v ∷ []) (drop (at + 1 + 1) xs)
 
 split_form : (xs : List Range) (at : ℕ) (v q : Range) → at < length xs → set (insert xs (at + 1) q) at v ≡ take at xs ++ v ∷ q ∷ drop (at + 1) xs
 split_form xs at v q within =
-    let front : length (take (at + 1) xs) ≡ at + 1 = length-take-le (at + 1) xs (omega arith) in
+    let before : length (take (at + 1) xs) ≡ at + 1 = length-take-le (at + 1) xs (omega arith) in
     set_form (insert xs (at + 1) q) at v (omega (arith, length-insert xs (at + 1) q (omega arith)))
     ∙ ap (λ begin. begin ++ v ∷ drop (at + 1) (insert xs (at + 1) q)) (take-append-le at (take (at + 1) xs) (q ∷ drop (at + 1) xs) (omega arith) ∙ take-take at (at + 1) xs (omega arith))
-    ∙ ap (λ others. take at xs ++ v ∷ others) (drop_at (take (at + 1) xs) (q ∷ drop (at + 1) xs) (at + 1) front)
+    ∙ ap (λ others. take at xs ++ v ∷ others) (drop_at (take (at + 1) xs) (q ∷ drop (at + 1) xs) (at + 1) before)
 
 module _ (xs : List Range) (rise : AreRanges xs) where
   rise_split : (at : ℕ) → RiseFrom 1 (take at xs) × RiseFrom (after 1 (take at xs)) (drop at xs)

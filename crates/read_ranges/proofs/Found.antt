@@ -17,7 +17,7 @@ use Rattle.read_ranges.proofs.Sets.{contains-union_of}
 pub from_place : (xs : List Range) (at : ℕ) (x : Range) → at < length xs → x ≡ get_or xs at x → drop at xs ≡ x ∷ drop (at + 1) xs
 from_place xs at x within read = drop_more xs at x within ∙ ap (λ y. y ∷ drop (at + 1) xs) (sym read)
 
--- behind the ranges that end too early the others tell
+-- after the ranges that end too early the others tell
 pub holds_back : (xs : List Range) (n at m : ℕ) → IsPlaceOf xs n at → n ≤ m → holds_in xs m ≡ holds_in (drop at xs) m
 holds_back xs n at m place le =
     ap (λ ys. holds_in ys m) (sym (take-append-drop at xs)) ∙ list_any-append (is_in m) (take at xs) (drop at xs)

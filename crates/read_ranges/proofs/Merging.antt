@@ -30,9 +30,9 @@ module _ (xs whole : List Range) (count at : ℕ) (last : Range) (within : at < 
       count < at → (range_at xs at).first ≢ last.last + 1
       → take (count + 1) (set xs count last) ++ merged (range_at xs at ∷ drop (at + 1) (set xs count last)) ≡ whole
   merge_apart before apart =
-      let front = take_more_set xs count last (omega arith) in
+      let first = take_more_set xs count last (omega arith) in
       let back = drop-set-lt (at + 1) xs count last (omega arith) in
-      rw (front, back)
+      rw (first, back)
       (append_assoc (take count xs) (last ∷ []) (merged (range_at xs at ∷ drop (at + 1) xs))
       ∙ ap (λ ys. take count xs ++ ys) (sym (merged_apart last (range_at xs at) (drop (at + 1) xs) apart))
       ∙ made_here)

@@ -20,8 +20,8 @@ after least [] = least
 after least (r ∷ rs) = after (r.last + 2) rs
 
 pub rise_join : (a : ℕ) (xs ys : List Range) → RiseFrom a xs → RiseFrom (after a xs) ys → RiseFrom a (xs ++ ys)
-rise_join a [] ys front back = back
-rise_join a (x ∷ xs) ys front back = (front.0, front.1, front.2, rise_join (x.last + 2) xs ys front.3 back)
+rise_join a [] ys first back = back
+rise_join a (x ∷ xs) ys first back = (first.0, first.1, first.2, rise_join (x.last + 2) xs ys first.3 back)
 
 pub rise_front : (a : ℕ) (xs ys : List Range) → RiseFrom a (xs ++ ys) → RiseFrom a xs
 rise_front a [] ys all = tt
