@@ -1,0 +1,43 @@
+#!/usr/bin/env bash
+# Runs the built program `komd` with other words, inputs and outputs than its stored run, and compares its status and
+# what it answers; it reports nothing. Needs crates/komd/out/komd, which `rt ci` leaves there, or the program named by the one word.
+# It ends with 0 where all runs are as said, and else with 1, after a line for each that is not.
+set -u
+root=$(cd "$(dirname "$0")/.." && pwd)
+komd=${1:-$root/crates/komd/out/komd}
+work=$(mktemp -d)
+trap 'rm -rf "$work"' EXIT
+usage='usage: komd once [STORE] | serve STORE PORT WORKERS | init STORE PASSWORD | check STORE | load N'
+failed=0
+
+# expect NAME STATUS ANSWER COMMAND..: the command reads $work/in, and reports nothing
+expect() {
+    local name=$1 status=$2 answer=$3
+    shift 3
+    "$@" <"$work/in" >"$work/out" 2>"$work/report"
+    local got=$?
+    printf '%s\n' "$answer" >"$work/answer"
+    if [ "$got" != "$status" ]; then
+        echo "$name: status $got, not $status"
+        failed=1
+    fi
+    if ! cmp -s "$work/out" "$work/answer"; then
+        echo "$name: answered $(head -c 200 "$work/out" | od -c | head -3)"
+        failed=1
+    fi
+    if [ -s "$work/report" ]; then
+        echo "$name: reported $(head -c 200 "$work/report")"
+        failed=1
+    fi
+}
+
+printf 'A5Hceder\n1 56\n' >"$work/in"
+expect 'one session' 0 $'LysKOM\n=1 1' "$komd" once
+expect 'no word' 2 "$usage" "$komd"
+expect 'an unknown word' 2 "$usage" "$komd" twice
+expect 'a word too many' 2 "$usage" "$komd" once more
+expect 'an empty word' 2 "$usage" "$komd" ''
+expect 'a command that is not built yet' 2 "$usage" "$komd" serve 127.0.0.1:4894 store
+expect 'a word that is no text' 2 "$usage" "$komd" $'once\xff'
+expect 'a last word that is no text' 2 "$usage" "$komd" once $'\xff'
+exit $failed
