@@ -11,5 +11,6 @@ pub mod calls
 pub mod Names
 pub mod Mappings
 pub mod AuxItems
+pub mod tables
 pub mod Rows
 pub mod TableRows

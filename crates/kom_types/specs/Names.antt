@@ -1,7 +1,7 @@
 -- Names: which of them clash, and what a pattern finds. That letters of Latin-1 fold too is this
 -- server's choice. (Protocol A, "lookup-z-name" and "get-collate-table".)
-use Rattle.std.specs.Prelude.{◌≡◌, ℕ, ◌-◌, Bool, true, false, ◌==◌, ◌||◌, ◌&&◌, not, nat_le, nat_lt}
-use Rattle.std.specs.Prelude.{List, [], ◌∷◌, ◌++◌, map, if◌then◌else◌}
+use Rattle.std.specs.Prelude.{ℕ, ◌-◌, Bool, true, false, ◌==◌, ◌||◌, ◌&&◌, not, nat_le, nat_lt}
+use Rattle.std.specs.Prelude.{List, [], ◌∷◌, ◌++◌, map, if◌then◌else◌, bytes_eq}
 use Rattle.std.specs.List.{starts_with, list_all}
 use Rattle.kom_types.specs.ByteKind.{is_blank}
 
@@ -16,8 +16,8 @@ abbrev pub fold : ℕ → ℕ
 fold byte = if is_small byte then byte - 32 else byte
 
 -- Two names clash where they differ in small and capital letters alone.
-abbrev pub Clash : List ℕ → List ℕ → Type 0
-Clash first second = map fold first ≡ map fold second
+abbrev pub clash : List ℕ → List ℕ → Bool
+clash first second = bytes_eq (map fold first) (map fold second)
 
 -- What stands outside parentheses, from a place that stands inside some or not: one that is opened
 -- and not closed reaches to the end.

@@ -8,7 +8,7 @@ use Rattle.kom_types.specs.declared.texts.Block.{Block}
 use Rattle.kom_types.specs.declared.texts.Block.TheVariants.{Sparse, Dense}
 use Rattle.kom_types.specs.declared.texts.LocalText.{LocalText}
 use Rattle.kom_types.specs.declared.texts.Mapping.{Mapping}
-use Rattle.kom_types.specs.Names.{fold, words_of, finds, is_name}
+use Rattle.kom_types.specs.Names.{fold, clash, words_of, finds, is_name}
 use Rattle.kom_types.specs.Mappings.{mapping_up, mapping_down}
 use Rattle.kom_types.specs.AuxItems.{AuxRefusal, refused_change, inherited, items_from}
 
@@ -49,6 +49,8 @@ three_items = items_from 1 5 0 three_given
 pub record TableRows : Type 0 where
   pub fold_of_latin_letters : map fold (97 ∷ 122 ∷ 229 ∷ 246 ∷ 247 ∷ 255 ∷ 65 ∷ [])
       ≡ 65 ∷ 90 ∷ 197 ∷ 214 ∷ 247 ∷ 255 ∷ 65 ∷ []
+  pub clash_of_letters : clash (codes "Alfa") (codes "aLFA") ≡ true
+  pub no_clash_of_a_prefix : clash (codes "Alfa") (codes "Alfab") ≡ false
   pub words_outside_parentheses : words_of (codes "Alfa (the first) beta (x")
       ≡ codes "ALFA" ∷ codes "BETA" ∷ []
   pub empty_pattern : finds [] (codes "Administrator") ≡ true

@@ -31,6 +31,40 @@ pub struct Conference {
     pub aux_items: AuxRows,
 }
 
+/// A conference as the server keeps it; its members, texts and aux-items are rows of their own.
+#[derive(Drop)]
+pub struct ConferenceRow {
+    pub number: u32,
+    pub name: Bytes,
+    /// The eight bits of its type.
+    pub kind: u8,
+    pub created: Moment,
+    pub last_written: Moment,
+    pub creator: u32,
+    /// A text, or 0.
+    pub presentation: u32,
+    /// A text, or 0.
+    pub motd: u32,
+    /// A conference, or 0, as the next two.
+    pub supervisor: u32,
+    pub submitters: u32,
+    pub super_conference: u32,
+    /// For how many days its texts are kept.
+    pub nice: u32,
+    pub keep_commented: u32,
+    pub expire: u32,
+}
+
+/// What of a conference the rights of persons hang on.
+#[derive(Clone, Copy, Debug, PartialEq, Eq)]
+pub struct ConferenceHead {
+    /// The eight bits of its type.
+    pub kind: u8,
+    /// A conference, or 0, as the next one.
+    pub supervisor: u32,
+    pub submitters: u32,
+}
+
 /// What of a conference most clients want. (Protocol A, "Conferences".)
 #[derive(Drop)]
 pub struct UConference {

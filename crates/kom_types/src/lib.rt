@@ -34,16 +34,19 @@ pub use aux_items::{Adder, AuxChange, AuxInput, AuxInputs, AuxRow, AuxRows, Obje
 pub use boxed::Boxed;
 pub use byte_kind::{ByteKind, kind_of_byte};
 pub use calls::Call;
-pub use conferences::{Conference, ConferenceName, ConferenceNames, NewConference, UConference};
+pub use conferences::{
+    Conference, ConferenceHead, ConferenceName, ConferenceNames, ConferenceRow, NewConference,
+    UConference,
+};
 pub use decisions::{ChangeList, Decision, EffectList};
 pub use effects::{ConfField, Counter, Effect, PersonField};
 pub use items::Item;
 pub use lists::{Bytes, Numbers, Words};
 pub use memberships::{
-    Member, Members, Membership, Memberships, RangesShown, ReadRange, ReadRanges,
+    Member, Members, Membership, MembershipRow, Memberships, RangesShown, ReadRange, ReadRanges,
 };
 pub use messages::{ChangedItems, Message, NewName, SentMessage};
-pub use persons::{NewPerson, PasswordChange, Person};
+pub use persons::{NewPerson, PasswordChange, Person, PersonRow};
 pub use replies::Reply;
 pub use rows::{worked_rows, worked_tables};
 pub use seats::Seat;

@@ -35,6 +35,22 @@ pub struct Membership {
 
 pub type Memberships = Sequence<Membership>;
 
+/// A membership as the server keeps it, but for what was read in it.
+#[derive(Clone, Copy, Debug)]
+pub struct MembershipRow {
+    pub person: u32,
+    pub conference: u32,
+    /// Its place among all memberships of the person, from 0 on.
+    pub position: u32,
+    pub priority: u8,
+    pub added_by: u32,
+    pub added_at: Moment,
+    /// When the record of what was read was last set; its adding until then.
+    pub last_read: Moment,
+    /// The eight bits of its type.
+    pub kind: u8,
+}
+
 /// A member of a conference. (Protocol A, "Member".)
 #[derive(Clone, Copy, Debug)]
 pub struct Member {

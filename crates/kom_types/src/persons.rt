@@ -30,6 +30,33 @@ pub struct Person {
     pub conferences: u32,
 }
 
+/// A person as the server keeps it; what it owns, as its texts and memberships, are rows of their own.
+#[derive(Drop)]
+pub struct PersonRow {
+    /// The number of its letterbox.
+    pub number: u32,
+    /// The sixteen bits of its privileges.
+    pub privileges: u16,
+    /// The eight bits of its flags.
+    pub flags: u8,
+    pub last_login: Moment,
+    /// The user name that was told at its last login; empty until there is one.
+    pub user: Bytes,
+    /// A text, or 0.
+    pub user_area: u32,
+    /// The hash of its number and its password.
+    pub hash: [u8; 32],
+    /// Seconds; it stops at 4294967295, as all that is counted of a person.
+    pub time_present: u32,
+    pub sessions: u32,
+    pub created_lines: u32,
+    pub created_bytes: u32,
+    pub read_texts: u32,
+    pub text_fetches: u32,
+    pub created_persons: u32,
+    pub created_conferences: u32,
+}
+
 /// A person that is to be made.
 #[derive(Drop)]
 pub struct NewPerson {

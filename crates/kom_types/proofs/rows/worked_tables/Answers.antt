@@ -9,6 +9,8 @@ pub returns : goal.returns
 unfolding finds is_name mapping_up mapping_down refused_change inherited
 returns c = record {
   fold_of_latin_letters = refl;
+  clash_of_letters = refl;
+  no_clash_of_a_prefix = refl;
   words_outside_parentheses = refl;
   empty_pattern = refl;
   pattern_with_parentheses = refl;

@@ -1,0 +1,4 @@
+-- what the stored rows become, by topic
+pub mod Conferences
+pub mod Persons
+pub mod Memberships
