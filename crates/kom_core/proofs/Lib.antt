@@ -5,3 +5,4 @@ pub mod Defining
 pub mod Sending
 pub mod Making
 pub mod Soundness
+pub mod Effectless

@@ -6,7 +6,8 @@ use Rattle.kom_types.specs.declared.acts.Record.{Record}
 use Rattle.kom_types.specs.declared.decisions.Decision.{Decision}
 use Rattle.kom_types.specs.Sessions.{waiting_limits}
 use Rattle.kom_model.specs.State.{State}
-use Rattle.kom_model.specs.After.{acted, sent, after, deliveries, moment_of, decision_at, apply_all}
+use Rattle.kom_model.specs.After.{acted, sent, after, deliveries, moment_of, decision_at}
+use Rattle.kom_model.specs.Effects.{apply_all}
 use Rattle.kom_model.proofs.Changing.{make_changes-rows}
 use Rattle.kom_model.proofs.Queueing.{queue_all-rows}
 use Rattle.kom_model.proofs.Soundness.{entries-acted}

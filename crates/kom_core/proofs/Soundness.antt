@@ -6,4 +6,4 @@ use Rattle.kom_model.specs.State.{State, IsSound, empty}
 -- there is no session before the first entry
 pub IsSound-empty : IsSound empty
 unfolding IsDistinct
-IsSound-empty = record { drawn = tt; distinct = tt; ordered = tt; stable = omega arith }
+IsSound-empty = record { drawn = tt; distinct = tt; ordered = tt; stable = omega arith; protected = tt }

@@ -35,12 +35,13 @@ pub(crate) struct State {
 }
 
 impl Model for State {
-    ghost use Rattle.kom_model.specs.State.{State as Server, NoRows};
+    ghost use Rattle.kom_model.specs.Db.{empty_db};
+    ghost use Rattle.kom_model.specs.State.{State as Server};
 
     ghost Value = { Server };
 
     ghost view = { λ s. record {
-      db = NoRows;
+      db = empty_db;
       sessions = s.sessions;
       connects = s.connects;
       stable = s.stable;

@@ -9,7 +9,8 @@ use Rattle.kom_types.specs.declared.acts.Act.TheVariants as act
 use Rattle.kom_types.specs.declared.acts.Record.{Record}
 use Rattle.kom_types.specs.Sessions.{Session, waiting_limits, is_session, drained}
 use Rattle.kom_model.specs.State.{State, IsSound, session_of}
-use Rattle.kom_model.specs.After.{moment_of, decision_at, apply_all, deliveries, acted, after}
+use Rattle.kom_model.specs.After.{moment_of, decision_at, deliveries, acted, after}
+use Rattle.kom_model.specs.Effects.{apply_all}
 use Rattle.kom_model.specs.After.{MayFollow}
 use Rattle.kom_model.specs.Legal.{state_after}
 use Rattle.kom_model.specs.Refusal.{close_refused}

@@ -5,7 +5,8 @@ use Rattle.kom_types.specs.declared.acts.Act.TheVariants as act
 use Rattle.kom_types.specs.declared.acts.Record.{Record}
 use Rattle.kom_types.specs.Sessions.{waiting_limits}
 use Rattle.kom_model.specs.State.{State, IsSound}
-use Rattle.kom_model.specs.After.{moment_of, decision_at, apply_all, deliveries, acted, after}
+use Rattle.kom_model.specs.After.{moment_of, decision_at, deliveries, acted, after}
+use Rattle.kom_model.specs.Effects.{apply_all}
 use Rattle.kom_model.specs.Legal.{state_after}
 use Rattle.kom_model.proofs.Queueing.{queue_all-rows}
 use Rattle.kom_model.proofs.Changing.{make_changes-rows}

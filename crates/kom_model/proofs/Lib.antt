@@ -4,6 +4,7 @@ pub mod Keeping
 pub mod Numbers
 pub mod Queueing
 pub mod Changing
+pub mod Protection
 pub mod Soundness
 pub mod Draining
 pub mod Flushing

@@ -12,7 +12,8 @@ use Rattle.kom_types.specs.declared.acts.Act.TheVariants as act
 use Rattle.kom_types.specs.declared.acts.Record.{Record}
 use Rattle.kom_types.specs.Sessions.{Waiting, Session, is_session, drained, drained_count}
 use Rattle.kom_model.specs.State.{State, IsSound, session_of}
-use Rattle.kom_model.specs.After.{moment_of, decision_at, apply_all, acted, sent, after}
+use Rattle.kom_model.specs.After.{moment_of, decision_at, acted, sent, after}
+use Rattle.kom_model.specs.Effects.{apply_all}
 use Rattle.kom_model.specs.Out.{waiting_in, waiting_for, drained_from}
 use Rattle.kom_model.proofs.Finding.{find-changed_same, find-changed_other, find-added_same}
 use Rattle.kom_model.proofs.Finding.{find-added_other, find-removed_other, find-undrawn}

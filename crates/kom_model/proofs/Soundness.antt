@@ -1,6 +1,6 @@
 -- A sound state stays sound.
 use Rattle.std.proofs.Common.{◌≡◌, ℕ, ◌+◌, ◌≤◌, Bool, true, false, cond, List, [], ◌∷◌, ◌++◌, refl}
-use Rattle.std.proofs.Common.{ap, subst, arith}
+use Rattle.std.proofs.Common.{ap, subst, sym, arith}
 use Rattle.std.specs.List.{filter}
 use Rattle.kom_types.specs.declared.acts.Act.{Act}
 use Rattle.kom_types.specs.declared.acts.Act.TheVariants as act
@@ -8,7 +8,8 @@ use Rattle.kom_types.specs.declared.acts.Record.{Record}
 use Rattle.kom_types.specs.declared.decisions.Decision.{Decision}
 use Rattle.kom_types.specs.Sessions.{Waiting, Session, waiting_limits, drained, drained_count}
 use Rattle.kom_model.specs.State.{State, IsSound, IsInOrder}
-use Rattle.kom_model.specs.After.{moment_of, deliveries, decision_at, carry_out, apply_all, acted}
+use Rattle.kom_model.specs.After.{moment_of, deliveries, decision_at, carry_out, acted}
+use Rattle.kom_model.specs.Effects.{apply_all, IsProtected}
 use Rattle.kom_model.specs.After.{sent, after}
 use Rattle.kom_model.specs.Legal.{state_after}
 use Rattle.kom_model.proofs.Order.{IsInOrder-drop, IsInOrder-append}
@@ -17,19 +18,22 @@ use Rattle.kom_model.proofs.Keeping.{AllOrdered, ordered-kept}
 use Rattle.kom_model.proofs.Numbers.{drawn-kept, apart-kept, drawn-added, apart-added}
 use Rattle.kom_model.proofs.Numbers.{drawn-filtered, apart-filtered}
 use Rattle.kom_model.proofs.Queueing.{Grows, queue_all-rows, queue_all-grows}
+use Rattle.kom_model.proofs.Protection.{IsProtected-apply_all}
 use Rattle.kom_model.proofs.Changing.{Stays, make_changes-stay, make_changes-rows}
 
 -- rows that keep their numbers and their order, beside numbers that fit
 pub IsSound-kept : (state state' : State) →
     KeepsRows (KeepsOrder state.entries state'.entries) state.sessions state'.sessions →
-    state'.connects ≡ state.connects → state'.stable ≤ state'.entries → IsSound state → IsSound state'
-IsSound-kept state state' kept connects stable sound =
+    state'.connects ≡ state.connects → state'.stable ≤ state'.entries → IsProtected state'.db → IsSound state →
+    IsSound state'
+IsSound-kept state state' kept connects stable protected sound =
     let order : List Waiting → List Waiting → Type 0 = KeepsOrder state.entries state'.entries in
     record {
       drawn = rw connects (drawn-kept order state.connects state.sessions state'.sessions kept sound.drawn);
       distinct = apart-kept order state.sessions state'.sessions kept sound.distinct;
       ordered = ordered-kept state.entries state'.entries state.sessions state'.sessions kept sound.ordered;
       stable = stable;
+      protected = protected;
     }
 
 ordered-added : (entries : ℕ) (row : Session) → row.waiting ≡ [] → (rows : List Session) → AllOrdered entries rows →
@@ -61,7 +65,9 @@ IsSound-carry_out moment decision state sound =
     (KeepsRows-weaken Stays (KeepsOrder state.entries end.entries)
     (λ w w' same order. rw (entries, same) order) state.sessions end.sessions
     (make_changes-stay moment decision.changes start))
-    connects (omega (arith, stable, entries, sound.stable)) sound
+    connects (omega (arith, stable, entries, sound.stable))
+    (subst IsProtected (sym (ap (λ s. s.db) rows))
+    (IsProtected-apply_all decision.effects state.db sound.protected)) sound
 
 acted_step : (state : State) (pass moment : ℕ) (what : Act) (session : ℕ) (short : Bool) → IsSound state →
     IsSound (acted state (record {
@@ -74,6 +80,7 @@ acted_step state pass moment (act.Connect user host) session short sound = recor
   distinct = apart-added state.connects _ refl state.sessions sound.drawn sound.distinct;
   ordered = ordered-added state.entries _ refl state.sessions sound.ordered;
   stable = sound.stable;
+  protected = sound.protected;
 }
 acted_step state pass moment (act.Call number reference call) session true sound = sound
 acted_step state pass moment (act.Call number reference call) session false sound =
@@ -84,24 +91,27 @@ acted_step state pass moment (act.Drain number) session short sound =
     (KeepsRows-changed (KeepsOrder state.entries state.entries) (λ w order. order) number (drained state.stable)
     (λ row. (refl, IsInOrder-drop (drained_count state.stable row.waiting) state.entries row.waiting))
     state.sessions)
-    refl sound.stable sound
+    refl sound.stable sound.protected sound
 acted_step state pass moment act.Flush session true sound = record {
   drawn = sound.drawn;
   distinct = sound.distinct;
   ordered = sound.ordered;
   stable = sound.stable;
+  protected = sound.protected;
 }
 acted_step state pass moment act.Flush session false sound = record {
   drawn = sound.drawn;
   distinct = sound.distinct;
   ordered = sound.ordered;
   stable = omega arith;
+  protected = sound.protected;
 }
 acted_step state pass moment (act.Close number) session short sound = record {
   drawn = drawn-filtered state.connects _ state.sessions sound.drawn;
   distinct = apart-filtered _ state.sessions sound.distinct;
   ordered = ordered-filtered state.entries _ state.sessions sound.ordered;
   stable = sound.stable;
+  protected = sound.protected;
 }
 
 -- what an act changes
@@ -157,7 +167,8 @@ IsSound-after state made sound =
     (KeepsRows-weaken (Grows state.entries) (KeepsOrder middle.entries end.entries)
     (λ w w' grows. rw entries (grown-ordered state.entries w w' grows))
     middle.sessions end.sessions (sent-grows state made))
-    connects (omega (arith, stable, entries, between.stable)) between
+    connects (omega (arith, stable, entries, between.stable))
+    (subst IsProtected (sym (ap (λ s. s.db) rows)) between.protected) between
 
 pub IsSound-state_after : (state : State) (history : List Record) → IsSound state → IsSound (state_after state history)
 IsSound-state_after state [] sound = sound

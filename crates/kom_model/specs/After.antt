@@ -8,12 +8,12 @@ use Rattle.kom_types.specs.declared.calls.Call.{Call}
 use Rattle.kom_types.specs.declared.replies.Reply.{Reply}
 use Rattle.kom_types.specs.declared.replies.Reply.TheVariants as reply
 use Rattle.kom_types.specs.declared.decisions.Decision.{Decision}
-use Rattle.kom_types.specs.declared.effects.Effect.{Effect}
 use Rattle.kom_types.specs.declared.items.Item.TheVariants as item
 use Rattle.kom_types.specs.declared.session_changes.SessionChange.{SessionChange}
 use Rattle.kom_types.specs.Sessions.{Session, Limits, waiting_limits, fresh_session, is_session}
 use Rattle.kom_types.specs.Sessions.{queued, drained, changed_session, changed, is_stop}
-use Rattle.kom_model.specs.State.{Db, State}
+use Rattle.kom_model.specs.State.{State}
+use Rattle.kom_model.specs.Effects.{apply_all}
 use Rattle.kom_model.specs.Decide.{asked_in, decision_of, is_firm}
 use Rattle.kom_model.specs.Refusal.{IsPossible}
 use Rattle.kom_model.specs.ToWhom.{Delivery, messages_of}
@@ -92,14 +92,6 @@ deliveries state made = elim made.entry.act [
   | act.Flush ↦ []
   | act.Close session ↦ []
 ]
-
--- What an effect makes of the stored rows: there are none yet, so it changes nothing.
-abbrev pub apply : Effect → Db → Db
-apply effect db = db
-
-abbrev pub apply_all : List Effect → Db → Db
-apply_all [] db = db
-apply_all (effect ∷ effects) db = apply_all effects (apply effect db)
 
 -- what a change of a session makes of the server, at a moment
 abbrev pub make_change : ℕ → SessionChange → State → State

@@ -1,3 +1,7 @@
+pub mod Db
+pub mod Rights
+pub mod Effects
+pub mod Initial
 pub mod State
 pub mod Kinds
 pub mod calls
@@ -9,3 +13,5 @@ pub mod Legal
 pub mod Out
 pub mod Laws
 pub mod Rows
+pub mod DbRows
+pub mod CallRows

@@ -12,7 +12,8 @@ use Rattle.kom_types.specs.declared.items.Item.TheVariants as item
 use Rattle.kom_types.specs.declared.seats.Seat.{Seat}
 use Rattle.kom_types.specs.declared.session_changes.SessionChange.TheVariants as change
 use Rattle.kom_types.specs.Sessions.{Waiting, Session, Limits, waiting_limits}
-use Rattle.kom_model.specs.State.{NoRows, State, empty, IsSound}
+use Rattle.kom_model.specs.State.{State, empty, IsSound}
+use Rattle.kom_model.specs.Db.{empty_db}
 use Rattle.kom_model.specs.calls.Call.{Asked, answer, unguarded, refused}
 use Rattle.kom_model.specs.Decide.{asked_in, definition_of, decision_of, limited, is_firm}
 use Rattle.kom_model.specs.ToWhom.{Delivery}
@@ -106,7 +107,7 @@ overran seat waiting = record { seat = seat; waiting = waiting; overrun = true }
 -- after the flush of the visit
 abbrev pub met : State
 met = record {
-  db = NoRows;
+  db = empty_db;
   sessions = holds ceder (waits item.Hello 0 ∷ waits one 1 ∷ []) ∷ [];
   connects = 1;
   stable = 2;
@@ -180,7 +181,7 @@ kept limits items = (queue_all limits (map (to 1) items) (alone ceder)).sessions
 -- What the definitions say of these.
 pub record Rows : Type 0 where
   pub connected : state_after empty (connect ∷ []) ≡ record {
-    db = NoRows;
+    db = empty_db;
     sessions = holds ceder (waits item.Hello 0 ∷ []) ∷ [];
     connects = 1;
     stable = 0;

@@ -3,10 +3,8 @@ use Rattle.std.specs.Prelude.{ℕ, ◌≤◌, ◌<◌, Bool, false, nat_eq, List
 use Rattle.std.specs.List.{AllByRecursion, IsDistinct}
 use Rattle.kom_types.specs.declared.seats.Seat.{Seat}
 use Rattle.kom_types.specs.Sessions.{Waiting, Session, is_session}
-
--- The stored rows. There are none yet.
-pub data Db : Type 0 where
-  NoRows : Db
+use Rattle.kom_model.specs.Db.{Db, empty_db}
+use Rattle.kom_model.specs.Effects.{IsProtected}
 
 -- The server: its stored rows; its sessions; how many were connected; the stable number; how many
 -- entries its history has, and the moment of the last one; whether it was shut down; and whether
@@ -24,7 +22,7 @@ pub record State : Type 0 where
 -- before the first entry
 abbrev pub empty : State
 empty = record {
-  db = NoRows;
+  db = empty_db;
   sessions = [];
   connects = 0;
   stable = 0;
@@ -52,10 +50,11 @@ abbrev pub IsInOrder : ℕ → List Waiting → Type 0
 IsInOrder entries waiting =
     NeverFalls 0 waiting × AllByRecursion (λ one. one.entry < entries) waiting
 
--- Each session has a number of its own, which a Connect drew; what waits for it is in order; and
--- what is stable is in the history.
+-- Each session has a number of its own, which a Connect drew; what waits for it is in order; what
+-- is stable is in the history; and each secret conference is read-protected.
 pub record IsSound (state : State) : Type 0 where
   pub drawn : AllByRecursion (λ session. session.seat.number ≤ state.connects) state.sessions
   pub distinct : IsDistinct nat_eq (map (λ session. session.seat.number) state.sessions)
   pub ordered : AllByRecursion (λ session. IsInOrder state.entries session.waiting) state.sessions
   pub stable : state.stable ≤ state.entries
+  pub protected : IsProtected state.db

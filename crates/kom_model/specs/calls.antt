@@ -1,5 +1,8 @@
 -- what each call comes to, by topic
 pub mod Call
+pub mod Guards
+pub mod Persons
+pub mod Conferences
 pub mod Sessions
 pub mod Server
 pub mod AuxItems

@@ -4,6 +4,10 @@
 
 mod laws;
 mod rows;
+mod stored;
+mod viewers;
 
 pub use laws::drains_give_all;
-pub use rows::worked_histories;
+pub use rows::{worked_calls, worked_histories, worked_rights};
+pub use stored::Rows;
+pub use viewers::Viewer;

@@ -1,7 +1,21 @@
+ghost use Rattle.kom_model.specs.CallRows.{CallRows};
+ghost use Rattle.kom_model.specs.DbRows.{DbRows};
 ghost use Rattle.kom_model.specs.Rows.{Rows};
 
 /// A law alone: the definitions give the states, the refusals and the outputs of small histories
 /// that were worked out by hand.
 pub fn worked_histories()
     ensures { Rows }
+{}
+
+/// A law alone: the definitions of the stored rows, of what changes them and of who may see them
+/// give what was worked out by hand.
+pub fn worked_rights()
+    ensures { DbRows }
+{}
+
+/// A law alone: the definitions of the calls over persons and conferences give what was worked out
+/// by hand.
+pub fn worked_calls()
+    ensures { CallRows }
 {}

@@ -15,7 +15,8 @@ use Rattle.kom_links.specs.DeskCalls.{record_of}
 use Rattle.kom_links.specs.Records.{is_connect, is_close}
 use Rattle.kom_model.specs.State.{State, IsSound, session_of}
 use Rattle.kom_model.specs.Refusal.{most_sessions, call_refused, drain_refused, close_refused, connect_refused, unless_store_refused}
-use Rattle.kom_model.specs.After.{MayFollow, moment_of, decision_at, apply_all, deliveries, acted, after}
+use Rattle.kom_model.specs.After.{MayFollow, moment_of, decision_at, deliveries, acted, after}
+use Rattle.kom_model.specs.Effects.{apply_all}
 use Rattle.kom_model.proofs.Finding.{find-added_same, find-added_other, find-removed_other, find-undrawn, drawn-found}
 use Rattle.kom_model.proofs.Keeping.{KeepsRows, KeepsRows-changed, KeepsRows-same, KeepsRows-weaken}
 use Rattle.kom_model.proofs.Queueing.{Grows, queue_all-rows}

@@ -3,8 +3,10 @@ use Rattle.std.specs.Prelude.{ℕ, ◌==◌, List, [], Option, Some, None, find}
 use Rattle.kom_types.specs.declared.replies.Reply.{Reply}
 use Rattle.kom_types.specs.declared.replies.Reply.TheVariants as reply
 use Rattle.kom_types.specs.declared.decisions.Decision.{Decision}
+use Rattle.kom_types.specs.declared.effects.Effect.{Effect}
 use Rattle.kom_types.specs.declared.seats.Seat.{Seat}
-use Rattle.kom_model.specs.State.{Db}
+use Rattle.kom_types.specs.declared.session_changes.SessionChange.{SessionChange}
+use Rattle.kom_model.specs.Db.{Db}
 
 -- All that a call may read: the stored rows, the seats of all sessions, the moment of the entry,
 -- the caller's session, and the reference, whose digits count in the length of the reply's line.
@@ -33,6 +35,10 @@ pub record Definition : Type 0 where
 -- a call that changes nothing is answered so
 abbrev pub answer : Reply → Decision
 answer reply = record { reply = reply; effects = []; changes = [] }
+
+-- a good reply without a result, with effects on the stored rows and changes of sessions
+abbrev pub done : List Effect → List SessionChange → Decision
+done effects changes = record { reply = reply.Done; effects = effects; changes = changes }
 
 -- a refused call changes nothing
 abbrev pub refuse : Refused → Decision

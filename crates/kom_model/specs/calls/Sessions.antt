@@ -1,11 +1,15 @@
 -- The calls about sessions. (Protocol A, "Protocol Requests".)
-use Rattle.std.specs.Prelude.{ℕ, ◌/◌, ◌%◌, ◌^◌, Bool, ◌==◌, not, List, [], ◌∷◌, Option, Some, None}
+use Rattle.std.specs.Prelude.{ℕ, ◌/◌, ◌%◌, ◌^◌, Bool, false, ◌==◌, not, List, [], ◌∷◌, Option, Some, None}
 use Rattle.std.specs.Prelude.{find, filter, fold, bit_or}
 use Rattle.kom_types.specs.declared.replies.Reply.{Reply}
 use Rattle.kom_types.specs.declared.replies.Reply.TheVariants as reply
 use Rattle.kom_types.specs.declared.session_changes.SessionChange.TheVariants as change
 use Rattle.kom_model.specs.Kinds.{is_among}
-use Rattle.kom_model.specs.calls.Call.{Asked, Definition, answer, unguarded, seat_of}
+use Rattle.kom_types.specs.declared.seats.Seat.{Seat}
+use Rattle.kom_types.specs.declared.sessions.ClientVersion.{ClientVersion}
+use Rattle.kom_model.specs.Effects.{longest_name}
+use Rattle.kom_model.specs.calls.Call.{Asked, Definition, answer, done, unguarded, seat_of}
+use Rattle.kom_model.specs.calls.Guards.{guarded, unless, login_guard, session_guard, size_guard}
 
 -- call 56, who-am-i: the number of the caller's session
 abbrev pub who_am_i : Asked → Definition
@@ -51,3 +55,45 @@ accepted_of asked = elim (seat_of asked) [
 -- call 81, query-async: their numbers, rising
 abbrev pub query_async : Asked → Definition
 query_async asked = unguarded (answer (reply.Numbers (accepted_of asked)))
+
+-- call 4, change-what-i-am-doing
+abbrev pub change_what_i_am_doing : Asked → List ℕ → Definition
+change_what_i_am_doing asked doing = guarded
+    (size_guard doing longest_name ∷ [])
+    (done [] (change.Doing asked.session doing ∷ []))
+
+-- call 42, enable
+abbrev pub enable : Asked → ℕ → Definition
+enable asked level = guarded
+    (login_guard asked ∷ [])
+    (done [] (change.Level asked.session level ∷ []))
+
+-- the caller's client has told what it is
+abbrev pub has_told : Asked → Bool
+has_told asked = elim (seat_of asked) [ None ↦ false | Some seat ↦ seat.client_set ]
+
+-- call 69, set-client-version: a client tells it once
+abbrev pub set_client_version : Asked → ClientVersion → Definition
+set_client_version asked given = guarded
+    (size_guard given.name longest_name ∷ size_guard given.version longest_name
+    ∷ unless (not (has_told asked)) 41 0 ∷ [])
+    (done [] (change.Client asked.session given.name given.version ∷ []))
+
+-- the seat of a session
+abbrev pub seat_at : Asked → ℕ → Option Seat
+seat_at asked number = find (λ seat. seat.number == number) asked.seats
+
+-- call 70, get-client-name, and call 71, get-client-version: empty where none was told
+abbrev pub get_client_name : Asked → ℕ → Definition
+get_client_name asked number = guarded
+    (session_guard asked number ∷ [])
+    (answer (reply.Text (elim (seat_at asked number) [ None ↦ [] | Some seat ↦ seat.client ])))
+
+abbrev pub get_client_version : Asked → ℕ → Definition
+get_client_version asked number = guarded
+    (session_guard asked number ∷ [])
+    (answer (reply.Text (elim (seat_at asked number) [ None ↦ [] | Some seat ↦ seat.version ])))
+
+-- call 82, user-active
+abbrev pub user_active : Asked → Definition
+user_active asked = unguarded (done [] (change.Active asked.session ∷ []))

@@ -22,7 +22,7 @@ returns c = record {
   connected = refl;
   answered = refl;
   closed = refl;
-  sound = record { drawn = tt; distinct = tt; ordered = tt; stable = omega arith };
+  sound = record { drawn = tt; distinct = tt; ordered = tt; stable = omega arith; protected = tt };
   legal = (
     may _ _ refl refl tt,
     (may _ _ refl refl tt, (may _ _ refl refl tt, (may _ _ refl refl tt, (may _ _ refl refl tt, tt)))),

@@ -1,0 +1,203 @@
+-- What can change the stored rows: a closed list of effects, each a row that is added, set or
+-- removed. That the state changes so is this server's own choice.
+use Rattle.std.specs.Prelude.{ℕ, ◌+◌, Bool, true, false, ◌==◌, ◌||◌, ◌&&◌, not, nat_le, nat_lt}
+use Rattle.std.specs.Prelude.{List, [], ◌∷◌, length, Some, None, is_some, is_none}
+use Rattle.std.specs.Prelude.{if◌then◌else◌, IsTrue}
+use Rattle.std.specs.List.{AllByRecursion, list_any}
+use Rattle.row_table.specs.Tables.{with_row, changed_row}
+use Rattle.kom_types.specs.declared.conferences.ConferenceRow.{ConferenceRow}
+use Rattle.kom_types.specs.declared.effects.ConfField.{ConfField}
+use Rattle.kom_types.specs.declared.effects.ConfField.TheVariants as field
+use Rattle.kom_types.specs.declared.effects.Effect.{Effect}
+use Rattle.kom_types.specs.declared.effects.Effect.TheVariants as effect
+use Rattle.kom_types.specs.declared.memberships.MembershipRow.{MembershipRow}
+use Rattle.kom_types.specs.declared.persons.PersonRow.{PersonRow}
+use Rattle.kom_types.specs.Names.{clash}
+use Rattle.kom_types.specs.tables.Conferences as Conferences
+use Rattle.kom_types.specs.tables.Conferences.{is_guarded, is_letterbox, fresh_conference, with_name}
+use Rattle.kom_types.specs.tables.Memberships.{with_membership}
+use Rattle.kom_types.specs.tables.Persons as Persons
+use Rattle.kom_types.specs.tables.Persons.{fresh_person, counted, logged_in, with_hash}
+use Rattle.kom_model.specs.Db.{Db, conference_of, person_of, membership_of, memberships_of}
+use Rattle.kom_model.specs.Db.{conferences_of, number_of_conference, number_of_person}
+
+-- the limits of this server: conferences that are ever made, bytes of a name and of a user name,
+-- memberships of a person
+abbrev pub last_conference : ℕ
+last_conference = 65535
+
+abbrev pub longest_name : ℕ
+longest_name = 60
+
+abbrev pub longest_user_name : ℕ
+longest_user_name = 1024
+
+abbrev pub most_memberships : ℕ
+most_memberships = 2000
+
+-- no conference but the one of this number has a name that clashes
+abbrev pub is_free : Db → ℕ → List ℕ → Bool
+is_free db number name = not (list_any
+    (λ row. not (row.number == number) && clash row.name name) (conferences_of db))
+
+-- a name that a conference may have
+abbrev pub may_name : Db → ℕ → List ℕ → Bool
+may_name db number name = nat_le (length name) longest_name && is_free db number name
+
+-- a conference of the number is made: the number was never used
+abbrev pub may_add_conference : Db → ℕ → List ℕ → ℕ → Bool
+may_add_conference db number name kind =
+    nat_le db.next_conference number && nat_le number last_conference
+    && is_none (conference_of db number) && may_name db number name && is_guarded kind
+
+abbrev pub alike : Bool → Bool → Bool
+alike true second = second
+alike false second = not second
+
+-- a field may be set so: a type stays guarded, and a letterbox stays one
+abbrev pub may_set : ConfField → ConferenceRow → Bool
+may_set (field.Presentation text) row = true
+may_set (field.Motd text) row = true
+may_set (field.Supervisor conference) row = true
+may_set (field.PermittedSubmitters conference) row = true
+may_set (field.SuperConference conference) row = true
+may_set (field.Kind kind) row = is_guarded kind && alike (is_letterbox kind) (is_letterbox row.kind)
+may_set (field.Nice days) row = true
+may_set (field.KeepCommented days) row = true
+may_set (field.Expire days) row = true
+may_set (field.LastWritten at) row = true
+
+-- a conference may have its field set so
+abbrev pub may_set_field : Db → ℕ → ConfField → Bool
+may_set_field db number what = elim (conference_of db number) [
+  | None ↦ false
+  | Some row ↦ may_set what row
+]
+
+-- a person belongs to a letterbox of its number
+abbrev pub has_letterbox : Db → ℕ → Bool
+has_letterbox db number = elim (conference_of db number) [
+  | None ↦ false
+  | Some row ↦ is_letterbox row.kind
+]
+
+-- a membership is there already, or the person may have one more
+abbrev pub may_join : Db → ℕ → ℕ → Bool
+may_join db person conference =
+    is_some (membership_of db person conference)
+    || nat_lt (length (memberships_of db person)) most_memberships
+
+-- Whether an effect fits: what it changes is there, what it adds is not, numbers were never used,
+-- and the limits hold. Removals, read sets, texts, marks and aux-items are not built yet: they do
+-- not fit.
+unfoldable pub fits : Effect → Db → Bool
+fits (effect.ConfAdded number name kind at creator supervisor) db =
+    may_add_conference db number name kind
+fits (effect.ConfGone number) db = false
+fits (effect.ConfNamed number name) db =
+    is_some (conference_of db number) && may_name db number name
+fits (effect.ConfField number what) db = may_set_field db number what
+fits (effect.PersonAdded number privileges flags last_login) db =
+    has_letterbox db number && is_none (person_of db number)
+fits (effect.PersonGone number) db = false
+fits (effect.PersonField number what) db = is_some (person_of db number)
+fits (effect.Password number hash) db = is_some (person_of db number)
+fits (effect.LoggedIn number at user) db =
+    is_some (person_of db number) && nat_le (length user) longest_user_name
+fits (effect.Counted number counter by) db = is_some (person_of db number)
+fits (effect.TextAdded number author at body) db = false
+fits (effect.TextGone number) db = false
+fits (effect.RecipientAdded recipient) db = false
+fits (effect.RecipientGone text conference) db = false
+fits (effect.LinkAdded link) db = false
+fits (effect.LinkGone child parent footnote) db = false
+fits (effect.MemberSet person conference position priority added_by added_at kind) db =
+    is_some (person_of db person) && is_some (conference_of db conference)
+    && may_join db person conference
+fits (effect.MemberGone person conference) db = false
+fits (effect.ReadSet person conference at ranges) db = false
+fits (effect.MarkSet person text kind) db = false
+fits (effect.MarkGone person text) db = false
+fits (effect.AuxAdded on_text object item) db = false
+fits (effect.AuxGone on_text object number) db = false
+fits (effect.Created person local text) db = false
+
+-- with a conference that is made, and its number used
+abbrev pub with_conference : ConferenceRow → Db → Db
+with_conference row db = record db {
+  conferences = with_row number_of_conference row db.conferences;
+  next_conference = row.number + 1;
+}
+
+-- with one conference, or one person, changed
+abbrev pub with_changed_conference : ℕ → (ConferenceRow → ConferenceRow) → Db → Db
+with_changed_conference number change db =
+    record db { conferences = changed_row number_of_conference number change db.conferences }
+
+abbrev pub with_changed_person : ℕ → (PersonRow → PersonRow) → Db → Db
+with_changed_person number change db =
+    record db { persons = changed_row number_of_person number change db.persons }
+
+-- the membership that an effect sets; a new one counts as read when it was added
+abbrev pub member_row : ℕ → ℕ → ℕ → ℕ → ℕ → ℕ → ℕ → MembershipRow
+member_row person conference position priority added_by added_at kind = record {
+  person = person;
+  conference = conference;
+  position = position;
+  priority = priority;
+  added_by = added_by;
+  added_at = added_at;
+  last_read = added_at;
+  kind = kind;
+}
+
+-- What an effect that fits makes of the rows.
+unfoldable pub made : Effect → Db → Db
+made (effect.ConfAdded number name kind at creator supervisor) db =
+    with_conference (fresh_conference number name kind at creator supervisor) db
+made (effect.ConfGone number) db = db
+made (effect.ConfNamed number name) db = with_changed_conference number (with_name name) db
+made (effect.ConfField number what) db =
+    with_changed_conference number (Conferences.with_field what) db
+made (effect.PersonAdded number privileges flags last_login) db = record db {
+  persons = with_row number_of_person (fresh_person number privileges flags last_login) db.persons;
+}
+made (effect.PersonGone number) db = db
+made (effect.PersonField number what) db = with_changed_person number (Persons.with_field what) db
+made (effect.Password number hash) db = with_changed_person number (with_hash hash) db
+made (effect.LoggedIn number at user) db = with_changed_person number (logged_in at user) db
+made (effect.Counted number counter by) db = with_changed_person number (counted counter by) db
+made (effect.TextAdded number author at body) db = db
+made (effect.TextGone number) db = db
+made (effect.RecipientAdded recipient) db = db
+made (effect.RecipientGone text conference) db = db
+made (effect.LinkAdded link) db = db
+made (effect.LinkGone child parent footnote) db = db
+made (effect.MemberSet person conference position priority added_by added_at kind) db = record db {
+  memberships = with_membership
+      (member_row person conference position priority added_by added_at kind) db.memberships;
+}
+made (effect.MemberGone person conference) db = db
+made (effect.ReadSet person conference at ranges) db = db
+made (effect.MarkSet person text kind) db = db
+made (effect.MarkGone person text) db = db
+made (effect.AuxAdded on_text object item) db = db
+made (effect.AuxGone on_text object number) db = db
+made (effect.Created person local text) db = db
+
+-- An effect that does not fit changes nothing.
+abbrev pub apply : Effect → Db → Db
+apply what db = if fits what db then made what db else db
+
+abbrev pub apply_all : List Effect → Db → Db
+apply_all [] db = db
+apply_all (what ∷ effects) db = apply_all effects (apply what db)
+
+-- each effect fits after those before it
+abbrev pub all_fit : List Effect → Db → Bool
+all_fit [] db = true
+all_fit (what ∷ effects) db = fits what db && all_fit effects (apply what db)
+
+-- every conference that is secret is read-protected too
+abbrev pub IsProtected : Db → Type 0
+IsProtected db = AllByRecursion (λ row. IsTrue (is_guarded row.kind)) db.conferences

@@ -1,0 +1,129 @@
+-- The guards that calls share: what each refuses, or none. Which code and status each gives is this
+-- server's choice. (Protocol A, "Error Codes".)
+use Rattle.std.specs.Prelude.{ℕ, Bool, false, ◌==◌, ◌||◌, ◌&&◌, not, nat_le, bytes_eq}
+use Rattle.std.specs.Prelude.{List, [], ◌∷◌, length, find, Option, Some, None, is_some}
+use Rattle.std.specs.Prelude.{if◌then◌else◌}
+use Rattle.kom_types.specs.declared.aux_items.AuxInput.{AuxInput}
+use Rattle.kom_types.specs.declared.conferences.ConferenceRow.{ConferenceRow}
+use Rattle.kom_types.specs.declared.decisions.Decision.{Decision}
+use Rattle.kom_types.specs.declared.seats.Seat.{Seat}
+use Rattle.kom_types.specs.Names.{clash, is_name}
+use Rattle.kom_types.specs.tables.Conferences.{is_guarded, is_letterbox}
+use Rattle.kom_types.specs.tables.Persons.{is_mighty, password_hash}
+use Rattle.kom_model.specs.declared.viewers.Viewer.{Viewer}
+use Rattle.kom_model.specs.Db.{Db, person_of, conferences_of, next_conference_of}
+use Rattle.kom_model.specs.Effects.{longest_name, last_conference}
+use Rattle.kom_model.specs.Rights.{sees, supervises}
+use Rattle.kom_model.specs.calls.Call.{Asked, Definition, Refused, seat_of, refuse}
+
+-- what a guard refuses, or none
+abbrev pub Guard : Type 0
+Guard = Option Refused
+
+abbrev pub refusal : ℕ → ℕ → Guard
+refusal code status = Some (record { code = code; status = status })
+
+abbrev pub unless : Bool → ℕ → ℕ → Guard
+unless holds code status = if holds then None else refusal code status
+
+-- what the first guard refuses that refuses anything
+abbrev pub first_refusal : List Guard → Guard
+first_refusal [] = None
+first_refusal (None ∷ guards) = first_refusal guards
+first_refusal (Some refused ∷ guards) = Some refused
+
+-- a call that these guards refuse, the first before the next, and that else comes to this
+abbrev pub guarded : List Guard → Decision → Definition
+guarded guards decision = record { early = first_refusal guards; rest = decision }
+
+-- the person that the caller is logged in as, or 0
+abbrev pub caller : Asked → ℕ
+caller asked = elim (seat_of asked) [ None ↦ 0 | Some seat ↦ seat.person ]
+
+-- a person's privileges let its sessions be strong
+abbrev pub has_might : Db → ℕ → Bool
+has_might db person = elim (person_of db person) [ None ↦ false | Some row ↦ is_mighty row.privileges ]
+
+-- a session is strong at level 255, where its person's privileges let it
+abbrev pub is_strong_seat : Db → Seat → Bool
+is_strong_seat db seat = seat.level == 255 && has_might db seat.person
+
+abbrev pub is_strong : Asked → Bool
+is_strong asked = elim (seat_of asked) [ None ↦ false | Some seat ↦ is_strong_seat asked.db seat ]
+
+-- who looks
+abbrev pub viewer : Asked → Viewer
+viewer asked = record { person = caller asked; strong = is_strong asked }
+
+-- somebody is logged in
+abbrev pub login_guard : Asked → Guard
+login_guard asked = unless (not (caller asked == 0)) 6 0
+
+-- the conference is there and seen
+abbrev pub conference_guard : Asked → ℕ → Guard
+conference_guard asked number =
+    if number == 0 then refusal 8 0 else unless (sees asked.db (viewer asked) number) 9 number
+
+-- the person is there
+abbrev pub person_guard : Asked → ℕ → Guard
+person_guard asked number =
+    if number == 0 then refusal 8 0 else unless (is_some (person_of asked.db number)) 10 number
+
+-- the caller's session is strong
+abbrev pub strong_guard : Asked → Guard
+strong_guard asked = unless (is_strong asked) 12 0
+
+-- the caller supervises the conference
+abbrev pub own_guard : Asked → ℕ → Guard
+own_guard asked number = unless (supervises asked.db (caller asked) number || is_strong asked) 12 number
+
+-- the session is there, and no call has ended it
+abbrev pub session_guard : Asked → ℕ → Guard
+session_guard asked number = elim (find (λ seat. seat.number == number) asked.seats) [
+  | None ↦ refusal 42 number
+  | Some seat ↦ unless (not seat.ended) 42 number
+]
+
+-- there are not too many bytes
+abbrev pub size_guard : List ℕ → ℕ → Guard
+size_guard bytes most = unless (nat_le (length bytes) most) 5 most
+
+-- the name is no longer than a name may be, and the bytes may be a name
+abbrev pub name_guard : List ℕ → Guard
+name_guard name = first_refusal (size_guard name longest_name ∷ unless (is_name name) 18 0 ∷ [])
+
+-- another conference than this one has a name that clashes: a letterbox, or another
+abbrev pub taken_by : ConferenceRow → Guard
+taken_by row = if is_letterbox row.kind then refusal 21 0 else refusal 20 0
+
+-- no conference but the one of this number, or 0, has a name that clashes
+abbrev pub free_guard : Asked → ℕ → List ℕ → Guard
+free_guard asked number name =
+    elim (find (λ row. not (row.number == number) && clash row.name name) (conferences_of asked.db)) [
+      | None ↦ None
+      | Some row ↦ taken_by row
+    ]
+
+-- a secret conference is read-protected too
+abbrev pub type_guard : ℕ → Guard
+type_guard kind = unless (is_guarded kind) 22 0
+
+-- a conference's number is left
+abbrev pub drawn_guard : Asked → Guard
+drawn_guard asked = unless (nat_le (next_conference_of asked.db) last_conference) 45 0
+
+-- a person has this password, or the caller's session is strong
+abbrev pub agrees : Db → ℕ → List ℕ → Bool
+agrees db person password = elim (person_of db person) [
+  | None ↦ false
+  | Some row ↦ bytes_eq row.hash (password_hash person password)
+]
+
+abbrev pub password_guard : Asked → ℕ → List ℕ → Guard
+password_guard asked person password =
+    unless (agrees asked.db person password || is_strong asked) 4 person
+
+-- no aux-items can be given yet
+abbrev pub no_aux_items : List AuxInput → Decision → Decision
+no_aux_items [] decision = decision
+no_aux_items (item ∷ items) decision = refuse (record { code = 48; status = 0 })
