@@ -1,0 +1,23 @@
+-- The numbers of conferences, which no change of a row changes.
+use Rattle.std.specs.Prelude.{◌≡◌, ℕ, refl}
+use Rattle.kom_types.specs.declared.conferences.ConferenceRow.{ConferenceRow}
+use Rattle.kom_types.specs.declared.effects.ConfField.{ConfField}
+use Rattle.kom_types.specs.declared.effects.ConfField.TheVariants as field
+use Rattle.kom_types.specs.tables.Conferences.{with_field}
+
+-- the number of a conference
+abbrev pub number_of_conference : ConferenceRow → ℕ
+number_of_conference row = row.number
+
+pub number-with_field : (to : ConfField) (row : ConferenceRow) →
+    number_of_conference (with_field to row) ≡ number_of_conference row
+number-with_field (field.Presentation text) row = refl
+number-with_field (field.Motd text) row = refl
+number-with_field (field.Supervisor conference) row = refl
+number-with_field (field.PermittedSubmitters conference) row = refl
+number-with_field (field.SuperConference conference) row = refl
+number-with_field (field.Kind kind) row = refl
+number-with_field (field.Nice days) row = refl
+number-with_field (field.KeepCommented days) row = refl
+number-with_field (field.Expire days) row = refl
+number-with_field (field.LastWritten at) row = refl

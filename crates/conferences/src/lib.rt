@@ -1,0 +1,12 @@
+//! The rows of the conferences, each found by its number.
+#![tactic(auto)]
+
+mod changes;
+mod keyed;
+mod row;
+mod table;
+#[cfg(test)]
+mod tests;
+
+pub use row::fresh_conference;
+pub use table::Conferences;

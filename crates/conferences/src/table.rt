@@ -1,0 +1,112 @@
+ghost use Rattle.std.specs.Prelude.{◌≡◌, ◌+◌, ◌<◌, ◌≤◌, ◌↔◌, [], None, length, option_copied};
+ghost use Rattle.std.specs.Prelude.{IsOk, IsTrue, OnOk, OnErr};
+ghost use Rattle.row_table.specs.Tables.{row_of, with_row, without_row, changed_row, IsByNumber};
+ghost use Rattle.kom_types.specs.tables.Conferences.{with_field, with_name};
+ghost use Rattle.conferences.specs.Numbers.{number_of_conference};
+
+use crate::changes::{Rename, SetField};
+use crate::keyed::ByNumber;
+use kom_types::{Bytes, ConfField, ConferenceRow, Memory};
+use row_table::Table;
+use std::alloc::Global;
+use std::marker::Model;
+
+/// The rows of the conferences.
+///
+/// All but `reserve`, and a `put` that takes memory, are done in constant time.
+#[derive(Drop)]
+pub struct Conferences {
+    rows: Table<ByNumber>,
+}
+
+impl Model for Conferences {
+    ghost use Rattle.row_table.specs.Tables.{Tabled};
+    ghost use Rattle.kom_types.specs.declared.conferences.ConferenceRow.{ConferenceRow};
+
+    ghost Value = { Tabled ConferenceRow };
+
+    ghost view = { λ conferences. conferences.rows };
+}
+
+impl Conferences {
+    /// The table without a conference. It takes no memory yet.
+    pub fn new(alloc: Global) -> Conferences
+        ensures { result.rows ≡ [] }
+    {
+        Conferences {
+            rows: Table::new(alloc),
+        }
+    }
+
+    pub fn len(&self) -> usize
+        ensures len { result ≡ length self.now.rows }
+        ensures rising { IsByNumber number_of_conference self.now.rows }
+    {
+        self.rows.len()
+    }
+
+    pub fn is_empty(&self) -> bool
+        ensures { IsTrue result ↔ (self.now.rows ≡ []) }
+    {
+        self.rows.is_empty()
+    }
+
+    /// The row of a conference, if it is there.
+    pub fn get(&self, number: u32) -> Option<&ConferenceRow>
+        ensures row { option_copied result ≡ row_of number_of_conference number self.now.rows }
+        ensures rising { IsByNumber number_of_conference self.now.rows }
+    {
+        self.rows.get(number)
+    }
+
+    /// Puts a row in, in place of the one of its number if there is one, which takes no memory.
+    pub fn put(&mut self, row: ConferenceRow) -> Result<(), Memory>
+        ensures ok { OnOk result (self.new.rows ≡ with_row number_of_conference row self.old.rows) }
+        ensures err { OnErr result (self.new.rows ≡ self.old.rows) }
+        ensures absent { OnErr result
+            (row_of number_of_conference row.number self.old.rows ≡ None) }
+        ensures succeeds { 0 < self.old.spare → IsOk result }
+        ensures spare { self.old.spare ≤ self.new.spare + 1 }
+    {
+        self.rows.put(row)?;
+        Ok(())
+    }
+
+    /// Takes the row of a conference out, if it is there.
+    pub fn remove(&mut self, number: u32) -> Option<ConferenceRow>
+        ensures value { result ≡ row_of number_of_conference number self.old.rows }
+        ensures rows { self.new.rows ≡ without_row number_of_conference number self.old.rows }
+        ensures spare { self.old.spare ≤ self.new.spare }
+    {
+        self.rows.remove(number)
+    }
+
+    /// Makes room for so many more conferences.
+    pub fn reserve(&mut self, additional: usize) -> Result<(), Memory>
+        ensures rows { self.new.rows ≡ self.old.rows }
+        ensures ok { OnOk result (additional ≤ self.new.spare) }
+        ensures err { OnErr result (self.old.spare < additional) }
+        ensures spare { self.old.spare ≤ self.new.spare }
+    {
+        self.rows.reserve(additional)?;
+        Ok(())
+    }
+
+    /// Sets a field of a conference, if it is there. Takes no memory, as `rename`.
+    pub fn set_field(&mut self, number: u32, field: ConfField)
+        ensures rows { self.new.rows
+            ≡ changed_row number_of_conference number (with_field field) self.old.rows }
+        ensures spare { self.old.spare ≤ self.new.spare }
+    {
+        self.rows.change(number, SetField(field));
+    }
+
+    /// Gives a conference another name.
+    pub fn rename(&mut self, number: u32, name: Bytes)
+        ensures rows { self.new.rows
+            ≡ changed_row number_of_conference number (with_name name) self.old.rows }
+        ensures spare { self.old.spare ≤ self.new.spare }
+    {
+        self.rows.change(number, Rename(name));
+    }
+}
