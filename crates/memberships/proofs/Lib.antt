@@ -1,0 +1,14 @@
+pub mod Finding
+pub mod JoinedRows
+pub mod Joining
+pub mod Leaving
+pub mod LeftRows
+pub mod Order
+pub mod Pairs
+pub mod Places
+pub mod RenewedRows
+pub mod Renewing
+pub mod Rooms
+pub mod Rows
+pub mod Turns
+pub mod Viewing

@@ -1,0 +1,7 @@
+use Rattle.std.proofs.Common.{length, sym, ap, ◌∙◌}
+use Rattle.memberships.proofs.Viewing.{count}
+use Rattle.memberships.proofs.table.Memberships.count_of_person.Goals as goal
+
+pub returns : goal.returns
+returns c =
+    rw (← c.self.view_is) (ap length c.list.ensures ∙ sym (count _ _ _ _ c.self.invariant c.args.person))

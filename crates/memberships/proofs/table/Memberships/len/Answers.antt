@@ -1,0 +1,10 @@
+use Rattle.std.proofs.Common.{sym, ◌∙◌}
+use Rattle.memberships.proofs.Finding.{rows_count}
+use Rattle.memberships.proofs.Viewing.{orderly}
+use Rattle.memberships.proofs.table.Memberships.len.Goals as goal
+
+pub returns-clause-len : goal.returns-clause-len
+returns-clause-len c = rw (← c.self.view_is) (c.len.ensures.len ∙ sym (rows_count _ _ _ _ c.self.invariant))
+
+pub returns-clause-orderly : goal.returns-clause-orderly
+returns-clause-orderly c = rw (← c.self.view_is) (orderly _ _ _ _ c.self.invariant)

@@ -1,0 +1,8 @@
+use Rattle.memberships.proofs.Finding.{IsTable-empty, rows-empty}
+use Rattle.memberships.proofs.table.Memberships.new.Goals as goal
+
+pub invariant_of-result : goal.invariant_of-result
+invariant_of-result c = IsTable-empty _ _ _ _ c.new.ensures.empty c.new-2.ensures c.new-3.ensures
+
+pub returns : goal.returns
+returns c = rows-empty _ _ c.new.ensures.empty

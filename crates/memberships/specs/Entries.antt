@@ -1,0 +1,71 @@
+-- Memberships as they are kept: by person and conference, with the turn in which each joined.
+use Rattle.std.specs.Prelude.{ℕ, Bool, ◌==◌, ◌&&◌, nat_eq, List, map, filter, Option, option_map}
+use Rattle.std.specs.List.{position_or_len}
+use Rattle.std.specs.Map.{lookup}
+use Rattle.kom_types.specs.declared.memberships.MembershipRow.{MembershipRow}
+use Rattle.memberships.specs.declared.kept.Kept.{Kept}
+use Rattle.memberships.specs.Order.{ordered}
+
+-- a person and a conference
+abbrev pub Key : Type 0
+Key = ℕ × ℕ
+
+-- a person, a conference, and what is kept of the membership
+abbrev pub Entry : Type 0
+Entry = Key × Kept
+
+abbrev pub same_key : Key → Key → Bool
+same_key one other = nat_eq one.0 other.0 && nat_eq one.1 other.1
+
+-- what is kept of a row, with a turn and a moment of its own
+abbrev pub kept_of : MembershipRow → ℕ → ℕ → Kept
+kept_of row turn last_read = record {
+  turn = turn;
+  priority = row.priority;
+  added_by = row.added_by;
+  added_at = row.added_at;
+  last_read = last_read;
+  kind = row.kind;
+}
+
+-- the row of what is kept, at a position
+abbrev pub shown : ℕ → ℕ → ℕ → Kept → MembershipRow
+shown person conference position kept = record {
+  person = person;
+  conference = conference;
+  position = position;
+  priority = kept.priority;
+  added_by = kept.added_by;
+  added_at = kept.added_at;
+  last_read = kept.last_read;
+  kind = kept.kind;
+}
+
+-- the place of a number in a list
+abbrev pub place_of : ℕ → List ℕ → ℕ
+place_of number list = position_or_len (nat_eq number) list
+
+-- the row of an entry: its position is the place of its conference in the list of its person
+abbrev pub row_of : (ℕ → List ℕ) → Entry → MembershipRow
+row_of lists e = shown e.0.0 e.0.1 (place_of e.0.1 (lists e.0.0)) e.1
+
+-- the entries in the order of joining
+unfoldable pub in_turn : List Entry → List Entry
+in_turn entries = ordered (λ e. e.1.turn) entries
+
+-- the rows of the entries, in the order of joining
+unfoldable pub rows_of : (ℕ → List ℕ) → List Entry → List MembershipRow
+rows_of lists entries = map (row_of lists) (in_turn entries)
+
+-- the persons in a conference, in the order of joining
+abbrev pub persons_in : ℕ → List Entry → List ℕ
+persons_in conference entries =
+    map (λ e. e.0.0) (filter (λ e. e.0.1 == conference) (in_turn entries))
+
+-- what is kept of the membership of a key
+abbrev pub kept_at : Key → List Entry → Option Kept
+kept_at key entries = lookup (same_key key) entries
+
+-- the turn in which the person of a key joined its conference
+abbrev pub turn_of : Key → List Entry → Option ℕ
+turn_of key entries = option_map (λ kept. kept.turn) (kept_at key entries)

@@ -1,0 +1,15 @@
+//! The memberships of persons in conferences, found by the person, by the conference and by both.
+#![tactic(auto)]
+
+mod kept;
+mod lists;
+mod table;
+#[cfg(test)]
+mod tests;
+
+// A crate can name the table in a contract only if the types of its fields are exported.
+#[doc(hidden)]
+pub use kept::Kept;
+#[doc(hidden)]
+pub use lists::Lists;
+pub use table::Memberships;

@@ -1,0 +1,138 @@
+ghost use Rattle.std.specs.Prelude.{◌≡◌, ℕ, ◌+◌, ◌^◌, ◌≤◌, ◌<◌, [], ◌∷◌, ◌++◌, length};
+ghost use Rattle.std.specs.Prelude.{nat_eq, insert, position, OnOk, IsOk, IsTrue};
+ghost use Rattle.std.specs.List.{IsDistinct};
+ghost use Rattle.std.specs.Set.{remove_key, is_member};
+ghost use Rattle.memberships.specs.Lists.{list_of, room_of, HasList, HasOnlyChanged};
+
+use indexmap::IndexMap;
+use kom_types::Memory;
+use std::alloc::Global;
+
+/// A list of numbers for each key: empty where the key was never used.
+#[derive(Drop)]
+pub struct Lists {
+    map: IndexMap<u32, Vec<u32>>,
+}
+
+impl Lists {
+    /// An empty list for each key. It takes no memory.
+    pub(crate) fn new(alloc: Global) -> Lists
+        ensures { (key : ℕ) → list_of result key ≡ [] }
+    {
+        Lists {
+            map: IndexMap::new(alloc),
+        }
+    }
+
+    /// The list of a key.
+    pub(crate) fn list(&self, key: u32) -> &[u32]
+        ensures { result.now ≡ list_of self.now key }
+    {
+        match self.map.get(&key) {
+            Some(list) => list.as_slice(),
+            None => &[],
+        }
+    }
+
+    /// How many more numbers fit into the list of a key without memory.
+    fn room(&self, key: u32) -> usize
+        ensures { result ≡ room_of self.now key }
+    {
+        match self.map.get(&key) {
+            Some(list) => list.capacity() - list.len(),
+            None => 0,
+        }
+    }
+
+    /// Makes room for so many more numbers in the list of a key.
+    pub(crate) fn reserve(&mut self, key: u32, additional: usize) -> Result<(), Memory>
+        ensures lists { (other : ℕ) → list_of self.new other ≡ list_of self.old other }
+        ensures ok { OnOk result (additional ≤ room_of self.new key) }
+        ensures room { (other : ℕ) → room_of self.old other ≤ room_of self.new other }
+        ensures succeeds { additional ≤ room_of self.old key → IsOk result }
+    {
+        if additional <= self.room(key) {
+            return Ok(());
+        }
+        self.begin(key)?;
+        self.grow(key, additional)
+    }
+
+    /// Keeps a list for a key from now on, even if it is empty.
+    fn begin(&mut self, key: u32) -> Result<(), Memory>
+        ensures lists { (other : ℕ) → list_of self.new other ≡ list_of self.old other }
+        ensures room { (other : ℕ) → room_of self.new other ≡ room_of self.old other }
+        ensures ok { OnOk result (HasList self.new key) }
+    {
+        if self.map.contains_key(&key) {
+            return Ok(());
+        }
+        let alloc = *self.map.allocator();
+        self.map.insert(key, Vec::new(alloc))?;
+        Ok(())
+    }
+
+    /// Makes room in a list that is kept.
+    fn grow(&mut self, key: u32, additional: usize) -> Result<(), Memory>
+        requires { HasList self.old key }
+        ensures lists { (other : ℕ) → list_of self.new other ≡ list_of self.old other }
+        ensures ok { OnOk result (additional ≤ room_of self.new key) }
+        ensures room { (other : ℕ) → room_of self.old other ≤ room_of self.new other }
+    {
+        let list = self.map.get_mut(&key).unwrap();
+        list.reserve(additional)?;
+        Ok(())
+    }
+
+    /// Puts a number into the list of a key at a place, or at the end where the place is beyond it.
+    /// Takes no memory.
+    pub(crate) fn insert(&mut self, key: u32, place: usize, number: u32)
+        requires { 0 < room_of self.old key }
+        ensures list { list_of self.new key ≡ insert (list_of self.old key) place number }
+        ensures room { room_of self.new key + 1 ≡ room_of self.old key }
+        ensures others { HasOnlyChanged self.old self.new key }
+    {
+        let list = self.map.get_mut(&key).unwrap();
+        let place = place.min(list.len());
+        list.insert(place, number).unwrap();
+    }
+
+    /// Puts a number at the end of the list of a key. Takes no memory.
+    pub(crate) fn push(&mut self, key: u32, number: u32)
+        requires { 0 < room_of self.old key }
+        ensures list { list_of self.new key ≡ list_of self.old key ++ number ∷ [] }
+        ensures room { room_of self.old key ≤ room_of self.new key + 1 }
+        ensures others { HasOnlyChanged self.old self.new key }
+    {
+        let list = self.map.get_mut(&key).unwrap();
+        list.push(number).unwrap();
+    }
+
+    /// Takes a number out of the list of a key that has it.
+    pub(crate) fn remove(&mut self, key: u32, number: u32)
+        requires { IsTrue (is_member nat_eq (list_of self.old key) number) }
+        ensures list { list_of self.new key ≡ remove_key (nat_eq number) (list_of self.old key) }
+        ensures room { room_of self.new key ≡ room_of self.old key + 1 }
+        ensures others { HasOnlyChanged self.old self.new key }
+    {
+        let place = place_in(self.list(key), number).unwrap();
+        let list = self.map.get_mut(&key).unwrap();
+        list.remove(place);
+    }
+}
+
+/// The place of a number in a list.
+pub(crate) fn place_in(list: &[u32], number: u32) -> Option<usize>
+    ensures { result ≡ position (nat_eq number) list.now }
+{
+    list.iter().position(|other| number == *other)
+}
+
+/// A place in a list of different numbers, of which there are no more than values of a `u32`.
+pub(crate) fn short_place(list: &[u32], place: usize) -> u32
+    requires different { IsDistinct nat_eq list.now }
+    requires within { place < length list.now }
+    ensures { result ≡ place }
+{
+    place as u32
+}
