@@ -1,0 +1,112 @@
+ghost use Rattle.std.specs.Prelude.{◌≡◌, ◌<◌, ◌≤◌, [], None, length, IfOk, OnOk};
+ghost use Rattle.name_lookup.specs.NamedRows.{with_name, without_name, taken, found, NoneClash};
+
+use crate::alphabet::clashes;
+use crate::matching::{finds, first_len};
+use crate::order::{first_at, name_of, run_of, take_out};
+use indexmap::IndexMap;
+use kom_types::{Bytes, Memory, Numbers};
+use std::alloc::Global;
+use std::marker::Model;
+
+/// Names by number, and their numbers in the order of the names' letters.
+#[derive(Drop)]
+pub(crate) struct Index {
+    kept: IndexMap<u32, Bytes>,
+    order: Vec<u32>,
+}
+
+impl Model for Index {
+    ghost use Rattle.std.specs.Prelude.{◌-◌, min, vec_len, vec_capacity};
+    ghost use Rattle.indexmap.specs.IndexMap.{spare};
+    ghost use Rattle.name_lookup.specs.Order.{Indexed, rows_of, IsOrder};
+
+    ghost Value = { Indexed };
+
+    ghost view = { λ index. record {
+      names = rows_of index.kept.entries;
+      spare = min (spare index.kept) (vec_capacity index.order - vec_len index.order);
+    } };
+
+    ghost invariant = { λ index. IsOrder index.kept.entries index.order.items };
+}
+
+impl Index {
+    pub(crate) fn new(alloc: Global) -> Index
+        ensures { result.names ≡ [] }
+    {
+        Index {
+            kept: IndexMap::new(alloc),
+            order: Vec::new(alloc),
+        }
+    }
+
+    pub(crate) fn len(&self) -> usize
+        ensures { result ≡ length self.now.names }
+    {
+        self.kept.len()
+    }
+
+    pub(crate) fn alloc(&self) -> Global {
+        *self.order.allocator()
+    }
+
+    /// Makes room for one more name.
+    pub(crate) fn reserve(&mut self) -> Result<(), Memory>
+        ensures names { self.new.names ≡ self.old.names }
+        ensures spare { self.old.spare ≤ self.new.spare }
+        ensures ok { OnOk result (0 < self.new.spare) }
+    {
+        self.order.reserve(1)?;
+        self.kept.reserve(1)?;
+        Ok(())
+    }
+
+    /// Puts the name of a number. Takes no memory.
+    pub(crate) fn put(&mut self, number: u32, name: Bytes)
+        requires room { 0 < self.old.spare }
+        requires free { taken name (without_name number self.old.names) ≡ None }
+        ensures { self.new.names ≡ with_name number name self.old.names }
+    {
+        take_out(&self.kept, &mut self.order, number);
+        let place = first_at(&self.kept, self.order.as_slice(), name.as_slice(), None);
+        self.order.insert(place, number).unwrap();
+        self.kept.insert(number, name).unwrap();
+    }
+
+    /// Takes out the name of a number, if it has one.
+    pub(crate) fn remove(&mut self, number: u32)
+        ensures names { self.new.names ≡ without_name number self.old.names }
+        ensures spare { self.old.spare ≤ self.new.spare }
+    {
+        take_out(&self.kept, &mut self.order, number);
+        self.kept.swap_remove(&number);
+    }
+
+    /// The number whose name clashes with this one, if one does.
+    pub(crate) fn taken(&self, name: &[u8]) -> Option<u32>
+        ensures number { result ≡ taken name.now self.now.names }
+        ensures none_clash { NoneClash self.now.names }
+    {
+        let kept = &self.kept;
+        run_of(kept, self.order.as_slice(), name, None)
+            .iter()
+            .copied()
+            .find(|number| clashes(name, name_of(kept, *number)))
+    }
+
+    /// The numbers of the names that a pattern finds, rising.
+    pub(crate) fn find(&self, pattern: &[u8]) -> Result<Numbers, Memory>
+        ensures { IfOk result (λ numbers. numbers ≡ found pattern.now self.now.names) }
+    {
+        let kept = &self.kept;
+        let limit = Some(first_len(pattern));
+        let mut numbers: Vec<u32> = run_of(kept, self.order.as_slice(), pattern, limit)
+            .iter()
+            .copied()
+            .filter(|number| finds(pattern, name_of(kept, *number)))
+            .collect(self.alloc())?;
+        numbers.sort_unstable();
+        Ok(Numbers::of(numbers))
+    }
+}

@@ -1,0 +1,14 @@
+//! The names of conferences, by number: which of them clash, and which a pattern finds.
+#![tactic(auto)]
+
+mod alphabet;
+mod index;
+mod letters;
+mod matching;
+mod names;
+mod order;
+#[cfg(test)]
+mod tests;
+
+pub use alphabet::{fold_byte, is_name};
+pub use names::Names;
