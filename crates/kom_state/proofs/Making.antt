@@ -1,0 +1,147 @@
+-- What an effect makes of the stored rows as they are kept, and the room that it leaves.
+use Rattle.std.proofs.Common.{◌≡◌, ℕ, ◌+◌, ◌<◌, ◌≤◌, true, eqb, List, [], ◌∷◌, None, refl, sym, ap, subst, ◌∙◌, arith, Bool, cond, ◌⊎◌, inl, inr, count_by}
+use Rattle.std.proofs.lemmas.Option.{none-some}
+use Rattle.kom_types.specs.declared.effects.Effect.TheVariants as effect
+use Rattle.kom_types.specs.tables.Conferences.{fresh_conference}
+use Rattle.kom_types.specs.tables.Memberships.{with_membership}
+use Rattle.kom_types.specs.tables.Persons.{fresh_person}
+use Rattle.std.proofs.lemmas.Bool.{eq-eqb, cases_eq, ne_eqb}
+use Rattle.row_table.specs.Tables.{Tabled, with_row, changed_row}
+use Rattle.kom_types.specs.declared.conferences.ConferenceRow.{ConferenceRow}
+use Rattle.kom_types.specs.declared.effects.Effect.{Effect}
+use Rattle.kom_types.specs.declared.memberships.MembershipRow.{MembershipRow}
+use Rattle.kom_types.specs.declared.persons.PersonRow.{PersonRow}
+use Rattle.kom_model.specs.Db.{Db, number_of_conference, number_of_person}
+use Rattle.kom_model.specs.Effects.{made, with_changed_conference, with_changed_person}
+use Rattle.memberships.specs.Table.{Table, UsesRoom, room_of_person, room_of_conference}
+use Rattle.memberships.specs.Lists.{room_in}
+use Rattle.name_lookup.specs.NamedRows.{Lookup}
+use Rattle.kom_state.specs.Keeping.{stored}
+use Rattle.kom_state.specs.Room.{Room, Stored, IsMade, HasRoom, set_of, name_given, sets_membership, sets_for_person, sets_in_conference}
+use Rattle.kom_state.proofs.Using.{Uses, HasRoom-after, count_by-cons}
+
+pub IsMade-using : (what : Effect) (old new : Stored) → new.db ≡ made what old.db → Uses what old.room new.room →
+    IsMade what old new
+IsMade-using what old new db uses = record { db = db; room = HasRoom-after what old.room new.room uses }
+
+-- one person is changed
+pub IsMade-person : (what : Effect) (number : ℕ) (change : PersonRow → PersonRow) (conferences : Tabled ConferenceRow)
+    (old new : Tabled PersonRow) (memberships : Table) (names : Lookup) (next : ℕ) →
+    ((db : Db) → made what db ≡ with_changed_person number change db) →
+    new.rows ≡ changed_row number_of_person number change old.rows → old.spare ≤ new.spare →
+    IsMade what (stored conferences old memberships names next) (stored conferences new memberships names next)
+IsMade-person what number change conferences old new memberships names next makes rows spare =
+    IsMade-using what _ _
+    (ap (λ rows. record (stored conferences old memberships names next).db { persons = rows }) rows
+    ∙ sym (makes (stored conferences old memberships names next).db))
+    (record {
+      conferences = omega arith;
+      persons = omega arith;
+      memberships = omega arith;
+      of_person = λ number. omega arith;
+      of_conference = λ number. omega arith;
+      name = λ _. refl;
+    })
+
+-- one conference is changed, and may have another name
+pub IsMade-conference : (what : Effect) (number : ℕ) (change : ConferenceRow → ConferenceRow)
+    (old new : Tabled ConferenceRow) (persons : Tabled PersonRow) (memberships : Table) (names new_names : Lookup)
+    (next : ℕ) → ((db : Db) → made what db ≡ with_changed_conference number change db) →
+    new.rows ≡ changed_row number_of_conference number change old.rows → old.spare ≤ new.spare →
+    (name_given what ≡ None → new_names.ready ≡ names.ready) →
+    IsMade what (stored old persons memberships names next) (stored new persons memberships new_names next)
+IsMade-conference what number change old new persons memberships names new_names next makes rows spare ready =
+    IsMade-using what _ _
+    (ap (λ rows. record (stored old persons memberships names next).db { conferences = rows }) rows
+    ∙ sym (makes (stored old persons memberships names next).db))
+    (record {
+      conferences = omega arith;
+      persons = omega arith;
+      memberships = omega arith;
+      of_person = λ number. omega arith;
+      of_conference = λ number. omega arith;
+      name = ready;
+    })
+
+pub IsMade-added : (number : ℕ) (name : List ℕ) (kind at creator supervisor : ℕ) (old new : Tabled ConferenceRow)
+    (persons : Tabled PersonRow) (memberships : Table) (names new_names : Lookup) (next : ℕ) →
+    new.rows ≡ with_row number_of_conference (fresh_conference number name kind at creator supervisor) old.rows →
+    old.spare ≤ new.spare + 1 →
+    IsMade (effect.ConfAdded number name kind at creator supervisor) (stored old persons memberships names next)
+    (stored new persons memberships new_names (number + 1))
+unfolding made
+IsMade-added number name kind at creator supervisor old new persons memberships names new_names next rows spare =
+    IsMade-using _ _ _
+    (ap (λ rows. (stored (record new { rows = rows }) persons memberships new_names (number + 1)).db) rows)
+    (record {
+      conferences = omega arith;
+      persons = omega arith;
+      memberships = omega arith;
+      of_person = λ number. omega arith;
+      of_conference = λ number. omega arith;
+      name = λ none. absurd (none-some name (sym none));
+    })
+
+pub IsMade-joined : (number privileges flags last_login : ℕ) (conferences : Tabled ConferenceRow)
+    (old new : Tabled PersonRow) (memberships : Table) (names : Lookup) (next : ℕ) →
+    new.rows ≡ with_row number_of_person (fresh_person number privileges flags last_login) old.rows →
+    old.spare ≤ new.spare + 1 →
+    IsMade (effect.PersonAdded number privileges flags last_login) (stored conferences old memberships names next)
+    (stored conferences new memberships names next)
+unfolding made
+IsMade-joined number privileges flags last_login conferences old new memberships names next rows spare =
+    IsMade-using _ _ _
+    (ap (λ rows. (stored conferences (record new { rows = rows }) memberships names next).db) rows)
+    (record {
+      conferences = omega arith;
+      persons = omega arith;
+      memberships = omega arith;
+      of_person = λ number. omega arith;
+      of_conference = λ number. omega arith;
+      name = λ _. refl;
+    })
+
+-- ---- memberships
+room_for : (p : Effect → Bool) (what : Effect) (room : ℕ) → p what ≡ true → count_by p (what ∷ []) ≤ room → 0 < room
+room_for p what room does has =
+    let one : cond {A = ℕ} (p what) 1 0 ≡ 1 = rw does refl in omega (arith, count_by-cons p what [], one, has)
+
+pub room_to_set : (room : Room) (row : MembershipRow) → HasRoom room (set_of row ∷ []) →
+    (0 < room.memberships) × (0 < room_in room.of_person row.person) × (0 < room_in room.of_conference row.conference)
+room_to_set room row has = (
+  room_for sets_membership (set_of row) _ refl has.memberships,
+  room_for (sets_for_person row.person) (set_of row) _ (eq-eqb row.person row.person refl) (has.of_person row.person),
+  room_for (sets_in_conference row.conference) (set_of row) _ (eq-eqb row.conference row.conference refl)
+      (has.of_conference row.conference),
+)
+
+-- room that falls at one number alone
+falls_at : (at number old new : ℕ) → (number ≡ at → old ≤ new + 1) → ((number ≡ at → ⊥) → old ≤ new) →
+    old ≤ new + cond (eqb at number) 1 0
+falls_at at number old new here other = by (cases_eq number at)
+  where
+    by : (number ≡ at) ⊎ (number ≡ at → ⊥) → old ≤ new + cond (eqb at number) 1 0
+    by (inl same) = rw (eq-eqb at number (sym same)) (here same)
+    by (inr apart) = let le : old ≤ new = other apart in rw (ne_eqb at number (λ e. apart (sym e))) (omega arith)
+
+pub IsMade-set : (row : MembershipRow) (conferences : Tabled ConferenceRow) (persons : Tabled PersonRow)
+    (old new : Table) (names : Lookup) (next : ℕ) → row.last_read ≡ row.added_at →
+    new.rows ≡ with_membership row old.rows → UsesRoom old new row.person row.conference →
+    IsMade (set_of row) (stored conferences persons old names next) (stored conferences persons new names next)
+unfolding made
+IsMade-set row conferences persons old new names next fresh rows uses =
+    IsMade-using (set_of row) _ _
+    (ap (λ rows. (stored conferences persons (record new { rows = rows }) names next).db) (rows
+    ∙ ap (λ at. with_membership (record row { last_read = at }) old.rows) fresh))
+    (record {
+      conferences = omega arith;
+      persons = omega arith;
+      memberships = uses.spare;
+      of_person = λ number. falls_at row.person number _ _
+          (λ e. subst (λ n. room_of_person old n ≤ room_of_person new n + 1) (sym e) uses.of_person)
+          (uses.other_persons number);
+      of_conference = λ number. falls_at row.conference number _ _
+          (λ e. subst (λ n. room_of_conference old n ≤ room_of_conference new n + 1) (sym e) uses.of_conference)
+          (uses.other_conferences number);
+      name = λ _. refl;
+    })

@@ -1,0 +1,38 @@
+-- How the stored rows are kept: in three tables, beside the names of the conferences.
+use Rattle.std.specs.Prelude.{◌≡◌, ℕ, ◌≤◌, List, map}
+use Rattle.row_table.specs.Tables.{Tabled, IsByNumber}
+use Rattle.kom_types.specs.declared.conferences.ConferenceRow.{ConferenceRow}
+use Rattle.kom_types.specs.declared.persons.PersonRow.{PersonRow}
+use Rattle.kom_model.specs.Db.{number_of_conference}
+use Rattle.memberships.specs.Table.{Table}
+use Rattle.name_lookup.specs.NamedRows.{Named, Lookup, named}
+use Rattle.kom_state.specs.Room.{Stored}
+
+-- what the tables are as stored rows
+abbrev pub stored : Tabled ConferenceRow → Tabled PersonRow → Table → Lookup → ℕ → Stored
+stored conferences persons memberships names next_conference = record {
+  db = record {
+    conferences = conferences.rows;
+    persons = persons.rows;
+    memberships = memberships.rows;
+    next_conference = next_conference;
+  };
+  room = record {
+    conferences = conferences.spare;
+    persons = persons.spare;
+    memberships = memberships.spare;
+    of_person = memberships.person_rooms;
+    of_conference = memberships.conference_rooms;
+    name = names.ready;
+  };
+}
+
+-- the number and the name of a conference
+abbrev pub name_row : ConferenceRow → Named
+name_row row = named row.number row.name
+
+-- the names are those of the conferences, and a number may be left to give
+pub record IsKept (conferences : List ConferenceRow) (names : List Named) (next : ℕ) : Type 0 where
+  pub by_number : IsByNumber number_of_conference conferences
+  pub same_names : names ≡ map name_row conferences
+  pub within : next ≤ 65536

@@ -1,0 +1,152 @@
+ghost use Rattle.std.specs.Prelude.{◌≡◌, true, List, [], ◌∷◌};
+ghost use Rattle.kom_types.specs.declared.effects.Effect.{Effect as Change};
+ghost use Rattle.kom_model.specs.Effects.{fits, made};
+ghost use Rattle.kom_state.specs.Room.{HasRoom, IsPossible, IsMade, is_of_person, set_of};
+
+use crate::state::State;
+use conferences::fresh_conference;
+use kom_types::{Bytes, ConfField, Counter, Effect, MembershipRow, Moment, PersonField};
+use persons::fresh_person;
+
+impl State {
+    /// Makes an effect that fits, for which there is room. It takes no memory.
+    #[tactic(auto, unfolding(kom_model::specs::Effects::fits))]
+    pub fn apply_effect(&mut self, effect: Effect)
+        requires fits { fits effect self.old.db ≡ true }
+        requires room { HasRoom self.old.room (effect ∷ []) }
+        ensures db { self.new.db ≡ made effect self.old.db }
+        ensures room { (rest : List Change) → HasRoom self.old.room (effect ∷ rest)
+            → HasRoom self.new.room rest }
+    {
+        match effect {
+            Effect::ConfAdded {
+                number,
+                name,
+                kind,
+                at,
+                creator,
+                supervisor,
+            } => self.add_conference(number, name, kind, at, creator, supervisor),
+            Effect::ConfNamed { number, name } => self.rename_conference(number, name),
+            Effect::ConfField { number, field } => self.set_conference_field(number, field),
+            Effect::MemberSet {
+                person,
+                conference,
+                position,
+                priority,
+                added_by,
+                added_at,
+                kind,
+            } => self.set_membership(MembershipRow {
+                person,
+                conference,
+                position,
+                priority,
+                added_by,
+                added_at,
+                last_read: added_at,
+                kind,
+            }),
+            other => self.apply_to_person(other),
+        }
+    }
+
+    /// Makes an effect of a person's row.
+    fn apply_to_person(&mut self, effect: Effect)
+        requires possible { IsPossible effect self.old }
+        requires of_person { is_of_person effect ≡ true }
+        ensures { IsMade effect self.old self.new }
+    {
+        match effect {
+            Effect::PersonAdded {
+                number,
+                privileges,
+                flags,
+                last_login,
+            } => self.add_person(number, privileges, flags, last_login),
+            Effect::PersonField { number, field } => self.set_person_field(number, field),
+            Effect::Password { number, hash } => self.set_password(number, hash),
+            Effect::LoggedIn { number, at, user } => self.log_in(number, at, user),
+            Effect::Counted {
+                number,
+                counter,
+                by,
+            } => self.count(number, counter, by),
+            _ => unreachable!(),
+        }
+    }
+
+    fn add_conference(
+        &mut self,
+        number: u32,
+        name: Bytes,
+        kind: u8,
+        at: Moment,
+        creator: u32,
+        supervisor: u32,
+    )
+        requires { IsPossible (Effect.ConfAdded number name kind at creator supervisor) self.old }
+        ensures { IsMade (Effect.ConfAdded number name kind at creator supervisor)
+            self.old self.new }
+    {
+        let row = fresh_conference(number, name, kind, at, creator, supervisor);
+        self.names.put(number, row.name.as_slice()).unwrap();
+        self.conferences.put(row).unwrap();
+        self.next_conference = number + 1;
+    }
+
+    fn rename_conference(&mut self, number: u32, name: Bytes)
+        requires { IsPossible (Effect.ConfNamed number name) self.old }
+        ensures { IsMade (Effect.ConfNamed number name) self.old self.new }
+    {
+        self.names.put(number, name.as_slice()).unwrap();
+        self.conferences.rename(number, name);
+    }
+
+    fn set_conference_field(&mut self, number: u32, field: ConfField)
+        ensures { IsMade (Effect.ConfField number field) self.old self.new }
+    {
+        self.conferences.set_field(number, field);
+    }
+
+    fn add_person(&mut self, number: u32, privileges: u16, flags: u8, last_login: Moment)
+        requires { IsPossible (Effect.PersonAdded number privileges flags last_login) self.old }
+        ensures { IsMade (Effect.PersonAdded number privileges flags last_login)
+            self.old self.new }
+    {
+        let row = fresh_person(self.alloc, number, privileges, flags, last_login);
+        self.persons.put(row).unwrap();
+    }
+
+    fn set_person_field(&mut self, number: u32, field: PersonField)
+        ensures { IsMade (Effect.PersonField number field) self.old self.new }
+    {
+        self.persons.set_field(number, field);
+    }
+
+    fn set_password(&mut self, number: u32, hash: [u8; 32])
+        ensures { IsMade (Effect.Password number hash) self.old self.new }
+    {
+        self.persons.set_hash(number, hash);
+    }
+
+    fn log_in(&mut self, number: u32, at: Moment, user: Bytes)
+        ensures { IsMade (Effect.LoggedIn number at user) self.old self.new }
+    {
+        self.persons.log_in(number, at, user);
+    }
+
+    fn count(&mut self, number: u32, counter: Counter, by: u64)
+        ensures { IsMade (Effect.Counted number counter by) self.old self.new }
+    {
+        self.persons.count(number, counter, by);
+    }
+
+    fn set_membership(&mut self, row: MembershipRow)
+        requires possible { IsPossible (set_of row) self.old }
+        requires fresh { row.last_read ≡ row.added_at }
+        ensures { IsMade (set_of row) self.old self.new }
+    {
+        self.memberships.set(row).unwrap();
+    }
+}

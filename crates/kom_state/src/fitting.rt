@@ -1,0 +1,151 @@
+ghost use Rattle.std.specs.Prelude.{◌≡◌, is_some};
+ghost use Rattle.kom_model.specs.Db.{conference_of, person_of};
+ghost use Rattle.kom_model.specs.Effects.{fits, is_free, may_name, may_add_conference};
+ghost use Rattle.kom_model.specs.Effects.{may_set, may_set_field, has_letterbox, may_join};
+ghost use Rattle.kom_types.specs.tables.Conferences.{is_guarded, is_letterbox};
+
+use crate::state::State;
+use kom_types::{ConfField, ConferenceRow, Effect};
+
+/// The bits of a conference's type.
+const READ_PROTECTED: u8 = 128;
+
+const SECRET: u8 = 32;
+
+const LETTERBOX: u8 = 16;
+
+/// The greatest number that a conference gets.
+const LAST_CONFERENCE: u32 = 65_535;
+
+/// How many bytes a name, and a user name, has at most.
+const LONGEST_NAME: usize = 60;
+
+const LONGEST_USER_NAME: usize = 1024;
+
+/// How many memberships a person has at most.
+const MOST_MEMBERSHIPS: usize = 2000;
+
+impl State {
+    /// Whether an effect fits: what it changes is there, what it adds is not, numbers were never
+    /// used, and the limits hold.
+    #[tactic(auto, unfolding(kom_model::specs::Effects::fits))]
+    pub fn fits(&self, effect: &Effect) -> bool
+        ensures { result ≡ fits effect.now self.now.db }
+    {
+        match effect {
+            Effect::ConfAdded {
+                number,
+                name,
+                kind,
+                ..
+            } => self.may_add_conference(*number, name.as_slice(), *kind),
+            Effect::ConfNamed { number, name } => {
+                self.has_conference(*number) && self.may_name(*number, name.as_slice())
+            }
+            Effect::ConfField { number, field } => self.may_set_field(*number, *field),
+            Effect::PersonAdded { number, .. } => {
+                self.has_letterbox(*number) && !self.has_person(*number)
+            }
+            Effect::PersonField { number, .. } => self.has_person(*number),
+            Effect::Password { number, .. } => self.has_person(*number),
+            Effect::LoggedIn { number, user, .. } => {
+                self.has_person(*number) && user.len() <= LONGEST_USER_NAME
+            }
+            Effect::Counted { number, .. } => self.has_person(*number),
+            Effect::MemberSet {
+                person,
+                conference,
+                ..
+            } => {
+                self.has_person(*person)
+                    && self.has_conference(*conference)
+                    && self.may_join(*person, *conference)
+            }
+            _ => false,
+        }
+    }
+
+    fn has_conference(&self, number: u32) -> bool
+        ensures { result ≡ is_some (conference_of self.now.db number) }
+    {
+        self.conference(number).is_some()
+    }
+
+    fn has_person(&self, number: u32) -> bool
+        ensures { result ≡ is_some (person_of self.now.db number) }
+    {
+        self.person(number).is_some()
+    }
+
+    /// Whether no conference but the one of this number has a name that clashes.
+    fn is_free(&self, number: u32, name: &[u8]) -> bool
+        ensures { result ≡ is_free self.now.db number name.now }
+    {
+        match self.names.taken(name) {
+            None => true,
+            Some(other) => other == number,
+        }
+    }
+
+    fn may_name(&self, number: u32, name: &[u8]) -> bool
+        ensures { result ≡ may_name self.now.db number name.now }
+    {
+        name.len() <= LONGEST_NAME && self.is_free(number, name)
+    }
+
+    fn may_add_conference(&self, number: u32, name: &[u8], kind: u8) -> bool
+        ensures { result ≡ may_add_conference self.now.db number name.now kind }
+    {
+        self.next_conference <= number
+            && number <= LAST_CONFERENCE
+            && !self.has_conference(number)
+            && self.may_name(number, name)
+            && is_guarded(kind)
+    }
+
+    fn may_set_field(&self, number: u32, field: ConfField) -> bool
+        ensures { result ≡ may_set_field self.now.db number field }
+    {
+        match self.conference(number) {
+            None => false,
+            Some(row) => may_set(field, row),
+        }
+    }
+
+    fn has_letterbox(&self, number: u32) -> bool
+        ensures { result ≡ has_letterbox self.now.db number }
+    {
+        match self.conference(number) {
+            None => false,
+            Some(row) => is_letterbox(row.kind),
+        }
+    }
+
+    fn may_join(&self, person: u32, conference: u32) -> bool
+        ensures { result ≡ may_join self.now.db person conference }
+    {
+        self.is_member(person, conference) || self.membership_count(person) < MOST_MEMBERSHIPS
+    }
+}
+
+/// Whether a conference may have its field set so.
+fn may_set(field: ConfField, row: &ConferenceRow) -> bool
+    ensures { result ≡ may_set field row.now }
+{
+    match field {
+        ConfField::Kind(kind) => is_guarded(kind) && is_letterbox(kind) == is_letterbox(row.kind),
+        _ => true,
+    }
+}
+
+fn is_guarded(kind: u8) -> bool
+    ensures { result ≡ is_guarded kind }
+{
+    kind & SECRET == 0 || kind & READ_PROTECTED != 0
+}
+
+fn is_letterbox(kind: u8) -> bool
+    ensures { result ≡ is_letterbox kind }
+{
+    kind & LETTERBOX != 0
+}

@@ -1,0 +1,89 @@
+ghost use Rattle.std.specs.Prelude.{◌≡◌, length, map, filter, slice_get, option_copied, is_some, IfOk};
+ghost use Rattle.kom_types.specs.Names.{finds};
+ghost use Rattle.kom_model.specs.Db.{conference_of, person_of, membership_of};
+ghost use Rattle.kom_model.specs.Db.{memberships_of, members_of, conferences_of};
+ghost use Rattle.kom_model.specs.Db.{number_of_conference};
+
+use crate::state::State;
+use kom_types::{ConferenceRow, MembershipRow, Memory, Numbers, PersonRow};
+
+impl State {
+    /// The conference of a number, in constant time.
+    #[tactic(auto, unfolding(kom_model::specs::Db::conference_of))]
+    pub fn conference(&self, number: u32) -> Option<&ConferenceRow>
+        ensures { option_copied result ≡ conference_of self.now.db number }
+    {
+        self.conferences.get(number)
+    }
+
+    /// The person of a number, in constant time.
+    #[tactic(auto, unfolding(kom_model::specs::Db::person_of))]
+    pub fn person(&self, number: u32) -> Option<&PersonRow>
+        ensures { option_copied result ≡ person_of self.now.db number }
+    {
+        self.persons.get(number)
+    }
+
+    /// The least number that the next conference may get.
+    pub fn next_conference(&self) -> u32
+        ensures { result ≡ self.now.db.next_conference }
+    {
+        self.next_conference
+    }
+
+    /// The membership of a person in a conference. The time grows with the person's memberships.
+    #[tactic(auto, unfolding(kom_model::specs::Db::membership_of))]
+    pub fn membership(&self, person: u32, conference: u32) -> Option<MembershipRow>
+        ensures { result ≡ membership_of self.now.db person conference }
+    {
+        self.memberships.get(person, conference)
+    }
+
+    /// Whether a person has a membership in a conference, in constant time.
+    #[tactic(auto, unfolding(kom_model::specs::Db::membership_of))]
+    pub fn is_member(&self, person: u32, conference: u32) -> bool
+        ensures { result ≡ is_some (membership_of self.now.db person conference) }
+    {
+        self.memberships.contains(person, conference)
+    }
+
+    /// How many memberships a person has, in constant time.
+    pub fn membership_count(&self, person: u32) -> usize
+        ensures { result ≡ length (memberships_of self.now.db person) }
+    {
+        self.memberships.count_of_person(person)
+    }
+
+    /// The membership of a person at a place, in constant time.
+    #[tactic(auto, unfolding(kom_model::specs::Db::memberships_of))]
+    pub fn nth_membership(&self, person: u32, place: usize) -> Option<MembershipRow>
+        ensures { result ≡ slice_get (memberships_of self.now.db person) place }
+    {
+        self.memberships.nth_of_person(person, place)
+    }
+
+    /// How many members a conference has, in constant time.
+    #[tactic(auto, unfolding(kom_model::specs::Db::members_of))]
+    pub fn member_count(&self, conference: u32) -> usize
+        ensures { result ≡ length (members_of self.now.db conference) }
+    {
+        self.memberships.count_of_conference(conference)
+    }
+
+    /// The membership at a place among those in a conference. The time grows with the memberships
+    /// of its person.
+    #[tactic(auto, unfolding(kom_model::specs::Db::members_of))]
+    pub fn nth_member(&self, conference: u32, place: usize) -> Option<MembershipRow>
+        ensures { result ≡ slice_get (members_of self.now.db conference) place }
+    {
+        self.memberships.nth_of_conference(conference, place)
+    }
+
+    /// The numbers of the conferences whose names a pattern finds, rising.
+    pub fn find_conferences(&self, pattern: &[u8]) -> Result<Numbers, Memory>
+        ensures { IfOk result (λ numbers. numbers ≡ map number_of_conference
+            (filter (λ row. finds pattern.now row.name) (conferences_of self.now.db))) }
+    {
+        self.names.find(pattern)
+    }
+}
