@@ -56,6 +56,47 @@ fn drained(alloc: Global, core: &mut Core, session: u32) -> Result<Writer, Memor
     }
 }
 
+/// What items print to.
+fn printed(alloc: Global, items: &[Item]) -> Result<Writer, Memory> {
+    let mut out = Writer::new(alloc);
+    for item in items {
+        print_item(item, &mut out)?;
+    }
+    Ok(out)
+}
+
+/// What a session takes prints to these lines.
+fn check_drained(
+    rt: &impl Abort,
+    alloc: Global,
+    core: &mut Core,
+    session: u32,
+    lines: &'static [u8],
+) -> Result<(), Fail>
+    requires { core.old.state.entries < 2 ^ 62 }
+    ensures { core.new.state.entries ≤ core.old.state.entries + 1 }
+{
+    let out = drained(alloc, core, session)?;
+    assert_eq!(rt; out.bytes(), lines);
+    drop(out);
+    Ok(())
+}
+
+/// The act of pass 3 is answered so.
+fn check_made(
+    rt: &impl Abort,
+    core: &mut Core,
+    moment: u64,
+    what: Act,
+    answer: AnswerKind,
+) -> Result<(), Fail>
+    requires { core.old.state.entries < 2 ^ 62 }
+    ensures { core.new.state.entries ≤ core.old.state.entries + 1 }
+{
+    assert_eq!(rt; made(core, moment, what)?, answer);
+    Ok(())
+}
+
 fn connect(alloc: Global, core: &mut Core, moment: u64) -> Result<AnswerKind, Memory>
     requires { core.old.state.entries < 2 ^ 62 }
     ensures { core.new.state.entries ≤ core.old.state.entries + 1 }
@@ -63,6 +104,24 @@ fn connect(alloc: Global, core: &mut Core, moment: u64) -> Result<AnswerKind, Me
     let user = Bytes::copy_of(alloc, b"ceder")?;
     let host = Bytes::copy_of(alloc, b"h")?;
     made(core, moment, Act::Connect { user, host })
+}
+
+/// A session is connected under this number.
+fn check_connected(
+    rt: &impl Abort,
+    alloc: Global,
+    core: &mut Core,
+    moment: u64,
+    number: u32,
+) -> Result<(), Fail>
+    requires { core.old.state.entries < 2 ^ 62 }
+    ensures { core.new.state.entries ≤ core.old.state.entries + 1 }
+{
+    assert_eq!(rt;
+        connect(alloc, core, moment)?,
+        AnswerKind::Connected(number)
+    );
+    Ok(())
 }
 
 /// A call of session 1 under this reference.
@@ -74,51 +133,35 @@ fn call_of(reference: u32, call: Call) -> Act {
     }
 }
 
-/// What items print to.
-fn printed(alloc: Global, items: &[Item]) -> Result<Writer, Memory> {
-    let mut out = Writer::new(alloc);
-    for item in items {
-        print_item(item, &mut out)?;
-    }
-    Ok(out)
-}
-
-/// What a session is sent for a call under reference 7 at moment 0.
-fn sent(alloc: Global, core: &mut Core, session: u32, call: Call) -> Result<Writer, Memory>
-    requires { core.old.state.entries + 2 < 2 ^ 62 }
-    ensures { core.new.state.entries ≤ core.old.state.entries + 3 }
+/// A session makes a call under reference 7 at moment 0, which is made stable.
+fn ask(core: &mut Core, session: u32, call: Call) -> Result<(), Memory>
+    requires { core.old.state.entries + 1 < 2 ^ 62 }
+    ensures { core.new.state.entries ≤ core.old.state.entries + 2 }
 {
-    let reference = 7;
-    let call = Act::Call {
+    let what = Act::Call {
         session,
-        reference,
+        reference: 7,
         call,
     };
-    made(core, 0, call)?;
+    made(core, 0, what)?;
     made(core, 0, Act::Flush)?;
-    drained(alloc, core, session)
+    Ok(())
 }
 
-/// What session 1 is sent for a call under reference 7 at moment 0 is this line.
+/// What a session is sent for a call under reference 7 at moment 0 is this line.
 fn check_line(
     rt: &impl Abort,
     alloc: Global,
     core: &mut Core,
+    session: u32,
     call: Call,
     line: &'static [u8],
 ) -> Result<(), Fail>
     requires { core.old.state.entries + 2 < 2 ^ 62 }
     ensures { core.new.state.entries ≤ core.old.state.entries + 3 }
 {
-    let out = sent(alloc, core, 1, call)?;
-    assert_eq!(rt; out.bytes(), line);
-    Ok(())
-}
-
-/// The call that asks for the messages of these numbers.
-fn accept(alloc: Global, numbers: &[u32]) -> Result<Call, Memory> {
-    let numbers = Sequence::of(Vec::from_slice(alloc, numbers)?);
-    Ok(Call::AcceptAsync { numbers })
+    ask(core, session, call)?;
+    check_drained(rt, alloc, core, session, line)
 }
 
 /// Of the record that is handed out the session, the pass, the moment, and whether it is short.
@@ -141,14 +184,13 @@ fn a_visit_is_recorded(rt: HostRuntime) -> Result<(), Fail> {
 fn visit(rt: &impl Abort, alloc: Global, core: &mut Core) -> Result<(), Fail>
     requires { core.old.state.entries ≡ 0 }
 {
-    assert_eq!(rt; connect(alloc, core, 10)?, AnswerKind::Connected(1));
+    check_connected(rt, alloc, core, 10, 1)?;
     assert_eq!(rt; handed(core), Some((1, 3, 10, false)));
     assert_eq!(rt; handed(core), None);
     let close = Act::Close { session: 1 };
-    assert_eq!(rt; made(core, 14, close)?, AnswerKind::Taken);
+    check_made(rt, core, 14, close, AnswerKind::Taken)?;
     assert_eq!(rt; handed(core), Some((1, 3, 14, false)));
-    assert_eq!(rt; connect(alloc, core, 15)?, AnswerKind::Connected(2));
-    Ok(())
+    check_connected(rt, alloc, core, 15, 2)
 }
 
 #[test]
@@ -161,14 +203,19 @@ fn give_what_is_stable(rt: &impl Abort, alloc: Global, core: &mut Core) -> Resul
 {
     connect(alloc, core, 10)?;
     let ask = call_of(7, Call::WhoAmI);
-    assert_eq!(rt; made(core, 12, ask)?, AnswerKind::Taken);
-    assert!(rt; drained(alloc, core, 1)?.bytes().is_empty());
-    assert_eq!(rt; made(core, 11, Act::Flush)?, AnswerKind::Taken);
+    check_made(rt, core, 12, ask, AnswerKind::Taken)?;
+    check_drained(rt, alloc, core, 1, b"")?;
+    break_after_a_flush(rt, core)?;
+    check_drained(rt, alloc, core, 1, b"LysKOM\n=7 1\n")
+}
+
+fn break_after_a_flush(rt: &impl Abort, core: &mut Core) -> Result<(), Fail>
+    requires { core.old.state.entries + 1 < 2 ^ 62 }
+    ensures { core.new.state.entries ≤ core.old.state.entries + 2 }
+{
+    check_made(rt, core, 11, Act::Flush, AnswerKind::Taken)?;
     let broken = Act::Broken { session: 1 };
-    assert_eq!(rt; made(core, 13, broken)?, AnswerKind::Taken);
-    let out = drained(alloc, core, 1)?;
-    assert_eq!(rt; out.bytes(), b"LysKOM\n=7 1\n".as_slice());
-    Ok(())
+    check_made(rt, core, 13, broken, AnswerKind::Taken)
 }
 
 #[test]
@@ -180,32 +227,45 @@ fn ask_plain_calls(rt: &impl Abort, alloc: Global, core: &mut Core) -> Result<()
     requires { core.old.state.entries ≡ 0 }
 {
     connect(alloc, core, 0)?;
-    check_line(rt, alloc, core, Call::WhoAmI, b"LysKOM\n=7 1\n")?;
-    check_line(rt, alloc, core, Call::GetTime, b"=7 0 0 0 1 0 70 4 0 0\n")?;
+    ask_who_and_when(rt, alloc, core)?;
+    ask_of_the_server(rt, alloc, core)?;
+    ask_in_vain(rt, alloc, core)
+}
+
+fn ask_who_and_when(rt: &impl Abort, alloc: Global, core: &mut Core) -> Result<(), Fail>
+    requires { core.old.state.entries + 5 < 2 ^ 62 }
+    ensures { core.new.state.entries ≤ core.old.state.entries + 6 }
+{
+    check_line(rt, alloc, core, 1, Call::WhoAmI, b"LysKOM\n=7 1\n")?;
     check_line(
         rt,
         alloc,
         core,
-        Call::GetVersionInfo,
-        b"=7 11 4Hkomd 3H1.0\n",
-    )?;
-    check_line(rt, alloc, core, Call::GetInfo, b"=7 10000 1 2 3 4 0 0 *\n")?;
-    check_line(
-        rt,
-        alloc,
-        core,
-        Call::QueryPredefinedAuxItems,
-        b"=7 12 { 1 2 3 4 5 6 7 8 10 13 14 15 }\n",
-    )?;
-    check_line(
-        rt,
-        alloc,
-        core,
-        Call::Disconnect { session: 1 },
-        b"%7 2 0\n",
-    )?;
-    check_line(rt, alloc, core, Call::Refused(4, 9), b"%7 4 9\n")?;
-    Ok(())
+        1,
+        Call::GetTime,
+        b"=7 0 0 0 1 0 70 4 0 0\n",
+    )
+}
+
+fn ask_of_the_server(rt: &impl Abort, alloc: Global, core: &mut Core) -> Result<(), Fail>
+    requires { core.old.state.entries + 8 < 2 ^ 62 }
+    ensures { core.new.state.entries ≤ core.old.state.entries + 9 }
+{
+    let version = b"=7 11 4Hkomd 3H1.0\n";
+    check_line(rt, alloc, core, 1, Call::GetVersionInfo, version)?;
+    let info = b"=7 10000 1 2 3 4 0 0 *\n";
+    check_line(rt, alloc, core, 1, Call::GetInfo, info)?;
+    let items = b"=7 12 { 1 2 3 4 5 6 7 8 10 13 14 15 }\n";
+    check_line(rt, alloc, core, 1, Call::QueryPredefinedAuxItems, items)
+}
+
+fn ask_in_vain(rt: &impl Abort, alloc: Global, core: &mut Core) -> Result<(), Fail>
+    requires { core.old.state.entries + 5 < 2 ^ 62 }
+    ensures { core.new.state.entries ≤ core.old.state.entries + 6 }
+{
+    let unknown = Call::Disconnect { session: 1 };
+    check_line(rt, alloc, core, 1, unknown, b"%7 2 0\n")?;
+    check_line(rt, alloc, core, 1, Call::Refused(4, 9), b"%7 4 9\n")
 }
 
 #[test]
@@ -218,50 +278,67 @@ fn ask_for_messages(rt: &impl Abort, alloc: Global, core: &mut Core) -> Result<(
 {
     connect(alloc, core, 0)?;
     connect(alloc, core, 0)?;
-    check_line(rt, alloc, core, Call::QueryAsync, b"LysKOM\n=7 0 *\n")?;
-    check_line(rt, alloc, core, accept(alloc, &[5, 23, 15])?, b"%7 50 23\n")?;
-    check_line(rt, alloc, core, Call::QueryAsync, b"=7 2 { 5 15 }\n")?;
-    check_line(
-        rt,
-        alloc,
-        core,
-        accept(alloc, &[22, 10, u32::MAX, 0])?,
-        b"%7 50 10\n",
-    )?;
-    check_line(rt, alloc, core, Call::QueryAsync, b"=7 2 { 0 22 }\n")?;
-    check_line(rt, alloc, core, accept(alloc, &[])?, b"=7\n")?;
-    check_line(rt, alloc, core, Call::QueryAsync, b"=7 0 *\n")?;
-    check_line(rt, alloc, core, accept(alloc, &[9])?, b"=7\n")?;
-    check_line(rt, alloc, core, Call::QueryAsync, b"=7 1 { 9 }\n")?;
-    let out = sent(alloc, core, 2, Call::QueryAsync)?;
-    assert_eq!(rt; out.bytes(), b"LysKOM\n=7 0 *\n".as_slice());
+    let none = b"LysKOM\n=7 0 *\n";
+    check_line(rt, alloc, core, 1, Call::QueryAsync, none)?;
+    accept_in_turn(rt, alloc, core)?;
+    check_line(rt, alloc, core, 2, Call::QueryAsync, none)
+}
+
+fn accept_in_turn(rt: &impl Abort, alloc: Global, core: &mut Core) -> Result<(), Fail>
+    requires { core.old.state.entries ≤ 5 }
+    ensures { core.new.state.entries ≤ 29 }
+{
+    // The numbers of messages that are asked for, what that is answered, and what is accepted then.
+    let rows: [(&[u32], &[u8], &[u8]); 4] = [
+        (&[5, 23, 15], b"%7 50 23\n", b"=7 2 { 5 15 }\n"),
+        (&[22, 10, u32::MAX, 0], b"%7 50 10\n", b"=7 2 { 0 22 }\n"),
+        (&[], b"=7\n", b"=7 0 *\n"),
+        (&[9], b"=7\n", b"=7 1 { 9 }\n"),
+    ];
+    for (numbers, answer, accepted) in rows {
+        check_accepted(rt, alloc, core, numbers, answer, accepted)?;
+    }
     Ok(())
 }
 
-/// The act is refused, and leaves no record.
-fn check_absent(rt: &impl Abort, core: &mut Core, what: Act) -> Result<(), Fail>
+/// Session 1 is answered so when it asks for the messages of these numbers, and then when it asks
+/// what is accepted.
+fn check_accepted(
+    rt: &impl Abort,
+    alloc: Global,
+    core: &mut Core,
+    numbers: &[u32],
+    answer: &'static [u8],
+    accepted: &'static [u8],
+) -> Result<(), Fail>
+    requires { core.old.state.entries + 5 < 2 ^ 62 }
+    ensures { core.new.state.entries ≤ core.old.state.entries + 6 }
+{
+    let numbers = Sequence::of(Vec::from_slice(alloc, numbers)?);
+    let call = Call::AcceptAsync { numbers };
+    check_line(rt, alloc, core, 1, call, answer)?;
+    check_line(rt, alloc, core, 1, Call::QueryAsync, accepted)
+}
+
+/// The act is refused by a fresh core, and leaves no record.
+fn check_absent(rt: &impl Abort, alloc: Global, what: Act) -> Result<(), Fail> {
+    refuse(rt, &mut Core::fresh(alloc), what)
+}
+
+fn refuse(rt: &impl Abort, core: &mut Core, what: Act) -> Result<(), Fail>
     requires { core.old.state.entries ≡ 0 }
 {
-    assert_eq!(rt; made(core, 1, what)?, gone(Why::Absent));
+    check_made(rt, core, 1, what, gone(Why::Absent))?;
     assert_eq!(rt; handed(core), None);
     Ok(())
 }
 
 #[test]
 fn acts_of_a_session_that_is_not_there_are_refused(rt: HostRuntime) -> Result<(), Fail> {
-    check_absent(
-        &rt,
-        &mut Core::fresh(rt.alloc()),
-        call_of(1, Call::Refused(2, 0)),
-    )?;
-    check_absent(
-        &rt,
-        &mut Core::fresh(rt.alloc()),
-        Act::Broken { session: 9 },
-    )?;
-    check_absent(&rt, &mut Core::fresh(rt.alloc()), Act::Drain { session: 9 })?;
-    check_absent(&rt, &mut Core::fresh(rt.alloc()), Act::Close { session: 9 })?;
-    Ok(())
+    check_absent(&rt, rt.alloc(), call_of(1, Call::Refused(2, 0)))?;
+    check_absent(&rt, rt.alloc(), Act::Broken { session: 9 })?;
+    check_absent(&rt, rt.alloc(), Act::Drain { session: 9 })?;
+    check_absent(&rt, rt.alloc(), Act::Close { session: 9 })
 }
 
 #[test]
@@ -272,21 +349,35 @@ fn a_drain_takes_64_items_at_most(rt: HostRuntime) -> Result<(), Fail> {
 fn drain_twice(rt: &impl Abort, alloc: Global, core: &mut Core) -> Result<(), Fail>
     requires { core.old.state.entries ≡ 0 }
 {
+    ask_66_times(alloc, core)?;
+    let lines = lines_drained(alloc, core)?;
+    assert_eq!(rt; lines, 64);
+    check_drained(rt, alloc, core, 1, b"%63 61 63\n%64 61 64\n%65 61 65\n")?;
+    check_drained(rt, alloc, core, 1, b"")
+}
+
+/// Session 1 is connected and makes 66 calls, which are made stable.
+fn ask_66_times(alloc: Global, core: &mut Core) -> Result<(), Memory>
+    requires { core.old.state.entries ≡ 0 }
+    ensures { core.new.state.entries ≤ 68 }
+{
     connect(alloc, core, 1)?;
     for reference in 0..66 {
         made(core, 1, call_of(reference, Call::Refused(61, reference)))?;
     }
     made(core, 1, Act::Flush)?;
-    let first = drained(alloc, core, 1)?;
-    let lines = first.bytes().iter().filter(|byte| **byte == b'\n').count();
-    assert_eq!(rt; lines, 64);
-    let rest = drained(alloc, core, 1)?;
-    assert_eq!(rt;
-        rest.bytes(),
-        b"%63 61 63\n%64 61 64\n%65 61 65\n".as_slice()
-    );
-    assert!(rt; drained(alloc, core, 1)?.bytes().is_empty());
     Ok(())
+}
+
+/// How many lines session 1 takes.
+fn lines_drained(alloc: Global, core: &mut Core) -> Result<usize, Memory>
+    requires { core.old.state.entries < 2 ^ 62 }
+    ensures { core.new.state.entries ≤ core.old.state.entries + 1 }
+{
+    let out = drained(alloc, core, 1)?;
+    let lines = out.bytes().iter().filter(|byte| **byte == b'\n').count();
+    drop(out);
+    Ok(lines)
 }
 
 #[test]
@@ -297,16 +388,23 @@ fn a_session_for_whom_too_much_waits_is_overrun(rt: HostRuntime) -> Result<(), F
 fn overrun(rt: &impl Abort, alloc: Global, core: &mut Core) -> Result<(), Fail>
     requires { core.old.state.entries ≡ 0 }
 {
+    ask_4096_times(rt, alloc, core)?;
+    let late = call_of(4096, Call::WhoAmI);
+    check_made(rt, core, 1, late, gone(Why::Overrun))?;
+    let drain = Act::Drain { session: 1 };
+    check_made(rt, core, 1, drain, gone(Why::Overrun))?;
+    let close = Act::Close { session: 1 };
+    check_made(rt, core, 1, close, AnswerKind::Taken)
+}
+
+fn ask_4096_times(rt: &impl Abort, alloc: Global, core: &mut Core) -> Result<(), Fail>
+    requires { core.old.state.entries ≡ 0 }
+    ensures { core.new.state.entries ≤ 4097 }
+{
     connect(alloc, core, 1)?;
     for reference in 0..4096 {
-        let answer = made(core, 1, call_of(reference, Call::WhoAmI))?;
-        assert_eq!(rt; answer, AnswerKind::Taken);
+        let ask = call_of(reference, Call::WhoAmI);
+        check_made(rt, core, 1, ask, AnswerKind::Taken)?;
     }
-    let late = call_of(4096, Call::WhoAmI);
-    assert_eq!(rt; made(core, 1, late)?, gone(Why::Overrun));
-    let drain = Act::Drain { session: 1 };
-    assert_eq!(rt; made(core, 1, drain)?, gone(Why::Overrun));
-    let close = Act::Close { session: 1 };
-    assert_eq!(rt; made(core, 1, close)?, AnswerKind::Taken);
     Ok(())
 }
