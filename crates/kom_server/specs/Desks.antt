@@ -56,6 +56,10 @@ pub record Kept : Type 0 where
   pub pass : PassView
   pub faults : FaultTable
 
+-- what a desk of this pass has that noted these faults
+abbrev pub kept_with : PassView → FaultTable → Kept
+kept_with pass faults = record { pass = pass; faults = faults }
+
 -- what contracts see of a desk that has these
 abbrev pub desk_view : Kept → DeskView
 desk_view kept = record {

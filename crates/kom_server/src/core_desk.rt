@@ -7,8 +7,9 @@ ghost use Rattle.kom_core.specs.Acts.{items_of, TakesNone};
 ghost use Rattle.kom_links.specs.Records.{IsOpen};
 ghost use Rattle.kom_model.specs.State.{empty};
 ghost use Rattle.kom_model.specs.Legal.{IsLegal, state_after};
-ghost use Rattle.kom_server.specs.Faults.{fault_in, noted_at, noted_at_none, noted_everywhere};
-ghost use Rattle.kom_server.specs.Desks.{IsKnown, AreNoted, desk_view};
+ghost use Rattle.kom_server.specs.Faults.{FaultTable, fault_in, noted_at, noted_at_none};
+ghost use Rattle.kom_server.specs.Faults.{noted_everywhere};
+ghost use Rattle.kom_server.specs.Desks.{IsKnown, AreNoted, Stands, desk_view, kept_with};
 ghost use Rattle.kom_server.specs.Making.{IsBetween, LogsLast, Logged, fault_from};
 ghost use Rattle.kom_server.specs.Making.{Makes, Refuses, Joins, Leaves};
 
@@ -30,6 +31,8 @@ pub(crate) struct CoreDesk {
     // How many sessions stand, each of which has room for its Close.
     sessions: usize,
     faults: Faults,
+    // The array of the acts that take no items.
+    none: ArrayVec<Item, 64>,
 }
 
 impl Model for CoreDesk {
@@ -56,6 +59,7 @@ impl CoreDesk {
             pass: Pass::new(alloc, number),
             sessions: 0,
             faults: Faults::new(alloc),
+            none: ArrayVec::new(),
         }
     }
 
@@ -129,23 +133,18 @@ impl CoreDesk {
         ensures legal { IsLegal empty self.old.pass.seen }
         ensures noted { AreNoted self.old.pass.seen self.old.faults }
     {
-        items.clear();
-        if self.pass.reserve(self.sessions + 1).is_err() {
-            return Err(DeskFault::Memory);
-        }
-        let entry = Entry {
-            pass: self.pass.number(),
+        make_between(
+            &mut self.core,
+            &mut self.pass,
+            self.sessions,
             moment,
             act,
-        };
-        match act_and_log(&mut self.core, &mut self.pass, entry, items) {
-            Ok(AnswerKind::Refused(refusal)) => Err(fault_of(refusal)),
-            Ok(_) => Ok(()),
-            Err(Memory) => Err(DeskFault::Memory),
-        }
+            items,
+        )
     }
 
-    /// Makes an act that neither connects nor closes a session nor takes items, and logs its record.
+    /// Makes an act that neither connects nor closes a session nor takes items, and logs its
+    /// record.
     fn make_alone(&mut self, moment: Moment, act: Act) -> Result<(), DeskFault>
         requires { IsBetween act }
         ensures made { OnOk result ((short : Bool) × (items : List TakenItem)
@@ -154,10 +153,14 @@ impl CoreDesk {
         ensures legal { IsLegal empty self.old.pass.seen }
         ensures noted { AreNoted self.old.pass.seen self.old.faults }
     {
-        let mut items = ArrayVec::new();
-        let made = self.make(moment, act, &mut items);
-        drop(items);
-        made
+        make_between(
+            &mut self.core,
+            &mut self.pass,
+            self.sessions,
+            moment,
+            act,
+            &mut self.none,
+        )
     }
 
     /// Connects a session, with room for its row and for the Close of each session that stands
@@ -179,7 +182,7 @@ impl CoreDesk {
             moment,
             act,
         };
-        match act_and_log(&mut self.core, &mut self.pass, entry, &mut ArrayVec::new()) {
+        match act_and_log(&mut self.core, &mut self.pass, entry, &mut self.none) {
             Ok(AnswerKind::Connected(number)) => {
                 self.sessions += 1;
                 self.faults.connect(number);
@@ -202,7 +205,7 @@ impl CoreDesk {
             moment,
             act: Act::Close { session },
         };
-        match act_and_log(&mut self.core, &mut self.pass, entry, &mut ArrayVec::new()) {
+        match act_and_log(&mut self.core, &mut self.pass, entry, &mut self.none) {
             Ok(AnswerKind::Taken) => {
                 self.sessions -= 1;
                 self.faults.close(session);
@@ -218,6 +221,44 @@ impl CoreDesk {
         ensures noted { AreNoted self.now.pass.seen self.now.faults }
     {
         self.core.stopped()
+    }
+}
+
+/// Makes an act that neither connects nor closes a session, and logs its record, with room left for
+/// the Close of each session that stands. What a drain takes is put into an array.
+fn make_between(
+    core: &mut Core,
+    pass: &mut Pass,
+    sessions: usize,
+    moment: Moment,
+    act: Act,
+    items: &mut ArrayVec<Item, 64>,
+) -> Result<(), DeskFault>
+    requires between { IsBetween act }
+    requires stands { (faults : FaultTable)
+        × Stands core.old.state (kept_with pass.old faults) sessions }
+    ensures stands { (faults : FaultTable)
+        → Stands core.old.state (kept_with pass.old faults) sessions
+        → Stands core.new.state (kept_with pass.new faults) sessions }
+    ensures made { (faults : FaultTable) → OnOk result ((short : Bool) × Makes
+        (kept_with pass.old faults) (kept_with pass.new faults) moment act short items.new.items) }
+    ensures refused { (faults : FaultTable) → IfErr result (λ fault. Refuses
+        (kept_with pass.old faults) (kept_with pass.new faults) act fault) }
+    ensures none_taken { OnErr result (items.new.items ≡ []) }
+{
+    items.clear();
+    if pass.reserve(sessions + 1).is_err() {
+        return Err(DeskFault::Memory);
+    }
+    let entry = Entry {
+        pass: pass.number(),
+        moment,
+        act,
+    };
+    match act_and_log(core, pass, entry, items) {
+        Ok(AnswerKind::Refused(refusal)) => Err(fault_of(refusal)),
+        Ok(_) => Ok(()),
+        Err(Memory) => Err(DeskFault::Memory),
     }
 }
 

@@ -1,27 +1,16 @@
-use Rattle.std.proofs.Common.{◌≡◌, ◌+◌, ◌≤◌, length, ap, ◌∙◌, rules, arith}
-use Rattle.kom_types.specs.declared.acts.Entry.{Entry}
-use Rattle.kom_server.specs.Desks.{Kept}
-use Rattle.kom_server.proofs.StandingDesk.{Ready, entries_within, stands_asked}
+use Rattle.std.proofs.Common.{Bool, OnOk, subst}
+use Rattle.kom_server.specs.Desks.{Kept, kept_with}
+use Rattle.kom_server.specs.Making.{Makes}
 use Rattle.kom_server.proofs.core_desk.CoreDesk.make.Goals as goal
 
-pub act_and_log-requires-clause-bound : goal.act_and_log-requires-clause-bound
-act_and_log-requires-clause-bound c =
-    let count : length c.reserve.new.self.seen ≡ length c.self.inside.pass.seen = ap length c.reserve.ensures.seen in
-    let some : c.self.inside.sessions + 1 ≤ c.reserve.new.self.room = search rules in
-    entries_within _ _ _ c.reserve.new.self.room c.self.invariant (omega arith) (omega (arith, c.reserve.ensures.bound))
+pub make_between-requires-clause-stands : goal.make_between-requires-clause-stands
+make_between-requires-clause-stands c = (c.self.inside.faults, c.self.invariant)
 
-pub invariant_of-self-2 : goal.invariant_of-self-2
-invariant_of-self-2 c =
-    let some : c.self.inside.sessions + 1 ≤ c.reserve.new.self.room = search rules in
-    let kept : Kept = record { pass = c.self.inside.pass; faults = c.self.inside.faults } in
-    let entry : Entry = record { pass = c.number.result; moment = c.args.moment; act = c.args.act } in
-    let ready : Ready c.self.inside.core.state kept c.reserve.new.self c.self.inside.sessions 1 entry = record {
-      stands = c.self.invariant;
-      seen = c.reserve.ensures.seen;
-      number = c.reserve.ensures.number;
-      bound = c.reserve.ensures.bound;
-      room = some;
-      entered = c.number.ensures.number ∙ c.reserve.ensures.number;
-    } in
-    stands_asked c.act_and_log.result ready c.requires c.act_and_log.ensures.logged c.act_and_log.ensures.state
-    c.act_and_log.ensures.pass
+pub invariant_of-self : goal.invariant_of-self
+invariant_of-self c = c.make_between.ensures.stands c.self.inside.faults c.self.invariant
+
+pub returns-clause-made : goal.returns-clause-made
+returns-clause-made c =
+    subst (λ (kept : Kept). OnOk c.make_between.result ((short : Bool) × Makes kept
+    (kept_with c.make_between.new.pass c.self.inside.faults) c.args.moment c.args.act short
+    c.make_between.new.items.items)) c.self.view_is (c.make_between.ensures.made c.self.inside.faults)

@@ -1,7 +1,7 @@
-use Rattle.std.specs.Prelude.{ℕ, Bool, List, Result, Ok, Err, OnOk}
+use Rattle.std.proofs.Common.{ℕ, Bool, List, Result, Ok, Err, OnOk, subst}
 use Rattle.kom_types.specs.declared.acts.Act.{Act}
 use Rattle.kom_types.specs.declared.items.Item.{Item}
-use Rattle.kom_server.specs.Desks.{Kept}
+use Rattle.kom_server.specs.Desks.{Kept, kept_with}
 use Rattle.kom_server.specs.Making.{Makes}
 use Rattle.kom_server.proofs.core_desk.CoreDesk.make_alone.Goals as goal
 
@@ -12,7 +12,15 @@ took_some : {X Y : Type 0} (result : Result X Y) (old new : Kept) (moment : ℕ)
 took_some (Ok value) old new moment act items (short, makes) = (short, items, makes)
 took_some (Err fault) old new moment act items none = none
 
+pub make_between-requires-clause-stands : goal.make_between-requires-clause-stands
+make_between-requires-clause-stands c = (c.self.inside.faults, c.self.invariant)
+
+pub invariant_of-self : goal.invariant_of-self
+invariant_of-self c = c.make_between.ensures.stands c.self.inside.faults c.self.invariant
+
 pub returns-clause-made : goal.returns-clause-made
 returns-clause-made c =
-    took_some c.make-made.result c.args.self.now c.make-made.new.self c.args.moment c.args.act c.make-made.new.items.items
-    c.make-made.ensures.made
+    subst (λ (kept : Kept). OnOk c.make_between.result ((short : Bool) × (items : List Item) × Makes kept
+    (kept_with c.make_between.new.pass c.self.inside.faults) c.args.moment c.args.act short items)) c.self.view_is
+    (took_some c.make_between.result _ _ c.args.moment c.args.act _
+    (c.make_between.ensures.made c.self.inside.faults))
