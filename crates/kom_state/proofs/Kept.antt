@@ -54,7 +54,8 @@ module _ (rows : List ConferenceRow) (names : List Named) (next : ℕ) (kept : I
       new_names ≡ with_name number name names → IsKept new new_names next
   IsKept-renamed number name new new_names there is names_are = rw (is, names_are) (record {
     by_number =
-        IsByNumber-changed_row number_of_conference (Conferences.with_name name) (λ row. refl) number rows kept.by_number;
+        IsByNumber-changed_row number_of_conference (Conferences.with_name name) (λ row. refl) number rows
+        kept.by_number;
     same_names = ap (with_name number name) kept.same_names ∙ sym (names-renamed number name rows kept.by_number there);
     within = kept.within;
   })
@@ -63,8 +64,8 @@ module _ (rows : List ConferenceRow) (names : List Named) (next : ℕ) (kept : I
       ((row : ConferenceRow) → name_row (change row) ≡ name_row row) →
       new ≡ changed_row number_of_conference number change rows → IsKept new names next
   IsKept-changed number change new keeps is = rw is (record {
-    by_number = IsByNumber-changed_row number_of_conference change (λ row. ap (λ (one : Named). one.number) (keeps row)) number
-        rows kept.by_number;
+    by_number = IsByNumber-changed_row number_of_conference change
+        (λ row. ap (λ (one : Named). one.number) (keeps row)) number rows kept.by_number;
     same_names = kept.same_names ∙ sym (names-kept number change rows keeps);
     within = kept.within;
   })

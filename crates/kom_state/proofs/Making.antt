@@ -1,5 +1,6 @@
 -- What an effect makes of the stored rows as they are kept, and the room that it leaves.
-use Rattle.std.proofs.Common.{◌≡◌, ℕ, ◌+◌, ◌<◌, ◌≤◌, true, eqb, List, [], ◌∷◌, None, refl, sym, ap, subst, ◌∙◌, arith, Bool, cond, ◌⊎◌, inl, inr, count_by}
+use Rattle.std.proofs.Common.{◌≡◌, ℕ, ◌+◌, ◌<◌, ◌≤◌, true, eqb, List, [], ◌∷◌, None, refl, sym, ap, subst, ◌∙◌, arith}
+use Rattle.std.proofs.Common.{Bool, cond, ◌⊎◌, inl, inr, count_by}
 use Rattle.std.proofs.lemmas.Option.{none-some}
 use Rattle.kom_types.specs.declared.effects.Effect.TheVariants as effect
 use Rattle.kom_types.specs.tables.Conferences.{fresh_conference}
@@ -17,7 +18,8 @@ use Rattle.memberships.specs.Table.{Table, UsesRoom, room_of_person, room_of_con
 use Rattle.memberships.specs.Lists.{room_in}
 use Rattle.name_lookup.specs.NamedRows.{Lookup}
 use Rattle.kom_state.specs.Keeping.{stored}
-use Rattle.kom_state.specs.Room.{Room, Stored, IsMade, HasRoom, set_of, name_given, sets_membership, sets_for_person, sets_in_conference}
+use Rattle.kom_state.specs.Room.{Room, Stored, IsMade, HasRoom, set_of, name_given, sets_membership, sets_for_person}
+use Rattle.kom_state.specs.Room.{sets_in_conference}
 use Rattle.kom_state.proofs.Using.{Uses, HasRoom-after, count_by-cons}
 
 pub IsMade-using : (what : Effect) (old new : Stored) → new.db ≡ made what old.db → Uses what old.room new.room →

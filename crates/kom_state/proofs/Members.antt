@@ -1,11 +1,13 @@
 -- How many memberships a person has, by their places as in the order of joining.
-use Rattle.std.proofs.Common.{◌≡◌, ℕ, ◌+◌, Bool, true, false, cond, eqb, ltb, List, [], ◌∷◌, length, filter, suc, refl, ap, ◌∙◌, arith}
+use Rattle.std.proofs.Common.{◌≡◌, ℕ, ◌+◌, Bool, true, false, cond, eqb, ltb, List, [], ◌∷◌, length, filter, suc, refl}
+use Rattle.std.proofs.Common.{ap, ◌∙◌, arith}
 use Rattle.std.specs.List.{fold}
 use Rattle.kom_types.specs.declared.memberships.MembershipRow.{MembershipRow}
 use Rattle.kom_types.specs.tables.Memberships.{by_position, count_of}
 use Rattle.kom_model.specs.Db.{Db, memberships_of}
 
-length-by_position : (row : MembershipRow) (rows : List MembershipRow) → length (by_position row rows) ≡ suc (length rows)
+length-by_position : (row : MembershipRow) (rows : List MembershipRow) →
+    length (by_position row rows) ≡ suc (length rows)
 length-by_position row [] = refl
 length-by_position row (first ∷ rows) = by (ltb row.position first.position) (length-by_position row rows)
   where

@@ -1,7 +1,10 @@
 -- The names of conferences by rising number: what becomes of them as the conferences change, and which are free.
-use Rattle.std.proofs.Common.{◌≡◌, ℕ, ◌<◌, ◌⊎◌, Bool, true, false, cond, not, ◌&&◌, ◌||◌, eqb, ltb, List, [], ◌∷◌, map, filter, Some, None, is_some, refl, sym, ap, ap₂, subst, ◌≤◌, ◌∙◌, inl, inr, true≢false, arith}
+use Rattle.std.proofs.Common.{◌≡◌, ℕ, ◌<◌, ◌⊎◌, Bool, true, false, cond, not, ◌&&◌, ◌||◌, eqb, ltb, List, [], ◌∷◌, map}
+use Rattle.std.proofs.Common.{filter, Some, None, is_some, refl, sym, ap, ap₂, subst, ◌≤◌, ◌∙◌, inl, inr, true≢false}
+use Rattle.std.proofs.Common.{arith}
 use Rattle.std.specs.List.{AllByRecursion, list_any}
-use Rattle.std.proofs.lemmas.Bool.{eq-eqb, ne_eqb, le-ltb, cases_order, cases_eq, cases_Bool, or_parts, false_from_ne_true}
+use Rattle.std.proofs.lemmas.Bool.{eq-eqb, ne_eqb, le-ltb, cases_order, cases_eq, cases_Bool, or_parts}
+use Rattle.std.proofs.lemmas.Bool.{false_from_ne_true}
 use Rattle.std.proofs.lemmas.Bool.Decides.{nat_tests}
 use Rattle.std.proofs.lemmas.Option.{none-some, same_Some}
 use Rattle.std.proofs.lemmas.Slice.Eq.{bytes_eq-Decides}
@@ -126,8 +129,8 @@ clash_both name first second one other =
 abbrev pub is_other : ℕ → List ℕ → ConferenceRow → Bool
 is_other number name row = not (eqb row.number number) && clash row.name name
 
-pub taken-free : (number : ℕ) (name : List ℕ) (rows : List ConferenceRow) → list_any (is_other number name) rows ≡ false →
-    taken name (without_name number (map name_row rows)) ≡ None
+pub taken-free : (number : ℕ) (name : List ℕ) (rows : List ConferenceRow) →
+    list_any (is_other number name) rows ≡ false → taken name (without_name number (map name_row rows)) ≡ None
 taken-free number name [] free = refl
 taken-free number name (row ∷ rows) free =
     let parts = or_parts (is_other number name row) (list_any (is_other number name) rows) free in

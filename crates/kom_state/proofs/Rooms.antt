@@ -1,5 +1,7 @@
 -- Room for each effect of a list is room for the list.
-use Rattle.std.proofs.Common.{◌≡◌, ℕ, ◌+◌, ◌<◌, ◌≤◌, ◌⊎◌, Bool, true, false, cond, List, [], ◌∷◌, ◌++◌, length, take, drop, get_or, Option, Some, None, is_some, count_by, All, refl, sym, ap, subst, ◌∙◌, inl, inr, true≢false, arith}
+use Rattle.std.proofs.Common.{◌≡◌, ℕ, ◌+◌, ◌<◌, ◌≤◌, ◌⊎◌, Bool, true, false, cond, List, [], ◌∷◌, ◌++◌, length, take}
+use Rattle.std.proofs.Common.{drop, get_or, Option, Some, None, is_some, count_by, All, refl, sym, ap, subst, ◌∙◌, inl}
+use Rattle.std.proofs.Common.{inr, true≢false, arith}
 use Rattle.std.specs.List.{filter_map, cons_option}
 use Rattle.std.proofs.Common.{take-append-drop}
 use Rattle.std.proofs.lemmas.List.{take_more}
@@ -8,7 +10,8 @@ use Rattle.std.proofs.lemmas.List.Elements.{All-tail, filter_map-append}
 use Rattle.kom_types.specs.declared.effects.Effect.{Effect}
 use Rattle.memberships.specs.Table.{Table, KeepsRoom, room_of_person, room_of_conference}
 use Rattle.memberships.specs.Table.{HasRoom as HasRoomAt}
-use Rattle.kom_state.specs.Room.{key_set, sets_membership, sets_for_person, sets_in_conference, name_given, HasMemberRoom, IsAtMostOne, IsOrderly, IsReady}
+use Rattle.kom_state.specs.Room.{key_set, sets_membership, sets_for_person, sets_in_conference, name_given}
+use Rattle.kom_state.specs.Room.{HasMemberRoom, IsAtMostOne, IsOrderly, IsReady}
 use Rattle.kom_state.proofs.Using.{count_by-cons}
 
 -- where an effect sets a membership, there is room for so many of its kind
@@ -30,12 +33,15 @@ pub IsReservedFor-set : (table : Table) (count person conference : ℕ) (what : 
 IsReservedFor-set table count person conference what key has = record {
   spare = λ does. has.spare;
   of_person = λ number does.
-      subst (λ n. count ≤ room_of_person table n) (eqb-true person number (rw (key, sets_for_person) at does)) has.of_person;
+      subst (λ n. count ≤ room_of_person table n) (eqb-true person number (rw (key, sets_for_person) at does))
+      has.of_person;
   of_conference = λ number does.
-      subst (λ n. count ≤ room_of_conference table n) (eqb-true conference number (rw (key, sets_in_conference) at does)) has.of_conference;
+      subst (λ n. count ≤ room_of_conference table n)
+      (eqb-true conference number (rw (key, sets_in_conference) at does)) has.of_conference;
 }
 
-pub IsReservedFor-none : (table : Table) (count : ℕ) (what : Effect) → key_set what ≡ None → IsReservedFor table count what
+pub IsReservedFor-none : (table : Table) (count : ℕ) (what : Effect) → key_set what ≡ None →
+    IsReservedFor table count what
 IsReservedFor-none table count what none = record {
   spare = λ does. absurd (true≢false (sym (rw none at does)));
   of_person = λ number does. absurd (true≢false (sym (rw (none, sets_for_person) at does)));
@@ -98,8 +104,8 @@ HasMemberRoom-from table count effects each is = record {
 }
 
 -- ---- the name that effects give
-pub names-more : (effects : List Effect) (at : ℕ) (what : Effect) → at < length effects → what ≡ get_or effects at what →
-    filter_map name_given (take at effects) ≡ [] →
+pub names-more : (effects : List Effect) (at : ℕ) (what : Effect) → at < length effects →
+    what ≡ get_or effects at what → filter_map name_given (take at effects) ≡ [] →
     filter_map name_given (take (at + 1) effects) ≡ cons_option (name_given what) []
 names-more effects at what lt is none =
     ap (filter_map name_given) (take_more effects at what lt)

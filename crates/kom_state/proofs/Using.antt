@@ -5,7 +5,8 @@ use Rattle.std.proofs.Common.{count_by}
 use Rattle.std.proofs.lemmas.List.Sums.{sum_by-cons}
 use Rattle.kom_types.specs.declared.effects.Effect.{Effect}
 use Rattle.memberships.specs.Lists.{room_in}
-use Rattle.kom_state.specs.Room.{Room, adds_conference, adds_person, sets_membership, sets_for_person, sets_in_conference, name_given, IsReady, HasRoom}
+use Rattle.kom_state.specs.Room.{Room, adds_conference, adds_person, sets_membership, sets_for_person}
+use Rattle.kom_state.specs.Room.{sets_in_conference, name_given, IsReady, HasRoom}
 
 -- what room falls, and that the name stays ready where none is given
 pub record Uses (what : Effect) (old new : Room) : Type 0 where
@@ -34,7 +35,17 @@ HasRoom-after what old new uses rest has = record {
   conferences = omega (arith, count_by-cons adds_conference what rest);
   persons = omega (arith, count_by-cons adds_person what rest);
   memberships = omega (arith, count_by-cons sets_membership what rest);
-  of_person = λ number. omega (arith, has.of_person number, uses.of_person number, count_by-cons (sets_for_person number) what rest);
-  of_conference = λ number. omega (arith, has.of_conference number, uses.of_conference number, count_by-cons (sets_in_conference number) what rest);
+  of_person = λ number. omega (
+    arith,
+    has.of_person number,
+    uses.of_person number,
+    count_by-cons (sets_for_person number) what rest,
+  );
+  of_conference = λ number. omega (
+    arith,
+    has.of_conference number,
+    uses.of_conference number,
+    count_by-cons (sets_in_conference number) what rest,
+  );
   name = ready_after _ _ _ _ uses.name has.name;
 }

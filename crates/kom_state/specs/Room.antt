@@ -1,5 +1,6 @@
 -- What contracts see of the stored rows as they are kept, and the room that effects need.
-use Rattle.std.specs.Prelude.{◌≡◌, ℕ, ◌≤◌, Bool, true, false, ◌==◌, List, [], ◌∷◌, Option, Some, None, is_some}
+use Rattle.std.specs.Prelude.{◌≡◌, ℕ, ◌≤◌, Bool, true, false, ◌==◌, List, [], ◌∷◌, Option, Some}
+use Rattle.std.specs.Prelude.{None, is_some}
 use Rattle.std.specs.Prelude.{count_by}
 use Rattle.std.specs.List.{filter_map}
 use Rattle.kom_types.specs.declared.effects.Effect.{Effect}
@@ -11,7 +12,7 @@ use Rattle.kom_model.specs.Db.{Db}
 use Rattle.kom_model.specs.Effects.{fits, made}
 
 -- How many more rows fit without memory: conferences, persons and memberships; memberships of each
--- person and in each conference that has room; and the name that can be given.
+-- person and in each conference, as `room_in` reads them; and the name that can be given.
 pub record Room : Type 0 where
   pub conferences : ℕ
   pub persons : ℕ
@@ -90,11 +91,12 @@ pub record HasMemberRoom (table : Table) (effects : List Effect) : Type 0 where
   pub of_conference : (number : ℕ)
       → count_by (sets_in_conference number) effects ≤ room_of_conference table number
 
--- room can be made for effects that give at most one name
+-- names of which there is one at most
 abbrev pub IsAtMostOne : List (List ℕ) → Type 0
 IsAtMostOne [] = Unit {0}
 IsAtMostOne (name ∷ names) = names ≡ []
 
+-- room can be made for effects that give at most one name
 abbrev pub IsOrderly : List Effect → Type 0
 IsOrderly effects = IsAtMostOne (filter_map name_given effects)
 

@@ -1,4 +1,5 @@
-ghost use Rattle.std.specs.Prelude.{◌≡◌, length, map, filter, slice_get, option_copied, is_some, IfOk};
+ghost use Rattle.std.specs.Prelude.{◌≡◌, length, map, filter, slice_get, option_copied, is_some};
+ghost use Rattle.std.specs.Prelude.{IfOk};
 ghost use Rattle.kom_types.specs.Names.{finds};
 ghost use Rattle.kom_model.specs.Db.{conference_of, person_of, membership_of};
 ghost use Rattle.kom_model.specs.Db.{memberships_of, members_of, conferences_of};

@@ -1,8 +1,7 @@
-ghost use Rattle.std.specs.Prelude.{◌≡◌};
-
 use super::*;
 use kom_model::Rows;
 use kom_types::{Bytes, ConfField, Counter, Effect, Memory, Moment, PersonField};
+use std::process::Abort;
 use std::slice;
 use std::test::Fail;
 
@@ -47,136 +46,179 @@ fn join(state: &mut State, person: u32, conference: u32) -> Result<bool, Memory>
     make(state, effect)
 }
 
-// Makes the state of a new server, and says whether each effect fitted.
+// Makes the conferences of a new server, and says whether each effect fitted.
 fn open(state: &mut State) -> Result<bool, Memory> {
-    let administrator = Effect::PersonAdded {
+    let rows: [(u32, &[u8], u8); 5] = [
+        (1, b"Presentations of conferences", 8),
+        (2, b"Presentations of persons", 8),
+        (3, b"Messages of the day", 8),
+        (4, b"News", 8),
+        (5, b"Administrator", 152),
+    ];
+    let mut all = true;
+    for (number, name, kind) in rows {
+        all &= add(state, number, name, kind)?;
+    }
+    Ok(all)
+}
+
+// Makes the person of a new server.
+fn add_administrator(state: &mut State) -> Result<bool, Memory> {
+    let effect = Effect::PersonAdded {
         number: 5,
         privileges: 64512,
         flags: 0,
         last_login: Moment(9),
     };
-    Ok(
-        add(state, 1, b"Presentations of conferences", 8)?
-            && add(state, 2, b"Presentations of persons", 8)?
-            && add(state, 3, b"Messages of the day", 8)?
-            && add(state, 4, b"News", 8)?
-            && add(state, 5, b"Administrator", 152)?
-            && make(state, administrator)?,
-    )
+    make(state, effect)
 }
 
-// Whether a pattern finds these conferences.
-fn finds(state: &State, pattern: &[u8], numbers: &[u32]) -> Result<bool, Memory> {
-    Ok(state.find_conferences(pattern)?.as_slice() == numbers)
+// Makes the rows of a new server.
+fn open_all(rt: &impl Abort, state: &mut State) -> Result<(), Fail> {
+    assert!(rt; open(state)?);
+    assert!(rt; add_administrator(state)?);
+    Ok(())
+}
+
+// A pattern finds these conferences.
+fn check_found(
+    rt: &impl Abort,
+    state: &State,
+    pattern: &[u8],
+    numbers: &[u32],
+) -> Result<(), Fail> {
+    let found = state.find_conferences(pattern)?;
+    assert_eq!(rt; found.as_slice(), numbers);
+    Ok(())
 }
 
 #[test]
 fn the_opening_state_is_made(rt: HostRuntime) -> Result<(), Fail> {
-    let mut state = State::empty(rt.alloc());
-    assert!(rt; open(&mut state)?);
-    assert_eq!(rt; state.next_conference(), 6);
-    assert_eq!(rt; state.conference(5).map(|row| row.kind), Some(152));
-    assert_eq!(rt; state.person(5).map(|row| row.privileges), Some(64512));
-    assert!(rt; finds(&state, b"pres of p", &[2])?);
-    Ok(())
+    check_opened(&rt, &mut State::empty(rt.alloc()))
 }
 
-// Whether a name that clashes does not fit, and one that is given up is free.
-fn names_are_given_once(state: &mut State) -> Result<bool, Memory> {
-    Ok(
-        open(state)?
-            && !add(state, 6, b"nEWS", 8)?
-            && !rename(state, 3, b"NEWS")?
-            && rename(state, 4, b"NEWS of old")?
-            && add(state, 8, b"News", 8)?
-            && finds(state, b"news", &[4, 8])?
-            && finds(state, b"news of", &[4])?,
-    )
+fn check_opened(rt: &impl Abort, state: &mut State) -> Result<(), Fail> {
+    open_all(rt, state)?;
+    assert_eq!(rt; state.next_conference(), 6);
+    assert_eq!(rt; kind_of(state, 5), Some(152));
+    assert_eq!(rt; privileges_of(state, 5), Some(64512));
+    check_found(rt, state, b"pres of p", &[2])
+}
+
+fn kind_of(state: &State, number: u32) -> Option<u8> {
+    Some(state.conference(number)?.kind)
+}
+
+fn privileges_of(state: &State, number: u32) -> Option<u16> {
+    Some(state.person(number)?.privileges)
 }
 
 #[test]
 fn names_that_clash_do_not_fit(rt: HostRuntime) -> Result<(), Fail> {
-    assert!(rt; names_are_given_once(&mut State::empty(rt.alloc()))?);
+    let mut state = State::empty(rt.alloc());
+    give_names(&rt, &mut state)?;
+    give_names_up(&rt, &mut state)?;
+    drop(state);
     Ok(())
 }
 
-// The administrator joins two conferences that are there, and none that is not.
-fn administrator_joins(state: &mut State) -> Result<bool, Memory> {
-    Ok(open(state)? && !join(state, 5, 9)? && join(state, 5, 4)? && join(state, 5, 1)?)
+// A name that clashes does not fit.
+fn give_names(rt: &impl Abort, state: &mut State) -> Result<(), Fail> {
+    assert!(rt; add(state, 4, b"News", 8)?);
+    assert!(rt; !add(state, 6, b"nEWS", 8)?);
+    Ok(())
+}
+
+// A name that is given up is free.
+fn give_names_up(rt: &impl Abort, state: &mut State) -> Result<(), Fail> {
+    assert!(rt; rename(state, 4, b"NEWS of old")?);
+    assert!(rt; add(state, 8, b"News", 8)?);
+    check_found(rt, state, b"news", &[4, 8])?;
+    check_found(rt, state, b"news of", &[4])
 }
 
 #[test]
 fn members_join(rt: HostRuntime) -> Result<(), Fail> {
     let mut state = State::empty(rt.alloc());
-    assert!(rt; administrator_joins(&mut state)?);
-    assert_eq!(rt; state.membership(5, 1).map(|row| row.position), Some(1));
+    open_all(&rt, &mut state)?;
+    join_two(&rt, &mut state)?;
+    check_members(&rt, &state)?;
+    drop(state);
+    Ok(())
+}
+
+// The administrator joins two conferences that are there, and none that is not.
+fn join_two(rt: &impl Abort, state: &mut State) -> Result<(), Fail> {
+    assert!(rt; !join(state, 5, 9)?);
+    assert!(rt; join(state, 5, 4)?);
+    assert!(rt; join(state, 5, 1)?);
+    Ok(())
+}
+
+fn check_members(rt: &impl Abort, state: &State) -> Result<(), Fail> {
+    assert_eq!(rt; place_of(state, 5, 1), Some(1));
     assert_eq!(rt; state.membership_count(5), 2);
     assert_eq!(rt; state.member_count(4), 1);
     assert_eq!(rt; state.membership_kind(5, 4), Some(64));
     Ok(())
 }
 
-// Changes the administrator and a conference.
-fn change(state: &mut State) -> Result<bool, Memory> {
-    let user = Bytes::copy_of(state.alloc, b"ceder")?;
-    let counter = Counter::ReadTexts;
-    Ok(
-        open(state)?
-            && make(
-                state,
-                Effect::Password {
-                    number: 5,
-                    hash: [7; 32],
-                },
-            )?
-            && make(
-                state,
-                Effect::LoggedIn {
-                    number: 5,
-                    at: Moment(12),
-                    user,
-                },
-            )?
-            && make(
-                state,
-                Effect::Counted {
-                    number: 5,
-                    counter,
-                    by: 3,
-                },
-            )?
-            && make(
-                state,
-                Effect::PersonField {
-                    number: 5,
-                    field: PersonField::Flags(128),
-                },
-            )?
-            && make(
-                state,
-                Effect::ConfField {
-                    number: 4,
-                    field: ConfField::Motd(17),
-                },
-            )?
-            && !make(
-                state,
-                Effect::ConfField {
-                    number: 4,
-                    field: ConfField::Kind(16),
-                },
-            )?,
-    )
+fn place_of(state: &State, person: u32, conference: u32) -> Option<u32> {
+    Some(state.membership(person, conference)?.position)
 }
 
 #[test]
 fn rows_are_changed(rt: HostRuntime) -> Result<(), Fail> {
     let mut state = State::empty(rt.alloc());
-    assert!(rt; change(&mut state)?);
+    open_all(&rt, &mut state)?;
+    change_person(&rt, &mut state)?;
+    log_in(&rt, &mut state)?;
+    change_conference(&rt, &mut state)?;
+    drop(state);
+    Ok(())
+}
+
+fn change_person(rt: &impl Abort, state: &mut State) -> Result<(), Fail> {
+    let number = 5;
+    let hash = [7; 32];
+    assert!(rt; make(state, Effect::Password { number, hash })?);
+    let counter = Counter::ReadTexts;
+    let by = 3;
+    assert!(rt;
+        make(
+            state,
+            Effect::Counted {
+                number,
+                counter,
+                by
+            }
+        )?
+    );
+    let field = PersonField::Flags(128);
+    assert!(rt; make(state, Effect::PersonField { number, field })?);
     let row = state.person(5).ok_or("the person")?;
     assert_eq!(rt; row.hash, [7; 32]);
-    assert_eq!(rt; row.user.as_slice(), b"ceder".as_slice());
     assert_eq!(rt; (row.read_texts, row.flags), (3, 128));
-    assert_eq!(rt; state.conference(4).map(|row| row.motd), Some(17));
+    Ok(())
+}
+
+fn log_in(rt: &impl Abort, state: &mut State) -> Result<(), Fail> {
+    let user = Bytes::copy_of(state.alloc, b"ceder")?;
+    let number = 5;
+    let at = Moment(12);
+    assert!(rt; make(state, Effect::LoggedIn { number, at, user })?);
+    let row = state.person(5).ok_or("the person")?;
+    assert_eq!(rt; row.user.as_slice(), b"ceder".as_slice());
+    Ok(())
+}
+
+fn change_conference(rt: &impl Abort, state: &mut State) -> Result<(), Fail> {
+    let number = 4;
+    let field = ConfField::Motd(17);
+    assert!(rt; make(state, Effect::ConfField { number, field })?);
+    let field = ConfField::Kind(16);
+    assert!(rt; !make(state, Effect::ConfField { number, field })?);
+    let row = state.conference(4).ok_or("the conference")?;
+    assert_eq!(rt; (row.motd, row.kind), (17, 8));
     Ok(())
 }

@@ -1,7 +1,8 @@
 use Rattle.std.proofs.Common.{sym, ap, subst, ◌∙◌, All}
 use Rattle.std.proofs.lemmas.List.{take_all}
 use Rattle.std.proofs.lemmas.List.Elements.{All-more}
-use Rattle.kom_state.proofs.Rooms.{IsReservedFor, IsReservedFor-kept, IsReservedFor-set, IsReservedFor-none, HasMemberRoom-from}
+use Rattle.kom_state.proofs.Rooms.{IsReservedFor, IsReservedFor-kept, IsReservedFor-set, IsReservedFor-none}
+use Rattle.kom_state.proofs.Rooms.{HasMemberRoom-from}
 use Rattle.kom_state.proofs.reserving.reserve_memberships.Goals as goal
 use Rattle.kom_state.proofs.reserving.reserve_memberships.Goals.{in-Some+in_ok-reserve, in_default}
 
@@ -14,7 +15,8 @@ loop-effect-preserved c =
           let new = w.reserve.new.self in record {
             rows = ap (λ t. t.rows) w.memberships-is ∙ w.reserve.ensures.rows ∙ c.loop-effect.invariant.rows;
             each = rw w.memberships-is (All-more (IsReservedFor new count) effects at what c.loop-effect-test.true
-                (λ k d lt. IsReservedFor-kept old new count w.reserve.ensures.room _ (c.loop-effect.invariant.each k d lt))
+                (λ k d lt.
+                IsReservedFor-kept old new count w.reserve.ensures.room _ (c.loop-effect.invariant.each k d lt))
                 (subst (IsReservedFor new count) c.effect-item.is
                 (IsReservedFor-set new count w.in-Some.person w.in-Some.conference what (sym w.in-Some.ensures)
                 (rw w.in_ok-reserve.was at w.reserve.ensures.ok))));

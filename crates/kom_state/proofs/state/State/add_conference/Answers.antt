@@ -7,7 +7,8 @@ use Rattle.kom_state.proofs.state.State.add_conference.Goals as goal
 pub put-requires : goal.put-requires
 put-requires c =
     let parts = added-parts _ _ _ _ _ _ _ (rw (← c.self.view_is) at c.requires.fits) in
-    rw (c.as_slice.ensures, c.fresh_conference-row.ensures) (taken-kept _ _ _ c.self.invariant c.args.number c.args.name parts.0)
+    rw (c.as_slice.ensures, c.fresh_conference-row.ensures)
+    (taken-kept _ _ _ c.self.invariant c.args.number c.args.name parts.0)
 
 pub overflow_add-self : goal.overflow_add-self
 overflow_add-self c =

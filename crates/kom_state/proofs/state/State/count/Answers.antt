@@ -7,5 +7,5 @@ use Rattle.kom_state.proofs.state.State.count.Goals as goal
 pub returns : goal.returns
 unfolding made
 returns c = rw (← c.self.view_is)
-    (IsMade-person _ c.args.number (counted c.args.counter c.args.by) _ _ _ _ c.self.inside.names _ (λ db. refl) c.count.ensures.rows
-    c.count.ensures.spare)
+    (IsMade-person _ c.args.number (counted c.args.counter c.args.by) _ _ _ _ c.self.inside.names _ (λ db. refl)
+    c.count.ensures.rows c.count.ensures.spare)

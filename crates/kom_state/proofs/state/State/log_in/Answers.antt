@@ -7,5 +7,5 @@ use Rattle.kom_state.proofs.state.State.log_in.Goals as goal
 pub returns : goal.returns
 unfolding made
 returns c = rw (← c.self.view_is)
-    (IsMade-person _ c.args.number (logged_in c.args.at c.args.user) _ _ _ _ c.self.inside.names _ (λ db. refl) c.log_in.ensures.rows
-    c.log_in.ensures.spare)
+    (IsMade-person _ c.args.number (logged_in c.args.at c.args.user) _ _ _ _ c.self.inside.names _ (λ db. refl)
+    c.log_in.ensures.rows c.log_in.ensures.spare)

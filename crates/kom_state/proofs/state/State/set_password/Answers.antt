@@ -7,5 +7,5 @@ use Rattle.kom_state.proofs.state.State.set_password.Goals as goal
 pub returns : goal.returns
 unfolding made
 returns c = rw (← c.self.view_is)
-    (IsMade-person _ c.args.number (with_hash c.args.hash) _ _ _ _ c.self.inside.names _ (λ db. refl) c.set_hash.ensures.rows
-    c.set_hash.ensures.spare)
+    (IsMade-person _ c.args.number (with_hash c.args.hash) _ _ _ _ c.self.inside.names _ (λ db. refl)
+    c.set_hash.ensures.rows c.set_hash.ensures.spare)
