@@ -2,15 +2,16 @@
 --     gap_goes, gap_left       the pairs after a gap move down over it
 --     get_taken                an element within the first n
 --     take_get                 one more of the first k
+--     shown_length, shown_at   what a block shows of its places
 --     AllFrom-*, AllBelow-*    what holds of every local
---     rising_below, rising_from     one local tells of all before it, or of all after it
+--     rising_below, rising_at, rising_from     one local tells of all before it, or of all after it
 use Rattle.std.proofs.Common.{◌≡◌, ℕ, zero, suc, ◌<◌, ◌≤◌, List, [], ◌∷◌, ◌++◌, length, take, drop, get_or, set}
 use Rattle.std.proofs.Common.{slice_get, Some, refl, sym, ap, subst, ◌∙◌, arith}
 use Rattle.std.specs.List.{remove}
 use Rattle.std.proofs.lemmas.List.{drop-set-lt, length-take-le}
 use Rattle.std.proofs.lemmas.List.Edits.{remove-append_left}
 use Rattle.std.proofs.Math.Seq.{take-suc, take-suc-set}
-use Rattle.map_chain.specs.Pairs.{Pair, AllBelow, AllFrom, IsRising, highest}
+use Rattle.map_chain.specs.Pairs.{Pair, AllBelow, AllFrom, IsRising, IsBlock, highest}
 
 module _ {X : Type 0} where
   get_or-drop_zero : (n : ℕ) (l : List X) (z : X) → get_or (drop n l) 0 z ≡ get_or l n z
@@ -69,6 +70,14 @@ rising_below n (p ∷ ps) zero q r e h = let at : p ≡ q = cc in (subst (λ (r 
 rising_below n (p ∷ ps) (suc i) q r e h =
     let first : suc p.0 ≤ q.0 = AllFrom-at (suc p.0) ps i q r.0 e in (omega arith, rising_below n ps i q r.1 e h)
 
+-- a local, and so all before it are below
+pub rising_at : (n : ℕ) (ps : List Pair) (i : ℕ) (q : Pair) → IsRising ps → slice_get ps i ≡ Some q → q.0 ≤ n
+    → AllBelow n (take i ps)
+rising_at n [] i q r e h = cc
+rising_at n (p ∷ ps) zero q r e h = tt
+rising_at n (p ∷ ps) (suc i) q r e h =
+    let first : suc p.0 ≤ q.0 = AllFrom-at (suc p.0) ps i q r.0 e in (omega arith, rising_at n ps i q r.1 e h)
+
 -- a local of n or above, and so all after it
 pub rising_from : (n : ℕ) (ps : List Pair) (i : ℕ) (q : Pair) → IsRising ps → slice_get ps i ≡ Some q → n ≤ q.0
     → AllFrom n (drop i ps)
@@ -87,3 +96,18 @@ highest-push (p ∷ r ∷ ps) q = highest-push (r ∷ ps) q
 -- the last of the first n pairs
 pub highest-take : (ps : List Pair) (n : ℕ) (d : Pair) → n < length ps → highest (take (suc n) ps) ≡ (get_or ps n d).0
 highest-take ps n d h = ap highest (take-suc ps n d h) ∙ highest-push (take n ps) (get_or ps n d)
+
+-- a block shows as many pairs as it has
+pub shown_length : (len high : ℕ) (pairs now : List Pair) → IsBlock len high pairs → take len pairs ≡ now
+    → length now ≡ len
+shown_length len high pairs now v is =
+    let full = v.full in let within = v.within in
+    sym (ap (λ (ps : List Pair). length ps) is) ∙ length-take-le len pairs (omega arith)
+
+-- and each from its place
+pub shown_at : (len high : ℕ) (pairs now : List Pair) → IsBlock len high pairs → take len pairs ≡ now
+    → (m : ℕ) → m < len → slice_get now m ≡ Some (get_or pairs m (0, 0))
+shown_at len high pairs now v is m h =
+    let full = v.full in let within = v.within in
+    subst (λ (ps : List Pair). slice_get ps m ≡ Some (get_or pairs m (0, 0))) is
+    (get_taken pairs len m (0, 0) h (omega arith))

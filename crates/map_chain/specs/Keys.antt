@@ -1,5 +1,5 @@
 -- The keys of the blocks of a chain, by which a block is found.
-use Rattle.std.specs.Prelude.{ℕ, suc, ◌<◌, ◌≤◌, List, [], ◌∷◌, length, slice_index}
+use Rattle.std.specs.Prelude.{ℕ, suc, ◌+◌, ◌<◌, ◌≤◌, List, [], ◌∷◌, length, slice_index}
 use Rattle.map_chain.specs.Pairs.{Pair, AllBelow, AllFrom}
 use Rattle.map_chain.specs.Blocks.{Placed}
 
@@ -20,3 +20,11 @@ pub record IsNearest (n : ℕ) (keys : List ℕ) (i : ℕ) : Type 0 where
   pub within : i < length keys
   pub reached : 0 < i → slice_index keys i ≤ n
   pub passed : suc i < length keys → n < slice_index keys (suc i)
+
+-- the key nearest to n is one of `span` keys from the i-th on: that is not above n, unless it is
+-- the first, and the one after them is
+pub record IsAmong (n : ℕ) (keys : List ℕ) (i span : ℕ) : Type 0 where
+  pub some : 0 < span
+  pub within : i + span ≤ length keys
+  pub reached : 0 < i → slice_index keys i ≤ n
+  pub passed : i + span < length keys → n < slice_index keys (i + span)

@@ -116,6 +116,17 @@ impl Block {
         }
         low
     }
+
+    /// The same. A guess that is the place of this local saves the search.
+    pub(crate) fn find_near(&self, local: u32, guess: usize) -> usize
+        requires { IsRising self.now }
+        ensures { IsPlace local self.now result }
+    {
+        if guess < self.len && self.pairs[guess].0 == local {
+            return guess;
+        }
+        self.find(local)
+    }
 }
 
 // Moves the pairs after the k-th one down, over it.

@@ -8,7 +8,7 @@ ghost use Rattle.map_chain.specs.Pairs.{Pair, AllBelow, IsRising, text_of, witho
 
 use crate::block::ROOM;
 use crate::blocks::Blocks;
-use crate::index::Index;
+use crate::index::{Index, density_of};
 use crate::joining::{join_thin, put_by, take_block};
 use crate::memory::Memory;
 use crate::node::Node;
@@ -18,9 +18,11 @@ use std::marker::Model;
 
 /// Pairs of a local number and a text, of rising locals, in a two-way chain of blocks of 64 pairs.
 ///
-/// `append` and `len` are constant. `get`, `remove`, `from` and `before` find their block by
-/// halving the keys of an index, and the pair in it by halving too. A block that has become
-/// thin is joined with a neighbour if both fit into one.
+/// `append` and `len` are constant. `get`, `remove`, `from` and `before` find their block by the
+/// keys of an index: they guess a key, as if all were as far apart, and search from it on by steps
+/// that grow and then by halving. In the block they halve too; all but `get` first try the place of
+/// the pair if no local is missing. A block that has become thin is joined with a neighbour if
+/// both fit into one.
 pub struct Chain {
     used: Blocks,
     spare: Blocks,
@@ -71,6 +73,7 @@ fn make_room(
     };
     index.places.push(used.link(node)).unwrap();
     index.keys.push(local).unwrap();
+    index.density = density_of(&index.keys);
     Ok(())
 }
 
@@ -180,7 +183,7 @@ impl Chain {
     {
         let (at, i) = self.used.seek(&self.index, local)?;
         let block = self.used.block(at, i);
-        let k = block.find(local);
+        let k = block.find_near(local, self.index.above_key(i, local));
         let (found, text) = block.pair(k);
         if found != local {
             return None;

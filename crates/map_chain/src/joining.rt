@@ -7,7 +7,7 @@ ghost use Rattle.map_chain.specs.Index.{ArePlacesOf, IsIndexOf, IsIndexed};
 
 use crate::block::ROOM;
 use crate::blocks::Blocks;
-use crate::index::Index;
+use crate::index::{Index, density_of};
 use crate::node::Node;
 use crate::nodes::Place;
 use std::alloc::Global;
@@ -28,6 +28,7 @@ pub(crate) fn take_block(used: &mut Blocks, index: &mut Index, i: usize, alloc: 
 {
     let at = index.places.remove(i);
     index.keys.remove(i);
+    index.density = density_of(&index.keys);
     used.unlink(at, i, alloc)
 }
 

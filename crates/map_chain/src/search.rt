@@ -4,7 +4,7 @@ ghost use Rattle.map_chain.specs.Index.{IsIndexOf};
 ghost use Rattle.map_chain.specs.Pairs.{IsRising};
 
 use crate::blocks::Blocks;
-use crate::index::{Index, nearest};
+use crate::index::Index;
 use crate::nodes::Place;
 
 impl Blocks {
@@ -17,7 +17,7 @@ impl Blocks {
         if index.keys.is_empty() {
             return None;
         }
-        let i = nearest(&index.keys, local);
+        let i = index.nearest(local);
         let at = index.places[i];
         if local <= self.block(at, i).high() {
             return Some((at, i));

@@ -65,7 +65,8 @@ impl<'a> Upward<'a> {
     {
         match blocks.seek(index, local) {
             Some((at, i)) => {
-                let k = blocks.block(at, i).find(local);
+                let guess = index.above_key(i, local);
+                let k = blocks.block(at, i).find_near(local, guess);
                 Upward { blocks, at, i, k }
             }
             None => Upward {
@@ -140,7 +141,8 @@ impl<'a> Downward<'a> {
         let count = blocks.len();
         match blocks.seek(index, ceiling) {
             Some((at, i)) => {
-                let k = blocks.block(at, i).find(ceiling);
+                let guess = index.above_key(i, ceiling);
+                let k = blocks.block(at, i).find_near(ceiling, guess);
                 if k > 0 {
                     return Downward {
                         blocks,

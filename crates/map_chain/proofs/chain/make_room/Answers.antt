@@ -33,7 +33,7 @@ record IsReady (x now : Index) (used spare' : Placed) : Type 0 where
   room : suc (length used) + length spare' ≤ vec_capacity now.places
   key_room : suc (length used) + length spare' ≤ vec_capacity now.keys
 
-ready : (c : goal.After-unwrap-2) → IsReady c.args.index.now c.match-pop.index c.args.used.now c.pop.new.self
+ready : (c : goal.After-index-1) → IsReady c.args.index.now c.match-pop.index c.args.used.now c.pop.new.self
 ready c =
     let used = c.args.used.now in let spare = c.args.spare.now in let x = c.args.index.now in
     let v = c.requires.index in

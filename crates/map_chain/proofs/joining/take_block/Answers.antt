@@ -8,8 +8,8 @@ use Rattle.map_chain.proofs.Indexing.{place_at, places-remove}
 use Rattle.map_chain.proofs.Keys.{keys_length, keys-remove}
 use Rattle.map_chain.proofs.joining.take_block.Goals as goal
 
-pub remove-requires : goal.remove-requires
-remove-requires c =
+pub remove-index-requires : goal.remove-index-requires
+remove-index-requires c =
     let x = c.args.index.now in let same = keys_length x.keys.items c.args.used.now c.requires.index.keys in
     let long = x.keys.ok.0 in let within = c.requires.within in omega arith
 
@@ -27,6 +27,6 @@ returns-clause-index c =
           (λ j. (sym c.remove-at.ensures.items j, sym c.unlink.ensures.others j))
           (places-remove x.places.items used c.args.i blocks.places);
       keys = subst (λ (w : List ℕ × Placed). AreKeysOf w.0 w.1)
-          (λ j. (sym c.remove.ensures.items j, sym c.unlink.ensures.others j))
+          (λ j. (sym c.remove-index.ensures.items j, sym c.unlink.ensures.others j))
           (keys-remove x.keys.items used c.args.i blocks.keys);
     }

@@ -1,29 +1,16 @@
-use Rattle.std.proofs.Common.{◌≡◌, ℕ, suc, ◌+◌, ◌-◌, ◌/◌, ◌<◌, List, length, take, drop, get_or, slice_get, Some, sym}
-use Rattle.std.proofs.Common.{ap, subst, ◌∙◌, arith}
-use Rattle.std.proofs.lemmas.List.{length-take-le, drop_all}
-use Rattle.map_chain.specs.Pairs.{Pair, AllBelow, AllFrom, IsBlock}
-use Rattle.map_chain.proofs.Lists.{get_taken, rising_below, rising_from}
+use Rattle.std.proofs.Common.{◌≡◌, ℕ, suc, ◌+◌, ◌-◌, ◌/◌, List, take, drop, get_or, sym}
+use Rattle.std.proofs.Common.{subst, arith}
+use Rattle.std.proofs.lemmas.List.{drop_all}
+use Rattle.map_chain.specs.Pairs.{Pair, AllBelow, AllFrom}
+use Rattle.map_chain.proofs.Lists.{shown_length, shown_at, rising_below, rising_from}
 use Rattle.map_chain.proofs.block.Block.find.Goals as goal
 use Rattle.map_chain.proofs.block.Block.find.Goals.{else-middle-self-via-then-middle-self+else-self-middle}
 use Rattle.map_chain.proofs.block.Block.find.Goals.{else-middle-self-via-else-middle-self}
 
--- as many pairs are seen as the block has
-long : (len high : ℕ) (pairs now : List Pair) → IsBlock len high pairs → take len pairs ≡ now → length now ≡ len
-long len high pairs now v is =
-    let full = v.full in let within = v.within in
-    sym (ap (λ (ps : List Pair). length ps) is) ∙ length-take-le len pairs (omega arith)
-
-seen : (len high : ℕ) (pairs now : List Pair) → IsBlock len high pairs → take len pairs ≡ now → (m : ℕ) → m < len
-    → slice_get now m ≡ Some (get_or pairs m (0, 0))
-seen len high pairs now v is m h =
-    let full = v.full in let within = v.within in
-    subst (λ (ps : List Pair). slice_get ps m ≡ Some (get_or pairs m (0, 0))) is
-    (get_taken pairs len m (0, 0) h (omega arith))
-
 pub loop-low-init : goal.loop-low-init
 loop-low-init c =
     let s = c.self.inside in let v = c.self.invariant in let most = v.within in
-    let n = long s.len s.high s.pairs c.args.self.now v c.self.view_is in
+    let n = shown_length s.len s.high s.pairs c.args.self.now v c.self.view_is in
     record {
       ordered = omega arith;
       within = omega arith;
@@ -42,7 +29,7 @@ loop-low-preserved-then-self-middle c =
     let s = c.self.inside in let i = c.loop-low.invariant in let a = i.ordered in let b = i.within in
     let m : ℕ = c.loop-low.low + (c.loop-low.high - c.loop-low.low) / 2 in
     let next : suc m ≡ m + 1 = omega arith in let less = c.if-middle-self.true in
-    let at = seen s.len s.high s.pairs c.args.self.now c.self.invariant c.self.view_is m (omega arith) in
+    let at = shown_at s.len s.high s.pairs c.args.self.now c.self.invariant c.self.view_is m (omega arith) in
     record {
       ordered = omega arith;
       within = omega arith;
@@ -55,12 +42,12 @@ loop-low-preserved-then-self-middle c =
 pub loop-low-preserved : goal.loop-low-preserved
 loop-low-preserved c =
     let s = c.self.inside in let i = c.loop-low.invariant in let a = i.ordered in let b = i.within in
-    let now = c.args.self.now in let n = long s.len s.high s.pairs now c.self.invariant c.self.view_is in
+    let now = c.args.self.now in let n = shown_length s.len s.high s.pairs now c.self.invariant c.self.view_is in
     let m : ℕ = c.loop-low.low + (c.loop-low.high - c.loop-low.low) / 2 in
     let after : AllFrom c.args.local (drop m now) = elim c.else-middle-self.branch [
       | else-middle-self-via-then-middle-self+else-self-middle w ↦
           let less = w.if-middle-self.true in
-          let at = seen s.len s.high s.pairs now c.self.invariant c.self.view_is m (omega arith) in
+          let at = shown_at s.len s.high s.pairs now c.self.invariant c.self.view_is m (omega arith) in
           rising_from c.args.local now m (get_or s.pairs m (0, 0)) c.requires at w.if-self-middle.false
       | else-middle-self-via-else-middle-self w ↦
           let more = w.if-middle-self.false in
@@ -71,6 +58,6 @@ loop-low-preserved c =
 pub returns : goal.returns
 returns c =
     let s = c.self.inside in let i = c.loop-low.invariant in let a = i.ordered in let b = i.few in
-    let n = long s.len s.high s.pairs c.args.self.now c.self.invariant c.self.view_is in
+    let n = shown_length s.len s.high s.pairs c.args.self.now c.self.invariant c.self.view_is in
     let met : c.loop-low.high ≡ c.loop-low.low = omega arith in
     (omega arith, i.before, subst (λ (k : ℕ). AllFrom c.args.local (drop k c.args.self.now)) met i.after)

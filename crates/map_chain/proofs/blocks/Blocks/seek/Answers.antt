@@ -1,8 +1,8 @@
-use Rattle.std.proofs.Common.{◌≡◌, ℕ, suc, ◌+◌, ◌<◌, ◌≤◌, List, length, take, get_or, sym, subst, arith}
+use Rattle.std.proofs.Common.{◌≡◌, ℕ, suc, ◌+◌, ◌<◌, length, take, get_or, sym, subst, arith}
 use Rattle.std.proofs.lemmas.List.{take_all}
 use denote.RawPtr.{Ptr}
 use Rattle.map_chain.specs.Nodes.{IsAt}
-use Rattle.map_chain.specs.Pairs.{Pair, AllBelow, highest}
+use Rattle.map_chain.specs.Pairs.{AllBelow}
 use Rattle.map_chain.specs.Blocks.{Placed, pairs_of}
 use Rattle.map_chain.specs.Index.{IsIndexOf}
 use Rattle.map_chain.specs.Keys.{IsNearest}
@@ -14,13 +14,9 @@ use Rattle.map_chain.proofs.Indexing.{places_length, place_at}
 use Rattle.map_chain.proofs.Keys.{keys_length, before_nearest, passed_reaches}
 use Rattle.map_chain.proofs.blocks.Blocks.seek.Goals as goal
 
-module _ (n : ℕ) (bs : Placed) (x : Index) (v : IsIndexOf x bs) (i : ℕ) (ks : List ℕ) (is : ks ≡ x.keys.items)
-    (at : IsNearest n ks i) where
-  near : IsNearest n x.keys.items i
-  near = subst (λ (ls : List ℕ). IsNearest n ls i) is at
-
-  inside : i < length bs
-  inside = let keys = keys_length x.keys.items bs v.keys in let within = near.within in omega arith
+module _ (n : ℕ) (bs : Placed) (x : Index) (v : IsIndexOf x bs) where
+  inside : (i : ℕ) → IsNearest n x.keys.items i → i < length bs
+  inside i near = let keys = keys_length x.keys.items bs v.keys in let within = near.within in omega arith
 
   -- the place in the index that was read
   lies_at : (j : ℕ) (p : Place) → j < length bs → p ≡ get_or x.places.items j p → IsAt bs j p.ptr
@@ -30,27 +26,24 @@ pub index-at-requires : goal.index-at-requires
 index-at-requires c =
     let bs = c.args.self.now in let x = c.args.index.now in let v = c.requires.index in let long = x.places.ok.0 in
     let places = places_length x.places.items bs v.places in
-    let within = inside c.args.local bs x v c.nearest-i.result c.deref.result.now c.deref.ensures.value
-    c.nearest-i.ensures in omega arith
+    let within = inside c.args.local bs x v c.nearest-i.result c.nearest-i.ensures in omega arith
 
 pub block-requires : goal.block-requires
 block-requires c =
     let bs = c.args.self.now in let x = c.args.index.now in let v = c.requires.index in
     let i : ℕ = c.nearest-i.result in
-    let ks = c.deref.result.now in let is = c.deref.ensures.value in let at = c.nearest-i.ensures in
-    lies_at c.args.local bs x v i ks is at i c.index-at.result.now
-    (inside c.args.local bs x v i ks is at) c.index-at.ensures
+    lies_at c.args.local bs x v i c.index-at.result.now (inside c.args.local bs x v i c.nearest-i.ensures)
+    c.index-at.ensures
 
 pub returns-then-local-high : goal.returns-then-local-high
 returns-then-local-high c =
     let bs = c.args.self.now in let x = c.args.index.now in let v = c.requires.index in
     let i : ℕ = c.nearest-i.result in
-    let at = near c.args.local bs x v i c.deref.result.now c.deref.ensures.value c.nearest-i.ensures in
     let high = c.high.ensures in let test = c.if-local-high.true in
     record {
       pairs = c.block.result.now;
       is = c.block.ensures;
-      before = before_nearest c.args.local x.keys.items bs i v.keys at;
+      before = before_nearest c.args.local x.keys.items bs i v.keys c.nearest-i.ensures;
       reached = omega arith;
     }
 
@@ -69,22 +62,20 @@ pub index-requires : goal.index-requires
 index-requires c =
     let bs = c.args.self.now in let x = c.args.index.now in let v = c.requires.index in let long = x.places.ok.0 in
     let places = places_length x.places.items bs v.places in let len = c.len.ensures in let more = c.if-i-len.false in
-    let within = inside c.args.local bs x v c.nearest-i.result c.deref.result.now c.deref.ensures.value
-    c.nearest-i.ensures in omega arith
+    let within = inside c.args.local bs x v c.nearest-i.result c.nearest-i.ensures in omega arith
 
 pub returns : goal.returns
 returns c =
     let n : ℕ = c.args.local in let bs = c.args.self.now in let x = c.args.index.now in let v = c.requires.index in
     let i : ℕ = c.nearest-i.result in
-    let ks = c.deref.result.now in let is = c.deref.ensures.value in let near_one = c.nearest-i.ensures in
-    let at = near n bs x v i ks is near_one in let within = inside n bs x v i ks is near_one in
+    let at = c.nearest-i.ensures in let within = inside n bs x v i at in
     let places = places_length x.places.items bs v.places in let keys = keys_length x.keys.items bs v.keys in
     let long = x.places.ok.0 in
     let high = c.high.ensures in let test = c.if-local-high.false in let len = c.len.ensures in
     let more = c.if-i-len.false in
     let next : suc i ≡ i + 1 = omega arith in let p : Ptr = c.index.result.now.ptr in
     let found = node_at bs (i + 1) p
-    (lies_at n bs x v i ks is near_one (i + 1) c.index.result.now (omega arith) c.index.ensures) in
+    (lies_at n bs x v (i + 1) c.index.result.now (omega arith) c.index.ensures) in
     let passed : n < get_or x.keys.items (i + 1) 0 = subst (λ (j : ℕ). n < get_or x.keys.items j 0) next
     (at.passed (omega arith)) in
     record {

@@ -1,4 +1,4 @@
-use Rattle.std.proofs.Common.{◌-◌, [], ◌∷◌, ◌++◌, length, sym, ap, subst, ◌∙◌, arith}
+use Rattle.std.proofs.Common.{[], ◌∷◌, ◌++◌, sym, ap, subst, ◌∙◌, arith}
 use Rattle.map_chain.specs.Pairs.{Pair, AllBelow}
 use Rattle.map_chain.specs.Blocks.{Placed}
 use Rattle.map_chain.specs.Index.{IsIndexed}

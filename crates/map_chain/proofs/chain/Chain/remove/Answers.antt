@@ -23,34 +23,34 @@ pub block-block-requires : goal.block-block-requires
 block-block-requires c =
     let s = c.in_ok-at.ensures in IsAt-node c.self.inside.used c.in_ok-at.i c.in_ok-at.at.ptr s.pairs s.is
 
-pub find-k-requires : goal.find-k-requires
-find-k-requires c = block_rising c.args.local c.self.inside.used c.in_ok-at.i c.in_ok-at.at.ptr c.block-block.result.now
+pub find_near-k-requires : goal.find_near-k-requires
+find_near-k-requires c =
+    block_rising c.args.local c.self.inside.used c.in_ok-at.i c.in_ok-at.at.ptr c.block-block.result.now
     c.block-block.ensures c.self.invariant.0.rising
 
 pub pair-found-requires : goal.pair-found-requires
 pair-found-requires c =
-    within_block c.args.local c.self.inside.used c.in_ok-at.i c.in_ok-at.at.ptr c.block-block.result.now c.find-k.result
-    c.in_ok-at.ensures c.block-block.ensures c.find-k.ensures
-    c.self.invariant.0.filled
+    within_block c.args.local c.self.inside.used c.in_ok-at.i c.in_ok-at.at.ptr c.block-block.result.now
+    c.find_near-k.result c.in_ok-at.ensures c.block-block.ensures c.find_near-k.ensures c.self.invariant.0.filled
 
 pub returns-then-found-local-clause-text : goal.returns-then-found-local-clause-text
 returns-then-found-local-clause-text c =
     let bs = c.self.inside.used in let v = c.self.invariant.0 in let i : ℕ = c.in_ok-at.i in
-    let k : ℕ = c.find-k.result in let ps = c.block-block.result.now in let q = c.pair-found.result in
+    let k : ℕ = c.find_near-k.result in let ps = c.block-block.result.now in let q = c.pair-found.result in
     sym (text-absent c.args.local (pairs_of bs) (pairs_of (take i bs) ++ take k ps) q
     (drop (suc k) ps ++ pairs_of (drop (suc i) bs))
-    (found_cut c.args.local bs i c.in_ok-at.at.ptr ps k q c.in_ok-at.ensures c.block-block.ensures c.find-k.ensures
+    (found_cut c.args.local bs i c.in_ok-at.at.ptr ps k q c.in_ok-at.ensures c.block-block.ensures c.find_near-k.ensures
     c.pair-found.ensures v.rising v.filled) v.rising c.if-found-local.true)
     ∙ ap (λ w. text_of c.args.local w.pairs) c.self.view_is
 
 pub returns-then-found-local-clause-pairs : goal.returns-then-found-local-clause-pairs
 returns-then-found-local-clause-pairs c =
     let bs = c.self.inside.used in let v = c.self.invariant.0 in let i : ℕ = c.in_ok-at.i in
-    let k : ℕ = c.find-k.result in let ps = c.block-block.result.now in let q = c.pair-found.result in
+    let k : ℕ = c.find_near-k.result in let ps = c.block-block.result.now in let q = c.pair-found.result in
     sym (ap (λ w. w.pairs) c.self.view_is)
     ∙ sym (without-absent c.args.local (pairs_of bs) (pairs_of (take i bs) ++ take k ps) q
     (drop (suc k) ps ++ pairs_of (drop (suc i) bs))
-    (found_cut c.args.local bs i c.in_ok-at.at.ptr ps k q c.in_ok-at.ensures c.block-block.ensures c.find-k.ensures
+    (found_cut c.args.local bs i c.in_ok-at.at.ptr ps k q c.in_ok-at.ensures c.block-block.ensures c.find_near-k.ensures
     c.pair-found.ensures v.rising v.filled) v.rising c.if-found-local.true)
     ∙ ap (λ w. without c.args.local w.pairs) c.self.view_is
 
@@ -60,19 +60,19 @@ take_pair-requires-clause-within c =
       p,
       ps,
       c.block-block.ensures,
-      within_block c.args.local bs c.in_ok-at.i p ps c.find-k.result c.in_ok-at.ensures c.block-block.ensures
-          c.find-k.ensures c.self.invariant.0.filled,
+      within_block c.args.local bs c.in_ok-at.i p ps c.find_near-k.result c.in_ok-at.ensures c.block-block.ensures
+          c.find_near-k.ensures c.self.invariant.0.filled,
     )
 
 pub invariant_of-self : goal.invariant_of-self
 invariant_of-self c =
     let bs = c.self.inside.used in let sp = c.self.inside.spare in let v = c.self.invariant.0 in
-    let i : ℕ = c.in_ok-at.i in let k : ℕ = c.find-k.result in let ps = c.block-block.result.now in
+    let i : ℕ = c.in_ok-at.i in let k : ℕ = c.find_near-k.result in let ps = c.block-block.result.now in
     let q = c.pair-found.result in let p = c.in_ok-at.at.ptr in let low = pairs_of (take i bs) ++ take k ps in
     let high = drop (suc k) ps ++ pairs_of (drop (suc i) bs) in (
       chain_left bs sp c.take_pair.new.used c.take_pair.new.spare i k c.self.inside.len low q high v
           c.take_pair.ensures.lost
-          (found_cut c.args.local bs i p ps k q c.in_ok-at.ensures c.block-block.ensures c.find-k.ensures
+          (found_cut c.args.local bs i p ps k q c.in_ok-at.ensures c.block-block.ensures c.find_near-k.ensures
           c.pair-found.ensures v.rising v.filled).is
           (pairs_left bs sp c.take_pair.new.used c.take_pair.new.spare i k p ps c.take_pair.ensures.lost
           c.block-block.ensures),
@@ -82,21 +82,21 @@ invariant_of-self c =
 pub returns-clause-text : goal.returns-clause-text
 returns-clause-text c =
     let bs = c.self.inside.used in let v = c.self.invariant.0 in let i : ℕ = c.in_ok-at.i in
-    let k : ℕ = c.find-k.result in let ps = c.block-block.result.now in let q = c.pair-found.result in
+    let k : ℕ = c.find_near-k.result in let ps = c.block-block.result.now in let q = c.pair-found.result in
     sym (text-found c.args.local (pairs_of bs) (pairs_of (take i bs) ++ take k ps) q
     (drop (suc k) ps ++ pairs_of (drop (suc i) bs))
-    (found_cut c.args.local bs i c.in_ok-at.at.ptr ps k q c.in_ok-at.ensures c.block-block.ensures c.find-k.ensures
+    (found_cut c.args.local bs i c.in_ok-at.at.ptr ps k q c.in_ok-at.ensures c.block-block.ensures c.find_near-k.ensures
     c.pair-found.ensures v.rising v.filled) v.rising c.if-found-local.false)
     ∙ ap (λ w. text_of c.args.local w.pairs) c.self.view_is
 
 pub returns-clause-pairs : goal.returns-clause-pairs
 returns-clause-pairs c =
     let bs = c.self.inside.used in let sp = c.self.inside.spare in let v = c.self.invariant.0 in
-    let i : ℕ = c.in_ok-at.i in let k : ℕ = c.find-k.result in let ps = c.block-block.result.now in
+    let i : ℕ = c.in_ok-at.i in let k : ℕ = c.find_near-k.result in let ps = c.block-block.result.now in
     let q = c.pair-found.result in let p = c.in_ok-at.at.ptr in
     pairs_left bs sp c.take_pair.new.used c.take_pair.new.spare i k p ps c.take_pair.ensures.lost c.block-block.ensures
     ∙ sym (without-found c.args.local (pairs_of bs) (pairs_of (take i bs) ++ take k ps) q
     (drop (suc k) ps ++ pairs_of (drop (suc i) bs))
-    (found_cut c.args.local bs i p ps k q c.in_ok-at.ensures c.block-block.ensures c.find-k.ensures c.pair-found.ensures
-    v.rising v.filled) v.rising c.if-found-local.false)
+    (found_cut c.args.local bs i p ps k q c.in_ok-at.ensures c.block-block.ensures c.find_near-k.ensures
+    c.pair-found.ensures v.rising v.filled) v.rising c.if-found-local.false)
     ∙ ap (λ w. without c.args.local w.pairs) c.self.view_is
