@@ -1,5 +1,5 @@
 ghost use Rattle.std.specs.Prelude.{◌≡◌, IfOk, IsOk};
-ghost use Rattle.kom_core.specs.Deciding.{IsCall, SendsMessages, DecidesFirm};
+ghost use Rattle.kom_core.specs.Deciding.{IsCall, Decides, SendsMessages, DecidesFirm};
 
 use crate::server_state::State;
 use kom_types::{Act, Decision, Entry, Item, Memory};
@@ -22,12 +22,14 @@ impl Model for Delivery {
 
 /// The messages of a call that came to this decision, for whom they are. No call that is built
 /// sends any.
+#[tactic(auto, unfolding(kom_model::specs::ToWhom::messages_of))]
 pub(crate) fn fan_out(
     state: &State,
     entry: &Entry,
     _decision: &Decision,
 ) -> Result<Vec<Delivery>, Memory>
-    requires { IsCall entry.now.act }
+    requires call { IsCall entry.now.act }
+    requires decided { Decides state.now entry.now _decision.now }
     ensures sends { IfOk result (λ sent.
         SendsMessages state.now entry.now _decision.now sent.items) }
     ensures firm { DecidesFirm state.now entry.now → IsOk result }

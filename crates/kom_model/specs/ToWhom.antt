@@ -12,5 +12,5 @@ pub record Delivery : Type 0 where
 
 -- The messages of a call that came to this, in the order of the table of messages and, for each, by
 -- rising session. No call that is built sends any.
-abbrev pub messages_of : Asked → Call → Decision → List Delivery
+unfoldable pub messages_of : Asked → Call → Decision → List Delivery
 messages_of asked call decision = []

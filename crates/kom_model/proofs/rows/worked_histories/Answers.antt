@@ -7,6 +7,7 @@ use Rattle.kom_types.specs.Times.{time_of, day_from, month_from}
 use Rattle.kom_types.specs.Printing.{print_of}
 use Rattle.kom_model.specs.State.{State}
 use Rattle.kom_model.specs.Decide.{decision_of, is_firm}
+use Rattle.kom_model.specs.ToWhom.{messages_of}
 use Rattle.kom_model.specs.Refusal.{IsPossible}
 use Rattle.kom_model.specs.After.{MayFollow, MayBeShort, session_in}
 use Rattle.kom_model.proofs.rows.worked_histories.Goals as goal
@@ -17,7 +18,7 @@ may : (state : State) (made : Record) → IsPossible state made.entry.act →
 may state made possible session short = record { possible = possible; session = session; short = short }
 
 pub returns : goal.returns
-unfolding IsDistinct digits time_of day_from month_from print_of decision_of is_firm
+unfolding IsDistinct digits time_of day_from month_from print_of decision_of is_firm messages_of
 returns c = record {
   connected = refl;
   answered = refl;
