@@ -81,7 +81,7 @@ fn membership(alloc: Global) -> Result<Membership, Memory> {
     ];
     Ok(Membership {
         position: 3,
-        last_read: moment(),
+        last_time_read: moment(),
         conference: 6,
         priority: 100,
         ranges: RangesShown::All(Sequence::of(Vec::from_slice(alloc, &ranges)?)),

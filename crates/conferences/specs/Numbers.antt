@@ -3,11 +3,7 @@ use Rattle.std.specs.Prelude.{◌≡◌, ℕ, refl}
 use Rattle.kom_types.specs.declared.conferences.ConferenceRow.{ConferenceRow}
 use Rattle.kom_types.specs.declared.effects.ConfField.{ConfField}
 use Rattle.kom_types.specs.declared.effects.ConfField.TheVariants as field
-use Rattle.kom_types.specs.tables.Conferences.{with_field}
-
--- the number of a conference
-abbrev pub number_of_conference : ConferenceRow → ℕ
-number_of_conference row = row.number
+use Rattle.kom_types.specs.tables.Conferences.{number_of_conference, with_field}
 
 pub number-with_field : (to : ConfField) (row : ConferenceRow) →
     number_of_conference (with_field to row) ≡ number_of_conference row

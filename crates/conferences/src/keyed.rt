@@ -6,7 +6,7 @@ use row_table::Keyed;
 pub(crate) struct ByNumber;
 
 impl Keyed for ByNumber {
-    ghost use Rattle.conferences.specs.Numbers.{number_of_conference};
+    ghost use Rattle.kom_types.specs.tables.Conferences.{number_of_conference};
 
     type Row = ConferenceRow;
 

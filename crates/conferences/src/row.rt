@@ -32,5 +32,6 @@ pub fn fresh_conference(
         nice: FIRST_NICE,
         keep_commented: FIRST_NICE,
         expire: 0,
+        next_local: 1,
     }
 }

@@ -1,8 +1,7 @@
 ghost use Rattle.std.specs.Prelude.{◌≡◌, ◌+◌, ◌<◌, ◌≤◌, ◌↔◌, [], None, length, option_copied};
 ghost use Rattle.std.specs.Prelude.{IsOk, IsTrue, OnOk, OnErr};
 ghost use Rattle.row_table.specs.Tables.{row_of, with_row, without_row, changed_row, IsByNumber};
-ghost use Rattle.kom_types.specs.tables.Conferences.{with_field, with_name};
-ghost use Rattle.conferences.specs.Numbers.{number_of_conference};
+ghost use Rattle.kom_types.specs.tables.Conferences.{number_of_conference, with_field, with_name};
 
 use crate::changes::{Rename, SetField};
 use crate::keyed::ByNumber;

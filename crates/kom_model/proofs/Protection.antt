@@ -9,12 +9,12 @@ use Rattle.kom_types.specs.declared.effects.ConfField.{ConfField}
 use Rattle.kom_types.specs.declared.effects.ConfField.TheVariants as field
 use Rattle.kom_types.specs.declared.effects.Effect.{Effect}
 use Rattle.kom_types.specs.declared.effects.Effect.TheVariants as effect
-use Rattle.kom_types.specs.tables.Conferences.{is_guarded, with_field, with_name}
-use Rattle.kom_model.specs.Db.{Db, conference_of, number_of_conference}
+use Rattle.kom_types.specs.tables.Conferences.{number_of_conference, is_secret_protected, with_field, with_name}
+use Rattle.kom_model.specs.Db.{Db, conference_of}
 use Rattle.kom_model.specs.Effects.{IsProtected, fits, made, apply, apply_all, may_set}
 
 abbrev IsGuarded : ConferenceRow → Type 0
-IsGuarded row = IsTrue (is_guarded row.kind)
+IsGuarded row = IsTrue (is_secret_protected row.kind)
 
 guarded-changed : (number : ℕ) (change : ConferenceRow → ConferenceRow) →
     ((row : ConferenceRow) → IsGuarded row → IsGuarded (change row)) →
@@ -62,7 +62,7 @@ guarded-set (field.Motd text) old may row guarded = guarded
 guarded-set (field.Supervisor conference) old may row guarded = guarded
 guarded-set (field.PermittedSubmitters conference) old may row guarded = guarded
 guarded-set (field.SuperConference conference) old may row guarded = guarded
-guarded-set (field.Kind kind) old may row guarded = and-first (is_guarded kind) _ may
+guarded-set (field.Kind kind) old may row guarded = and-first (is_secret_protected kind) _ may
 guarded-set (field.Nice days) old may row guarded = guarded
 guarded-set (field.KeepCommented days) old may row guarded = guarded
 guarded-set (field.Expire days) old may row guarded = guarded
@@ -77,7 +77,7 @@ guarded-found what (Some old) may row guarded = guarded-set what old may row gua
 protected-made : (what : Effect) (db : Db) → fits what db ≡ true → IsProtected db → IsProtected (made what db)
 unfolding fits made
 protected-made (effect.ConfAdded number name kind at creator supervisor) db fit protected =
-    guarded-with _ (and-second _ (is_guarded kind) fit) db.conferences protected
+    guarded-with _ (and-second _ (is_secret_protected kind) fit) db.conferences protected
 protected-made (effect.ConfNamed number name) db fit protected =
     guarded-changed number (with_name name) (λ row guarded. guarded) db.conferences protected
 protected-made (effect.ConfField number what) db fit protected =

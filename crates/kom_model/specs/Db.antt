@@ -1,12 +1,13 @@
 -- The stored rows, and how definitions read them.
-use Rattle.std.specs.Prelude.{ℕ, List, [], Option, option_map}
+use Rattle.std.specs.Prelude.{ℕ, List, [], Option, Some, None, option_map}
 use Rattle.row_table.specs.Tables.{row_of}
 use Rattle.kom_types.specs.declared.conferences.ConferenceHead.{ConferenceHead}
 use Rattle.kom_types.specs.declared.conferences.ConferenceRow.{ConferenceRow}
 use Rattle.kom_types.specs.declared.memberships.MembershipRow.{MembershipRow}
 use Rattle.kom_types.specs.declared.persons.PersonRow.{PersonRow}
-use Rattle.kom_types.specs.tables.Conferences.{head_of}
+use Rattle.kom_types.specs.tables.Conferences.{head_of, number_of_conference}
 use Rattle.kom_types.specs.tables.Memberships as Memberships
+use Rattle.kom_types.specs.tables.Persons.{number_of_person}
 
 -- Conferences and persons by rising number, memberships in the order of joining, and the number
 -- that the next conference gets. A person's number is that of its letterbox.
@@ -18,13 +19,6 @@ pub record Db : Type 0 where
 
 abbrev pub empty_db : Db
 empty_db = record { conferences = []; persons = []; memberships = []; next_conference = 1 }
-
--- by what a conference and a person are found
-abbrev pub number_of_conference : ConferenceRow → ℕ
-number_of_conference row = row.number
-
-abbrev pub number_of_person : PersonRow → ℕ
-number_of_person row = row.number
 
 -- the conference of a number
 unfoldable pub conference_of : Db → ℕ → Option ConferenceRow
@@ -63,6 +57,7 @@ conferences_of db = db.conferences
 unfoldable pub next_conference_of : Db → ℕ
 next_conference_of db = db.next_conference
 
--- the number that the next text of a conference gets in it: there are no texts yet
+-- the number that the next text of a conference gets in it; 1 if there is no such conference
 unfoldable pub next_local_of : Db → ℕ → ℕ
-next_local_of db conference = 1
+next_local_of db number =
+    elim (conference_of db number) [ None ↦ 1 | Some row ↦ row.next_local ]

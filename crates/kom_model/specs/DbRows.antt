@@ -161,7 +161,7 @@ pub record DbRows : Type 0 where
   pub moved_up : conferences_in 6 (with_effect (joins 6 1 1)) ≡ 10 ∷ 1 ∷ 6 ∷ []
   pub set_again_in_its_turn : persons_in 1 (with_effect (joins 7 1 9)) ≡ 7 ∷ 6 ∷ []
   pub read_as_added :
-      option_map (λ row. row.last_read) (membership_of (with_effect (joins 5 1 0)) 5 1) ≡ Some 20
+      option_map (λ row. row.last_time_read) (membership_of (with_effect (joins 5 1 0)) 5 1) ≡ Some 20
   pub own_letterbox : supervises rows 6 6 ≡ true
   pub by_a_conference : supervises rows 6 9 ≡ true
   pub only_invited : supervises rows 7 9 ≡ false
@@ -207,6 +207,7 @@ pub record DbRows : Type 0 where
         nice = 77;
         keep_commented = 77;
         expire = 0;
+        next_local = 1;
       })
   pub conference_with_all_set : conference_of (with_effects sets_all) 1
       ≡ Some (record {
@@ -224,6 +225,7 @@ pub record DbRows : Type 0 where
         nice = 26;
         keep_commented = 27;
         expire = 28;
+        next_local = 1;
       })
   pub person_as_made : person_of rows 5
       ≡ Some (record {
@@ -242,6 +244,7 @@ pub record DbRows : Type 0 where
         text_fetches = 0;
         created_persons = 0;
         created_conferences = 0;
+        next_created = 1;
       })
   pub person_with_all_set : person_of (with_effects sets_person) 5
       ≡ Some (record {
@@ -260,6 +263,7 @@ pub record DbRows : Type 0 where
         text_fetches = 9;
         created_persons = 10;
         created_conferences = 11;
+        next_created = 1;
       })
   pub membership_as_made :
       membership_of (with_effect (effect.MemberSet 5 1 0 3 6 90 64)) 5 1
@@ -270,7 +274,7 @@ pub record DbRows : Type 0 where
         priority = 3;
         added_by = 6;
         added_at = 90;
-        last_read = 90;
+        last_time_read = 90;
         kind = 64;
       })
   pub membership_set_again :
@@ -282,7 +286,7 @@ pub record DbRows : Type 0 where
         priority = 3;
         added_by = 5;
         added_at = 90;
-        last_read = 20;
+        last_time_read = 20;
         kind = 64;
       })
   pub places_count_up : places_of 6 rows ≡ 0 ∷ 1 ∷ 2 ∷ []

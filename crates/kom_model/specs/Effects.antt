@@ -12,14 +12,17 @@ use Rattle.kom_types.specs.declared.effects.Effect.{Effect}
 use Rattle.kom_types.specs.declared.effects.Effect.TheVariants as effect
 use Rattle.kom_types.specs.declared.memberships.MembershipRow.{MembershipRow}
 use Rattle.kom_types.specs.declared.persons.PersonRow.{PersonRow}
+use Rattle.kom_types.specs.Bits.{alike}
 use Rattle.kom_types.specs.Names.{clash}
 use Rattle.kom_types.specs.tables.Conferences as Conferences
-use Rattle.kom_types.specs.tables.Conferences.{is_guarded, is_letterbox, fresh_conference, with_name}
+use Rattle.kom_types.specs.tables.Conferences.{number_of_conference, is_secret_protected}
+use Rattle.kom_types.specs.tables.Conferences.{is_letterbox, fresh_conference, with_name}
 use Rattle.kom_types.specs.tables.Memberships.{with_membership}
 use Rattle.kom_types.specs.tables.Persons as Persons
-use Rattle.kom_types.specs.tables.Persons.{fresh_person, counted, logged_in, with_hash}
+use Rattle.kom_types.specs.tables.Persons.{number_of_person, fresh_person, counted, logged_in}
+use Rattle.kom_types.specs.tables.Persons.{with_hash}
 use Rattle.kom_model.specs.Db.{Db, conference_of, person_of, membership_of, memberships_of}
-use Rattle.kom_model.specs.Db.{conferences_of, number_of_conference, number_of_person}
+use Rattle.kom_model.specs.Db.{conferences_of}
 
 -- the limits of this server: conferences that are ever made, bytes of a name and of a user name,
 -- memberships of a person
@@ -48,11 +51,7 @@ may_name db number name = nat_le (length name) longest_name && is_free db number
 abbrev pub may_add_conference : Db → ℕ → List ℕ → ℕ → Bool
 may_add_conference db number name kind =
     nat_le db.next_conference number && nat_le number last_conference
-    && is_none (conference_of db number) && may_name db number name && is_guarded kind
-
-abbrev pub alike : Bool → Bool → Bool
-alike true second = second
-alike false second = not second
+    && is_none (conference_of db number) && may_name db number name && is_secret_protected kind
 
 -- a field may be set so: a type stays guarded, and a letterbox stays one
 abbrev pub may_set : ConfField → ConferenceRow → Bool
@@ -61,7 +60,7 @@ may_set (field.Motd text) row = true
 may_set (field.Supervisor conference) row = true
 may_set (field.PermittedSubmitters conference) row = true
 may_set (field.SuperConference conference) row = true
-may_set (field.Kind kind) row = is_guarded kind && alike (is_letterbox kind) (is_letterbox row.kind)
+may_set (field.Kind kind) row = is_secret_protected kind && alike (is_letterbox kind) (is_letterbox row.kind)
 may_set (field.Nice days) row = true
 may_set (field.KeepCommented days) row = true
 may_set (field.Expire days) row = true
@@ -147,7 +146,7 @@ member_row person conference position priority added_by added_at kind = record {
   priority = priority;
   added_by = added_by;
   added_at = added_at;
-  last_read = added_at;
+  last_time_read = added_at;
   kind = kind;
 }
 
@@ -200,4 +199,4 @@ all_fit (what ∷ effects) db = fits what db && all_fit effects (apply what db)
 
 -- every conference that is secret is read-protected too
 abbrev pub IsProtected : Db → Type 0
-IsProtected db = AllByRecursion (λ row. IsTrue (is_guarded row.kind)) db.conferences
+IsProtected db = AllByRecursion (λ row. IsTrue (is_secret_protected row.kind)) db.conferences

@@ -121,7 +121,7 @@ AreWords-ranges_shown (shown.All ranges) = AreWords-array read_range AreWords-re
 
 AreWords-membership : (of : Membership) → AreWords (membership of)
 AreWords-membership of =
-    AreWords-number of.position ⊕ AreWords-time of.last_read ⊕ AreWords-number of.conference
+    AreWords-number of.position ⊕ AreWords-time of.last_time_read ⊕ AreWords-number of.conference
     ⊕ AreWords-number of.priority ⊕ AreWords-ranges_shown of.ranges ⊕ AreWords-number of.added_by
     ⊕ AreWords-time of.added_at ⊕ AreWords-bits 8 of.kind
 

@@ -26,7 +26,7 @@ impl Spelled for Membership {
     #[tactic(auto, using(crate::proofs::WrittenWords::with_words_append))]
     fn write(&self, out: &mut Writer) -> Result<(), Memory> {
         write_number(self.position, out)?;
-        write_time(self.last_read, out)?;
+        write_time(self.last_time_read, out)?;
         write_numbers(&[self.conference, u32::from(self.priority)], out)?;
         self.ranges.write(out)?;
         write_number(self.added_by, out)?;
@@ -37,7 +37,7 @@ impl Spelled for Membership {
     #[tactic(auto, using(crate::proofs::WrittenWords::with_lengths_append))]
     fn measure(&self, length: &mut Length) {
         length.number(self.position);
-        length.time(self.last_read);
+        length.time(self.last_time_read);
         length.numbers(&[self.conference, u32::from(self.priority)]);
         self.ranges.measure(length);
         length.number(self.added_by);

@@ -7,7 +7,8 @@ use Rattle.row_table.proofs.Rows.{IsByNumber-with_row, IsByNumber-changed_row}
 use Rattle.kom_types.specs.declared.conferences.ConferenceRow.{ConferenceRow}
 use Rattle.kom_types.specs.declared.effects.Effect.TheVariants as effect
 use Rattle.kom_types.specs.tables.Conferences as Conferences
-use Rattle.kom_model.specs.Db.{Db, conference_of, conferences_of, number_of_conference}
+use Rattle.kom_types.specs.tables.Conferences.{number_of_conference}
+use Rattle.kom_model.specs.Db.{Db, conference_of, conferences_of}
 use Rattle.kom_model.specs.Effects.{fits, may_name}
 use Rattle.name_lookup.specs.NamedRows.{Named, with_name, without_name, taken}
 use Rattle.kom_state.specs.Keeping.{name_row, IsKept}

@@ -3,16 +3,16 @@ use Rattle.std.proofs.Common.{◌≡◌, ℕ, ◌+◌, ◌<◌, ◌≤◌, true,
 use Rattle.std.proofs.Common.{Bool, cond, ◌⊎◌, inl, inr, count_by}
 use Rattle.std.proofs.lemmas.Option.{none-some}
 use Rattle.kom_types.specs.declared.effects.Effect.TheVariants as effect
-use Rattle.kom_types.specs.tables.Conferences.{fresh_conference}
+use Rattle.kom_types.specs.tables.Conferences.{number_of_conference, fresh_conference}
 use Rattle.kom_types.specs.tables.Memberships.{with_membership}
-use Rattle.kom_types.specs.tables.Persons.{fresh_person}
+use Rattle.kom_types.specs.tables.Persons.{number_of_person, fresh_person}
 use Rattle.std.proofs.lemmas.Bool.{eq-eqb, cases_eq, ne_eqb}
 use Rattle.row_table.specs.Tables.{Tabled, with_row, changed_row}
 use Rattle.kom_types.specs.declared.conferences.ConferenceRow.{ConferenceRow}
 use Rattle.kom_types.specs.declared.effects.Effect.{Effect}
 use Rattle.kom_types.specs.declared.memberships.MembershipRow.{MembershipRow}
 use Rattle.kom_types.specs.declared.persons.PersonRow.{PersonRow}
-use Rattle.kom_model.specs.Db.{Db, number_of_conference, number_of_person}
+use Rattle.kom_model.specs.Db.{Db}
 use Rattle.kom_model.specs.Effects.{made, with_changed_conference, with_changed_person}
 use Rattle.memberships.specs.Table.{Table, UsesRoom, room_of_person, room_of_conference}
 use Rattle.memberships.specs.Lists.{room_in}
@@ -127,14 +127,14 @@ falls_at at number old new here other = by (cases_eq number at)
     by (inr apart) = let le : old ≤ new = other apart in rw (ne_eqb at number (λ e. apart (sym e))) (omega arith)
 
 pub IsMade-set : (row : MembershipRow) (conferences : Tabled ConferenceRow) (persons : Tabled PersonRow)
-    (old new : Table) (names : Lookup) (next : ℕ) → row.last_read ≡ row.added_at →
+    (old new : Table) (names : Lookup) (next : ℕ) → row.last_time_read ≡ row.added_at →
     new.rows ≡ with_membership row old.rows → UsesRoom old new row.person row.conference →
     IsMade (set_of row) (stored conferences persons old names next) (stored conferences persons new names next)
 unfolding made
 IsMade-set row conferences persons old new names next fresh rows uses =
     IsMade-using (set_of row) _ _
     (ap (λ rows. (stored conferences persons (record new { rows = rows }) names next).db) (rows
-    ∙ ap (λ at. with_membership (record row { last_read = at }) old.rows) fresh))
+    ∙ ap (λ at. with_membership (record row { last_time_read = at }) old.rows) fresh))
     (record {
       conferences = omega arith;
       persons = omega arith;

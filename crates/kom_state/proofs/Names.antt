@@ -13,9 +13,8 @@ use Rattle.kom_types.specs.declared.conferences.ConferenceRow.{ConferenceRow}
 use Rattle.kom_types.specs.declared.effects.ConfField.{ConfField}
 use Rattle.kom_types.specs.declared.effects.ConfField.TheVariants as field
 use Rattle.kom_types.specs.Names.{fold, clash, finds}
-use Rattle.kom_types.specs.tables.Conferences.{with_field}
+use Rattle.kom_types.specs.tables.Conferences.{number_of_conference, with_field}
 use Rattle.kom_types.specs.tables.Conferences as Conferences
-use Rattle.kom_model.specs.Db.{number_of_conference}
 use Rattle.name_lookup.specs.NamedRows.{Named, named, with_name, without_name, taken, found, NoneClash}
 use Rattle.kom_state.specs.Keeping.{name_row}
 

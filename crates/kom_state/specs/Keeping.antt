@@ -3,7 +3,7 @@ use Rattle.std.specs.Prelude.{◌≡◌, ℕ, ◌≤◌, List, map}
 use Rattle.row_table.specs.Tables.{Tabled, IsByNumber}
 use Rattle.kom_types.specs.declared.conferences.ConferenceRow.{ConferenceRow}
 use Rattle.kom_types.specs.declared.persons.PersonRow.{PersonRow}
-use Rattle.kom_model.specs.Db.{number_of_conference}
+use Rattle.kom_types.specs.tables.Conferences.{number_of_conference}
 use Rattle.memberships.specs.Table.{Table}
 use Rattle.name_lookup.specs.NamedRows.{Named, Lookup, named}
 use Rattle.kom_state.specs.Room.{Stored}

@@ -44,7 +44,7 @@ impl State {
                 priority,
                 added_by,
                 added_at,
-                last_read: added_at,
+                last_time_read: added_at,
                 kind,
             }),
             other => self.apply_to_person(other),
@@ -144,7 +144,7 @@ impl State {
 
     fn set_membership(&mut self, row: MembershipRow)
         requires possible { IsPossible (set_of row) self.old }
-        requires fresh { row.last_read ≡ row.added_at }
+        requires fresh { row.last_time_read ≡ row.added_at }
         ensures { IsMade (set_of row) self.old self.new }
     {
         self.memberships.set(row).unwrap();

@@ -2,7 +2,7 @@ ghost use Rattle.std.specs.Prelude.{◌≡◌, is_some};
 ghost use Rattle.kom_model.specs.Db.{conference_of, person_of};
 ghost use Rattle.kom_model.specs.Effects.{fits, is_free, may_name, may_add_conference};
 ghost use Rattle.kom_model.specs.Effects.{may_set, may_set_field, has_letterbox, may_join};
-ghost use Rattle.kom_types.specs.tables.Conferences.{is_guarded, is_letterbox};
+ghost use Rattle.kom_types.specs.tables.Conferences.{is_secret_protected, is_letterbox};
 
 use crate::state::State;
 use kom_types::{ConfField, ConferenceRow, Effect};
@@ -100,7 +100,7 @@ impl State {
             && number <= LAST_CONFERENCE
             && !self.has_conference(number)
             && self.may_name(number, name)
-            && is_guarded(kind)
+            && is_secret_protected(kind)
     }
 
     fn may_set_field(&self, number: u32, field: ConfField) -> bool
@@ -133,13 +133,15 @@ fn may_set(field: ConfField, row: &ConferenceRow) -> bool
     ensures { result ≡ may_set field row.now }
 {
     match field {
-        ConfField::Kind(kind) => is_guarded(kind) && is_letterbox(kind) == is_letterbox(row.kind),
+        ConfField::Kind(kind) => {
+            is_secret_protected(kind) && is_letterbox(kind) == is_letterbox(row.kind)
+        }
         _ => true,
     }
 }
 
-fn is_guarded(kind: u8) -> bool
-    ensures { result ≡ is_guarded kind }
+fn is_secret_protected(kind: u8) -> bool
+    ensures { result ≡ is_secret_protected kind }
 {
     kind & SECRET == 0 || kind & READ_PROTECTED != 0
 }

@@ -3,7 +3,7 @@ ghost use Rattle.std.specs.Prelude.{IfOk};
 ghost use Rattle.kom_types.specs.Names.{finds};
 ghost use Rattle.kom_model.specs.Db.{conference_of, person_of, membership_of};
 ghost use Rattle.kom_model.specs.Db.{memberships_of, members_of, conferences_of};
-ghost use Rattle.kom_model.specs.Db.{number_of_conference};
+ghost use Rattle.kom_types.specs.tables.Conferences.{number_of_conference};
 
 use crate::state::State;
 use kom_types::{ConferenceRow, MembershipRow, Memory, Numbers, PersonRow};

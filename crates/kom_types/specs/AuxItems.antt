@@ -2,10 +2,11 @@
 -- Who may add which is this server's choice. (Protocol A, "Auxiliary Information" and "Predefined
 -- Aux-Items".)
 use Rattle.std.specs.Prelude.{ℕ, ◌+◌, ◌-◌, Bool, true, false, ◌==◌, ◌||◌, ◌&&◌, not}
-use Rattle.std.specs.Prelude.{nat_lt, List, [], ◌∷◌, ◌++◌, length, Option, Some, None, bit_and}
+use Rattle.std.specs.Prelude.{nat_lt, List, [], ◌∷◌, ◌++◌, length, Option, Some, None}
 use Rattle.std.specs.Prelude.{if◌then◌else◌}
 use Rattle.std.specs.List.{find, filter, list_any}
 use Rattle.std.specs.Option.{option_or}
+use Rattle.kom_types.specs.Bits.{is_on}
 use Rattle.kom_types.specs.declared.aux_items.Adder.{Adder}
 use Rattle.kom_types.specs.declared.aux_items.AuxInput.{AuxInput}
 use Rattle.kom_types.specs.declared.aux_items.AuxRow.{AuxRow}
@@ -81,10 +82,6 @@ most_items = 100
 
 abbrev pub longest_content : ℕ
 longest_content = 16384
-
--- whether some bits of a byte are on
-abbrev pub is_on : ℕ → ℕ → Bool
-is_on bits flags = not (bit_and flags bits == 0)
 
 -- the flag deleted or one that is reserved is on: no client may set them
 abbrev pub has_wrong_flags : ℕ → Bool

@@ -8,6 +8,7 @@ pub mod spellings
 pub mod Printing
 pub mod Sessions
 pub mod calls
+pub mod Bits
 pub mod Names
 pub mod Mappings
 pub mod AuxItems

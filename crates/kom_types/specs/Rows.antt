@@ -160,7 +160,7 @@ pub record Rows : Type 0 where
       ++ codes "5 0 6 0 0 1 77 78 2 1 3 4 0 *\n"
   pub one_membership : print_of (item.Reply 1 (reply.Membership (record {
     position = 0;
-    last_read = 0;
+    last_time_read = 0;
     conference = 6;
     priority = 100;
     ranges = shown.Count 3;

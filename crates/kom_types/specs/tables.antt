@@ -2,3 +2,4 @@
 pub mod Conferences
 pub mod Persons
 pub mod Memberships
+pub mod Texts

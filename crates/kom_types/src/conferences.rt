@@ -53,6 +53,8 @@ pub struct ConferenceRow {
     pub nice: u32,
     pub keep_commented: u32,
     pub expire: u32,
+    /// The number that its next text gets in it.
+    pub next_local: u32,
 }
 
 /// What of a conference the rights of persons hang on.

@@ -22,7 +22,7 @@ pub enum RangesShown {
 pub struct Membership {
     /// Its place among the memberships that are shown, from 0 on.
     pub position: u32,
-    pub last_read: Moment,
+    pub last_time_read: Moment,
     pub conference: u32,
     pub priority: u8,
     pub ranges: RangesShown,
@@ -46,7 +46,7 @@ pub struct MembershipRow {
     pub added_by: u32,
     pub added_at: Moment,
     /// When the record of what was read was last set; its adding until then.
-    pub last_read: Moment,
+    pub last_time_read: Moment,
     /// The eight bits of its type.
     pub kind: u8,
 }

@@ -5,7 +5,7 @@ use crate::times::Moment;
 /// A person as it is shown. (Protocol A, "Persons".)
 #[derive(Drop)]
 pub struct Person {
-    /// The user name and host of its last login.
+    /// The user name that was told at its last login.
     pub user: Bytes,
     /// The sixteen bits wheel, admin, statistic, create-pers, create-conf, change-name and ten
     /// spare ones, the first bit highest.
@@ -55,6 +55,8 @@ pub struct PersonRow {
     pub text_fetches: u32,
     pub created_persons: u32,
     pub created_conferences: u32,
+    /// The number that its next text gets among those that it made.
+    pub next_created: u32,
 }
 
 /// A person that is to be made.

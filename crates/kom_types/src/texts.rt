@@ -55,6 +55,18 @@ pub struct TextStat {
     pub aux_items: AuxRows,
 }
 
+/// A text as the server keeps it; its recipients, links, marks and aux-items are rows of their own.
+#[derive(Drop)]
+pub struct TextRow {
+    pub number: u32,
+    /// 0 for an anonymous text.
+    pub author: u32,
+    pub created: Moment,
+    pub body: Bytes,
+    /// How many line feeds its body has.
+    pub lines: u32,
+}
+
 /// A recipient of a text: a row of the store. (Protocol A, "Misc-Info".)
 #[derive(Clone, Copy, Debug)]
 pub struct Recipient {
@@ -82,7 +94,23 @@ pub struct Link {
     pub at: Moment,
 }
 
-/// A person's mark on a text. (Protocol A, "Marks".)
+/// A text's number among those that a person made: a row of the store.
+#[derive(Clone, Copy, Debug)]
+pub struct CreatedText {
+    pub person: u32,
+    pub local: u32,
+    pub text: u32,
+}
+
+/// A person's mark on a text: a row of the store.
+#[derive(Clone, Copy, Debug)]
+pub struct MarkRow {
+    pub person: u32,
+    pub text: u32,
+    pub kind: u8,
+}
+
+/// A mark as it is shown to the person that set it. (Protocol A, "Marks".)
 #[derive(Clone, Copy, Debug, PartialEq, Eq)]
 pub struct Mark {
     pub text: u32,

@@ -18,11 +18,11 @@ use Rattle.memberships.proofs.Viewing.{membership, count}
 
 module _ (es fs : List Entry) (next : ℕ) (conferences persons lists : ℕ → List ℕ) (given : MembershipRow)
     (table : IsTable es next conferences persons)
-    (joins : Joins es fs next given.person given.conference (kept_of given next given.last_read))
+    (joins : Joins es fs next given.person given.conference (kept_of given next given.last_time_read))
     (puts : Sets conferences lists given.person
     (insert (conferences given.person) given.position given.conference)) where
   abbrev new : Kept
-  new = kept_of given next given.last_read
+  new = kept_of given next given.last_time_read
 
   abbrev here : Key
   here = (given.person, given.conference)

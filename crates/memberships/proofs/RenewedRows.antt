@@ -35,12 +35,12 @@ same_membership p c q m a b row =
 
 module _ (es fs : List Entry) (next : ℕ) (conferences persons lists : ℕ → List ℕ) (given : MembershipRow) (old : Kept)
     (table : IsTable es next conferences persons)
-    (renews : Renews es fs given.person given.conference old (kept_of given old.turn old.last_read))
+    (renews : Renews es fs given.person given.conference old (kept_of given old.turn old.last_time_read))
     (moves : Sets conferences lists given.person
     (insert (remove_key (nat_eq given.conference) (conferences given.person)) given.position
     given.conference)) where
   abbrev new : Kept
-  new = kept_of given old.turn old.last_read
+  new = kept_of given old.turn old.last_time_read
 
   abbrev here : Key
   here = (given.person, given.conference)
@@ -55,7 +55,7 @@ module _ (es fs : List Entry) (next : ℕ) (conferences persons lists : ℕ → 
   before = place_of given.conference (conferences given.person)
 
   abbrev again : MembershipRow
-  again = record given { position = at; last_read = old.last_read }
+  again = record given { position = at; last_time_read = old.last_time_read }
 
   abbrev moved : MembershipRow → MembershipRow
   moved row = open_row given.person at (close_row given.person before row)
@@ -149,5 +149,5 @@ module _ (es fs : List Entry) (next : ℕ) (conferences persons lists : ℕ → 
       length-remove_key (nat_eq given.conference) (conferences given.person) is_there in
       let shorter : length others ≡ count_of given.person (rows_of conferences es) - 1 = omega arith in
       rw (some, with_membership)
-      (rows_renewed ∙ ap (λ n. replaced_by (record given { position = min given.position n; last_read = old.last_read })
+      (rows_renewed ∙ ap (λ n. replaced_by (record given { position = min given.position n; last_time_read = old.last_time_read })
       (opened given.person (min given.position n) (closed_up given.person before (rows_of conferences es)))) shorter)

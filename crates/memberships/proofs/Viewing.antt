@@ -118,7 +118,7 @@ some_mapped f (Some x) y e = (x, refl, same_Some (f x) y e)
 
 -- what is kept where nothing is
 pub blank : Kept
-blank = record { turn = 0; priority = 0; added_by = 0; added_at = 0; last_read = 0; kind = 0 }
+blank = record { turn = 0; priority = 0; added_by = 0; added_at = 0; last_time_read = 0; kind = 0 }
 
 abbrev pub kept_or_blank : Key → List Entry → Kept
 kept_or_blank key es = unwrap_or (kept_at key es) blank

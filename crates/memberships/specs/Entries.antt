@@ -19,12 +19,12 @@ same_key one other = nat_eq one.0 other.0 && nat_eq one.1 other.1
 
 -- what is kept of a row, with a turn and a moment of its own
 abbrev pub kept_of : MembershipRow → ℕ → ℕ → Kept
-kept_of row turn last_read = record {
+kept_of row turn last_time_read = record {
   turn = turn;
   priority = row.priority;
   added_by = row.added_by;
   added_at = row.added_at;
-  last_read = last_read;
+  last_time_read = last_time_read;
   kind = row.kind;
 }
 
@@ -37,7 +37,7 @@ shown person conference position kept = record {
   priority = kept.priority;
   added_by = kept.added_by;
   added_at = kept.added_at;
-  last_read = kept.last_read;
+  last_time_read = kept.last_time_read;
   kind = kept.kind;
 }
 

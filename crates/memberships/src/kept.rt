@@ -11,22 +11,22 @@ pub struct Kept {
     pub priority: u8,
     pub added_by: u32,
     pub added_at: Moment,
-    pub last_read: Moment,
+    pub last_time_read: Moment,
     /// The eight bits of its type.
     pub kind: u8,
 }
 
 impl Kept {
     /// What is kept of a row, with a turn and a moment of its own.
-    pub(crate) fn of(row: &MembershipRow, turn: u64, last_read: Moment) -> Kept
-        ensures { result ≡ kept_of row.now turn last_read }
+    pub(crate) fn of(row: &MembershipRow, turn: u64, last_time_read: Moment) -> Kept
+        ensures { result ≡ kept_of row.now turn last_time_read }
     {
         Kept {
             turn,
             priority: row.priority,
             added_by: row.added_by,
             added_at: row.added_at,
-            last_read,
+            last_time_read,
             kind: row.kind,
         }
     }
@@ -42,7 +42,7 @@ impl Kept {
             priority: self.priority,
             added_by: self.added_by,
             added_at: self.added_at,
-            last_read: self.last_read,
+            last_time_read: self.last_time_read,
             kind: self.kind,
         }
     }

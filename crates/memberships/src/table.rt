@@ -158,7 +158,7 @@ impl Memberships {
         ensures room { UsesRoom self.old self.new row.now.person row.now.conference }
     {
         let (person, conference) = (row.person, row.conference);
-        let kept = Kept::of(row, self.next_turn, row.last_read);
+        let kept = Kept::of(row, self.next_turn, row.last_time_read);
         let _none = self.entries.insert((person, conference), kept).unwrap();
         self.next_turn += 1;
         self.conferences
@@ -174,7 +174,7 @@ impl Memberships {
     {
         let (person, conference) = (row.person, row.conference);
         let kept = self.entries.get_mut(&(person, conference)).unwrap();
-        *kept = Kept::of(row, kept.turn, kept.last_read);
+        *kept = Kept::of(row, kept.turn, kept.last_time_read);
         self.conferences.remove(person, conference);
         self.conferences
             .insert(person, row.position as usize, conference);

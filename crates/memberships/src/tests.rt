@@ -11,7 +11,7 @@ fn row(person: u32, conference: u32, position: u32, at: u64) -> MembershipRow {
         priority: 100,
         added_by: 5,
         added_at: Moment::at_most(at),
-        last_read: Moment::at_most(at),
+        last_time_read: Moment::at_most(at),
         kind: 0b1000_0000,
     }
 }
@@ -78,7 +78,7 @@ fn memberships_set_again_keep_their_turns(rt: HostRuntime) -> Result<(), Fail> {
     let row = table.get(5, 1).ok_or("5 is in 1")?;
     assert_eq!(rt; row.position, 2);
     assert_eq!(rt; row.added_at.seconds(), 50);
-    assert_eq!(rt; row.last_read.seconds(), 10);
+    assert_eq!(rt; row.last_time_read.seconds(), 10);
     Ok(())
 }
 

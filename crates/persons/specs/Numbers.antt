@@ -5,11 +5,7 @@ use Rattle.kom_types.specs.declared.effects.Counter.TheVariants as counter
 use Rattle.kom_types.specs.declared.effects.PersonField.{PersonField}
 use Rattle.kom_types.specs.declared.effects.PersonField.TheVariants as field
 use Rattle.kom_types.specs.declared.persons.PersonRow.{PersonRow}
-use Rattle.kom_types.specs.tables.Persons.{counted, with_field}
-
--- the number of a person
-abbrev pub number_of_person : PersonRow → ℕ
-number_of_person row = row.number
+use Rattle.kom_types.specs.tables.Persons.{number_of_person, counted, with_field}
 
 pub number-with_field : (to : PersonField) (row : PersonRow) →
     number_of_person (with_field to row) ≡ number_of_person row

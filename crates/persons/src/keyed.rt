@@ -6,7 +6,7 @@ use row_table::Keyed;
 pub(crate) struct ByNumber;
 
 impl Keyed for ByNumber {
-    ghost use Rattle.persons.specs.Numbers.{number_of_person};
+    ghost use Rattle.kom_types.specs.tables.Persons.{number_of_person};
 
     type Row = PersonRow;
 

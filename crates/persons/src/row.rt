@@ -31,5 +31,6 @@ pub fn fresh_person(
         text_fetches: 0,
         created_persons: 0,
         created_conferences: 0,
+        next_created: 1,
     }
 }

@@ -1,8 +1,8 @@
 ghost use Rattle.std.specs.Prelude.{◌≡◌, ◌+◌, ◌<◌, ◌≤◌, ◌↔◌, [], None, length, option_copied};
 ghost use Rattle.std.specs.Prelude.{IsOk, IsTrue, OnOk, OnErr};
 ghost use Rattle.row_table.specs.Tables.{row_of, with_row, without_row, changed_row, IsByNumber};
-ghost use Rattle.kom_types.specs.tables.Persons.{with_field, counted, logged_in, with_hash};
-ghost use Rattle.persons.specs.Numbers.{number_of_person};
+ghost use Rattle.kom_types.specs.tables.Persons.{number_of_person, with_field, counted};
+ghost use Rattle.kom_types.specs.tables.Persons.{logged_in, with_hash};
 
 use crate::changes::{LogIn, Rise, SetField, SetHash};
 use crate::keyed::ByNumber;

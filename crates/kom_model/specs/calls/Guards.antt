@@ -8,7 +8,7 @@ use Rattle.kom_types.specs.declared.conferences.ConferenceRow.{ConferenceRow}
 use Rattle.kom_types.specs.declared.decisions.Decision.{Decision}
 use Rattle.kom_types.specs.declared.seats.Seat.{Seat}
 use Rattle.kom_types.specs.Names.{clash, is_name}
-use Rattle.kom_types.specs.tables.Conferences.{is_guarded, is_letterbox}
+use Rattle.kom_types.specs.tables.Conferences.{is_secret_protected, is_letterbox}
 use Rattle.kom_types.specs.tables.Persons.{is_mighty, password_hash}
 use Rattle.kom_model.specs.declared.viewers.Viewer.{Viewer}
 use Rattle.kom_model.specs.Db.{Db, person_of, conferences_of, next_conference_of}
@@ -106,7 +106,7 @@ free_guard asked number name =
 
 -- a secret conference is read-protected too
 abbrev pub type_guard : ℕ → Guard
-type_guard kind = unless (is_guarded kind) 22 0
+type_guard kind = unless (is_secret_protected kind) 22 0
 
 -- a conference's number is left
 abbrev pub drawn_guard : Asked → Guard

@@ -71,7 +71,7 @@ pub fn person(alloc: Global) -> Result<Person, Memory> {
 pub fn membership(alloc: Global) -> Result<Membership, Memory> {
     Ok(Membership {
         position: 0,
-        last_read: beginning_of_1970(),
+        last_time_read: beginning_of_1970(),
         conference: 1,
         priority: 255,
         ranges: RangesShown::All(only(alloc, ReadRange { first: 1, last: 5 })?),
@@ -84,7 +84,7 @@ pub fn membership(alloc: Global) -> Result<Membership, Memory> {
 pub fn membership_with_a_count() -> Membership {
     Membership {
         position: 1,
-        last_read: beginning_of_1970(),
+        last_time_read: beginning_of_1970(),
         conference: 2,
         priority: 100,
         ranges: RangesShown::Count(3),

@@ -16,7 +16,7 @@ ranges_shown (shown.All ranges) = array read_range ranges
 
 abbrev pub membership : Membership → Words
 membership of =
-    number of.position ++ time of.last_read ++ number of.conference ++ number of.priority
+    number of.position ++ time of.last_time_read ++ number of.conference ++ number of.priority
     ++ ranges_shown of.ranges ++ number of.added_by ++ time of.added_at ++ bits 8 of.kind
 
 abbrev pub member : Member → Words

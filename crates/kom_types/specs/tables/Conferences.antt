@@ -1,13 +1,13 @@
 -- The row of a conference. (Protocol A, "Conferences".)
-use Rattle.std.specs.Prelude.{ℕ, Bool, ◌||◌, not, List}
-use Rattle.kom_types.specs.AuxItems.{is_on}
+use Rattle.std.specs.Prelude.{ℕ, ◌+◌, Bool, ◌||◌, not, List}
+use Rattle.kom_types.specs.Bits.{is_on}
 use Rattle.kom_types.specs.declared.conferences.ConferenceHead.{ConferenceHead}
 use Rattle.kom_types.specs.declared.conferences.ConferenceRow.{ConferenceRow}
 use Rattle.kom_types.specs.declared.effects.ConfField.{ConfField}
 use Rattle.kom_types.specs.declared.effects.ConfField.TheVariants as field
 
--- the bits of a conference's type: its texts are for members alone; it is shown to members alone;
--- it is a person's letterbox
+-- the bits of a conference's type: its texts are hidden from strangers; so is the conference; it is
+-- a person's letterbox
 abbrev pub is_read_protected : ℕ → Bool
 is_read_protected kind = is_on 128 kind
 
@@ -18,8 +18,12 @@ abbrev pub is_letterbox : ℕ → Bool
 is_letterbox kind = is_on 16 kind
 
 -- a secret conference is read-protected too
-abbrev pub is_guarded : ℕ → Bool
-is_guarded kind = not (is_secret_conference kind) || is_read_protected kind
+abbrev pub is_secret_protected : ℕ → Bool
+is_secret_protected kind = not (is_secret_conference kind) || is_read_protected kind
+
+-- by what a conference is found
+abbrev pub number_of_conference : ConferenceRow → ℕ
+number_of_conference row = row.number
 
 -- what of a conference the rights of persons hang on
 abbrev pub head_of : ConferenceRow → ConferenceHead
@@ -46,6 +50,7 @@ fresh_conference number name kind at creator supervisor = record {
   nice = first_nice;
   keep_commented = first_nice;
   expire = 0;
+  next_local = 1;
 }
 
 -- with one field set
@@ -64,3 +69,7 @@ with_field (field.LastWritten at) row = record row { last_written = at }
 -- with another name
 abbrev pub with_name : List ℕ → ConferenceRow → ConferenceRow
 with_name name row = record row { name = name }
+
+-- with a local number drawn, and so all before it
+abbrev pub with_local_drawn : ℕ → ConferenceRow → ConferenceRow
+with_local_drawn local row = record row { next_local = local + 1 }

@@ -3,7 +3,7 @@
 use Rattle.std.specs.Prelude.{ℕ, ◌+◌, ◌-◌, Bool, ◌==◌, ◌&&◌, not, nat_le, nat_lt, min}
 use Rattle.std.specs.Prelude.{List, [], ◌∷◌, ◌++◌, length, map, filter, find, fold}
 use Rattle.std.specs.Prelude.{Option, Some, None, if◌then◌else◌}
-use Rattle.kom_types.specs.AuxItems.{is_on}
+use Rattle.kom_types.specs.Bits.{is_on}
 use Rattle.kom_types.specs.declared.memberships.MembershipRow.{MembershipRow}
 
 -- the bit of a membership's type that says that the person was invited and has not joined yet
@@ -76,7 +76,7 @@ with_new given rows = let place = min given.position (count_of given.person rows
 -- joining, and when its record of what was read was set.
 abbrev pub set_again : MembershipRow → MembershipRow → List MembershipRow → List MembershipRow
 set_again given old rows = let place = min given.position (count_of given.person rows - 1) in
-    replaced_by (at_place place (record given { last_read = old.last_read }))
+    replaced_by (at_place place (record given { last_time_read = old.last_time_read }))
     (opened given.person place (closed_up given.person old.position rows))
 
 -- A membership is set.

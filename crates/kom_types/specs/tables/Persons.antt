@@ -2,12 +2,16 @@
 use Rattle.std.specs.Prelude.{ℕ, ◌+◌, Bool, min, List, [], ◌++◌, replicate}
 use Rattle.std.specs.Int.{w32, to_be_bytes}
 use Rattle.sha2.specs.Sha256.{sha256}
-use Rattle.kom_types.specs.AuxItems.{is_on}
+use Rattle.kom_types.specs.Bits.{is_on}
 use Rattle.kom_types.specs.declared.effects.Counter.{Counter}
 use Rattle.kom_types.specs.declared.effects.Counter.TheVariants as counter
 use Rattle.kom_types.specs.declared.effects.PersonField.{PersonField}
 use Rattle.kom_types.specs.declared.effects.PersonField.TheVariants as field
 use Rattle.kom_types.specs.declared.persons.PersonRow.{PersonRow}
+
+-- by what a person is found
+abbrev pub number_of_person : PersonRow → ℕ
+number_of_person row = row.number
 
 -- the privileges wheel and admin, either of which makes a session strong that enables them
 abbrev pub is_mighty : ℕ → Bool
@@ -38,10 +42,12 @@ fresh_person number privileges flags last_login = record {
   text_fetches = 0;
   created_persons = 0;
   created_conferences = 0;
+  next_created = 1;
 }
 
 -- What is kept of a password: the hash of the person's number, its highest byte first, and the
--- password, so that equal passwords of two persons differ. That it is SHA-256 is this server's choice.
+-- password, so that equal passwords of two persons differ. That it is SHA-256 is this server's
+-- choice.
 unfoldable pub password_hash : ℕ → List ℕ → List ℕ
 password_hash person password = sha256 (to_be_bytes w32 person ++ password)
 
@@ -59,7 +65,8 @@ counted counter.CreatedLines by row = record row { created_lines = raised by row
 counted counter.CreatedBytes by row = record row { created_bytes = raised by row.created_bytes }
 counted counter.ReadTexts by row = record row { read_texts = raised by row.read_texts }
 counted counter.TextFetches by row = record row { text_fetches = raised by row.text_fetches }
-counted counter.CreatedPersons by row = record row { created_persons = raised by row.created_persons }
+counted counter.CreatedPersons by row =
+    record row { created_persons = raised by row.created_persons }
 counted counter.CreatedConferences by row =
     record row { created_conferences = raised by row.created_conferences }
 
@@ -77,3 +84,7 @@ with_hash hash row = record row { hash = hash }
 abbrev pub logged_in : ℕ → List ℕ → PersonRow → PersonRow
 logged_in at user row =
     record row { last_login = at; user = user; sessions = raised 1 row.sessions }
+
+-- with a local number drawn among its created texts, and so all before it
+abbrev pub with_created_drawn : ℕ → PersonRow → PersonRow
+with_created_drawn local row = record row { next_created = local + 1 }

@@ -1,6 +1,7 @@
 use Rattle.std.proofs.Common.{◌≡◌, List, ℕ, map, filter, IfOk, ap, subst, ◌∙◌}
 use Rattle.kom_types.specs.Names.{finds}
-use Rattle.kom_model.specs.Db.{conferences_of, number_of_conference}
+use Rattle.kom_types.specs.tables.Conferences.{number_of_conference}
+use Rattle.kom_model.specs.Db.{conferences_of}
 use Rattle.name_lookup.specs.NamedRows.{found}
 use Rattle.kom_state.proofs.Names.{found-names}
 use Rattle.kom_state.proofs.state.State.find_conferences.Goals as goal

@@ -23,7 +23,7 @@ push-requires c =
 joins : (c : goal.After-push) →
     Joins c.self.inside.entries.entries c.insert.new.self.entries c.self.inside.next_turn c.args.row.now.person
     c.args.row.now.conference
-    (kept_of c.args.row.now c.self.inside.next_turn c.args.row.now.last_read)
+    (kept_of c.args.row.now c.self.inside.next_turn c.args.row.now.last_time_read)
 joins c =
     let here : Key = (c.args.row.now.person, c.args.row.now.conference) in
     let updates = IfOk-at_ok

@@ -24,7 +24,7 @@ unwrap-kept-requires c =
 renews : (c : goal.After-insert) →
     Renews c.self.inside.entries.entries (c.get_mut.follows.lender c.of.result).entries c.args.row.now.person
     c.args.row.now.conference
-    c.unwrap-kept.result.now (kept_of c.args.row.now c.unwrap-kept.result.now.turn c.unwrap-kept.result.now.last_read)
+    c.unwrap-kept.result.now (kept_of c.args.row.now c.unwrap-kept.result.now.turn c.unwrap-kept.result.now.last_time_read)
 renews c =
     let here : Key = (c.args.row.now.person, c.args.row.now.conference) in
     let there : kept_at here c.self.inside.entries.entries ≡ Some c.unwrap-kept.result.now =

@@ -1,0 +1,96 @@
+-- Texts, and what they are linked to: rows in the order of adding. (Protocol A, "Texts".)
+use Rattle.std.specs.Prelude.{ℕ, Bool, ◌==◌, ◌&&◌, not, nat_lt, count_by}
+use Rattle.std.specs.Prelude.{List, [], ◌∷◌, map, filter, find, fold, Option, if◌then◌else◌}
+use Rattle.kom_types.specs.Bits.{alike}
+use Rattle.kom_types.specs.declared.texts.CreatedText.{CreatedText}
+use Rattle.kom_types.specs.declared.texts.Link.{Link}
+use Rattle.kom_types.specs.declared.texts.LocalText.{LocalText}
+use Rattle.kom_types.specs.declared.texts.MarkRow.{MarkRow}
+use Rattle.kom_types.specs.declared.texts.Recipient.{Recipient}
+use Rattle.kom_types.specs.declared.texts.TextRow.{TextRow}
+
+-- by what a text is found
+abbrev pub number_of_text : TextRow → ℕ
+number_of_text row = row.number
+
+-- a text as it is made; a line ends at a line feed
+abbrev pub fresh_text : ℕ → ℕ → ℕ → List ℕ → TextRow
+fresh_text number author at body = record {
+  number = number;
+  author = author;
+  created = at;
+  body = body;
+  lines = count_by (λ byte. byte == 10) body;
+}
+
+-- whether this is what makes a conference a recipient of a text
+abbrev pub is_recipient : ℕ → ℕ → Recipient → Bool
+is_recipient text conference row = row.text == text && row.conference == conference
+
+abbrev pub recipient_of : ℕ → ℕ → List Recipient → Option Recipient
+recipient_of text conference rows = find (is_recipient text conference) rows
+
+-- the recipients of a text, in the order of adding
+abbrev pub recipients_of : ℕ → List Recipient → List Recipient
+recipients_of text rows = filter (λ row. row.text == text) rows
+
+-- a recipient is taken away
+abbrev pub without_recipient : ℕ → ℕ → List Recipient → List Recipient
+without_recipient text conference rows = filter (λ row. not (is_recipient text conference row)) rows
+
+-- the local numbers of a conference, with their texts: they rise as they are drawn
+abbrev pub locals_of : ℕ → List Recipient → List LocalText
+locals_of conference rows =
+    map (λ row. record { local = row.local; text = row.text })
+    (filter (λ row. row.conference == conference) rows)
+
+-- the numbers of the texts that a person made, rising
+abbrev pub created_by : ℕ → List CreatedText → List LocalText
+created_by person rows =
+    map (λ row. record { local = row.local; text = row.text })
+    (filter (λ row. row.person == person) rows)
+
+-- whether this links a comment, or a footnote, to a text
+abbrev pub is_link : ℕ → ℕ → Bool → Link → Bool
+is_link child parent footnote row =
+    row.child == child && row.parent == parent && alike row.footnote footnote
+
+abbrev pub link_of : ℕ → ℕ → Bool → List Link → Option Link
+link_of child parent footnote rows = find (is_link child parent footnote) rows
+
+-- the links of a text to those that it comments, or is a footnote to; and of the comments, or the
+-- footnotes, to it
+abbrev pub links_from : ℕ → Bool → List Link → List Link
+links_from text footnote rows =
+    filter (λ row. row.child == text && alike row.footnote footnote) rows
+
+abbrev pub links_into : ℕ → Bool → List Link → List Link
+links_into text footnote rows =
+    filter (λ row. row.parent == text && alike row.footnote footnote) rows
+
+-- a link is taken away
+abbrev pub without_link : ℕ → ℕ → Bool → List Link → List Link
+without_link child parent footnote rows =
+    filter (λ row. not (is_link child parent footnote row)) rows
+
+-- whether this is a person's mark on a text
+abbrev pub is_mark : ℕ → ℕ → MarkRow → Bool
+is_mark person text row = row.person == person && row.text == text
+
+abbrev pub mark_of : ℕ → ℕ → List MarkRow → Option MarkRow
+mark_of person text rows = find (is_mark person text) rows
+
+-- a mark among others by its text
+abbrev pub by_text : MarkRow → List MarkRow → List MarkRow
+by_text row [] = row ∷ []
+by_text row (first ∷ rows) =
+    if nat_lt row.text first.text then row ∷ first ∷ rows else first ∷ by_text row rows
+
+-- the marks of a person, by rising text
+abbrev pub marks_of : ℕ → List MarkRow → List MarkRow
+marks_of person rows =
+    fold (λ sorted row. by_text row sorted) [] (filter (λ row. row.person == person) rows)
+
+-- the marks on a text
+abbrev pub marks_on : ℕ → List MarkRow → List MarkRow
+marks_on text rows = filter (λ row. row.text == text) rows
