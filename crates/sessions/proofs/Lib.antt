@@ -3,3 +3,4 @@ pub mod Keeping
 pub mod Places
 pub mod Searching
 pub mod Taking
+pub mod Seats

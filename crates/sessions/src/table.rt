@@ -1,6 +1,6 @@
-ghost use Rattle.std.specs.Prelude.{◌≡◌, ◌^◌, ◌-◌, ◌++◌, ◌∷◌, [], not, false, None, min, map};
+ghost use Rattle.std.specs.Prelude.{◌≡◌, ◌==◌, ◌^◌, ◌-◌, ◌++◌, ◌∷◌, [], not, false, None};
 ghost use Rattle.std.specs.Prelude.{filter, find, length, take, option_copied, IfSome, OnOk, OnErr};
-ghost use Rattle.std.specs.Prelude.{IsSome, IsTrue, ◌↔◌, MatchOption};
+ghost use Rattle.std.specs.Prelude.{IsSome, IsTrue, ◌↔◌, MatchOption, min, map};
 ghost use Rattle.kom_types.specs.Printing.{print_of};
 ghost use Rattle.kom_types.specs.Sessions.{is_session, waiting_limits, queued, drained_count};
 ghost use Rattle.kom_types.specs.Sessions.{drained, changed_session, is_stop, changed};
@@ -9,7 +9,7 @@ ghost use Rattle.sessions.specs.Rows.{AllBelow, IsRising, IsAt, with_row, takes}
 use crate::changing::session_of;
 use crate::row::SessionRow;
 use arrayvec::ArrayVec;
-use kom_types::{Item, Memory, Moment, SessionChange};
+use kom_types::{Item, Memory, Moment, Seat, SessionChange};
 use std::alloc::Global;
 use std::marker::Model;
 
@@ -69,6 +69,14 @@ impl Sessions {
     {
         let place = self.search(session)?;
         Some(&self.rows[place])
+    }
+
+    /// All that a call may read of a session, if it is there.
+    pub fn seat(&self, session: u32) -> Option<&Seat>
+        ensures { option_copied result
+            ≡ find (λ seat. seat.number == session) (map (λ row. row.seat) self.now) }
+    {
+        Some(self.get(session)?.seat())
     }
 
     /// Takes the row of a session out, if it is there.
