@@ -11,8 +11,8 @@ use Rattle.kom_types.specs.declared.items.Item.TheVariants as item
 use Rattle.kom_types.specs.Printing.{print_of}
 use Rattle.kom_model.specs.State.{State}
 use Rattle.kom_model.specs.Effects.{apply_all}
-use Rattle.kom_model.specs.calls.Call.{Asked, refuse}
-use Rattle.kom_model.specs.Decide.{definition_of, decided, decision_of, limited, longest_reply, asked_in}
+use Rattle.kom_model.specs.calls.Call.{Asked, decided, refuse}
+use Rattle.kom_model.specs.Decide.{definition_of, decision_of, limited, longest_reply, asked_in}
 use Rattle.kom_model.specs.After.{carry_out, make_changes, moment_of, decision_at}
 use Rattle.kom_core.specs.Deciding.{IsCall, Decides}
 

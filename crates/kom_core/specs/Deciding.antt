@@ -9,8 +9,8 @@ use Rattle.kom_types.specs.declared.items.Item.TheVariants as item
 use Rattle.kom_types.specs.declared.replies.Reply.{Reply}
 use Rattle.kom_types.specs.declared.seats.Seat.{Seat}
 use Rattle.kom_model.specs.State.{State}
-use Rattle.kom_model.specs.calls.Call.{Definition}
-use Rattle.kom_model.specs.Decide.{asked_in, decided, is_firm}
+use Rattle.kom_model.specs.calls.Call.{Definition, decided}
+use Rattle.kom_model.specs.Decide.{asked_in, is_firm}
 use Rattle.kom_model.specs.ToWhom.{Delivery, messages_of}
 use Rattle.kom_model.specs.After.{moment_of, decision_at}
 

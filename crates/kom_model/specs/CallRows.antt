@@ -59,20 +59,20 @@ pub record CallRows : Type 0 where
       ≡ 34 ∷ 31 ∷ 138 ∷ 242 ∷ 55 ∷ 42 ∷ 149 ∷ 6 ∷ 79 ∷ 46 ∷ 247 ∷ 215 ∷ 113 ∷ 34 ∷ 22 ∷ 169 ∷ 171
       ∷ 70 ∷ 231 ∷ 239 ∷ 152 ∷ 72 ∷ 47 ∷ 210 ∷ 55 ∷ 225 ∷ 6 ∷ 248 ∷ 62 ∷ 170 ∷ 117 ∷ 105 ∷ []
   pub begins : all_fit (initial_effects (codes "secret") 3) empty_db ≡ true
-  pub login_of_no_person : (Persons.login nobody 0 [] false).early ≡ refusal 8 0
-  pub login_of_a_conference : (Persons.login nobody 4 [] false).early ≡ refusal 10 4
-  pub login_by_another_password : (Persons.login nobody 5 (codes "x") false).early ≡ refusal 4 5
-  pub login_by_the_password : (Persons.login nobody 5 [] true).early ≡ None
-  pub login_by_a_strong_session : (Persons.login strong 5 (codes "x") true).early ≡ None
-  pub logs_in : (Persons.login nobody 5 [] true).rest
+  pub login_of_no_person : (Sessions.login nobody 0 [] false).early ≡ refusal 8 0
+  pub login_of_a_conference : (Sessions.login nobody 4 [] false).early ≡ refusal 10 4
+  pub login_by_another_password : (Sessions.login nobody 5 (codes "x") false).early ≡ refusal 4 5
+  pub login_by_the_password : (Sessions.login nobody 5 [] true).early ≡ None
+  pub login_by_a_strong_session : (Sessions.login strong 5 (codes "x") true).early ≡ None
+  pub logs_in : (Sessions.login nobody 5 [] true).rest
       ≡ done (effect.LoggedIn 5 30 (codes "ceder") ∷ []) (change.Person 1 5 true ∷ [])
-  pub logs_in_again : (Persons.login anna 5 [] false).rest
+  pub logs_in_again : (Sessions.login anna 5 [] false).rest
       ≡ done
       (effect.Counted 5 counter.TimePresent 20 ∷ effect.LoggedIn 5 30 (codes "ceder") ∷ [])
       (change.Person 1 0 false ∷ change.Person 1 5 false ∷ [])
-  pub logs_out : (Persons.logout anna).rest
+  pub logs_out : (Sessions.logout anna).rest
       ≡ done (effect.Counted 5 counter.TimePresent 20 ∷ []) (change.Person 1 0 false ∷ [])
-  pub nobody_logs_out : (Persons.logout nobody).rest ≡ done [] []
+  pub nobody_logs_out : (Sessions.logout nobody).rest ≡ done [] []
   pub privileges_by_nobody : (Persons.set_priv_bits nobody 5 0).early ≡ refusal 6 0
   pub privileges_of_no_person : (Persons.set_priv_bits anna 6 0).early ≡ refusal 10 6
   pub privileges_without_strength : (Persons.set_priv_bits anna 5 0).early ≡ refusal 12 0

@@ -1,5 +1,5 @@
 -- What a call is answered and changes. (Protocol A, "Protocol Requests".)
-use Rattle.std.specs.Prelude.{ℕ, Bool, true, false, ◌==◌, ◌||◌, ◌&&◌, not, is_some, Some, None}
+use Rattle.std.specs.Prelude.{ℕ, Bool, true, false, ◌==◌, ◌||◌, ◌&&◌, not, is_some}
 use Rattle.std.specs.Prelude.{length, nat_le, if◌then◌else◌}
 use Rattle.kom_types.specs.declared.calls.Call.{Call}
 use Rattle.kom_types.specs.declared.calls.Call.TheVariants as call
@@ -9,7 +9,7 @@ use Rattle.kom_types.specs.Printing.{print_of}
 use Rattle.kom_types.specs.calls.Numbers.{number_of_call}
 use Rattle.kom_model.specs.State.{State, seats_of}
 use Rattle.kom_model.specs.Kinds.{firm_numbers, accept_async, is_among}
-use Rattle.kom_model.specs.calls.Call.{Asked, Definition, refuse, refused}
+use Rattle.kom_model.specs.calls.Call.{Asked, Definition, decided, refuse, refused}
 use Rattle.kom_model.specs.calls.AuxItems as AuxItems
 use Rattle.kom_model.specs.calls.Server as Server
 use Rattle.kom_model.specs.calls.Sessions as Sessions
@@ -36,11 +36,6 @@ definition_of asked call.GetInfo = Server.get_info
 definition_of asked call.QueryPredefinedAuxItems = AuxItems.query_predefined_aux_items
 definition_of asked (call.Refused code status) = refused code status
 definition_of asked other = refused 2 0
-
--- what a definition comes to
-abbrev pub decided : Definition → Decision
-decided definition =
-    elim definition.early [ Some refused ↦ refuse refused | None ↦ definition.rest ]
 
 -- how many bytes the line of a reply has at most
 abbrev pub longest_reply : ℕ

@@ -19,10 +19,10 @@ pub record State : Type 0 where
   pub stopped : Bool
   pub store_refused : Bool
 
--- before the first entry
-abbrev pub empty : State
-empty = record {
-  db = empty_db;
+-- before the first entry, with these stored rows
+abbrev pub opening : Db → State
+opening db = record {
+  db = db;
   sessions = [];
   connects = 0;
   stable = 0;
@@ -31,6 +31,10 @@ empty = record {
   stopped = false;
   store_refused = false;
 }
+
+-- the same without a row
+abbrev pub empty : State
+empty = opening empty_db
 
 -- the session of a number
 abbrev pub session_of : ℕ → State → Option Session

@@ -2,11 +2,13 @@
 //! are sent.
 #![tactic(auto)]
 
+mod call_errors;
 mod laws;
 mod rows;
 mod stored;
 mod viewers;
 
+pub use call_errors::{CallError, Refused};
 pub use laws::drains_give_all;
 pub use rows::{worked_calls, worked_histories, worked_rights};
 pub use stored::Rows;

@@ -1,11 +1,14 @@
 -- What the definition of a call is made of.
-use Rattle.std.specs.Prelude.{ℕ, ◌==◌, List, [], Option, Some, None, find}
+use Rattle.std.specs.Prelude.{◌≡◌, ℕ, ◌==◌, List, [], Option, Some, None, find, Result, Ok, Err}
 use Rattle.kom_types.specs.declared.replies.Reply.{Reply}
 use Rattle.kom_types.specs.declared.replies.Reply.TheVariants as reply
 use Rattle.kom_types.specs.declared.decisions.Decision.{Decision}
 use Rattle.kom_types.specs.declared.effects.Effect.{Effect}
 use Rattle.kom_types.specs.declared.seats.Seat.{Seat}
 use Rattle.kom_types.specs.declared.session_changes.SessionChange.{SessionChange}
+use Rattle.kom_model.specs.declared.call_errors.CallError.{CallError}
+use Rattle.kom_model.specs.declared.call_errors.CallError.TheVariants as error
+use Rattle.kom_model.specs.declared.call_errors.Refused.{Refused}
 use Rattle.kom_model.specs.Db.{Db}
 
 -- All that a call may read: the stored rows, the seats of all sessions, the moment of the entry,
@@ -20,11 +23,6 @@ pub record Asked : Type 0 where
 -- the seat of the caller's session
 abbrev pub seat_of : Asked → Option Seat
 seat_of asked = find (λ seat. seat.number == asked.session) asked.seats
-
--- a refusal: the error's code and its status
-pub record Refused : Type 0 where
-  pub code : ℕ
-  pub status : ℕ
 
 -- The two parts of a call's definition: the guard that refuses it before any new item of an object
 -- is looked at, and what it comes to where none does.
@@ -53,3 +51,20 @@ abbrev pub refused : ℕ → ℕ → Definition
 refused code status =
     let refusal : Refused = record { code = code; status = status } in
     record { early = Some refusal; rest = refuse refusal }
+
+-- what a definition comes to
+abbrev pub decided : Definition → Decision
+decided definition =
+    elim definition.early [ Some refused ↦ refuse refused | None ↦ definition.rest ]
+
+-- The code of a call gives what its definition says: what the call comes to if no early guard
+-- refuses it; what a guard refuses; or that memory ran out, but never in place of an early guard.
+abbrev pub Meets : Definition → Result Decision CallError → Type 0
+Meets definition (Ok decision) = (definition.early ≡ None) × (decision ≡ definition.rest)
+Meets definition (Err (error.Refused refused)) = decided definition ≡ refuse refused
+Meets definition (Err error.Memory) = definition.early ≡ None
+
+-- the same of a call that takes no memory
+abbrev pub MeetsFirmly : Definition → Result Decision Refused → Type 0
+MeetsFirmly definition (Ok decision) = (definition.early ≡ None) × (decision ≡ definition.rest)
+MeetsFirmly definition (Err refused) = decided definition ≡ refuse refused

@@ -13,22 +13,24 @@ use Rattle.kom_types.specs.declared.replies.Reply.TheVariants as reply
 use Rattle.kom_types.specs.Names.{fold, finds}
 use Rattle.kom_types.specs.tables.Conferences.{is_letterbox}
 use Rattle.kom_types.specs.tables.Persons.{may_create_conferences}
+use Rattle.kom_model.specs.declared.viewers.Viewer.{Viewer}
 use Rattle.kom_model.specs.Db.{Db, conference_of, person_of, conferences_of, next_conference_of}
 use Rattle.kom_model.specs.Db.{next_local_of}
 use Rattle.kom_model.specs.Rights.{sees}
 use Rattle.kom_model.specs.Effects.{longest_name}
 use Rattle.kom_model.specs.calls.Call.{Asked, Definition, answer, done, unguarded}
-use Rattle.kom_model.specs.calls.Guards.{Guard, guarded, refusal, unless, caller, is_strong, viewer}
+use Rattle.kom_model.specs.calls.Guards.{Guard, guarded, refusal, unless, caller}
 use Rattle.kom_model.specs.calls.Guards.{login_guard, conference_guard, own_guard, size_guard}
 use Rattle.kom_model.specs.calls.Guards.{name_guard, free_guard, type_guard, drawn_guard}
-use Rattle.kom_model.specs.calls.Guards.{no_aux_items}
-use Rattle.kom_model.specs.calls.Persons.{counts}
+use Rattle.kom_model.specs.calls.Guards.{items_guard, with_items}
+use Rattle.kom_model.specs.calls.Sessions.{counts}
 
 -- call 3, change-name
 abbrev pub change_name : Asked → ℕ → List ℕ → Definition
 change_name asked number name = guarded
-    (login_guard asked ∷ conference_guard asked number ∷ own_guard asked number ∷ name_guard name
-    ∷ free_guard asked number name ∷ [])
+    (login_guard (caller asked) ∷ conference_guard asked.db (caller asked) number
+    ∷ own_guard asked.db (caller asked) number ∷ name_guard name
+    ∷ free_guard asked.db number name ∷ [])
     (done (effect.ConfNamed number name ∷ []) [])
 
 -- a person that may make conferences, or the session is strong
@@ -38,21 +40,24 @@ may_make_conferences db person = elim (person_of db person) [
   | Some row ↦ may_create_conferences row.privileges
 ]
 
-abbrev pub create_conf_guard : Asked → Guard
-create_conf_guard asked =
-    unless (may_make_conferences asked.db (caller asked) || is_strong asked) 12 0
+abbrev pub create_conf_guard : Db → Viewer → Guard
+create_conf_guard db caller =
+    unless (may_make_conferences db caller.person || caller.strong) 12 0
 
 -- call 88, create-conf: no letterbox is made so
 abbrev pub create_conf : Asked → NewConference → Definition
-create_conf asked given = let number = next_conference_of asked.db in guarded
-    (login_guard asked ∷ create_conf_guard asked ∷ name_guard given.name
-    ∷ unless (not (is_letterbox given.kind)) 23 0 ∷ type_guard given.kind
-    ∷ free_guard asked 0 given.name ∷ drawn_guard asked ∷ [])
-    (no_aux_items given.aux_items (record {
+create_conf asked given =
+    let number = next_conference_of asked.db in
+    let by = (caller asked).person in
+    guarded
+    (login_guard (caller asked) ∷ create_conf_guard asked.db (caller asked)
+    ∷ name_guard given.name ∷ unless (not (is_letterbox given.kind)) 23 0
+    ∷ type_guard given.kind ∷ free_guard asked.db 0 given.name ∷ drawn_guard asked.db ∷ [])
+    (with_items (items_guard given.aux_items) (record {
       reply = reply.Number number;
       effects =
-          effect.ConfAdded number given.name given.kind asked.moment (caller asked) (caller asked)
-          ∷ counts (caller asked) counter.CreatedConferences 1;
+          effect.ConfAdded number given.name given.kind asked.moment by by
+          ∷ counts by counter.CreatedConferences 1;
       changes = [];
     }))
 
@@ -70,7 +75,7 @@ lookup_z_name asked pattern persons conferences = guarded
     (size_guard pattern longest_name ∷ [])
     (answer (reply.ConferenceNames (map name_of (filter
     (λ row. finds pattern row.name && is_wanted persons conferences row
-    && sees asked.db (viewer asked) row.number)
+    && sees asked.db (caller asked) row.number)
     (conferences_of asked.db)))))
 
 -- what a conference is said to be to most clients
@@ -88,7 +93,7 @@ uconference_of db number = elim (conference_of db number) [
 -- call 78, get-uconf-stat
 abbrev pub get_uconf_stat : Asked → ℕ → Definition
 get_uconf_stat asked number = guarded
-    (login_guard asked ∷ conference_guard asked number ∷ [])
+    (login_guard (caller asked) ∷ conference_guard asked.db (caller asked) number ∷ [])
     (answer (uconference_of asked.db number))
 
 -- call 85, get-collate-table: what each byte counts as
@@ -102,12 +107,13 @@ first_unused_conf_no asked = unguarded (answer (reply.Number (next_conference_of
 -- the first of these conferences that is seen
 abbrev pub first_seen : Asked → (ConferenceRow → Bool) → List ConferenceRow → Option ConferenceRow
 first_seen asked test rows =
-    find (λ row. test row && sees asked.db (viewer asked) row.number) rows
+    find (λ row. test row && sees asked.db (caller asked) row.number) rows
 
 -- a number is answered, or that there is none
 abbrev pub nearest : Asked → ℕ → Option ConferenceRow → Definition
-nearest asked start None = guarded (login_guard asked ∷ refusal 9 start ∷ []) (answer reply.Done)
-nearest asked start (Some row) = guarded (login_guard asked ∷ []) (answer (reply.Number row.number))
+nearest asked start None = guarded (login_guard (caller asked) ∷ refusal 9 start ∷ []) (answer reply.Done)
+nearest asked start (Some row) =
+    guarded (login_guard (caller asked) ∷ []) (answer (reply.Number row.number))
 
 -- call 116, find-next-conf-no
 abbrev pub find_next_conf_no : Asked → ℕ → Definition

@@ -1,8 +1,8 @@
 -- The guards that calls share: what each refuses, or none. Which code and status each gives is this
 -- server's choice. (Protocol A, "Error Codes".)
-use Rattle.std.specs.Prelude.{ℕ, Bool, false, ◌==◌, ◌||◌, ◌&&◌, not, nat_le, bytes_eq}
+use Rattle.std.specs.Prelude.{◌≡◌, ℕ, Bool, false, ◌==◌, ◌||◌, ◌&&◌, not, nat_le, bytes_eq}
 use Rattle.std.specs.Prelude.{List, [], ◌∷◌, length, find, Option, Some, None, is_some}
-use Rattle.std.specs.Prelude.{if◌then◌else◌}
+use Rattle.std.specs.Prelude.{if◌then◌else◌, Result, Ok, Err}
 use Rattle.kom_types.specs.declared.aux_items.AuxInput.{AuxInput}
 use Rattle.kom_types.specs.declared.conferences.ConferenceRow.{ConferenceRow}
 use Rattle.kom_types.specs.declared.decisions.Decision.{Decision}
@@ -10,15 +10,21 @@ use Rattle.kom_types.specs.declared.seats.Seat.{Seat}
 use Rattle.kom_types.specs.Names.{clash, is_name}
 use Rattle.kom_types.specs.tables.Conferences.{is_secret_protected, is_letterbox}
 use Rattle.kom_types.specs.tables.Persons.{is_mighty, password_hash}
+use Rattle.kom_model.specs.declared.call_errors.Refused.{Refused}
 use Rattle.kom_model.specs.declared.viewers.Viewer.{Viewer}
 use Rattle.kom_model.specs.Db.{Db, person_of, conferences_of, next_conference_of}
 use Rattle.kom_model.specs.Effects.{longest_name, last_conference}
 use Rattle.kom_model.specs.Rights.{sees, supervises}
-use Rattle.kom_model.specs.calls.Call.{Asked, Definition, Refused, seat_of, refuse}
+use Rattle.kom_model.specs.calls.Call.{Asked, Definition, seat_of, refuse}
 
 -- what a guard refuses, or none
 abbrev pub Guard : Type 0
 Guard = Option Refused
+
+-- the code of a guard lets a call pass, or refuses it
+abbrev pub Guards : Guard → Result Unit Refused → Type 0
+Guards guard (Ok done) = guard ≡ None
+Guards guard (Err refused) = guard ≡ Some refused
 
 abbrev pub refusal : ℕ → ℕ → Guard
 refusal code status = Some (record { code = code; status = status })
@@ -36,10 +42,6 @@ first_refusal (Some refused ∷ guards) = Some refused
 abbrev pub guarded : List Guard → Decision → Definition
 guarded guards decision = record { early = first_refusal guards; rest = decision }
 
--- the person that the caller is logged in as, or 0
-abbrev pub caller : Asked → ℕ
-caller asked = elim (seat_of asked) [ None ↦ 0 | Some seat ↦ seat.person ]
-
 -- a person's privileges let its sessions be strong
 abbrev pub has_might : Db → ℕ → Bool
 has_might db person = elim (person_of db person) [ None ↦ false | Some row ↦ is_mighty row.privileges ]
@@ -48,38 +50,44 @@ has_might db person = elim (person_of db person) [ None ↦ false | Some row ↦
 abbrev pub is_strong_seat : Db → Seat → Bool
 is_strong_seat db seat = seat.level == 255 && has_might db seat.person
 
-abbrev pub is_strong : Asked → Bool
-is_strong asked = elim (seat_of asked) [ None ↦ false | Some seat ↦ is_strong_seat asked.db seat ]
+-- who looks from a seat: nobody, if there is none
+abbrev pub viewer_at : Db → Option Seat → Viewer
+viewer_at db None = record { person = 0; strong = false }
+viewer_at db (Some seat) = record { person = seat.person; strong = is_strong_seat db seat }
 
--- who looks
-abbrev pub viewer : Asked → Viewer
-viewer asked = record { person = caller asked; strong = is_strong asked }
+-- who calls
+abbrev pub caller : Asked → Viewer
+caller asked = viewer_at asked.db (seat_of asked)
 
 -- somebody is logged in
-abbrev pub login_guard : Asked → Guard
-login_guard asked = unless (not (caller asked == 0)) 6 0
+abbrev pub login_guard : Viewer → Guard
+login_guard caller = unless (not (caller.person == 0)) 6 0
 
 -- the conference is there and seen
-abbrev pub conference_guard : Asked → ℕ → Guard
-conference_guard asked number =
-    if number == 0 then refusal 8 0 else unless (sees asked.db (viewer asked) number) 9 number
+abbrev pub conference_guard : Db → Viewer → ℕ → Guard
+conference_guard db caller number =
+    if number == 0 then refusal 8 0 else unless (sees db caller number) 9 number
 
 -- the person is there
-abbrev pub person_guard : Asked → ℕ → Guard
-person_guard asked number =
-    if number == 0 then refusal 8 0 else unless (is_some (person_of asked.db number)) 10 number
+abbrev pub person_guard : Db → ℕ → Guard
+person_guard db number =
+    if number == 0 then refusal 8 0 else unless (is_some (person_of db number)) 10 number
 
 -- the caller's session is strong
-abbrev pub strong_guard : Asked → Guard
-strong_guard asked = unless (is_strong asked) 12 0
+abbrev pub strong_guard : Viewer → Guard
+strong_guard caller = unless caller.strong 12 0
 
 -- the caller supervises the conference
-abbrev pub own_guard : Asked → ℕ → Guard
-own_guard asked number = unless (supervises asked.db (caller asked) number || is_strong asked) 12 number
+abbrev pub own_guard : Db → Viewer → ℕ → Guard
+own_guard db caller number = unless (supervises db caller.person number || caller.strong) 12 number
+
+-- the seat of a session
+abbrev pub seat_at : List Seat → ℕ → Option Seat
+seat_at seats number = find (λ seat. seat.number == number) seats
 
 -- the session is there, and no call has ended it
-abbrev pub session_guard : Asked → ℕ → Guard
-session_guard asked number = elim (find (λ seat. seat.number == number) asked.seats) [
+abbrev pub session_guard : List Seat → ℕ → Guard
+session_guard seats number = elim (seat_at seats number) [
   | None ↦ refusal 42 number
   | Some seat ↦ unless (not seat.ended) 42 number
 ]
@@ -97,9 +105,9 @@ abbrev pub taken_by : ConferenceRow → Guard
 taken_by row = if is_letterbox row.kind then refusal 21 0 else refusal 20 0
 
 -- no conference but the one of this number, or 0, has a name that clashes
-abbrev pub free_guard : Asked → ℕ → List ℕ → Guard
-free_guard asked number name =
-    elim (find (λ row. not (row.number == number) && clash row.name name) (conferences_of asked.db)) [
+abbrev pub free_guard : Db → ℕ → List ℕ → Guard
+free_guard db number name =
+    elim (find (λ row. not (row.number == number) && clash row.name name) (conferences_of db)) [
       | None ↦ None
       | Some row ↦ taken_by row
     ]
@@ -109,8 +117,8 @@ abbrev pub type_guard : ℕ → Guard
 type_guard kind = unless (is_secret_protected kind) 22 0
 
 -- a conference's number is left
-abbrev pub drawn_guard : Asked → Guard
-drawn_guard asked = unless (nat_le (next_conference_of asked.db) last_conference) 45 0
+abbrev pub drawn_guard : Db → Guard
+drawn_guard db = unless (nat_le (next_conference_of db) last_conference) 45 0
 
 -- a person has this password, or the caller's session is strong
 abbrev pub agrees : Db → ℕ → List ℕ → Bool
@@ -119,11 +127,16 @@ agrees db person password = elim (person_of db person) [
   | Some row ↦ bytes_eq row.hash (password_hash person password)
 ]
 
-abbrev pub password_guard : Asked → ℕ → List ℕ → Guard
-password_guard asked person password =
-    unless (agrees asked.db person password || is_strong asked) 4 person
+abbrev pub password_guard : Db → Viewer → ℕ → List ℕ → Guard
+password_guard db caller person password =
+    unless (agrees db person password || caller.strong) 4 person
 
 -- no aux-items can be given yet
-abbrev pub no_aux_items : List AuxInput → Decision → Decision
-no_aux_items [] decision = decision
-no_aux_items (item ∷ items) decision = refuse (record { code = 48; status = 0 })
+abbrev pub items_guard : List AuxInput → Guard
+items_guard [] = None
+items_guard (item ∷ items) = refusal 48 0
+
+-- what a call comes to that adds aux-items
+abbrev pub with_items : Guard → Decision → Decision
+with_items None decision = decision
+with_items (Some refused) decision = refuse refused

@@ -1,15 +1,21 @@
 -- The calls about sessions. (Protocol A, "Protocol Requests".)
-use Rattle.std.specs.Prelude.{ℕ, ◌/◌, ◌%◌, ◌^◌, Bool, false, ◌==◌, not, List, [], ◌∷◌, Option, Some, None}
-use Rattle.std.specs.Prelude.{find, filter, fold, bit_or}
+use Rattle.std.specs.Prelude.{ℕ, ◌-◌, ◌/◌, ◌%◌, ◌^◌, Bool, false, ◌==◌, not, List, [], ◌∷◌, ◌++◌}
+use Rattle.std.specs.Prelude.{Option, Some, None, find, filter, fold, bit_or, if◌then◌else◌}
+use Rattle.kom_types.specs.declared.effects.Counter.{Counter}
+use Rattle.kom_types.specs.declared.effects.Counter.TheVariants as counter
+use Rattle.kom_types.specs.declared.effects.Effect.{Effect}
+use Rattle.kom_types.specs.declared.effects.Effect.TheVariants as effect
 use Rattle.kom_types.specs.declared.replies.Reply.{Reply}
 use Rattle.kom_types.specs.declared.replies.Reply.TheVariants as reply
-use Rattle.kom_types.specs.declared.session_changes.SessionChange.TheVariants as change
-use Rattle.kom_model.specs.Kinds.{is_among}
 use Rattle.kom_types.specs.declared.seats.Seat.{Seat}
+use Rattle.kom_types.specs.declared.session_changes.SessionChange.{SessionChange}
+use Rattle.kom_types.specs.declared.session_changes.SessionChange.TheVariants as change
 use Rattle.kom_types.specs.declared.sessions.ClientVersion.{ClientVersion}
 use Rattle.kom_model.specs.Effects.{longest_name}
+use Rattle.kom_model.specs.Kinds.{is_among}
 use Rattle.kom_model.specs.calls.Call.{Asked, Definition, answer, done, unguarded, seat_of}
-use Rattle.kom_model.specs.calls.Guards.{guarded, unless, login_guard, session_guard, size_guard}
+use Rattle.kom_model.specs.calls.Guards.{guarded, unless, caller, login_guard, session_guard}
+use Rattle.kom_model.specs.calls.Guards.{size_guard, person_guard, password_guard, seat_at}
 
 -- call 56, who-am-i: the number of the caller's session
 abbrev pub who_am_i : Asked → Definition
@@ -65,7 +71,7 @@ change_what_i_am_doing asked doing = guarded
 -- call 42, enable
 abbrev pub enable : Asked → ℕ → Definition
 enable asked level = guarded
-    (login_guard asked ∷ [])
+    (login_guard (caller asked) ∷ [])
     (done [] (change.Level asked.session level ∷ []))
 
 -- the caller's client has told what it is
@@ -79,21 +85,50 @@ set_client_version asked given = guarded
     ∷ unless (not (has_told asked)) 41 0 ∷ [])
     (done [] (change.Client asked.session given.name given.version ∷ []))
 
--- the seat of a session
-abbrev pub seat_at : Asked → ℕ → Option Seat
-seat_at asked number = find (λ seat. seat.number == number) asked.seats
-
 -- call 70, get-client-name, and call 71, get-client-version: empty where none was told
 abbrev pub get_client_name : Asked → ℕ → Definition
 get_client_name asked number = guarded
-    (session_guard asked number ∷ [])
-    (answer (reply.Text (elim (seat_at asked number) [ None ↦ [] | Some seat ↦ seat.client ])))
+    (session_guard asked.seats number ∷ [])
+    (answer (reply.Text (elim (seat_at asked.seats number) [ None ↦ [] | Some seat ↦ seat.client ])))
 
 abbrev pub get_client_version : Asked → ℕ → Definition
 get_client_version asked number = guarded
-    (session_guard asked number ∷ [])
-    (answer (reply.Text (elim (seat_at asked number) [ None ↦ [] | Some seat ↦ seat.version ])))
+    (session_guard asked.seats number ∷ [])
+    (answer (reply.Text (elim (seat_at asked.seats number) [ None ↦ [] | Some seat ↦ seat.version ])))
 
 -- call 82, user-active
 abbrev pub user_active : Asked → Definition
 user_active asked = unguarded (done [] (change.Active asked.session ∷ []))
+
+-- a counter rises, unless by nothing
+abbrev pub counts : ℕ → Counter → ℕ → List Effect
+counts person counter by = if by == 0 then [] else effect.Counted person counter by ∷ []
+
+-- whoever is logged in is logged out: the time since the login counts as time present
+abbrev pub seat_left : Asked → Seat → List Effect
+seat_left asked seat =
+    if seat.person == 0 then []
+    else counts seat.person counter.TimePresent (asked.moment - seat.login)
+
+abbrev pub leaving_effects : Asked → List Effect
+leaving_effects asked = elim (seat_of asked) [ None ↦ [] | Some seat ↦ seat_left asked seat ]
+
+abbrev pub leaving_changes : Asked → List SessionChange
+leaving_changes asked =
+    if (caller asked).person == 0 then [] else change.Person asked.session 0 false ∷ []
+
+-- call 1, logout
+abbrev pub logout : Asked → Definition
+logout asked = unguarded (done (leaving_effects asked) (leaving_changes asked))
+
+-- the user name of the caller's greeting
+abbrev pub user_of : Asked → List ℕ
+user_of asked = elim (seat_of asked) [ None ↦ [] | Some seat ↦ seat.user ]
+
+-- call 62, login: whoever is logged in is logged out first
+abbrev pub login : Asked → ℕ → List ℕ → Bool → Definition
+login asked person password invisible = guarded
+    (person_guard asked.db person ∷ password_guard asked.db (caller asked) person password ∷ [])
+    (done
+    (leaving_effects asked ++ effect.LoggedIn person asked.moment (user_of asked) ∷ [])
+    (leaving_changes asked ++ change.Person asked.session person invisible ∷ []))

@@ -1,0 +1,106 @@
+ghost use Rattle.std.specs.Prelude.{map};
+ghost use Rattle.kom_model.specs.calls.Guards as Guard;
+ghost use Rattle.kom_model.specs.calls.Guards.{Guards};
+
+use crate::rights::{sees, supervises};
+use kom_model::{Refused, Rows, Viewer};
+use kom_types::AuxInputs;
+use sessions::Sessions;
+
+/// The bits of a conference's type.
+const READ_PROTECTED: u8 = 128;
+
+const SECRET: u8 = 32;
+
+/// How many bytes a name has at most.
+const LONGEST_NAME: u32 = 60;
+
+/// A condition, and the error's code and status if it does not hold.
+pub fn unless(holds: bool, code: u32, status: u32) -> Result<(), Refused>
+    ensures { Guards (Guard.unless holds code status) result }
+{
+    if holds {
+        Ok(())
+    } else {
+        Err(Refused { code, status })
+    }
+}
+
+/// Somebody is logged in.
+pub fn login_guard(caller: &Viewer) -> Result<(), Refused>
+    ensures { Guards (Guard.login_guard caller.now) result }
+{
+    unless(caller.person != 0, 6, 0)
+}
+
+/// The conference is there and seen.
+pub fn conference_guard<R: Rows>(rows: &R, caller: &Viewer, number: u32) -> Result<(), Refused>
+    ensures { Guards (Guard.conference_guard (R.db rows.now) caller.now number) result }
+{
+    if number == 0 {
+        Err(Refused { code: 8, status: 0 })
+    } else {
+        unless(sees(rows, caller, number), 9, number)
+    }
+}
+
+/// The caller's session is strong.
+pub fn strong_guard(caller: &Viewer) -> Result<(), Refused>
+    ensures { Guards (Guard.strong_guard caller.now) result }
+{
+    unless(caller.strong, 12, 0)
+}
+
+/// The caller supervises the conference.
+pub fn own_guard<R: Rows>(rows: &R, caller: &Viewer, number: u32) -> Result<(), Refused>
+    ensures { Guards (Guard.own_guard (R.db rows.now) caller.now number) result }
+{
+    unless(
+        supervises(rows, caller.person, number) || caller.strong,
+        12,
+        number,
+    )
+}
+
+/// The session is there, and no call has ended it.
+pub fn session_guard(sessions: &Sessions, number: u32) -> Result<(), Refused>
+    ensures { Guards
+        (Guard.session_guard (map (λ session. session.seat) sessions.now) number) result }
+{
+    match sessions.seat(number) {
+        None => Err(Refused {
+            code: 42,
+            status: number,
+        }),
+        Some(seat) => unless(!seat.ended, 42, number),
+    }
+}
+
+/// There are at most so many bytes, which the status tells.
+pub fn size_guard(bytes: &[u8], most: u32) -> Result<(), Refused>
+    ensures { Guards (Guard.size_guard bytes.now most) result }
+{
+    unless(bytes.len() <= most as usize, 5, most)
+}
+
+/// The name is no longer than a name may be, and the bytes may be a name.
+pub fn name_guard(name: &[u8]) -> Result<(), Refused>
+    ensures { Guards (Guard.name_guard name.now) result }
+{
+    size_guard(name, LONGEST_NAME)?;
+    unless(name_lookup::is_name(name), 18, 0)
+}
+
+/// A secret conference is read-protected too.
+pub fn type_guard(kind: u8) -> Result<(), Refused>
+    ensures { Guards (Guard.type_guard kind) result }
+{
+    unless(kind & SECRET == 0 || kind & READ_PROTECTED != 0, 22, 0)
+}
+
+/// No aux-items can be given yet.
+pub fn items_guard(items: &AuxInputs) -> Result<(), Refused>
+    ensures { Guards (Guard.items_guard items.now) result }
+{
+    unless(items.is_empty(), 48, 0)
+}
