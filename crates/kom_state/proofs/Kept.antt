@@ -12,6 +12,7 @@ use Rattle.kom_model.specs.Db.{Db, conference_of, conferences_of}
 use Rattle.kom_model.specs.Effects.{fits, may_name}
 use Rattle.name_lookup.specs.NamedRows.{Named, with_name, without_name, taken}
 use Rattle.kom_state.specs.Keeping.{name_row, IsKept}
+use Rattle.kom_state.proofs.Below.{below-with_row, below-changed_row}
 use Rattle.kom_state.proofs.Names.{is_other, names-with_row, names-kept, names-renamed, taken-free}
 
 may_name-free : (db : Db) (number : ℕ) (name : List ℕ) → may_name db number name ≡ true →
@@ -22,11 +23,14 @@ may_name-free db number name may = not-true _ (and_parts _ _ may).1
 -- what an addition, or another name, that fits says of the conferences
 pub added-parts : (db : Db) (number : ℕ) (name : List ℕ) (kind at creator supervisor : ℕ) →
     fits (effect.ConfAdded number name kind at creator supervisor) db ≡ true →
-    (list_any (is_other number name) db.conferences ≡ false) × (number ≤ 65535)
+    (list_any (is_other number name) db.conferences ≡ false)
+    × (db.next_conference ≤ number)
+    × (number ≤ 65535)
 unfolding fits
 added-parts db number name kind at creator supervisor fits' =
     let named = and_parts _ _ (and_parts _ _ fits').0 in
-    (may_name-free db number name named.1, leb-true _ _ (and_parts _ _ (and_parts _ _ named.0).0).1)
+    let numbered = and_parts _ _ (and_parts _ _ named.0).0 in
+    (may_name-free db number name named.1, leb-true _ _ numbered.0, leb-true _ _ numbered.1)
 
 pub renamed-parts : (db : Db) (number : ℕ) (name : List ℕ) → fits (effect.ConfNamed number name) db ≡ true →
     (is_some (row_of number_of_conference number db.conferences) ≡ true)
@@ -40,11 +44,12 @@ module _ (rows : List ConferenceRow) (names : List Named) (next : ℕ) (kept : I
       taken name (without_name number names) ≡ None
   taken-kept number name free = rw kept.same_names (taken-free number name rows free)
 
-  pub IsKept-added : (row : ConferenceRow) (new : List ConferenceRow) (new_names : List Named) → row.number ≤ 65535 →
-      new ≡ with_row number_of_conference row rows → new_names ≡ with_name row.number row.name names →
-      IsKept new new_names (row.number + 1)
-  IsKept-added row new new_names last is names_are = rw (is, names_are) (record {
+  pub IsKept-added : (row : ConferenceRow) (new : List ConferenceRow) (new_names : List Named) → next ≤ row.number →
+      row.number ≤ 65535 → new ≡ with_row number_of_conference row rows →
+      new_names ≡ with_name row.number row.name names → IsKept new new_names (row.number + 1)
+  IsKept-added row new new_names from last is names_are = rw (is, names_are) (record {
     by_number = IsByNumber-with_row number_of_conference row rows kept.by_number;
+    below = below-with_row next row rows from kept.below;
     same_names = ap (with_name row.number row.name) kept.same_names ∙ sym (names-with_row row rows);
     within = omega arith;
   })
@@ -57,6 +62,7 @@ module _ (rows : List ConferenceRow) (names : List Named) (next : ℕ) (kept : I
     by_number =
         IsByNumber-changed_row number_of_conference (Conferences.with_name name) (λ row. refl) number rows
         kept.by_number;
+    below = below-changed_row next number (Conferences.with_name name) (λ row. refl) rows kept.below;
     same_names = ap (with_name number name) kept.same_names ∙ sym (names-renamed number name rows kept.by_number there);
     within = kept.within;
   })
@@ -67,6 +73,7 @@ module _ (rows : List ConferenceRow) (names : List Named) (next : ℕ) (kept : I
   IsKept-changed number change new keeps is = rw is (record {
     by_number = IsByNumber-changed_row number_of_conference change
         (λ row. ap (λ (one : Named). one.number) (keeps row)) number rows kept.by_number;
+    below = below-changed_row next number change (λ row. ap (λ (one : Named). one.number) (keeps row)) rows kept.below;
     same_names = kept.same_names ∙ sym (names-kept number change rows keeps);
     within = kept.within;
   })

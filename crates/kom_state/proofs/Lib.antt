@@ -1,6 +1,9 @@
+pub mod Below
 pub mod Members
 pub mod Names
 pub mod Kept
 pub mod Using
+pub mod EffectLists
+pub mod Taken
 pub mod Making
 pub mod Rooms

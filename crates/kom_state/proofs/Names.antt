@@ -57,7 +57,7 @@ names-above number change (row ∷ rows) above =
     let other : eqb row.number number ≡ false = ne_eqb _ _ (λ e. omega arith) in
     rw other (ap (λ names. name_row row ∷ names) (names-above number change rows above.1))
 
-absent_above : (number bound : ℕ) (rows : List ConferenceRow) → number ≤ bound →
+pub absent_above : (number bound : ℕ) (rows : List ConferenceRow) → number ≤ bound →
     AllAbove number_of_conference bound rows → is_some (row_of number_of_conference number rows) ≡ false
 absent_above number bound [] below above = refl
 absent_above number bound (row ∷ rows) below above =
@@ -107,12 +107,12 @@ name-with_field (field.Expire days) row = refl
 name-with_field (field.LastWritten at) row = refl
 
 -- ---- which names are free
-clash_back : (first second : List ℕ) → clash first second ≡ true → clash second first ≡ true
+pub clash_back : (first second : List ℕ) → clash first second ≡ true → clash second first ≡ true
 clash_back first second same =
     (bytes_eq-Decides (map fold second) (map fold first)).1
     (sym ((bytes_eq-Decides (map fold first) (map fold second)).0 same))
 
-apart_back : (first second : List ℕ) → clash first second ≡ false → clash second first ≡ false
+pub apart_back : (first second : List ℕ) → clash first second ≡ false → clash second first ≡ false
 apart_back first second apart =
     false_from_ne_true _ (λ same. true≢false (sym (clash_back second first same) ∙ apart))
 

@@ -49,3 +49,31 @@ HasRoom-after what old new uses rest has = record {
   );
   name = ready_after _ _ _ _ uses.name has.name;
 }
+
+ready_first : (given : Option (List ℕ)) (names : List (List ℕ)) (ready : Option (List ℕ)) →
+    IsReady ready (cons_option given names) → IsReady ready (cons_option given [])
+ready_first None names ready is = tt
+ready_first (Some name) [] ready is = is
+ready_first (Some name) (second ∷ names) ready is = absurd is
+
+-- room for effects is room for the first of them alone
+pub HasRoom-first : (what : Effect) (room : Room) (rest : List Effect) → HasRoom room (what ∷ rest) →
+    HasRoom room (what ∷ [])
+HasRoom-first what room rest has = record {
+  conferences = omega (arith, count_by-cons adds_conference what rest, count_by-cons adds_conference what []);
+  persons = omega (arith, count_by-cons adds_person what rest, count_by-cons adds_person what []);
+  memberships = omega (arith, count_by-cons sets_membership what rest, count_by-cons sets_membership what []);
+  of_person = λ number. omega (
+    arith,
+    has.of_person number,
+    count_by-cons (sets_for_person number) what rest,
+    count_by-cons (sets_for_person number) what [],
+  );
+  of_conference = λ number. omega (
+    arith,
+    has.of_conference number,
+    count_by-cons (sets_in_conference number) what rest,
+    count_by-cons (sets_in_conference number) what [],
+  );
+  name = ready_first _ _ _ has.name;
+}

@@ -1,5 +1,6 @@
 -- How the stored rows are kept: in three tables, beside the names of the conferences.
-use Rattle.std.specs.Prelude.{◌≡◌, ℕ, ◌≤◌, List, map}
+use Rattle.std.specs.Prelude.{◌≡◌, ℕ, ◌<◌, ◌≤◌, List, map}
+use Rattle.std.specs.List.{AllByRecursion}
 use Rattle.row_table.specs.Tables.{Tabled, IsByNumber}
 use Rattle.kom_types.specs.declared.conferences.ConferenceRow.{ConferenceRow}
 use Rattle.kom_types.specs.declared.persons.PersonRow.{PersonRow}
@@ -31,8 +32,14 @@ stored conferences persons memberships names next_conference = record {
 abbrev pub name_row : ConferenceRow → Named
 name_row row = named row.number row.name
 
--- the names are those of the conferences, and a number may be left to give
+-- the numbers of the conferences are below this one
+abbrev pub AreBelow : ℕ → List ConferenceRow → Type 0
+AreBelow next rows = AllByRecursion (λ row. row.number < next) rows
+
+-- the numbers of the conferences rise, and are below the next one; the names are theirs; and a
+-- number may be left to give
 pub record IsKept (conferences : List ConferenceRow) (names : List Named) (next : ℕ) : Type 0 where
   pub by_number : IsByNumber number_of_conference conferences
+  pub below : AreBelow next conferences
   pub same_names : names ≡ map name_row conferences
   pub within : next ≤ 65536

@@ -1,14 +1,39 @@
 ghost use Rattle.std.specs.Prelude.{◌≡◌, true, List, [], ◌∷◌};
 ghost use Rattle.kom_types.specs.declared.effects.Effect.{Effect as Change};
-ghost use Rattle.kom_model.specs.Effects.{fits, made};
+ghost use Rattle.kom_model.specs.Effects.{fits, made, apply, apply_all};
 ghost use Rattle.kom_state.specs.Room.{HasRoom, IsPossible, IsMade, is_of_person, set_of};
 
 use crate::state::State;
 use conferences::fresh_conference;
-use kom_types::{Bytes, ConfField, Counter, Effect, MembershipRow, Moment, PersonField};
+use kom_types::{
+    Bytes, ConfField, Counter, Effect, EffectList, MembershipRow, Moment, PersonField,
+};
 use persons::fresh_person;
 
 impl State {
+    /// Makes those of the effects that fit, in their order; there is room for all. It takes no
+    /// memory.
+    pub fn apply_all(&mut self, effects: EffectList)
+        requires { HasRoom self.old.room effects }
+        ensures { self.new.db ≡ apply_all effects self.old.db }
+    {
+        for effect in effects.into_vec() {
+            self.apply(effect);
+        }
+    }
+
+    /// Makes an effect, for which there is room, if it fits.
+    pub(crate) fn apply(&mut self, effect: Effect)
+        requires { HasRoom self.old.room (effect ∷ []) }
+        ensures db { self.new.db ≡ apply effect self.old.db }
+        ensures room { (rest : List Change) → HasRoom self.old.room (effect ∷ rest)
+            → HasRoom self.new.room rest }
+    {
+        if self.fits(&effect) {
+            self.apply_effect(effect);
+        }
+    }
+
     /// Makes an effect that fits, for which there is room. It takes no memory.
     #[tactic(auto, unfolding(kom_model::specs::Effects::fits))]
     pub fn apply_effect(&mut self, effect: Effect)

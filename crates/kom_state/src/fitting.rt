@@ -112,7 +112,7 @@ impl State {
         }
     }
 
-    fn has_letterbox(&self, number: u32) -> bool
+    pub(crate) fn has_letterbox(&self, number: u32) -> bool
         ensures { result ≡ has_letterbox self.now.db number }
     {
         match self.conference(number) {

@@ -1,8 +1,12 @@
-//! The stored rows, kept in tables: whether an effect fits, room for effects, and what they make.
+//! The stored rows, kept in tables: whether an effect fits, room for effects, and what they make;
+//! and all that a call may read, with the guards that look at these rows alone.
 #![tactic(auto)]
 
 mod applying;
+mod asked;
 mod fitting;
+mod guards;
+mod opening;
 mod reading;
 mod reserving;
 mod rights;
@@ -10,4 +14,6 @@ mod state;
 #[cfg(test)]
 mod tests;
 
+pub use asked::Asked;
+pub use opening::initial_effects;
 pub use state::State;

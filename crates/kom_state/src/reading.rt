@@ -1,9 +1,11 @@
 ghost use Rattle.std.specs.Prelude.{◌≡◌, length, map, filter, slice_get, option_copied, is_some};
 ghost use Rattle.std.specs.Prelude.{IfOk};
+ghost use Rattle.row_table.specs.Tables.{IsByNumber};
 ghost use Rattle.kom_types.specs.Names.{finds};
 ghost use Rattle.kom_model.specs.Db.{conference_of, person_of, membership_of};
 ghost use Rattle.kom_model.specs.Db.{memberships_of, members_of, conferences_of};
 ghost use Rattle.kom_types.specs.tables.Conferences.{number_of_conference};
+ghost use Rattle.kom_state.specs.Keeping.{AreBelow};
 
 use crate::state::State;
 use kom_types::{ConferenceRow, MembershipRow, Memory, Numbers, PersonRow};
@@ -26,8 +28,11 @@ impl State {
     }
 
     /// The least number that the next conference may get.
+    #[tactic(auto, unfolding(kom_model::specs::Db::conferences_of))]
     pub fn next_conference(&self) -> u32
-        ensures { result ≡ self.now.db.next_conference }
+        ensures number { result ≡ self.now.db.next_conference }
+        ensures below { AreBelow result (conferences_of self.now.db) }
+        ensures rising { IsByNumber number_of_conference (conferences_of self.now.db) }
     {
         self.next_conference
     }
@@ -81,9 +86,11 @@ impl State {
     }
 
     /// The numbers of the conferences whose names a pattern finds, rising.
+    #[tactic(auto, unfolding(kom_model::specs::Db::conferences_of))]
     pub fn find_conferences(&self, pattern: &[u8]) -> Result<Numbers, Memory>
-        ensures { IfOk result (λ numbers. numbers ≡ map number_of_conference
+        ensures found { IfOk result (λ numbers. numbers ≡ map number_of_conference
             (filter (λ row. finds pattern.now row.name) (conferences_of self.now.db))) }
+        ensures rising { IsByNumber number_of_conference (conferences_of self.now.db) }
     {
         self.names.find(pattern)
     }

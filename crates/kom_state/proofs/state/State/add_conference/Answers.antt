@@ -12,12 +12,12 @@ put-requires c =
 
 pub overflow_add-self : goal.overflow_add-self
 overflow_add-self c =
-    let parts = added-parts _ _ _ _ _ _ _ c.requires.fits in omega (arith, parts.1)
+    let parts = added-parts _ _ _ _ _ _ _ c.requires.fits in omega (arith, parts.2)
 
 pub invariant_of-self : goal.invariant_of-self
 invariant_of-self c =
     let parts = added-parts _ _ _ _ _ _ _ (rw (← c.self.view_is) at c.requires.fits) in
-    IsKept-added _ _ _ c.self.invariant _ _ _ parts.1
+    IsKept-added _ _ _ c.self.invariant _ _ _ parts.1 parts.2
     (rw (c.unwrap-2.ensures, c.fresh_conference-row.ensures) at c.put-2.ensures.ok)
     (rw (c.unwrap.ensures, c.as_slice.ensures, c.fresh_conference-row.ensures) at c.put.ensures.ok)
 

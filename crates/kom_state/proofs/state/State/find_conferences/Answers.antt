@@ -6,9 +6,9 @@ use Rattle.name_lookup.specs.NamedRows.{found}
 use Rattle.kom_state.proofs.Names.{found-names}
 use Rattle.kom_state.proofs.state.State.find_conferences.Goals as goal
 
-pub returns : goal.returns
+pub returns-clause-found : goal.returns-clause-found
 unfolding conferences_of
-returns c =
+returns-clause-found c =
     let pattern = c.args.pattern.now in
     subst (λ (numbers : List ℕ). IfOk c.find.result (λ found. found ≡ numbers))
     (ap (found pattern) c.self.invariant.same_names ∙ found-names pattern c.self.inside.conferences.rows

@@ -1,0 +1,100 @@
+ghost use Rattle.std.specs.Prelude.{◌≡◌};
+ghost use Rattle.kom_model.specs.calls.Guards as Guard;
+ghost use Rattle.kom_model.specs.calls.Guards.{Guards};
+
+use crate::state::State;
+use kom_model::{Refused, Viewer};
+
+/// The privileges wheel and admin.
+const MIGHT: u16 = 49_152;
+
+/// The greatest number that a conference gets.
+const LAST_CONFERENCE: u32 = 65_535;
+
+impl State {
+    /// Whether a person's privileges let its sessions be strong.
+    pub fn has_might(&self, person: u32) -> bool
+        ensures { result ≡ Guard.has_might self.now.db person }
+    {
+        match self.person(person) {
+            None => false,
+            Some(row) => row.privileges & MIGHT != 0,
+        }
+    }
+
+    /// The person is there.
+    pub fn person_guard(&self, number: u32) -> Result<(), Refused>
+        ensures { Guards (Guard.person_guard self.now.db number) result }
+    {
+        if number == 0 {
+            refuse(8, 0)
+        } else if self.person(number).is_none() {
+            refuse(10, number)
+        } else {
+            Ok(())
+        }
+    }
+
+    /// No conference but the one of this number, or 0, has a name that clashes.
+    pub fn free_guard(&self, number: u32, name: &[u8]) -> Result<(), Refused>
+        ensures { Guards (Guard.free_guard self.now.db number name.now) result }
+    {
+        match self.names.taken(name) {
+            None => Ok(()),
+            Some(other) => {
+                if other == number {
+                    Ok(())
+                } else if self.has_letterbox(other) {
+                    refuse(21, 0)
+                } else {
+                    refuse(20, 0)
+                }
+            }
+        }
+    }
+
+    /// A conference's number is left.
+    #[tactic(auto, unfolding(kom_model::specs::Db::next_conference_of))]
+    pub fn drawn_guard(&self) -> Result<(), Refused>
+        ensures { Guards (Guard.drawn_guard self.now.db) result }
+    {
+        if self.next_conference <= LAST_CONFERENCE {
+            Ok(())
+        } else {
+            refuse(45, 0)
+        }
+    }
+
+    /// The person has this password, or the caller's session is strong.
+    pub fn password_guard(
+        &self,
+        caller: &Viewer,
+        person: u32,
+        password: &[u8],
+    ) -> Result<(), Refused>
+        ensures { Guards
+            (Guard.password_guard self.now.db caller.now person password.now) result }
+    {
+        if caller.strong || self.agrees(person, password) {
+            Ok(())
+        } else {
+            refuse(4, person)
+        }
+    }
+
+    /// Whether a person has this password.
+    fn agrees(&self, person: u32, password: &[u8]) -> bool
+        ensures { result ≡ Guard.agrees self.now.db person password.now }
+    {
+        match self.person(person) {
+            None => false,
+            Some(row) => row.hash == persons::hash(person, password),
+        }
+    }
+}
+
+fn refuse(code: u32, status: u32) -> Result<(), Refused>
+    ensures { Guards (Guard.refusal code status) result }
+{
+    Err(Refused { code, status })
+}
