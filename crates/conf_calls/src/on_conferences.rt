@@ -1,0 +1,117 @@
+ghost use Rattle.std.specs.Prelude.{◌≡◌, ◌∷◌, IfOk};
+ghost use Rattle.kom_types.specs.tables.Conferences.{is_letterbox};
+ghost use Rattle.kom_model.specs.Db.{next_conference_of};
+ghost use Rattle.kom_model.specs.calls.Call.{Meets};
+ghost use Rattle.kom_model.specs.calls.Conferences as Conferences;
+ghost use Rattle.kom_model.specs.calls.Guards.{Guards};
+ghost use Rattle.kom_model.specs.calls.Sessions.{counts};
+
+use access_rights::{
+    conference_guard, items_guard, login_guard, name_guard, own_guard, type_guard, unless,
+};
+use kom_model::{CallError, Refused, Viewer};
+use kom_state::{Asked, State};
+use kom_types::{
+    Bytes, Counter, Decision, Effect, EffectList, Memory, NewConference, Reply, Sequence,
+};
+
+/// The bit of a conference's type that a letterbox has.
+const LETTERBOX: u8 = 16;
+
+/// The privilege to make conferences.
+const MAY_CREATE: u16 = 2048;
+
+/// Call 3, change-name.
+pub fn change_name(asked: &Asked<'_>, conference: u32, name: &Bytes) -> Result<Decision, CallError>
+    ensures { Meets (Conferences.change_name asked.now conference name.now) result }
+{
+    let caller = asked.caller();
+    let rows = asked.rows();
+    login_guard(&caller)?;
+    conference_guard(rows, &caller, conference)?;
+    own_guard(rows, &caller, conference)?;
+    name_guard(name.as_slice())?;
+    rows.free_guard(conference, name.as_slice())?;
+    let name = Bytes::copy_of(asked.allocator(), name.as_slice())?;
+    Ok(asked.with_effect(Effect::ConfNamed {
+        number: conference,
+        name,
+    })?)
+}
+
+/// Call 88, create-conf: the caller is its creator and its supervisor.
+#[tactic(auto, unfolding(kom_model::specs::Db::next_conference_of))]
+pub fn create_conf(asked: &Asked<'_>, given: &NewConference) -> Result<Decision, CallError>
+    ensures { Meets (Conferences.create_conf asked.now given.now) result }
+{
+    let caller = asked.caller();
+    let rows = asked.rows();
+    login_guard(&caller)?;
+    create_conf_guard(rows, &caller)?;
+    name_guard(given.name.as_slice())?;
+    unless(!is_letterbox(given.kind), 23, 0)?;
+    type_guard(given.kind)?;
+    rows.free_guard(0, given.name.as_slice())?;
+    rows.drawn_guard()?;
+    items_guard(&given.aux_items)?;
+    Ok(Decision {
+        reply: Reply::Number(rows.next_conference()),
+        effects: made_effects(asked, &caller, given)?,
+        changes: Sequence::new(asked.allocator()),
+    })
+}
+
+/// The caller may make conferences, or its session is strong.
+fn create_conf_guard(rows: &State, caller: &Viewer) -> Result<(), Refused>
+    ensures { Guards (Conferences.create_conf_guard rows.now.db caller.now) result }
+{
+    unless(
+        may_make_conferences(rows, caller.person) || caller.strong,
+        12,
+        0,
+    )
+}
+
+fn may_make_conferences(rows: &State, person: u32) -> bool
+    ensures { result ≡ Conferences.may_make_conferences rows.now.db person }
+{
+    match rows.person(person) {
+        None => false,
+        Some(row) => row.privileges & MAY_CREATE != 0,
+    }
+}
+
+fn is_letterbox(kind: u8) -> bool
+    ensures { result ≡ is_letterbox kind }
+{
+    kind & LETTERBOX != 0
+}
+
+/// The conference is added, and counted among those that the caller made.
+#[tactic(auto, unfolding(kom_model::specs::Db::next_conference_of))]
+fn made_effects(
+    asked: &Asked<'_>,
+    caller: &Viewer,
+    given: &NewConference,
+) -> Result<EffectList, Memory>
+    ensures { let by = caller.now.person in IfOk result (λ effects. effects
+        ≡ Effect.ConfAdded (next_conference_of asked.now.db) given.now.name given.now.kind
+        asked.now.moment by by ∷ counts by Counter.CreatedConferences 1) }
+{
+    let alloc = asked.allocator();
+    let mut effects = Sequence::new(alloc);
+    effects.push(Effect::ConfAdded {
+        number: asked.rows().next_conference(),
+        name: Bytes::copy_of(alloc, given.name.as_slice())?,
+        kind: given.kind,
+        at: asked.moment(),
+        creator: caller.person,
+        supervisor: caller.person,
+    })?;
+    effects.push(Effect::Counted {
+        number: caller.person,
+        counter: Counter::CreatedConferences,
+        by: 1,
+    })?;
+    Ok(effects)
+}
