@@ -1,0 +1,160 @@
+ghost use Rattle.std.specs.Prelude.{◌≡◌, IfOk};
+ghost use Rattle.kom_model.specs.calls.Call.{Meets};
+ghost use Rattle.kom_model.specs.calls.Guards.{Guards};
+ghost use Rattle.kom_model.specs.calls.Persons as Persons;
+
+use crate::leaving::count;
+use access_rights::{
+    items_guard, login_guard, name_guard, own_guard, size_guard, strong_guard, unless,
+};
+use kom_model::{CallError, Refused, Viewer};
+use kom_state::{Asked, State};
+use kom_types::{
+    Bytes, Counter, Decision, Effect, EffectList, Memory, NewPerson, PasswordChange, PersonField,
+    Reply, Sequence,
+};
+
+/// How many bytes a password has at most.
+const LONGEST_PASSWORD: u32 = 128;
+
+/// The privilege to make persons.
+const CREATES_PERSONS: u16 = 4096;
+
+/// The type of a letterbox that is made, and the privileges of a person that is.
+const LETTERBOX: u8 = 152;
+
+const FIRST_PRIVILEGES: u16 = 7168;
+
+/// Call 7, set-priv-bits.
+pub fn set_priv_bits(asked: &Asked<'_>, person: u32, privileges: u16) -> Result<Decision, CallError>
+    ensures { Meets (Persons.set_priv_bits asked.now person privileges) result }
+{
+    let caller = asked.caller();
+    login_guard(&caller)?;
+    asked.rows().person_guard(person)?;
+    strong_guard(&caller)?;
+    Ok(asked.with_effect(Effect::PersonField {
+        number: person,
+        field: PersonField::Privileges(privileges),
+    })?)
+}
+
+/// Call 8, set-passwd: the old password is that of the caller.
+pub fn set_passwd(asked: &Asked<'_>, given: &PasswordChange) -> Result<Decision, CallError>
+    ensures { Meets (Persons.set_passwd asked.now given.now) result }
+{
+    let caller = asked.caller();
+    let rows = asked.rows();
+    login_guard(&caller)?;
+    rows.person_guard(given.person)?;
+    own_guard(rows, &caller, given.person)?;
+    rows.password_guard(&caller, caller.person, given.old_password.as_slice())?;
+    size_guard(given.new_password.as_slice(), LONGEST_PASSWORD)?;
+    Ok(asked.with_effect(Effect::Password {
+        number: given.person,
+        hash: persons::hash(given.person, given.new_password.as_slice()),
+    })?)
+}
+
+/// Call 89, create-person: nobody is logged in by it.
+#[tactic(auto, unfolding(kom_model::specs::Db::next_conference_of))]
+pub fn create_person(asked: &Asked<'_>, given: &NewPerson) -> Result<Decision, CallError>
+    ensures { Meets (Persons.create_person asked.now given.now) result }
+{
+    let rows = asked.rows();
+    create_person_guard(rows, &asked.caller())?;
+    name_guard(given.name.as_slice())?;
+    size_guard(given.password.as_slice(), LONGEST_PASSWORD)?;
+    rows.free_guard(0, given.name.as_slice())?;
+    rows.drawn_guard()?;
+    items_guard(&given.aux_items)?;
+    let number = rows.next_conference();
+    Ok(Decision {
+        reply: Reply::Number(number),
+        effects: person_effects(asked, number, given)?,
+        changes: Sequence::new(asked.allocator()),
+    })
+}
+
+/// The caller may make persons.
+fn create_person_guard(rows: &State, caller: &Viewer) -> Result<(), Refused>
+    ensures { Guards (Persons.create_person_guard rows.now.db caller.now) result }
+{
+    unless(
+        may_make_persons(rows, caller.person) || caller.strong,
+        12,
+        0,
+    )
+}
+
+/// Whether nobody is logged in, or a person that may make persons.
+fn may_make_persons(rows: &State, person: u32) -> bool
+    ensures { result ≡ Persons.may_make_persons rows.now.db person }
+{
+    match rows.person(person) {
+        None => person == 0,
+        Some(row) => row.privileges & CREATES_PERSONS != 0,
+    }
+}
+
+/// A person of this number is made, with a letterbox in which it is a member.
+fn person_effects(asked: &Asked<'_>, person: u32, given: &NewPerson) -> Result<EffectList, Memory>
+    ensures { IfOk result (λ effects. effects
+        ≡ Persons.person_effects asked.now person given.now) }
+{
+    let caller = asked.caller().person;
+    let by = maker(caller, person);
+    let mut effects = Sequence::new(asked.allocator());
+    effects.push(Effect::ConfAdded {
+        number: person,
+        name: Bytes::copy_of(asked.allocator(), given.name.as_slice())?,
+        kind: LETTERBOX,
+        at: asked.moment(),
+        creator: by,
+        supervisor: person,
+    })?;
+    effects.push(Effect::PersonAdded {
+        number: person,
+        privileges: FIRST_PRIVILEGES,
+        flags: given.flags,
+        last_login: asked.moment(),
+    })?;
+    effects.push(Effect::Password {
+        number: person,
+        hash: persons::hash(person, given.password.as_slice()),
+    })?;
+    effects.push(Effect::MemberSet {
+        person,
+        conference: person,
+        position: 0,
+        priority: u8::MAX,
+        added_by: by,
+        added_at: asked.moment(),
+        kind: 0,
+    })?;
+    if caller != 0 {
+        count(&mut effects, caller, Counter::CreatedPersons, 1)?;
+    }
+    Ok(effects)
+}
+
+/// Who makes a person: the caller, or else the person itself.
+fn maker(caller: u32, person: u32) -> u32
+    ensures { result ≡ Persons.maker caller person }
+{
+    if caller == 0 { person } else { caller }
+}
+
+/// Call 106, set-pers-flags.
+pub fn set_pers_flags(asked: &Asked<'_>, person: u32, flags: u8) -> Result<Decision, CallError>
+    ensures { Meets (Persons.set_pers_flags asked.now person flags) result }
+{
+    let caller = asked.caller();
+    login_guard(&caller)?;
+    asked.rows().person_guard(person)?;
+    own_guard(asked.rows(), &caller, person)?;
+    Ok(asked.with_effect(Effect::PersonField {
+        number: person,
+        field: PersonField::Flags(flags),
+    })?)
+}

@@ -1,0 +1,154 @@
+ghost use Rattle.std.specs.Prelude.{◌≡◌, not, find, IfOk};
+ghost use Rattle.kom_model.specs.calls.Call.{Meets};
+ghost use Rattle.kom_model.specs.calls.Sessions as Sessions;
+ghost use Rattle.kom_model.specs.calls.Sessions.{is_message as is_message_number};
+
+use crate::leaving::{leaving_changes, leaving_effects};
+use access_rights::{login_guard, size_guard, unless};
+use kom_model::CallError;
+use kom_state::Asked;
+use kom_types::{Bytes, ClientVersion, Decision, Effect, Memory, Numbers, Reply, SessionChange};
+
+/// How many bytes there are at most in what a person is said to be doing, and in the name and the
+/// version of a client.
+const LONGEST_NAME: u32 = 60;
+
+/// The numbers of messages.
+const MESSAGES: [u32; 20] = [
+    0, 1, 2, 5, 6, 7, 8, 9, 11, 12, 13, 14, 15, 16, 17, 18, 19, 20, 21, 22,
+];
+
+/// Call 1, logout: whoever is logged in is logged out. It is done also if nobody is.
+pub fn logout(asked: &Asked<'_>) -> Result<Decision, CallError>
+    ensures { Meets (Sessions.logout asked.now) result }
+{
+    Ok(Decision {
+        reply: Reply::Done,
+        effects: leaving_effects(asked)?,
+        changes: leaving_changes(asked)?,
+    })
+}
+
+/// Call 4, change-what-i-am-doing.
+pub fn change_what_i_am_doing(asked: &Asked<'_>, doing: &Bytes) -> Result<Decision, CallError>
+    ensures { Meets (Sessions.change_what_i_am_doing asked.now doing.now) result }
+{
+    size_guard(doing.as_slice(), LONGEST_NAME)?;
+    let doing = Bytes::copy_of(asked.allocator(), doing.as_slice())?;
+    Ok(asked.with_change(SessionChange::Doing(asked.session(), doing))?)
+}
+
+/// Call 42, enable: the session has this level of rights, of which 255 is the highest.
+pub fn enable(asked: &Asked<'_>, level: u8) -> Result<Decision, CallError>
+    ensures { Meets (Sessions.enable asked.now level) result }
+{
+    login_guard(&asked.caller())?;
+    Ok(asked.with_change(SessionChange::Level(asked.session(), level))?)
+}
+
+/// Call 62, login: whoever is logged in is logged out first.
+pub fn login(
+    asked: &Asked<'_>,
+    person: u32,
+    password: &Bytes,
+    invisible: bool,
+) -> Result<Decision, CallError>
+    ensures { Meets (Sessions.login asked.now person password.now invisible) result }
+{
+    let rows = asked.rows();
+    rows.person_guard(person)?;
+    rows.password_guard(&asked.caller(), person, password.as_slice())?;
+    let mut effects = leaving_effects(asked)?;
+    effects.push(Effect::LoggedIn {
+        number: person,
+        at: asked.moment(),
+        user: user_of(asked)?,
+    })?;
+    let mut changes = leaving_changes(asked)?;
+    changes.push(SessionChange::Person(asked.session(), person, invisible))?;
+    Ok(Decision {
+        reply: Reply::Done,
+        effects,
+        changes,
+    })
+}
+
+/// The user name of the caller's greeting.
+fn user_of(asked: &Asked<'_>) -> Result<Bytes, Memory>
+    ensures { IfOk result (λ user. user ≡ Sessions.user_of asked.now) }
+{
+    match asked.seat() {
+        None => Ok(Bytes::new(asked.allocator())),
+        Some(seat) => Bytes::copy_of(asked.allocator(), seat.user.as_slice()),
+    }
+}
+
+/// Call 69, set-client-version: a client tells it once.
+pub fn set_client_version(asked: &Asked<'_>, given: &ClientVersion) -> Result<Decision, CallError>
+    ensures { Meets (Sessions.set_client_version asked.now given.now) result }
+{
+    size_guard(given.name.as_slice(), LONGEST_NAME)?;
+    size_guard(given.version.as_slice(), LONGEST_NAME)?;
+    unless(!has_told(asked), 41, 0)?;
+    let name = Bytes::copy_of(asked.allocator(), given.name.as_slice())?;
+    let version = Bytes::copy_of(asked.allocator(), given.version.as_slice())?;
+    Ok(asked.with_change(SessionChange::Client(asked.session(), name, version))?)
+}
+
+/// Whether the caller's client has told what it is.
+fn has_told(asked: &Asked<'_>) -> bool
+    ensures { result ≡ Sessions.has_told asked.now }
+{
+    match asked.seat() {
+        None => false,
+        Some(seat) => seat.client_set,
+    }
+}
+
+/// Call 80, accept-async: the session accepts the messages of these numbers. One that is of no
+/// message is refused, and the others are accepted all the same.
+pub fn accept_async(asked: &Asked<'_>, numbers: &Numbers) -> Result<Decision, CallError>
+    ensures { Meets (Sessions.accept_async asked.now numbers.now) result }
+{
+    let numbers = numbers.as_slice();
+    let change = SessionChange::Accept(asked.session(), bits_of(numbers));
+    let mut decision = asked.with_change(change)?;
+    if let Some(number) = first_other(numbers) {
+        decision.reply = Reply::Refused(50, number);
+    }
+    Ok(decision)
+}
+
+/// The numbers of messages among these, as a bit for each.
+#[tactic(auto, using(crate::proofs::Messages::bits_set, crate::proofs::Messages::bits_passed))]
+fn bits_of(numbers: &[u32]) -> u32
+    ensures { result ≡ Sessions.accepted_bits numbers.now }
+{
+    let mut bits = 0;
+    for number in numbers {
+        if is_message(*number) {
+            bits |= 1 << *number;
+        }
+    }
+    bits
+}
+
+/// The first number that is of no message.
+fn first_other(numbers: &[u32]) -> Option<u32>
+    ensures { result ≡ find (λ number. not (is_message_number number)) numbers.now }
+{
+    numbers.iter().copied().find(|number| !is_message(*number))
+}
+
+fn is_message(number: u32) -> bool
+    ensures { result ≡ is_message_number number }
+{
+    MESSAGES.contains(&number)
+}
+
+/// Call 82, user-active.
+pub fn user_active(asked: &Asked<'_>) -> Result<Decision, CallError>
+    ensures { Meets (Sessions.user_active asked.now) result }
+{
+    Ok(asked.with_change(SessionChange::Active(asked.session()))?)
+}
