@@ -1,8 +1,6 @@
 pub mod Rows
-pub mod Finding
-pub mod Messages
-pub mod Defining
+pub mod Effects
+pub mod Orderly
+pub mod Firm
 pub mod Sending
 pub mod Making
-pub mod Soundness
-pub mod Effectless

@@ -1,13 +1,16 @@
 -- What a call of an entry comes to.
-use Rattle.std.specs.Prelude.{◌≡◌, ℕ, true, false, List, Option, Some, None}
+use Rattle.std.specs.Prelude.{◌≡◌, true, List, Result, Ok, Err}
 use Rattle.kom_types.specs.declared.acts.Act.{Act}
 use Rattle.kom_types.specs.declared.acts.Act.TheVariants as act
 use Rattle.kom_types.specs.declared.acts.Entry.{Entry}
+use Rattle.kom_types.specs.declared.calls.Call.{Call}
+use Rattle.kom_types.specs.declared.calls.Call.TheVariants as call
 use Rattle.kom_types.specs.declared.decisions.Decision.{Decision}
 use Rattle.kom_types.specs.declared.items.Item.{Item}
 use Rattle.kom_types.specs.declared.items.Item.TheVariants as item
 use Rattle.kom_types.specs.declared.replies.Reply.{Reply}
-use Rattle.kom_types.specs.declared.seats.Seat.{Seat}
+use Rattle.kom_model.specs.declared.call_errors.CallError.{CallError}
+use Rattle.kom_model.specs.declared.call_errors.CallError.TheVariants as error
 use Rattle.kom_model.specs.State.{State}
 use Rattle.kom_model.specs.calls.Call.{Definition, decided}
 use Rattle.kom_model.specs.Decide.{asked_in, is_firm}
@@ -23,10 +26,31 @@ IsCall (act.Drain session) = ⊥
 IsCall act.Flush = ⊥
 IsCall (act.Close session) = ⊥
 
--- the messages that a session accepts, as a bit for each: none where it is not there
-abbrev pub bits_accepted : Option Seat → ℕ
-bits_accepted (Some seat) = seat.accepted
-bits_accepted None = 0
+-- the call may change something: it is none of those that only ask, and was not refused by the
+-- reader
+abbrev pub MayChange : Call → Type 0
+MayChange call.GetTime = ⊥
+MayChange call.WhoAmI = ⊥
+MayChange call.FirstUnusedConfNo = ⊥
+MayChange (call.FindNextConfNo start) = ⊥
+MayChange (call.FindPreviousConfNo start) = ⊥
+MayChange call.QueryAsync = ⊥
+MayChange (call.GetClientName session) = ⊥
+MayChange (call.GetClientVersion session) = ⊥
+MayChange call.GetVersionInfo = ⊥
+MayChange call.GetInfo = ⊥
+MayChange call.QueryPredefinedAuxItems = ⊥
+MayChange (call.LookupZName name persons conferences) = ⊥
+MayChange (call.GetUconfStat conference) = ⊥
+MayChange call.GetCollateTable = ⊥
+MayChange (call.Refused code status) = ⊥
+MayChange other = Unit {0}
+
+-- memory did not run out
+abbrev pub HadMemory : Result Decision CallError → Type 0
+HadMemory (Ok decision) = Unit {0}
+HadMemory (Err (error.Refused refused)) = Unit {0}
+HadMemory (Err error.Memory) = ⊥
 
 -- the item is a reply
 abbrev pub IsReply : Item → Type 0

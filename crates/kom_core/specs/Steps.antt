@@ -6,9 +6,9 @@ use Rattle.kom_types.specs.declared.acts.Act.TheVariants as act
 use Rattle.kom_types.specs.declared.acts.Entry.{Entry}
 use Rattle.kom_types.specs.declared.acts.Record.{Record}
 use Rattle.kom_types.specs.declared.answers.Refusal.{Refusal}
+use Rattle.kom_types.specs.declared.replies.Reply.{Reply}
 use Rattle.kom_types.specs.declared.replies.Reply.TheVariants as reply
 use Rattle.kom_types.specs.declared.decisions.Decision.{Decision}
-use Rattle.kom_types.specs.declared.items.Item.TheVariants as item
 use Rattle.kom_types.specs.declared.session_changes.SessionChange.{SessionChange}
 use Rattle.kom_types.specs.declared.session_changes.SessionChange.TheVariants.{Stop}
 use Rattle.kom_types.specs.Sessions.{waiting_limits, changed_session, is_stop}
@@ -69,6 +69,12 @@ abbrev pub ComesTo : State → Entry → Decision → List Delivery → Type 0
 ComesTo state entry decision messages =
     Decides state entry decision × SendsMessages state entry decision messages
 
+-- A call was carried out, but for what it sends: these messages, and this reply.
+abbrev pub CarriesOut : State → Entry → Reply → List Delivery → State → Type 0
+CarriesOut old entry reply messages new =
+    (decision : Decision) × ComesTo old entry decision messages × (reply ≡ decision.reply)
+    × (new ≡ carry_out (moment_of old entry.moment) decision old)
+
 -- A call was carried out and answered; or memory ran out, of which its reply tells, and it is not
 -- firm.
 abbrev pub Answers : State → Entry → ℕ → ℕ → Bool → State → Type 0
@@ -86,4 +92,5 @@ IsOf None change = change ≡ Stop
 
 -- the act of a greeting, by this pass at this moment
 abbrev pub greeting : ℕ → ℕ → List ℕ → List ℕ → Entry
-greeting pass moment user host = record { pass = pass; moment = moment; act = act.Connect user host }
+greeting pass moment user host =
+    record { pass = pass; moment = moment; act = act.Connect user host }

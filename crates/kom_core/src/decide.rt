@@ -1,15 +1,16 @@
-ghost use Rattle.std.specs.Prelude.{◌≡◌, ℕ, ◌^◌, ◌-◌, true, [], length, min, IfOk, IsOk};
+ghost use Rattle.std.specs.Prelude.{◌≡◌, ◌^◌, ◌-◌, true, length, min, IfOk, IsOk};
 ghost use Rattle.kom_types.specs.declared.items.Item.TheVariants as item;
 ghost use Rattle.kom_types.specs.Printing.{print_of};
-ghost use Rattle.kom_model.specs.Decide.{asked_in, definition_of, is_firm};
-ghost use Rattle.kom_model.specs.Decide.{limited as limited_decision};
-ghost use Rattle.kom_model.specs.After.{moment_of};
+ghost use Rattle.kom_model.specs.calls.Call.{refuse};
+ghost use Rattle.kom_model.specs.Decide.{definition_of, is_firm, limited as limited_decision};
 ghost use Rattle.kom_core.specs.Deciding.{IsCall, Defines, Decides, DecidesFirm, IsReply, HasBody};
 
-use crate::calls::{on_aux_items, on_server, on_sessions};
+use crate::calls;
 use crate::server_state::State;
+use kom_model::{CallError, Refused};
 use kom_replies::printed_len;
-use kom_types::{Act, Call, Decision, Entry, Item, Memory, Moment, Reply, Sequence};
+use kom_state::Asked;
+use kom_types::{Act, Call, Decision, Entry, Item, Memory, Reply, Sequence};
 use std::alloc::Global;
 
 /// How many bytes the line of a reply has at most.
@@ -29,7 +30,7 @@ pub(crate) fn decide(state: &State, entry: &Entry) -> Result<Decision, Memory>
             call,
         } => {
             let moment = state.moment_of(entry.moment);
-            let decision = define(state, moment, *session, call)?;
+            let decision = define(&state.asked(moment, *session, *reference), call)?;
             Ok(limited(state.allocator(), *reference, decision))
         }
         _ => unreachable!(),
@@ -37,24 +38,14 @@ pub(crate) fn decide(state: &State, entry: &Entry) -> Result<Decision, Memory>
 }
 
 /// What a session's call comes to by its definition, but for the last guard.
-#[tactic(auto, unfolding(kom_model::specs::Decide::is_firm))]
-fn define(state: &State, moment: Moment, session: u32, call: &Call) -> Result<Decision, Memory>
-    ensures defined { IfOk result (λ decision. (reference : ℕ)
-        → Defines (definition_of (asked_in state.now moment session reference) call.now) decision) }
-    ensures firm { (reference : ℕ)
-        → is_firm (asked_in state.now moment session reference) call.now ≡ true → IsOk result }
+fn define(asked: &Asked<'_>, call: &Call) -> Result<Decision, Memory>
+    ensures defined { IfOk result (Defines (definition_of asked.now call.now)) }
+    ensures firm { is_firm asked.now call.now ≡ true → IsOk result }
 {
-    let alloc = state.allocator();
-    match call {
-        Call::GetTime => Ok(on_server::get_time(alloc, moment)),
-        Call::WhoAmI => Ok(on_sessions::who_am_i(alloc, session)),
-        Call::GetVersionInfo => on_server::get_version_info(alloc),
-        Call::AcceptAsync { numbers } => on_sessions::accept_async(alloc, session, numbers),
-        Call::QueryAsync => on_sessions::query_async(state, session),
-        Call::GetInfo => on_server::get_info(alloc),
-        Call::QueryPredefinedAuxItems => on_aux_items::query_predefined_aux_items(alloc),
-        Call::Refused(code, status) => Ok(answer(alloc, Reply::Refused(*code, *status))),
-        _ => Ok(answer(alloc, Reply::Refused(2, 0))),
+    match calls::make(asked, call) {
+        Ok(decision) => Ok(decision),
+        Err(CallError::Refused(refused)) => Ok(refuse(asked.allocator(), refused)),
+        Err(CallError::Memory) => Err(Memory),
     }
 }
 
@@ -71,7 +62,13 @@ fn limited(alloc: Global, reference: u32, decision: Decision) -> Decision
         }
     } else {
         drop((reply, decision.effects, decision.changes));
-        answer(alloc, Reply::Refused(46, 0))
+        refuse(
+            alloc,
+            Refused {
+                code: 46,
+                status: 0,
+            },
+        )
     }
 }
 
@@ -96,12 +93,12 @@ fn body_of(item: Item) -> Reply
     }
 }
 
-/// A call that changes nothing is answered so.
-pub(crate) fn answer(alloc: Global, reply: Reply) -> Decision
-    ensures { result ≡ record { reply = reply; effects = []; changes = [] } }
+/// A refused call changes nothing.
+fn refuse(alloc: Global, refused: Refused) -> Decision
+    ensures { result ≡ refuse refused }
 {
     Decision {
-        reply,
+        reply: Reply::Refused(refused.code, refused.status),
         effects: Sequence::new(alloc),
         changes: Sequence::new(alloc),
     }

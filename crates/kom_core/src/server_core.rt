@@ -1,11 +1,13 @@
 ghost use Rattle.std.specs.Prelude.{◌≡◌, ◌+◌, ◌^◌, ◌<◌, ◌≤◌, ◌||◌, IfOk, OnErr, IsOk, None};
-ghost use Rattle.kom_model.specs.State.{IsSound, empty};
+ghost use Rattle.kom_model.specs.Effects.{IsProtected};
+ghost use Rattle.kom_model.specs.Initial.{initial};
+ghost use Rattle.kom_model.specs.State.{IsSound, opening};
 ghost use Rattle.kom_core.specs.Acts.{items_of, Answered, Kinded, IsUnchanged, TakesNone};
 
 use crate::answer_kind::AnswerKind;
 use crate::server_state::State;
 use arrayvec::ArrayVec;
-use kom_types::{Answer, Entry, Item, Memory, Record};
+use kom_types::{Answer, Entry, Item, Memory, Moment, Record};
 use std::alloc::Global;
 use std::marker::Model;
 
@@ -28,13 +30,24 @@ impl Model for Core {
 }
 
 impl Core {
-    /// A core before its first act.
-    pub fn fresh(alloc: Global) -> Core
-        ensures value { result ≡ record { state = empty; last = None } }
+    /// A core before its first act, of a new server whose administrator has this password.
+    pub fn fresh(alloc: Global, password: &[u8], moment: Moment) -> Result<Core, Memory>
+        ensures value { IfOk result (λ core. core
+            ≡ record { state = opening (initial password.now moment); last = None }) }
+        ensures sound { IfOk result (λ core. IsSound core.state) }
+    {
+        let rows = kom_state::State::initial(alloc, password, moment)?;
+        Ok(Core::of(alloc, rows))
+    }
+
+    /// A core before its first act, with these stored rows.
+    pub fn of(alloc: Global, rows: kom_state::State) -> Core
+        requires { IsProtected rows.db }
+        ensures value { result ≡ record { state = opening rows.db; last = None } }
         ensures sound { IsSound result.state }
     {
         Core {
-            server: State::empty(alloc),
+            server: State::opening(alloc, rows),
             last: None,
         }
     }

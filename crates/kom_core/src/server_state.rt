@@ -1,11 +1,9 @@
-ghost use Rattle.std.specs.Prelude.{◌≡◌, ◌+◌, ◌^◌, ◌<◌, ◌==◌, ◌||◌, [], find, false, max, None};
-ghost use Rattle.std.specs.Prelude.{option_copied, IfOk, OnErr, IsOk};
-ghost use Rattle.kom_types.specs.Sessions.{waiting_limits, queued};
-ghost use Rattle.kom_model.specs.State.{IsSound, empty as empty_state, seats_of};
-ghost use Rattle.kom_model.specs.Refusal.{refusal_of as refusal_of_act};
+ghost use Rattle.std.specs.Prelude.{◌≡◌, ◌+◌, ◌^◌, ◌<◌, ◌||◌, [], max, IfOk, OnErr, IsOk};
+ghost use Rattle.kom_model.specs.State.{IsSound, opening as opening_state};
+ghost use Rattle.kom_model.specs.Decide.{asked_in};
 ghost use Rattle.kom_model.specs.After.{moment_of as moment_of_entry};
 ghost use Rattle.kom_core.specs.Acts.{items_of, TakesNone};
-ghost use Rattle.kom_core.specs.Steps.{Changes, Steps, counted};
+ghost use Rattle.kom_core.specs.Steps.{Steps, counted};
 
 mod acting;
 mod calling;
@@ -14,16 +12,18 @@ mod refusing;
 
 use crate::answer_kind::AnswerKind;
 use arrayvec::ArrayVec;
-use kom_types::{Entry, Item, Memory, Moment, Refusal, Seat};
+use kom_state::Asked;
+use kom_types::{Entry, Item, Memory, Moment, Refusal};
 use sessions::Sessions;
 use std::alloc::Global;
 use std::marker::Model;
 
-/// The server: its sessions, how many were connected, the stable number, how many entries its
-/// history has, the moment of the last one, whether it was shut down, and whether its store refused
-/// a flush.
+/// The server: its stored rows, its sessions, how many were connected, the stable number, how many
+/// entries its history has, the moment of the last one, whether it was shut down, and whether its
+/// store refused a flush.
 #[derive(Drop)]
 pub(crate) struct State {
+    rows: kom_state::State,
     sessions: Sessions,
     connects: u32,
     stable: u64,
@@ -35,13 +35,12 @@ pub(crate) struct State {
 }
 
 impl Model for State {
-    ghost use Rattle.kom_model.specs.Db.{empty_db};
     ghost use Rattle.kom_model.specs.State.{State as Server};
 
     ghost Value = { Server };
 
     ghost view = { λ s. record {
-      db = empty_db;
+      db = s.rows.db;
       sessions = s.sessions;
       connects = s.connects;
       stable = s.stable;
@@ -61,11 +60,12 @@ pub(crate) struct Made {
 }
 
 impl State {
-    /// A server before its first entry.
-    pub(crate) fn empty(alloc: Global) -> State
-        ensures { result ≡ empty_state }
+    /// A server before its first entry, with these stored rows.
+    pub(crate) fn opening(alloc: Global, rows: kom_state::State) -> State
+        ensures { result ≡ opening_state rows.db }
     {
         State {
+            rows,
             sessions: Sessions::new(alloc),
             connects: 0,
             stable: 0,
@@ -81,11 +81,11 @@ impl State {
         self.alloc
     }
 
-    /// All that a call may read of a session, if it is there.
-    pub(crate) fn seat(&self, session: u32) -> Option<&Seat>
-        ensures { option_copied result ≡ find (λ seat. seat.number == session) (seats_of self.now) }
+    /// All that a call of this session may read, at this moment.
+    pub(crate) fn asked(&self, moment: Moment, session: u32, reference: u32) -> Asked<'_>
+        ensures { result ≡ asked_in self.now moment session reference }
     {
-        Some(self.sessions.get(session)?.seat())
+        Asked::new(&self.rows, &self.sessions, moment, session, reference)
     }
 
     /// The moment of an entry for which the pass's clock gave this one.

@@ -11,6 +11,8 @@ use Rattle.kom_model.specs.State.{State, seats_of}
 use Rattle.kom_model.specs.Kinds.{firm_numbers, accept_async, is_among}
 use Rattle.kom_model.specs.calls.Call.{Asked, Definition, decided, refuse, refused}
 use Rattle.kom_model.specs.calls.AuxItems as AuxItems
+use Rattle.kom_model.specs.calls.Conferences as Conferences
+use Rattle.kom_model.specs.calls.Persons as Persons
 use Rattle.kom_model.specs.calls.Server as Server
 use Rattle.kom_model.specs.calls.Sessions as Sessions
 
@@ -27,13 +29,38 @@ asked_in state moment session reference =
 
 -- The definition of each call. One that the server does not make yet is refused as an unknown one.
 abbrev pub definition_of : Asked → Call → Definition
+definition_of asked call.Logout = Sessions.logout asked
+definition_of asked (call.ChangeName conference name) =
+    Conferences.change_name asked conference name
+definition_of asked (call.ChangeWhatIAmDoing doing) = Sessions.change_what_i_am_doing asked doing
+definition_of asked (call.SetPrivBits person privileges) =
+    Persons.set_priv_bits asked person privileges
+definition_of asked (call.SetPasswd change) = Persons.set_passwd asked change
 definition_of asked call.GetTime = Server.get_time asked
+definition_of asked (call.Enable level) = Sessions.enable asked level
 definition_of asked call.WhoAmI = Sessions.who_am_i asked
+definition_of asked (call.Login person password invisible) =
+    Sessions.login asked person password invisible
+definition_of asked (call.SetClientVersion version) = Sessions.set_client_version asked version
+definition_of asked (call.GetClientName session) = Sessions.get_client_name asked session
+definition_of asked (call.GetClientVersion session) = Sessions.get_client_version asked session
 definition_of asked call.GetVersionInfo = Server.get_version_info
+definition_of asked (call.LookupZName pattern persons conferences) =
+    Conferences.lookup_z_name asked pattern persons conferences
+definition_of asked (call.GetUconfStat conference) = Conferences.get_uconf_stat asked conference
 definition_of asked (call.AcceptAsync numbers) = Sessions.accept_async asked numbers
 definition_of asked call.QueryAsync = Sessions.query_async asked
+definition_of asked call.UserActive = Sessions.user_active asked
+definition_of asked call.GetCollateTable = Conferences.get_collate_table
+definition_of asked (call.CreateConf conference) = Conferences.create_conf asked conference
+definition_of asked (call.CreatePerson person) = Persons.create_person asked person
 definition_of asked call.GetInfo = Server.get_info
 definition_of asked call.QueryPredefinedAuxItems = AuxItems.query_predefined_aux_items
+definition_of asked (call.SetPersFlags person flags) = Persons.set_pers_flags asked person flags
+definition_of asked call.FirstUnusedConfNo = Conferences.first_unused_conf_no asked
+definition_of asked (call.FindNextConfNo number) = Conferences.find_next_conf_no asked number
+definition_of asked (call.FindPreviousConfNo number) =
+    Conferences.find_previous_conf_no asked number
 definition_of asked (call.Refused code status) = refused code status
 definition_of asked other = refused 2 0
 

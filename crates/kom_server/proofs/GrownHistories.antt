@@ -21,16 +21,17 @@ use Rattle.kom_links.specs.Doors.{GateView, Gains}
 use Rattle.kom_links.specs.Outside.{LinkView, Rose}
 use Rattle.kom_links.specs.Records.{has_session, has_connect}
 use Rattle.kom_links.specs.Talk.{IsTalk, IsChosen, AreTimed}
-use Rattle.kom_model.specs.State.{State, empty}
+use Rattle.kom_model.specs.State.{State}
 use Rattle.kom_model.specs.After.{MayFollow, after}
 use Rattle.kom_model.specs.Legal.{IsLegal, state_after}
 use Rattle.kom_model.specs.Out.{given_by, given_along}
 use Rattle.kom_session.specs.Ends.{IsEndOf, HasCause, TellsFault, IsOwn, Tells}
-use Rattle.kom_server.specs.Passes.{PassView, of_pass}
+use Rattle.kom_server.specs.Passes.{PassView, start_of, of_pass}
 use Rattle.kom_server.specs.Faults.{fault_in}
-use Rattle.kom_server.specs.Desks.{Kept, WasOverrun, WasDropped, WasStopped, WasFull, IsKnown}
-use Rattle.kom_server.specs.Runs.{given_of, IsCause, TellsOf, Talks, sessions_of, IsOfOne, AllGivenBack, told_sessions, IsRun}
+use Rattle.kom_server.specs.Desks.{Kept, opening_of, desk_view, WasOverrun, WasDropped, WasStopped, WasFull, IsKnown}
+use Rattle.kom_server.specs.Runs.{given_of, IsCause, TellsOf, Talks, sessions_of, IsOfOne, AllGivenBack, told_sessions, IsRun, IsFirstReading}
 use Rattle.kom_server.specs.Serving.{Serves, OneIsOut}
+use Rattle.kom_server.proofs.Starting.{IsStart, starts, same_start}
 use Rattle.kom_server.proofs.Stepping.{IsPlain}
 use Rattle.kom_server.proofs.Histories.{or_first, or_second, not_both, legal_tail, given_along-append, plain, session_of-connect, connect_more, connect_rear, fresh_before}
 use Rattle.kom_server.proofs.TrueFaults.{was_more, stopped_more, full_more}
@@ -136,33 +137,35 @@ alike false xs ys same = same refl
 not_zero : (n : ℕ) → (n == 0) ≡ false → n ≡ 0 → ⊥
 not_zero n some zero = not_both _ (eq-eqb n 0 zero) some
 
-given_of-more : (n : ℕ) (history added : List Record) → IsLegal empty (history ++ added) →
-    AllByRecursion (IsApart n) added → given_of n (history ++ added) ≡ given_of n history
-given_of-more n history added legal apart =
-    alike (n == 0) (given_along empty n (history ++ added)) (given_along empty n history) (λ some.
-    given_along-append empty n history added
+given_of-more : (start : State) (n : ℕ) (history added : List Record) → IsLegal start (history ++ added) →
+    AllByRecursion (IsApart n) added → given_of start n (history ++ added) ≡ given_of start n history
+given_of-more start n history added legal apart =
+    alike (n == 0) (given_along start n (history ++ added)) (given_along start n history) (λ some.
+    given_along-append start n history added
     ∙ ap (λ last.
-    given_along empty n history
-    ++ last) (none_given n (state_after empty history) added (not_zero n some)
-    (legal_tail empty history added legal) apart)
-    ∙ append-nil (given_along empty n history))
+    given_along start n history
+    ++ last) (none_given n (state_after start history) added (not_zero n some)
+    (legal_tail start history added legal) apart)
+    ∙ append-nil (given_along start n history))
 
 -- ---- causes
 
-cause_more : (link : LinkView) (history added : List Record) (session : ℕ) (ending : SessionEnd) →
-    IsLegal empty (history ++ added) → IsCause link history session ending →
-    IsCause link (history ++ added) session ending
-cause_more link history added session end.End legal cause = cause
-cause_more link history added session (end.Broken place) legal cause = cause
-cause_more link history added session end.Overrun legal cause =
-    (cause.0, was_more (λ row. row.overrun) session history added cause.1)
-cause_more link history added session end.Dropped legal cause =
-    (cause.0, was_more (λ row. row.seat.ended) session history added cause.1)
-cause_more link history added session end.Stopped legal cause = (cause.0, stopped_more history added cause.1)
-cause_more link history added session end.LinkFault legal cause = cause
-cause_more link history added session (end.Full number) legal cause =
-    (cause.0, full_more number history added legal cause.1)
-cause_more link history added session end.Memory legal cause = cause
+cause_more : (start : State) → IsStart start →
+    (link : LinkView) (history added : List Record) (session : ℕ) (ending : SessionEnd) →
+    IsLegal start (history ++ added) → IsCause start link history session ending →
+    IsCause start link (history ++ added) session ending
+cause_more start begins link history added session end.End legal cause = cause
+cause_more start begins link history added session (end.Broken place) legal cause = cause
+cause_more start begins link history added session end.Overrun legal cause =
+    (cause.0, was_more start (λ row. row.overrun) session history added cause.1)
+cause_more start begins link history added session end.Dropped legal cause =
+    (cause.0, was_more start (λ row. row.seat.ended) session history added cause.1)
+cause_more start begins link history added session end.Stopped legal cause =
+    (cause.0, stopped_more start history added cause.1)
+cause_more start begins link history added session end.LinkFault legal cause = cause
+cause_more start begins link history added session (end.Full number) legal cause =
+    (cause.0, full_more start begins number history added legal cause.1)
+cause_more start begins link history added session end.Memory legal cause = cause
 
 pub none_rose : (faults : ℕ) → faults ≡ 0 → Rose 0 faults → ⊥
 none_rose faults zero (inl more) = omega arith
@@ -186,75 +189,80 @@ desk_end faults fault ended ending cause other =
     cause.desk (none_rose faults (no_fault faults fault ended ending cause other))
 
 -- what a fault of the desk at the end of a session tells of the history
-abbrev Known_end : List Record → ℕ → SessionEnd → Type 0
-Known_end history session end.End = Unit {0}
-Known_end history session (end.Broken place) = Unit {0}
-Known_end history session end.Overrun = WasOverrun session history
-Known_end history session end.Dropped = WasDropped session history
-Known_end history session end.Stopped = WasStopped history
-Known_end history session end.LinkFault = Unit {0}
-Known_end history session (end.Full number) = WasFull number history
-Known_end history session end.Memory = Unit {0}
+abbrev Known_end : State → List Record → ℕ → SessionEnd → Type 0
+Known_end start history session end.End = Unit {0}
+Known_end start history session (end.Broken place) = Unit {0}
+Known_end start history session end.Overrun = WasOverrun start session history
+Known_end start history session end.Dropped = WasDropped start session history
+Known_end start history session end.Stopped = WasStopped start history
+Known_end start history session end.LinkFault = Unit {0}
+Known_end start history session (end.Full number) = WasFull number history
+Known_end start history session end.Memory = Unit {0}
 
-is_end : (history : List Record) (session : ℕ) (one other : SessionEnd) → one ≡ other →
-    Known_end history session other → Known_end history session one
-is_end history session one other same known = subst (Known_end history session) (sym same) known
+is_end : (start : State) (history : List Record) (session : ℕ) (one other : SessionEnd) → one ≡ other →
+    Known_end start history session other → Known_end start history session one
+is_end start history session one other same known = subst (Known_end start history session) (sym same) known
 
-end_known : (noted : Option DeskFault) (history : List Record) (session : ℕ) (ending : SessionEnd) →
-    IsKnown history session noted → IsEndOf noted ending → Known_end history session ending
-end_known None history session end.End known is = tt
-end_known None history session (end.Broken place) known is = tt
-end_known None history session end.Overrun known is = absurd is
-end_known None history session end.Dropped known is = absurd is
-end_known None history session end.Stopped known is = absurd is
-end_known None history session end.LinkFault known is = absurd is
-end_known None history session (end.Full number) known is = absurd is
-end_known None history session end.Memory known is = tt
-end_known (Some fault.Memory) history session ending known is = is_end history session ending end.Memory is tt
-end_known (Some (fault.Gone why.Absent)) history session ending known is = absurd known
-end_known (Some (fault.Gone why.Dropped)) history session ending known (inl is) =
-    is_end history session ending end.Dropped is known
-end_known (Some (fault.Gone why.Dropped)) history session ending known (inr is) =
-    is_end history session ending end.Memory is tt
-end_known (Some (fault.Gone why.Overrun)) history session ending known (inl is) =
-    is_end history session ending end.Overrun is known
-end_known (Some (fault.Gone why.Overrun)) history session ending known (inr is) =
-    is_end history session ending end.Memory is tt
-end_known (Some (fault.Gone why.Stopped)) history session ending known (inl is) =
-    is_end history session ending end.Stopped is known
-end_known (Some (fault.Gone why.Stopped)) history session ending known (inr is) =
-    is_end history session ending end.Memory is tt
-end_known (Some (fault.Full number)) history session ending known (inl is) =
-    is_end history session ending (end.Full number) is known
-end_known (Some (fault.Full number)) history session ending known (inr is) =
-    is_end history session ending end.Memory is tt
+end_known : (start : State) (noted : Option DeskFault) (history : List Record) (session : ℕ) (ending : SessionEnd) →
+    IsKnown start history session noted → IsEndOf noted ending → Known_end start history session ending
+end_known start None history session end.End known is = tt
+end_known start None history session (end.Broken place) known is = tt
+end_known start None history session end.Overrun known is = absurd is
+end_known start None history session end.Dropped known is = absurd is
+end_known start None history session end.Stopped known is = absurd is
+end_known start None history session end.LinkFault known is = absurd is
+end_known start None history session (end.Full number) known is = absurd is
+end_known start None history session end.Memory known is = tt
+end_known start (Some fault.Memory) history session ending known is =
+    is_end start history session ending end.Memory is tt
+end_known start (Some (fault.Gone why.Absent)) history session ending known is = absurd known
+end_known start (Some (fault.Gone why.Dropped)) history session ending known (inl is) =
+    is_end start history session ending end.Dropped is known
+end_known start (Some (fault.Gone why.Dropped)) history session ending known (inr is) =
+    is_end start history session ending end.Memory is tt
+end_known start (Some (fault.Gone why.Overrun)) history session ending known (inl is) =
+    is_end start history session ending end.Overrun is known
+end_known start (Some (fault.Gone why.Overrun)) history session ending known (inr is) =
+    is_end start history session ending end.Memory is tt
+end_known start (Some (fault.Gone why.Stopped)) history session ending known (inl is) =
+    is_end start history session ending end.Stopped is known
+end_known start (Some (fault.Gone why.Stopped)) history session ending known (inr is) =
+    is_end start history session ending end.Memory is tt
+end_known start (Some (fault.Full number)) history session ending known (inl is) =
+    is_end start history session ending (end.Full number) is known
+end_known start (Some (fault.Full number)) history session ending known (inr is) =
+    is_end start history session ending end.Memory is tt
 
-cause_new : (link : LinkView) (noted : Option DeskFault) (history : List Record) (session : ℕ) (ending : SessionEnd) →
-    HasCause 0 link.faults noted link.ended ending → IsKnown history session noted →
-    IsCause link history session ending
-cause_new link noted history session end.End cause known =
+cause_new : (start : State) (link : LinkView) (noted : Option DeskFault) (history : List Record) (session : ℕ)
+    (ending : SessionEnd) →
+    HasCause 0 link.faults noted link.ended ending → IsKnown start history session noted →
+    IsCause start link history session ending
+cause_new start link noted history session end.End cause known =
     (no_fault link.faults noted link.ended end.End cause (λ e. cc), cause.has_ended refl)
-cause_new link noted history session (end.Broken place) cause known =
+cause_new start link noted history session (end.Broken place) cause known =
     no_fault link.faults noted link.ended (end.Broken place) cause (λ e. cc)
-cause_new link noted history session end.Overrun cause known = (
+cause_new start link noted history session end.Overrun cause known = (
   no_fault link.faults noted link.ended end.Overrun cause (λ e. cc),
-  end_known noted history session end.Overrun known (desk_end link.faults noted link.ended end.Overrun cause (λ e. cc)),
+  end_known start noted history session end.Overrun known
+      (desk_end link.faults noted link.ended end.Overrun cause (λ e. cc)),
 )
-cause_new link noted history session end.Dropped cause known = (
+cause_new start link noted history session end.Dropped cause known = (
   no_fault link.faults noted link.ended end.Dropped cause (λ e. cc),
-  end_known noted history session end.Dropped known (desk_end link.faults noted link.ended end.Dropped cause (λ e. cc)),
+  end_known start noted history session end.Dropped known
+      (desk_end link.faults noted link.ended end.Dropped cause (λ e. cc)),
 )
-cause_new link noted history session end.Stopped cause known = (
+cause_new start link noted history session end.Stopped cause known = (
   no_fault link.faults noted link.ended end.Stopped cause (λ e. cc),
-  end_known noted history session end.Stopped known (desk_end link.faults noted link.ended end.Stopped cause (λ e. cc)),
+  end_known start noted history session end.Stopped known
+      (desk_end link.faults noted link.ended end.Stopped cause (λ e. cc)),
 )
-cause_new link noted history session end.LinkFault cause known = rose_some link.faults (cause.link_fault refl)
-cause_new link noted history session (end.Full number) cause known = (
+cause_new start link noted history session end.LinkFault cause known = rose_some link.faults (cause.link_fault refl)
+cause_new start link noted history session (end.Full number) cause known = (
   no_fault link.faults noted link.ended (end.Full number) cause (λ e. cc),
-  end_known noted history session (end.Full number) known
+  end_known start noted history session (end.Full number) known
       (desk_end link.faults noted link.ended (end.Full number) cause (λ e. cc)),
 )
-cause_new link noted history session end.Memory cause known =
+cause_new start link noted history session end.Memory cause known =
     no_fault link.faults noted link.ended end.Memory cause (λ e. cc)
 
 is_told : (place : ℕ) (one other : SessionEnd) → one ≡ other → TellsOf place other → TellsOf place one
@@ -279,44 +287,47 @@ told_by place (Some (fault.Full number)) ending (inr is) tells = is_told place e
 
 -- ---- talks
 
-talks_more : (history added : List Record) (link : LinkView) (served : Served) → IsLegal empty (history ++ added) →
-    AllByRecursion (IsApart served.session) added → Talks history history link served →
-    Talks (history ++ added) (history ++ added) link served
-talks_more history added link served legal apart talks = record {
+talks_more : (start : State) → IsStart start → (history added : List Record) (link : LinkView) (served : Served) →
+    IsLegal start (history ++ added) →
+    AllByRecursion (IsApart served.session) added → Talks start history history link served →
+    Talks start (history ++ added) (history ++ added) link served
+talks_more start begins history added link served legal apart talks = record {
   input = talks.input;
   output = talks.output;
   tells = talks.tells;
   talk = subst
       (λ (given : List (List Item)). IsTalk link.host talks.input talks.output link.ended (history
       ++ added) served.session given served.end false)
-      (sym (given_of-more served.session history added legal apart))
+      (sym (given_of-more start served.session history added legal apart))
       (talk_within link.host talks.input talks.output link.ended [] history added served.session
-      (given_of served.session history) served.end false tt apart talks.talk);
+      (given_of start served.session history) served.end false tt apart talks.talk);
   connected = λ some. connect_more served.session history added (talks.connected some);
-  cause = cause_more link history added served.session served.end legal talks.cause;
+  cause = cause_more start begins link history added served.session served.end legal talks.cause;
   told = talks.told;
 }
 
 -- What the service of a link left: the records that it added to the history, and why it ended.
-pub record Service (history added : List Record) (noted : Option DeskFault) (link : LinkView) (served : Served) : Type 0
-  where
-    pub legal : IsLegal empty (history ++ added)
-    pub own : AllByRecursion (IsOwn served.session) added
-    pub fresh : served.session ≢ 0 → has_session served.session history ≡ false
-    pub connected : served.session ≢ 0 → has_connect served.session added ≡ true
-    pub input : List ℕ
-    pub output : List ℕ
-    pub tells : Tells link input output
-    pub talk : IsTalk link.host input output link.ended added served.session (given_of served.session (history ++ added))
-        served.end false
-    pub tells_fault : TellsFault 0 link.faults noted input served.end
-    pub cause : HasCause 0 link.faults noted link.ended served.end
-    pub known : IsKnown (history ++ added) served.session noted
+pub record Service (start : State) (history added : List Record) (noted : Option DeskFault) (link : LinkView)
+    (served : Served) : Type 0 where
+  pub legal : IsLegal start (history ++ added)
+  pub own : AllByRecursion (IsOwn served.session) added
+  pub fresh : served.session ≢ 0 → has_session served.session history ≡ false
+  pub connected : served.session ≢ 0 → has_connect served.session added ≡ true
+  pub input : List ℕ
+  pub output : List ℕ
+  pub tells : Tells link input output
+  pub talk : IsTalk link.host input output link.ended added served.session
+      (given_of start served.session (history ++ added))
+      served.end false
+  pub tells_fault : TellsFault 0 link.faults noted input served.end
+  pub cause : HasCause 0 link.faults noted link.ended served.end
+  pub known : IsKnown start (history ++ added) served.session noted
 
-talks_new : (history added : List Record) (noted : Option DeskFault) (link : LinkView) (served : Served) →
-    Service history added noted link served → Talks (history ++ added) (history ++ added) link served
-talks_new history added noted link served service =
-    let plains : AllByRecursion IsPlain (history ++ added) = plain (history ++ added) service.legal in
+talks_new : (start : State) → IsStart start →
+    (history added : List Record) (noted : Option DeskFault) (link : LinkView) (served : Served) →
+    Service start history added noted link served → Talks start (history ++ added) (history ++ added) link served
+talks_new start begins history added noted link served service =
+    let plains : AllByRecursion IsPlain (history ++ added) = plain start begins (history ++ added) service.legal in
     let apart : AllByRecursion (IsApart served.session) history =
     apart_before served.session history (all_prefix IsPlain history added plains) service.fresh in
     record {
@@ -325,12 +336,12 @@ talks_new history added noted link served service =
       tells = service.tells;
       talk = subst
           (λ (rear : List Record). IsTalk link.host service.input service.output link.ended (history
-          ++ rear) served.session (given_of served.session (history ++ added)) served.end false)
+          ++ rear) served.session (given_of start served.session (history ++ added)) served.end false)
           (append-nil added)
           (talk_within link.host service.input service.output link.ended history added [] served.session
-          (given_of served.session (history ++ added)) served.end false apart tt service.talk);
+          (given_of start served.session (history ++ added)) served.end false apart tt service.talk);
       connected = λ some. connect_rear served.session history added (service.connected some);
-      cause = cause_new link noted (history ++ added) served.session served.end service.cause service.known;
+      cause = cause_new start link noted (history ++ added) served.session served.end service.cause service.known;
       told = λ place is zero. told_by place noted served.end (service.cause.desk (none_rose link.faults zero))
           (λ none. service.tells_fault place is (none_rose link.faults zero) none);
     }
@@ -355,31 +366,33 @@ distinct_push (first ∷ sessions) one distinct apart = (
 )
 
 -- no session of a link that was served before is the new one
-sessions_apart : {L : Type 0} (view : L → LinkView) (links : List (L × Served)) (history : List Record) (one : ℕ) →
-    AllByRecursion (λ back. Talks history history (view back.0) back.1) links → has_session one history ≡ false →
+sessions_apart : {L : Type 0} (view : L → LinkView) (start : State) (links : List (L × Served)) (history : List Record)
+    (one : ℕ) →
+    AllByRecursion (λ back. Talks start history history (view back.0) back.1) links → has_session one history ≡ false →
     AllByRecursion (λ session. nat_eq session one ≡ false) (sessions_of links)
-sessions_apart view [] history one talks fresh = tt
-sessions_apart view (back ∷ links) history one talks fresh =
+sessions_apart view start [] history one talks fresh = tt
+sessions_apart view start (back ∷ links) history one talks fresh =
     elim (cases_Bool (eqb back.1.session 0)) [
-      | inl zero ↦ rw zero (sessions_apart view links history one talks.1 fresh)
+      | inl zero ↦ rw zero (sessions_apart view start links history one talks.1 fresh)
       | inr some ↦
           let there : has_session back.1.session history ≡ true =
           session_of-connect back.1.session history (talks.0.connected (not_zero back.1.session some)) in
           let differs : back.1.session ≡ one → ⊥ =
           λ e. not_both _ there (ap (λ (n : ℕ). has_session n history) e ∙ fresh) in
-          rw some (ne_eqb back.1.session one differs, sessions_apart view links history one talks.1 fresh)
+          rw some (ne_eqb back.1.session one differs, sessions_apart view start links history one talks.1 fresh)
     ]
 
-distinct_more : {L : Type 0} (view : L → LinkView) (links : List (L × Served)) (history : List Record) (link : L)
-    (served : Served) → AllByRecursion (λ back. Talks history history (view back.0) back.1) links →
+distinct_more : {L : Type 0} (view : L → LinkView) (start : State) (links : List (L × Served)) (history : List Record)
+    (link : L)
+    (served : Served) → AllByRecursion (λ back. Talks start history history (view back.0) back.1) links →
     (served.session ≢ 0 → has_session served.session history ≡ false) → IsDistinct nat_eq (sessions_of links) →
     IsDistinct nat_eq (sessions_of (links ++ (link, served) ∷ []))
-distinct_more view links history link served talks fresh distinct =
+distinct_more view start links history link served talks fresh distinct =
     subst (λ (sessions : List ℕ). IsDistinct nat_eq sessions) (sym (sessions_of-append links ((link, served) ∷ [])))
     (elim (cases_Bool (eqb served.session 0)) [
       | inl zero ↦ rw (zero, append-nil (sessions_of links)) distinct
       | inr some ↦ rw some (distinct_push (sessions_of links) served.session distinct
-          (sessions_apart view links history served.session talks (fresh (not_zero served.session some))))
+          (sessions_apart view start links history served.session talks (fresh (not_zero served.session some))))
     ])
 
 owned_more : (sessions more : List ℕ) (made : Record) → IsOfOne sessions made → IsOfOne (sessions ++ more) made
@@ -430,30 +443,48 @@ timed_more gave (Some after) history added timed more =
     (subst (λ (readings : List ℕ). IsChosen (moments_of history ++ moments_of added) readings) (sym more.3)
     (chosen-append (moments_of history) more.0 (moments_of added) more.1 before more.4))
 
+-- ---- the first reading
+
+still_first : (moment : ℕ) (earlier readings : List ℕ) → IsFirstReading moment (Some earlier ∷ []) →
+    IsFirstReading moment (Some (earlier ++ readings) ∷ [])
+still_first moment [] readings first = absurd first
+still_first moment (reading ∷ earlier) readings first = first
+
+first_more : (gave gave' : Option (List ℕ)) (added : List Record) (moment : ℕ) → AreTimed gave gave' added →
+    IsFirstReading moment (gave ∷ []) → IsFirstReading moment (gave' ∷ [])
+first_more gave None added moment timed first = tt
+first_more gave (Some after) added moment timed first =
+    let before : IsFirstReading moment (Some timed.0 ∷ []) =
+    subst (λ (told : Option (List ℕ)). IsFirstReading moment (told ∷ [])) timed.2 first in
+    subst (λ (readings : List ℕ). IsFirstReading moment (Some readings ∷ [])) (sym timed.3)
+    (still_first moment timed.0 timed.1 before)
+
 -- ---- one link more
 
-links_more : {L : Type 0} (view : L → LinkView) (history added : List Record) (noted : Option DeskFault)
-    (links : List (L × Served)) (link : L) (served : Served) → Service history added noted (view link) served →
-    AllByRecursion (λ back. Talks history history (view back.0) back.1) links →
-    AllByRecursion (λ back. Talks (history ++ added) (history ++ added) (view back.0) back.1)
+links_more : {L : Type 0} (view : L → LinkView) (start : State) → IsStart start →
+    (history added : List Record) (noted : Option DeskFault)
+    (links : List (L × Served)) (link : L) (served : Served) → Service start history added noted (view link) served →
+    AllByRecursion (λ back. Talks start history history (view back.0) back.1) links →
+    AllByRecursion (λ back. Talks start (history ++ added) (history ++ added) (view back.0) back.1)
     (links ++ (link, served) ∷ [])
-links_more {L} view history added noted links link served service talks =
+links_more {L} view start begins history added noted links link served service talks =
     let plains : AllByRecursion IsPlain added =
-    all_rear IsPlain history added (plain (history ++ added) service.legal) in
-    let Was : L × Served → Type 0 = λ back. Talks history history (view back.0) back.1 in
-    let Is : L × Served → Type 0 = λ back. Talks (history ++ added) (history ++ added) (view back.0) back.1 in
+    all_rear IsPlain history added (plain start begins (history ++ added) service.legal) in
+    let Was : L × Served → Type 0 = λ back. Talks start history history (view back.0) back.1 in
+    let Is : L × Served → Type 0 = λ back. Talks start (history ++ added) (history ++ added) (view back.0) back.1 in
     all_append Is links ((link, served) ∷ [])
-    (all_map Was Is links (λ back was. talks_more history added (view back.0) back.1 service.legal
+    (all_map Was Is links (λ back was. talks_more start begins history added (view back.0) back.1 service.legal
     (apart_tail back.1.session served.session history added plains service.own was.connected service.fresh) was) talks)
-    (talks_new history added noted (view link) served service, tt)
+    (talks_new start begins history added noted (view link) served service, tt)
 
-owned_links : {L : Type 0} (view : L → LinkView) (history added : List Record) (noted : Option DeskFault)
-    (links : List (L × Served)) (link : L) (served : Served) → Service history added noted (view link) served →
+owned_links : {L : Type 0} (view : L → LinkView) (start : State) → IsStart start →
+    (history added : List Record) (noted : Option DeskFault)
+    (links : List (L × Served)) (link : L) (served : Served) → Service start history added noted (view link) served →
     AllByRecursion (IsOfOne (sessions_of links)) history →
     AllByRecursion (IsOfOne (sessions_of (links ++ (link, served) ∷ []))) (history ++ added)
-owned_links view history added noted links link served service owned =
+owned_links view start begins history added noted links link served service owned =
     let plains : AllByRecursion IsPlain added =
-    all_rear IsPlain history added (plain (history ++ added) service.legal) in
+    all_rear IsPlain history added (plain start begins (history ++ added) service.legal) in
     let all : List ℕ = sessions_of links ++ sessions_of ((link, served) ∷ []) in
     subst (λ (sessions : List ℕ). AllByRecursion (IsOfOne sessions) (history ++ added))
     (sym (sessions_of-append links ((link, served) ∷ [])))
@@ -479,85 +510,110 @@ both_told P Q None first second = tt
 both_told P Q (Some x) first second = (first, second)
 
 -- The pass grew by the service of a link that was then given back.
-pub serves_more : {L : Type 0} (view : L → LinkView) (pass pass' : PassView) (added : List Record)
-    (noted : Option DeskFault) (link : L) (served : Served) (returned returned' : Option (List (L × Served)))
-    (gave gave' : Option (List ℕ)) → pass'.seen ≡ pass.seen ++ added →
+pub serves_more : {L : Type 0} (view : L → LinkView) (start : State) → IsStart start → (pass pass' : PassView)
+    (added : List Record) (noted : Option DeskFault) (link : L) (served : Served)
+    (returned returned' : Option (List (L × Served)))
+    (gave gave' : Option (List ℕ)) → pass'.seen ≡ pass.seen ++ added → pass'.opened ≡ pass.opened →
     AllByRecursion (λ made. made.entry.pass ≡ pass'.number) pass'.seen → AreTimed gave gave' added →
-    Gains returned (link, served) returned' → Service pass.seen added noted (view link) served →
-    Serves view pass returned gave → Serves view pass' returned' gave'
-serves_more {L} view pass pass' added noted link served returned returned' gave gave' seen numbered timed gains service
-    before =
+    Gains returned (link, served) returned' → Service start pass.seen added noted (view link) served →
+    Serves view start pass returned gave → Serves view start pass' returned' gave'
+serves_more {L} view start begins pass pass' added noted link served returned returned' gave gave' seen opened numbered
+    timed gains service before =
     let Talk : List Record → List (L × Served) → Type 0 =
-    λ history links. AllByRecursion (λ back. Talks history history (view back.0) back.1) links in
+    λ history links. AllByRecursion (λ back. Talks start history history (view back.0) back.1) links in
     record {
-      legal = subst (λ (seen : List Record). IsLegal empty seen) (sym seen) service.legal;
+      legal = subst (λ (seen : List Record). IsLegal start seen) (sym seen) service.legal;
       numbered = numbered;
       talks = subst (λ (seen : List Record). IfSome returned' (Talk seen)) (sym seen)
           (told_more (Talk pass.seen) (Talk (pass.seen ++ added)) link served returned returned' gains
-          (λ links talks. links_more view pass.seen added noted links link served service talks) before.talks);
+          (λ links talks. links_more view start begins pass.seen added noted links link served service talks)
+          before.talks);
       owned = subst
           (λ (seen : List Record). IfSome returned' (λ links. AllByRecursion (IsOfOne (sessions_of links)) seen))
           (sym seen)
           (told_more (λ links. AllByRecursion (IsOfOne (sessions_of links)) pass.seen)
           (λ links. AllByRecursion (IsOfOne (sessions_of links)) (pass.seen ++ added)) link served returned returned'
           gains
-          (λ links owned. owned_links view pass.seen added noted links link served service owned) before.owned);
+          (λ links owned. owned_links view start begins pass.seen added noted links link served service owned)
+          before.owned);
       timed = subst (λ (seen : List Record). IfSome gave' (λ readings. IsChosen (moments_of seen) readings)) (sym seen)
           (timed_more gave gave' pass.seen added before.timed timed);
+      opened = subst (λ (moment : ℕ). IsFirstReading moment (gave' ∷ [])) (sym opened)
+          (first_more gave gave' added pass.opened timed before.opened);
       distinct = told_more (λ links. Talk pass.seen links × IsDistinct nat_eq (sessions_of links))
           (λ links. IsDistinct nat_eq (sessions_of links)) link served returned returned' gains
-          (λ links both. distinct_more view links pass.seen link served both.0 service.fresh both.1)
+          (λ links both. distinct_more view start links pass.seen link served both.0 service.fresh both.1)
           (both_told (Talk pass.seen) (λ links.
           IsDistinct nat_eq (sessions_of links)) returned before.talks before.distinct);
     }
 
 -- ---- what a service says
 
+-- a desk's calls leave its records as they were, and when the server was opened
+pub opened_before : (old new : Kept) (added : List Record) → (desk_view new).mine ≡ (desk_view old).mine ++ added →
+    (new.pass.opened ≡ old.pass.opened) × (new.pass.seen ≡ old.pass.seen ++ added)
+opened_before old new added more =
+    let first : opening_of new.pass ≡ opening_of old.pass = cc in
+    (ap (λ (made : Record). made.entry.moment) first, cc)
+
 -- the calls that serve a link and give it back, put together
 pub serves_one : {L : Type 0} (view : L → LinkView) (old new last : Kept) (before link : L) (served : Served)
     (returned returned' : Option (List (L × Served))) (gave gave' : Option (List ℕ)) → (view before).faults ≡ 0 →
-    ((added : List Record) × (new.pass.seen ≡ old.pass.seen ++ added) × AllByRecursion (IsOwn served.session) added
+    ((added : List Record) × ((desk_view new).mine ≡ (desk_view old).mine ++ added)
+    × AllByRecursion (IsOwn served.session) added
     × AreTimed gave gave' added × (input output : List ℕ) × Tells (view link) input output
     × TellsFault (view before).faults (view link).faults (fault_in new.faults served.session) input served.end
     × IsTalk (view before).host input output (view link).ended added served.session
-    (given_of served.session new.pass.seen) served.end false) →
-    ((added : List Record) × (new.pass.seen ≡ old.pass.seen ++ added)
+    (given_of (start_of new.pass) served.session new.pass.seen) served.end false) →
+    ((added : List Record) × ((desk_view new).mine ≡ (desk_view old).mine ++ added)
     × (served.session ≢ 0 → has_connect served.session added ≡ true)) →
     HasCause (view before).faults (view link).faults (fault_in new.faults served.session) (view link).ended served.end →
     (view link).host ≡ (view before).host → last.pass ≡ new.pass →
-    ((session : ℕ) → IsKnown new.pass.seen session (fault_in new.faults session)) → IsLegal empty new.pass.seen →
+    ((session : ℕ) → IsKnown (start_of new.pass) new.pass.seen session (fault_in new.faults session)) →
+    IsLegal (start_of new.pass) new.pass.seen →
     AllByRecursion (λ made. made.entry.pass ≡ new.pass.number) new.pass.seen →
-    Gains returned (link, served) returned' → Serves view old.pass returned gave → Serves view last.pass returned' gave'
+    Gains returned (link, served) returned' → Serves view (start_of old.pass) old.pass returned gave →
+    Serves view (start_of last.pass) last.pass returned' gave'
 serves_one {L} view old new last before link served returned returned' gave gave' none talk session cause home same
     known legal numbered gains serves =
+    let start : State = start_of old.pass in
     let added : List Record = talk.0 in
-    let seen : new.pass.seen ≡ old.pass.seen ++ added = talk.1 in
-    let legal' : IsLegal empty (old.pass.seen ++ added) =
-    subst (λ (seen : List Record). IsLegal empty seen) seen legal in
-    let same_added : session.0 ≡ added = append_cancel_left old.pass.seen session.0 added (sym session.1 ∙ seen) in
+    let left = opened_before old new added talk.1 in
+    let seen : new.pass.seen ≡ old.pass.seen ++ added = left.1 in
+    let begun : start_of new.pass ≡ start = same_start new.pass old.pass left.0 in
+    let legal' : IsLegal start (old.pass.seen ++ added) =
+    subst (λ (seen : List Record). IsLegal start seen) seen
+    (subst (λ (start : State). IsLegal start new.pass.seen) begun legal) in
+    let same_added : session.0 ≡ added =
+    append_cancel_left old.pass.seen session.0 added (sym (opened_before old new session.0 session.1).1 ∙ seen) in
     let connects : served.session ≢ 0 → has_connect served.session added ≡ true =
     λ some. subst (λ (records : List Record). has_connect served.session records ≡ true) same_added (session.2 some) in
     let noted : Option DeskFault = fault_in new.faults served.session in
-    let service : Service old.pass.seen added noted (view link) served = record {
+    let service : Service start old.pass.seen added noted (view link) served = record {
       legal = legal';
       own = talk.2;
-      fresh = λ some. fresh_before served.session old.pass.seen added legal' (connects some);
+      fresh = λ some.
+          fresh_before start (starts old.pass).sound served.session old.pass.seen added legal' (connects some);
       connected = connects;
       input = talk.4;
       output = talk.5;
       tells = talk.6;
       talk = subst
           (λ (seen : List Record). IsTalk (view link).host talk.4 talk.5 (view link).ended added served.session
-          (given_of served.session seen) served.end false) seen
+          (given_of start served.session seen) served.end false) seen
+          (subst (λ (start : State). IsTalk (view link).host talk.4 talk.5 (view link).ended added served.session
+          (given_of start served.session new.pass.seen) served.end false) begun
           (subst (λ (host : List ℕ). IsTalk host talk.4 talk.5 (view link).ended added served.session
-          (given_of served.session new.pass.seen) served.end false) (sym home) talk.8);
+          (given_of (start_of new.pass) served.session new.pass.seen) served.end false) (sym home) talk.8));
       tells_fault = subst (λ (n : ℕ). TellsFault n (view link).faults noted talk.4 served.end) none talk.7;
       cause = subst (λ (n : ℕ). HasCause n (view link).faults noted (view link).ended served.end) none cause;
-      known = subst (λ (seen : List Record). IsKnown seen served.session noted) seen (known served.session);
+      known = subst (λ (seen : List Record). IsKnown start seen served.session noted) seen
+          (subst (λ (start : State). IsKnown start new.pass.seen served.session noted) begun (known served.session));
     } in
-    subst (λ (pass : PassView). Serves view pass returned' gave') (sym same)
-    (serves_more view old.pass new.pass added noted link served returned returned' gave gave' seen numbered talk.3 gains
-    service serves)
+    subst (λ (pass : PassView). Serves view (start_of pass) pass returned' gave') (sym same)
+    (subst (λ (start : State). Serves view start new.pass returned' gave') (sym begun)
+    (serves_more view start (starts old.pass) old.pass new.pass added noted link served returned returned' gave gave'
+    seen left.0 numbered talk.3 gains service serves))
 
 -- ---- links that are out
 
@@ -600,10 +656,11 @@ pub sole : {X : Type 0} (items before : List X) (one : X) → items ≡ before +
 sole items before one pushed none = pushed ∙ ap (λ before. before ++ one ∷ []) none
 
 -- one pass that served one gate
-pub run_alone : {L : Type 0} (view : L → LinkView) (pass : PassView) (gate : GateView L) (gave : Option (List ℕ)) →
-    pass.number ≡ 0 → Serves view pass gate.returned gave → AllGivenBack gate →
-    IsRun view pass.seen (gate ∷ []) (gave ∷ [])
-run_alone {L} view pass gate gave zero serves back =
+pub run_alone : {L : Type 0} (view : L → LinkView) (start : State) (pass : PassView) (gate : GateView L)
+    (gave : Option (List ℕ)) →
+    pass.number ≡ 0 → Serves view start pass gate.returned gave → AllGivenBack gate →
+    IsRun view start pass.seen (gate ∷ []) (gave ∷ [])
+run_alone {L} view start pass gate gave zero serves back =
     let own : of_pass 0 pass.seen ≡ pass.seen =
     subst (λ n. of_pass n pass.seen ≡ pass.seen) zero (all_own pass.number pass.seen serves.numbered) in
     record {
@@ -615,7 +672,7 @@ run_alone {L} view pass gate gave zero serves back =
           given_back = back;
           talks = subst
               (λ (mine : List Record). IfSome gate.returned (λ links.
-              AllByRecursion (λ back. Talks pass.seen mine (view back.0) back.1) links)) (sym own) serves.talks;
+              AllByRecursion (λ back. Talks start pass.seen mine (view back.0) back.1) links)) (sym own) serves.talks;
           owned = subst
               (λ (mine : List Record). IfSome gate.returned (λ links.
               AllByRecursion (IsOfOne (sessions_of links)) mine)) (sym own) serves.owned;

@@ -6,17 +6,18 @@ use Rattle.std.proofs.lemmas.Bool.{cases_Bool, ne_eqb}
 use Rattle.kom_types.specs.declared.acts.Act.{Act}
 use Rattle.kom_types.specs.declared.acts.Act.TheVariants as act
 use Rattle.kom_types.specs.declared.acts.Record.{Record}
+use Rattle.kom_types.specs.Sessions.{Session, is_session}
 use Rattle.kom_links.specs.DeskCalls.{record_of}
 use Rattle.kom_links.specs.Records.{is_connect, is_close, has_connect, has_close, has_session, IsOpen}
-use Rattle.kom_model.specs.State.{State, IsSound, empty, session_of}
+use Rattle.kom_model.specs.State.{State, IsSound, session_of}
 use Rattle.kom_model.specs.Refusal.{most_sessions}
 use Rattle.kom_model.specs.After.{MayFollow, after}
 use Rattle.kom_model.specs.Legal.{IsLegal, state_after}
 use Rattle.kom_model.specs.Out.{given_by, given_along}
 use Rattle.kom_model.proofs.Soundness.{IsSound-after}
 use Rattle.kom_model.proofs.Closing.{IsOver, IsOver-after}
-use Rattle.kom_core.proofs.Soundness.{IsSound-empty}
 use Rattle.kom_server.specs.Passes.{connects_in}
+use Rattle.kom_server.proofs.Starting.{IsStart}
 use Rattle.kom_server.proofs.Stepping.{connects-after, connects_in-append, within_step, StandsOr, stands_before, stands_step, stands_drawn, drawn_step, connect_above_step, acting_stands, IsPlain, plain_step}
 
 -- ---- tests
@@ -125,11 +126,11 @@ stands_after n state (made ∷ history) sound legal stands open' =
         elim (or_cases _ _ now) [ inl here ↦ absurd (not_both _ here there) | inr later ↦ inr later ]
 
 -- a session that was connected and not closed stands
-pub open_stands : (n : ℕ) (history : List Record) → IsLegal empty history → IsOpen n history →
-    IsSome (session_of n (state_after empty history))
-open_stands n history legal open' =
+pub open_stands : (start : State) → IsSound start → (n : ℕ) (history : List Record) → IsLegal start history →
+    IsOpen n history → IsSome (session_of n (state_after start history))
+open_stands start sound n history legal open' =
     let both : (has_connect n history ≡ true) × (not (has_close n history) ≡ true) = and_both _ _ open' in
-    stands_after n empty history IsSound-empty legal (inr both.0) (not_true _ both.1)
+    stands_after n start history sound legal (inr both.0) (not_true _ both.1)
 
 -- ---- numbers are drawn in order
 
@@ -244,8 +245,12 @@ plain_from state (made ∷ history) over legal = (
       (after state made) history (IsOver-after 0 state made over) legal.1,
 )
 
-pub plain : (history : List Record) → IsLegal empty history → AllByRecursion IsPlain history
-plain history legal = plain_from empty history (record { drawn = omega arith; absent = refl }) legal
+pub plain : (start : State) → IsStart start → (history : List Record) → IsLegal start history →
+    AllByRecursion IsPlain history
+plain start begins history legal =
+    plain_from start history
+    (record { drawn = omega arith; absent = ap (λ (rows : List Session). find (is_session 0) rows) begins.sessions })
+    legal
 
 pub session_of-connect : (n : ℕ) (history : List Record) → has_connect n history ≡ true → has_session n history ≡ true
 session_of-connect n [] connected = cc
@@ -276,8 +281,8 @@ connect_rear n (made ∷ history) added connected =
     && (made.session == n)) (has_connect n (history ++ added)) (connect_rear n history added connected)
 
 -- a session that was connected after a history is in none of its records
-pub fresh_before : (n : ℕ) (history added : List Record) → IsLegal empty (history ++ added) →
-    has_connect n added ≡ true → has_session n history ≡ false
-fresh_before n history added legal connected =
-    undrawn_absent n empty history IsSound-empty (legal_prefix empty history added legal)
-    (connect_above n (state_after empty history) added (legal_tail empty history added legal) connected)
+pub fresh_before : (start : State) → IsSound start → (n : ℕ) (history added : List Record) →
+    IsLegal start (history ++ added) → has_connect n added ≡ true → has_session n history ≡ false
+fresh_before start sound n history added legal connected =
+    undrawn_absent n start history sound (legal_prefix start history added legal)
+    (connect_above n (state_after start history) added (legal_tail start history added legal) connected)

@@ -1,4 +1,5 @@
 pub mod Writing
+pub mod Starting
 pub mod Stepping
 pub mod Histories
 pub mod ChangedFaults

@@ -12,7 +12,7 @@ use Rattle.kom_types.specs.declared.answers.Refusal.{Refusal}
 use Rattle.kom_types.specs.declared.shortage.Memory.{Memory}
 use Rattle.kom_types.specs.Sessions.{Session, is_session}
 use Rattle.kom_links.specs.Records.{IsOpen}
-use Rattle.kom_model.specs.State.{State, empty, session_of}
+use Rattle.kom_model.specs.State.{State, session_of}
 use Rattle.kom_model.specs.Refusal.{refusal_of, close_refused}
 use Rattle.kom_model.specs.After.{MayFollow, after}
 use Rattle.kom_model.specs.Legal.{IsLegal, state_after}
@@ -21,19 +21,21 @@ use Rattle.kom_core.specs.declared.answer_kind.AnswerKind.TheVariants as kind
 use Rattle.kom_core.specs.Acts.{kind_of}
 use Rattle.kom_core.specs.Steps.{made_of}
 use Rattle.kom_server.specs.declared.faults.Noted.{Noted}
-use Rattle.kom_server.specs.Passes.{PassView}
+use Rattle.kom_server.specs.Passes.{PassView, start_of}
 use Rattle.kom_server.specs.Faults.{FaultTable, closed_at}
 use Rattle.kom_server.specs.Desks.{Kept, AreNoted, Stands}
 use Rattle.kom_server.specs.Making.{IsBetween, Logs, Logged}
+use Rattle.kom_server.proofs.Starting.{starts, same_start}
 use Rattle.kom_server.proofs.Stepping.{length-between, length-connected, length-closed}
 use Rattle.kom_server.proofs.Histories.{legal-append, state_after-append, entries-state_after, open_stands, one_fewer}
 use Rattle.kom_server.proofs.TrueFaults.{noted_between, noted_closed, noted_connected, noted_same}
 
 -- ---- without an act
 
-pub stands_faults : (state : State) (kept : Kept) (sessions : ℕ) (table : FaultTable) → Stands state kept sessions →
-    AreNoted kept.pass.seen table → Stands state (record { pass = kept.pass; faults = table }) sessions
-stands_faults state kept sessions table stands noted = record {
+pub stands_faults : (start state : State) (kept : Kept) (sessions : ℕ) (table : FaultTable) →
+    Stands start state kept sessions → AreNoted start kept.pass.seen table →
+    Stands start state (record { pass = kept.pass; faults = table }) sessions
+stands_faults start state kept sessions table stands noted = record {
   legal = stands.legal;
   led = stands.led;
   numbered = stands.numbered;
@@ -44,12 +46,14 @@ stands_faults state kept sessions table stands noted = record {
 }
 
 -- there are fewer entries than the core takes, while there is room in the pass
-pub entries_within : (state : State) (kept : Kept) (sessions room : ℕ) → Stands state kept sessions → 0 < room →
-    length kept.pass.seen + room ≤ 2 ^ 62 → state.entries < 2 ^ 62
+pub entries_within : (state : State) (kept : Kept) (sessions room : ℕ) →
+    Stands (start_of kept.pass) state kept sessions → 0 < room → length kept.pass.seen + room ≤ 2 ^ 62 →
+    state.entries < 2 ^ 62
 entries_within state kept sessions room stands some bound =
-    let count : (state_after empty kept.pass.seen).entries ≡ 0 + length kept.pass.seen =
-    entries-state_after empty kept.pass.seen in
-    let same : state.entries ≡ (state_after empty kept.pass.seen).entries =
+    let start : State = start_of kept.pass in
+    let count : (state_after start kept.pass.seen).entries ≡ 0 + length kept.pass.seen =
+    entries-state_after start kept.pass.seen in
+    let same : state.entries ≡ (state_after start kept.pass.seen).entries =
     ap (λ (state : State). state.entries) stands.led in
     omega arith
 
@@ -116,15 +120,17 @@ all_push P (y ∷ xs) x all one = (all.0, all_push P xs x all.1 one)
 
 -- A record was logged after room was taken.
 pub record Added (old new : State) (kept : Kept) (before later : PassView) (sessions : ℕ) (made : Record) : Type 0 where
-  pub stands : Stands old kept sessions
+  pub stands : Stands (start_of kept.pass) old kept sessions
   pub seen : before.seen ≡ kept.pass.seen
   pub number : before.number ≡ kept.pass.number
+  pub opened : before.opened ≡ kept.pass.opened
   pub bound : length before.seen + before.room ≤ 2 ^ 62
   pub entered : made.entry.pass ≡ kept.pass.number
   pub follows : MayFollow old made
   pub state : new ≡ after old made
   pub logged : later.seen ≡ before.seen ++ made ∷ []
   pub same : later.number ≡ before.number
+  pub still : later.opened ≡ before.opened
   pub room : later.room + 1 ≡ before.room
 
 pub added_seen : {old new : State} {kept : Kept} {before later : PassView} {sessions : ℕ} {made : Record} →
@@ -132,25 +138,29 @@ pub added_seen : {old new : State} {kept : Kept} {before later : PassView} {sess
 added_seen {made = made} a = a.logged ∙ ap (λ seen. seen ++ made ∷ []) a.seen
 
 pub added_legal : {old new : State} {kept : Kept} {before later : PassView} {sessions : ℕ} {made : Record} →
-    Added old new kept before later sessions made → IsLegal empty (kept.pass.seen ++ made ∷ [])
+    Added old new kept before later sessions made →
+    IsLegal (start_of kept.pass) (kept.pass.seen ++ made ∷ [])
 added_legal {kept = kept} {made = made} a =
-    let follows : MayFollow (state_after empty kept.pass.seen) made =
+    let follows : MayFollow (state_after (start_of kept.pass) kept.pass.seen) made =
     subst (λ (state : State). MayFollow state made) a.stands.led a.follows in
-    legal-append empty kept.pass.seen (made ∷ []) a.stands.legal (follows, tt)
+    legal-append (start_of kept.pass) kept.pass.seen (made ∷ []) a.stands.legal (follows, tt)
 
 pub stands_added : {old new : State} {kept : Kept} {before later : PassView} {sessions : ℕ} {made : Record} →
     (sessions' : ℕ) (table : FaultTable) → Added old new kept before later sessions made →
-    length new.sessions ≤ sessions' → sessions' ≤ later.room → AreNoted (kept.pass.seen ++ made ∷ []) table →
-    Stands new (record { pass = later; faults = table }) sessions'
+    length new.sessions ≤ sessions' → sessions' ≤ later.room →
+    AreNoted (start_of kept.pass) (kept.pass.seen ++ made ∷ []) table →
+    Stands (start_of later) new (record { pass = later; faults = table }) sessions'
 stands_added {old} {new} {kept} {before} {later} {sessions} {made} sessions' table a counted room noted =
+    let start : State = start_of kept.pass in
     let logged : later.seen ≡ kept.pass.seen ++ made ∷ [] = added_seen a in
     let numbers : AllByRecursion (λ made. made.entry.pass ≡ kept.pass.number) (kept.pass.seen ++ made ∷ []) =
     all_push (λ (made : Record). made.entry.pass ≡ kept.pass.number) kept.pass.seen made a.stands.numbered a.entered in
-    record {
-      legal = subst (λ (seen : List Record). IsLegal empty seen) (sym logged) (added_legal a);
+    subst (λ (start : State). Stands start new (record { pass = later; faults = table }) sessions')
+    (sym (same_start later kept.pass (a.still ∙ a.opened))) (record {
+      legal = subst (λ (seen : List Record). IsLegal start seen) (sym logged) (added_legal a);
       led = a.state ∙ ap (λ (state : State). after state made) a.stands.led
-          ∙ sym (state_after-append empty kept.pass.seen (made ∷ []))
-          ∙ ap (λ (seen : List Record). state_after empty seen) (sym logged);
+          ∙ sym (state_after-append start kept.pass.seen (made ∷ []))
+          ∙ ap (λ (seen : List Record). state_after start seen) (sym logged);
       numbered = subst (λ (number : ℕ). AllByRecursion (λ made. made.entry.pass ≡ number) later.seen)
           (sym (a.same ∙ a.number))
           (subst (λ (seen : List Record). AllByRecursion (λ made. made.entry.pass ≡ kept.pass.number) seen) (sym logged)
@@ -160,20 +170,21 @@ stands_added {old} {new} {kept} {before} {later} {sessions} {made} sessions' tab
       bounded =
           let more : length later.seen ≡ length before.seen + 1 = ap length a.logged ∙ length_push before.seen made in
           omega (arith, a.bound, a.room);
-      noted = subst (λ (seen : List Record). AreNoted seen table) (sym logged) noted;
-    }
+      noted = subst (λ (seen : List Record). AreNoted start seen table) (sym logged) noted;
+    })
 
 -- after an act between a Connect and a Close
 pub stands_between : {old new : State} {kept : Kept} {before later : PassView} {sessions : ℕ} {made : Record} →
     Added old new kept before later sessions made → IsBetween made.entry.act → sessions + 1 ≤ before.room →
-    Stands new (record { pass = later; faults = kept.faults }) sessions
+    Stands (start_of later) new (record { pass = later; faults = kept.faults }) sessions
 stands_between {old} {new} {kept} {before} {later} {sessions} {made} a between room =
     let stays : length (after old made).sessions ≡ length old.sessions =
     length-between old made.entry.pass made.entry.moment made.entry.act made.session made.short between in
     let same : length new.sessions ≡ length (after old made).sessions =
     ap (λ (state : State). length state.sessions) a.state in
     stands_added sessions kept.faults a (omega (arith, stays, same, a.stands.counted)) (omega (arith, a.room, room))
-    (noted_between kept.pass.seen made kept.faults (added_legal a) between a.stands.noted)
+    (noted_between (start_of kept.pass) (starts kept.pass) kept.pass.seen made kept.faults
+    (added_legal a) between a.stands.noted)
 
 -- after a Connect
 pub stands_connected : {old new : State} {kept : Kept} {before later : PassView} {sessions : ℕ}
@@ -187,7 +198,7 @@ pub stands_connected : {old new : State} {kept : Kept} {before later : PassView}
     }) →
     session ≡ old.connects + 1 → sessions + 2 ≤ before.room → table.none ≡ kept.faults.none →
     table.rows ≡ kept.faults.rows ++ record { session = session; is_open = true; fault = None } ∷ [] →
-    Stands new (record { pass = later; faults = table }) (sessions + 1)
+    Stands (start_of later) new (record { pass = later; faults = table }) (sessions + 1)
 stands_connected {old} {new} {kept} {before} {later} {sessions} {pass} {moment} {user} {host} {session} {short} table a
     drawn room none rows =
     let made : Record =
@@ -202,17 +213,19 @@ stands_connected {old} {new} {kept} {before} {later} {sessions} {pass} {moment} 
     let same : length new.sessions ≡ length (after old made).sessions =
     ap (λ (state : State). length state.sessions) a.state in
     stands_added (sessions + 1) table a (omega (arith, grown, same, a.stands.counted)) (omega (arith, a.room, room))
-    (noted_connected kept.pass.seen pass moment user host session short kept.faults table (added_legal a) a.stands.legal
+    (noted_connected (start_of kept.pass) (starts kept.pass) kept.pass.seen pass moment user host session short
+    kept.faults table (added_legal a) a.stands.legal
     (drawn ∙ ap (λ (state : State). state.connects + 1) a.stands.led) none rows a.stands.noted)
 
 -- ---- a session's close
 
-pub close_room : (state : State) (kept : Kept) (sessions session : ℕ) → Stands state kept sessions →
-    IsOpen session kept.pass.seen → (IsSome (session_of session state)) × (0 < sessions) × (0 < kept.pass.room)
+pub close_room : (state : State) (kept : Kept) (sessions session : ℕ) →
+    Stands (start_of kept.pass) state kept sessions → IsOpen session kept.pass.seen →
+    (IsSome (session_of session state)) × (0 < sessions) × (0 < kept.pass.room)
 close_room state kept sessions session stands is_open =
     let there : IsSome (session_of session state) =
     subst (λ (state : State). IsSome (session_of session state)) (sym stands.led)
-    (open_stands session kept.pass.seen stands.legal is_open) in
+    (open_stands (start_of kept.pass) (starts kept.pass).sound session kept.pass.seen stands.legal is_open) in
     let fewer : length (filter (λ row. not (is_session session row)) state.sessions) + 1 ≤ length state.sessions =
     one_fewer (is_session session) state.sessions there in
     let counted : length state.sessions ≤ sessions = stands.counted in
@@ -237,7 +250,7 @@ pub stands_closed : {old new : State} {kept : Kept} {later : PassView} {sessions
           short;
     }) →
     IsOpen session kept.pass.seen → (table : FaultTable) → table ≡ closed_at session kept.faults →
-    Stands new (record { pass = later; faults = table }) (sessions - 1)
+    Stands (start_of later) new (record { pass = later; faults = table }) (sessions - 1)
 stands_closed {old} {new} {kept} {later} {sessions} {pass} {moment} {session} {short} a is_open table closed =
     let made : Record =
     record {
@@ -255,16 +268,18 @@ stands_closed {old} {new} {kept} {later} {sessions} {pass} {moment} {session} {s
     ap (λ (state : State). length state.sessions) a.state in
     stands_added (sessions - 1) table a (omega (arith, fewer, left, same, a.stands.counted))
     (omega (arith, a.room, a.stands.has_room, room.1))
-    (subst (λ (table : FaultTable). AreNoted (kept.pass.seen ++ made ∷ []) table) (sym closed)
-    (noted_closed kept.pass.seen pass moment session short kept.faults (added_legal a) a.stands.noted))
+    (subst (λ (table : FaultTable). AreNoted (start_of kept.pass) (kept.pass.seen ++ made ∷ []) table) (sym closed)
+    (noted_closed (start_of kept.pass) (starts kept.pass) kept.pass.seen pass moment session short kept.faults
+    (added_legal a) a.stands.noted))
 
 -- ---- an act that was asked for
 
 -- An entry is handed to the core, after room for so many records was taken beyond those for the sessions that stand.
 pub record Ready (old : State) (kept : Kept) (before : PassView) (sessions more : ℕ) (entry : Entry) : Type 0 where
-  pub stands : Stands old kept sessions
+  pub stands : Stands (start_of kept.pass) old kept sessions
   pub seen : before.seen ≡ kept.pass.seen
   pub number : before.number ≡ kept.pass.number
+  pub opened : before.opened ≡ kept.pass.opened
   pub bound : length before.seen + before.room ≤ 2 ^ 62
   pub room : sessions + more ≤ before.room
   pub entered : entry.pass ≡ kept.pass.number
@@ -277,40 +292,47 @@ added_from ready logs = record {
   stands = ready.stands;
   seen = ready.seen;
   number = ready.number;
+  opened = ready.opened;
   bound = ready.bound;
   entered = ready.entered;
   follows = logs.follows;
   state = logs.state;
   logged = logs.logged.0;
   same = logs.logged.1;
-  room = logs.logged.2;
+  still = logs.logged.2;
+  room = logs.logged.3;
 }
 
 -- where nothing was made
 pub stands_still : {old new : State} {kept : Kept} {before later : PassView} {sessions more : ℕ} {entry : Entry} →
     (table : FaultTable) → Ready old kept before sessions more entry → new ≡ old → later ≡ before →
     table.none ≡ kept.faults.none → table.rows ≡ kept.faults.rows →
-    Stands new (record { pass = later; faults = table }) sessions
+    Stands (start_of later) new (record { pass = later; faults = table }) sessions
 stands_still {old} {new} {kept} {before} {later} {sessions} table ready still same none rows =
-    subst (λ (state : State). Stands state (record { pass = later; faults = table }) sessions) (sym still)
-    (subst (λ (pass : PassView). Stands old (record { pass = pass; faults = table }) sessions) (sym same) (record {
-      legal = subst (λ (seen : List Record). IsLegal empty seen) (sym ready.seen) ready.stands.legal;
-      led = ready.stands.led ∙ ap (λ (seen : List Record). state_after empty seen) (sym ready.seen);
+    let start : State = start_of kept.pass in
+    subst (λ (state : State). Stands (start_of later) state (record { pass = later; faults = table }) sessions)
+    (sym still)
+    (subst (λ (pass : PassView). Stands (start_of pass) old (record { pass = pass; faults = table }) sessions)
+    (sym same)
+    (subst (λ (start : State). Stands start old (record { pass = before; faults = table }) sessions)
+    (sym (same_start before kept.pass ready.opened)) (record {
+      legal = subst (λ (seen : List Record). IsLegal start seen) (sym ready.seen) ready.stands.legal;
+      led = ready.stands.led ∙ ap (λ (seen : List Record). state_after start seen) (sym ready.seen);
       numbered = subst (λ (one : ℕ). AllByRecursion (λ made. made.entry.pass ≡ one) before.seen) (sym ready.number)
           (subst (λ (seen : List Record). AllByRecursion (λ made. made.entry.pass ≡ kept.pass.number) seen)
           (sym ready.seen) ready.stands.numbered);
       counted = ready.stands.counted;
       has_room = omega (arith, ready.room);
       bounded = ready.bound;
-      noted = subst (λ (seen : List Record). AreNoted seen table) (sym ready.seen)
-          (noted_same kept.pass.seen kept.faults table none rows ready.stands.noted);
-    }))
+      noted = subst (λ (seen : List Record). AreNoted start seen table) (sym ready.seen)
+          (noted_same start kept.pass.seen kept.faults table none rows ready.stands.noted);
+    })))
 
 -- whatever the core answered
 pub stands_asked : {old new : State} {kept : Kept} {before later : PassView} {sessions : ℕ} {entry : Entry} →
     (result : Result AnswerKind Memory) → Ready old kept before sessions 1 entry → IsBetween entry.act →
     IfOk result (Logged old new before later entry) → OnErr result (new ≡ old) → OnErr result (later ≡ before) →
-    Stands new (record { pass = later; faults = kept.faults }) sessions
+    Stands (start_of later) new (record { pass = later; faults = kept.faults }) sessions
 stands_asked {kept = kept} (Err memory) ready between logged state pass =
     stands_still kept.faults ready state pass refl refl
 stands_asked {old} {new} {kept} {before} {later} {sessions} {entry} (Ok answer) ready between logged state pass =
@@ -345,7 +367,7 @@ pub stands_joined : (old new : State) (kept : Kept) (before later : PassView) (s
     Logged old new before later (record { pass = pass; moment = moment; act = what }) answer →
     table.none ≡ kept.faults.none →
     table.rows ≡ kept.faults.rows ++ record { session = number; is_open = true; fault = None } ∷ [] →
-    Stands new (record { pass = later; faults = table }) (sessions + 1)
+    Stands (start_of later) new (record { pass = later; faults = table }) (sessions + 1)
 stands_joined old new kept before later sessions pass moment number what answer user host table ready is told logged
     none rows =
     let made = joined old new before later pass moment number what answer user host is told logged in
@@ -359,7 +381,7 @@ stands_joined old new kept before later sessions pass moment number what answer 
 
 -- What a Close leaves.
 pub left : (old new : State) (kept : Kept) (later : PassView) (sessions pass moment : ℕ) (answer : AnswerKind)
-    (session : ℕ) → Stands old kept sessions → IsOpen session kept.pass.seen →
+    (session : ℕ) → Stands (start_of kept.pass) old kept sessions → IsOpen session kept.pass.seen →
     Logged old new kept.pass later (record { pass = pass; moment = moment; act = act.Close session }) answer →
     (answer ≡ kind.Taken) × (short : Bool)
     × Logs old new kept.pass later (record { pass = pass; moment = moment; act = act.Close session }) short
@@ -373,10 +395,12 @@ left old new kept later sessions pass moment answer session stands is_open logge
     ]
 
 pub stands_left : (old new : State) (kept : Kept) (later : PassView) (sessions pass moment : ℕ) (answer : AnswerKind)
-    (session : ℕ) (table : FaultTable) → Stands old kept sessions → IsOpen session kept.pass.seen →
+    (session : ℕ) (table : FaultTable) → Stands (start_of kept.pass) old kept sessions →
+    IsOpen session kept.pass.seen →
     pass ≡ kept.pass.number →
     Logged old new kept.pass later (record { pass = pass; moment = moment; act = act.Close session }) answer →
-    table ≡ closed_at session kept.faults → Stands new (record { pass = later; faults = table }) (sessions - 1)
+    table ≡ closed_at session kept.faults →
+    Stands (start_of later) new (record { pass = later; faults = table }) (sessions - 1)
 stands_left old new kept later sessions pass moment answer session table stands is_open entered logged closed =
     let made = left old new kept later sessions pass moment answer session stands is_open logged in
     let logs = made.2 in
@@ -385,19 +409,22 @@ stands_left old new kept later sessions pass moment answer session table stands 
       stands = stands;
       seen = refl;
       number = refl;
+      opened = refl;
       bound = stands.bounded;
       entered = entered;
       follows = logs.follows;
       state = logs.state;
       logged = logs.logged.0;
       same = logs.logged.1;
-      room = logs.logged.2;
+      still = logs.logged.2;
+      room = logs.logged.3;
     } in
     stands_closed added is_open table closed
 
 -- a Close is answered that it was made
 pub left_taken : (old new : State) (kept : Kept) (later : PassView) (sessions pass moment session : ℕ)
-    (result : Result AnswerKind Memory) → Stands old kept sessions → IsOpen session kept.pass.seen →
+    (result : Result AnswerKind Memory) → Stands (start_of kept.pass) old kept sessions →
+    IsOpen session kept.pass.seen →
     IfOk result (Logged old new kept.pass later (record { pass = pass; moment = moment; act = act.Close session })) →
     IsOk result → result ≡ Ok kind.Taken
 left_taken old new kept later sessions pass moment session (Ok answer) stands is_open logged done =

@@ -11,7 +11,7 @@ use Rattle.kom_types.specs.declared.items.Item.{Item}
 use Rattle.kom_links.specs.declared.desk.DeskFault.{DeskFault}
 use Rattle.kom_links.specs.declared.desk.DeskFault.TheVariants as fault
 use Rattle.kom_links.specs.DeskCalls.{record_of}
-use Rattle.kom_model.specs.State.{State, empty}
+use Rattle.kom_model.specs.State.{State}
 use Rattle.kom_model.specs.Refusal.{refusal_of}
 use Rattle.kom_model.specs.After.{MayFollow, after}
 use Rattle.kom_model.specs.Legal.{state_after}
@@ -37,7 +37,7 @@ abbrev pub LogsLast : Option Record → PassView → PassView → Type 0
 LogsLast None before later = later ≡ before
 LogsLast (Some made) before later =
     (later.seen ≡ before.seen ++ made ∷ []) × (later.number ≡ before.number)
-    × (later.room + 1 ≡ before.room)
+    × (later.opened ≡ before.opened) × (later.room + 1 ≡ before.room)
 
 -- The act of an entry was made on the core, and its record, short or not, logged in the room that
 -- there was for it.
@@ -67,36 +67,41 @@ IsWhy refusal fault.Memory = Unit {0}
 IsWhy refusal (fault.Gone why) = refusal ≡ Some (Gone why)
 IsWhy refusal (fault.Full number) = refusal ≡ Some (Full number)
 
--- the record of an act that this pass makes now
-abbrev pub record_now : PassView → ℕ → Act → Bool → Record
-record_now pass moment what short =
-    made_of (state_after empty pass.seen)
+-- the record of an act that this pass, whose history begins in this state, makes now
+abbrev pub record_now : State → PassView → ℕ → Act → Bool → Record
+record_now start pass moment what short =
+    made_of (state_after start pass.seen)
     (record { pass = pass.number; moment = moment; act = what }) short
 
 -- The desk made this act, which took these items.
-pub record Makes (old new : Kept) (moment : ℕ) (what : Act) (short : Bool)
+pub record Makes (start : State) (old new : Kept) (moment : ℕ) (what : Act) (short : Bool)
     (items : List Item) : Type 0 where
-  pub logged : new.pass.seen ≡ old.pass.seen ++ record_now old.pass moment what short ∷ []
-  pub follows : MayFollow (state_after empty old.pass.seen) (record_now old.pass moment what short)
+  pub logged : new.pass.seen ≡ old.pass.seen ++ record_now start old.pass moment what short ∷ []
+  pub follows :
+      MayFollow (state_after start old.pass.seen) (record_now start old.pass moment what short)
   pub flushed : what ≡ act.Flush → short ≡ false
   pub number : new.pass.number ≡ old.pass.number
-  pub taken : items ≡ items_of (state_after empty old.pass.seen) what
+  pub opened : new.pass.opened ≡ old.pass.opened
+  pub taken : items ≡ items_of (state_after start old.pass.seen) what
   pub faults : new.faults ≡ old.faults
 
 -- The desk did not make this act, and has noted nothing yet.
-pub record Refuses (old new : Kept) (what : Act) (why : DeskFault) : Type 0 where
+pub record Refuses (start : State) (old new : Kept) (what : Act) (why : DeskFault) : Type 0 where
   pub seen : new.pass.seen ≡ old.pass.seen
   pub number : new.pass.number ≡ old.pass.number
+  pub opened : new.pass.opened ≡ old.pass.opened
   pub none : new.faults.none ≡ old.faults.none
   pub rows : new.faults.rows ≡ old.faults.rows
-  pub cause : IsWhy (refusal_of (state_after empty old.pass.seen) what) why
+  pub cause : IsWhy (refusal_of (state_after start old.pass.seen) what) why
 
 -- The desk connected a session.
-pub record Joins (old new : Kept) (moment : ℕ) (user host : List ℕ) (session : ℕ) : Type 0 where
+pub record Joins (start : State) (old new : Kept) (moment : ℕ) (user host : List ℕ)
+    (session : ℕ) : Type 0 where
   pub logged : new.pass.seen ≡ old.pass.seen
       ++ record_of old.pass.number moment (act.Connect user host) session false ∷ []
-  pub drawn : session ≡ (state_after empty old.pass.seen).connects + 1
+  pub drawn : session ≡ (state_after start old.pass.seen).connects + 1
   pub number : new.pass.number ≡ old.pass.number
+  pub opened : new.pass.opened ≡ old.pass.opened
   pub none : new.faults.none ≡ old.faults.none
   pub rows : new.faults.rows ≡ old.faults.rows
       ++ record { session = session; is_open = true; fault = None } ∷ []
@@ -106,4 +111,5 @@ pub record Leaves (old new : Kept) (moment session : ℕ) : Type 0 where
   pub logged : new.pass.seen ≡ old.pass.seen
       ++ record_of old.pass.number moment (act.Close session) session false ∷ []
   pub number : new.pass.number ≡ old.pass.number
+  pub opened : new.pass.opened ≡ old.pass.opened
   pub faults : new.faults ≡ closed_at session old.faults

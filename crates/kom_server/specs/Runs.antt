@@ -16,7 +16,7 @@ use Rattle.kom_links.specs.Doors.{GateView, SinkView}
 use Rattle.kom_links.specs.Outside.{LinkView}
 use Rattle.kom_links.specs.Records.{has_connect}
 use Rattle.kom_links.specs.Talk.{IsTalk, IsPrefix, IsChosen}
-use Rattle.kom_model.specs.State.{empty}
+use Rattle.kom_model.specs.State.{State}
 use Rattle.kom_model.specs.Legal.{IsLegal}
 use Rattle.kom_model.specs.Out.{given_along}
 use Rattle.kom_session.specs.Ends.{Tells}
@@ -37,23 +37,26 @@ usage =
 abbrev pub HasUsage : SinkView → Type 0
 HasUsage sink = IfSome sink.put (λ bytes. IsPrefix bytes usage × (sink.faults ≡ 0 → bytes ≡ usage))
 
--- what the drains of a session give along a history; of no session, nothing
-abbrev pub given_of : ℕ → List Record → List (List Item)
-given_of session history =
-    elim (session == 0) [ true ↦ [] | false ↦ given_along empty session history ]
+-- what the drains of a session give along a history that begins in this state; of no session,
+-- nothing
+abbrev pub given_of : State → ℕ → List Record → List (List Item)
+given_of start session history =
+    elim (session == 0) [ true ↦ [] | false ↦ given_along start session history ]
 
 -- Why the service of a link ended, in the history that was made: it failed; or it did not, and it
 -- has ended, its stream is at fault, its session was overrun or dropped, the server was stopped,
 -- all numbers of sessions were drawn, or memory ran out.
-abbrev pub IsCause : LinkView → List Record → ℕ → SessionEnd → Type 0
-IsCause link history session end.End = (link.faults ≡ 0) × (link.ended ≡ true)
-IsCause link history session (end.Broken place) = link.faults ≡ 0
-IsCause link history session end.Overrun = (link.faults ≡ 0) × WasOverrun session history
-IsCause link history session end.Dropped = (link.faults ≡ 0) × WasDropped session history
-IsCause link history session end.Stopped = (link.faults ≡ 0) × WasStopped history
-IsCause link history session end.LinkFault = link.faults ≢ 0
-IsCause link history session (end.Full number) = (link.faults ≡ 0) × WasFull number history
-IsCause link history session end.Memory = link.faults ≡ 0
+abbrev pub IsCause : State → LinkView → List Record → ℕ → SessionEnd → Type 0
+IsCause start link history session end.End = (link.faults ≡ 0) × (link.ended ≡ true)
+IsCause start link history session (end.Broken place) = link.faults ≡ 0
+IsCause start link history session end.Overrun =
+    (link.faults ≡ 0) × WasOverrun start session history
+IsCause start link history session end.Dropped =
+    (link.faults ≡ 0) × WasDropped start session history
+IsCause start link history session end.Stopped = (link.faults ≡ 0) × WasStopped start history
+IsCause start link history session end.LinkFault = link.faults ≢ 0
+IsCause start link history session (end.Full number) = (link.faults ≡ 0) × WasFull number history
+IsCause start link history session end.Memory = link.faults ≡ 0
 
 -- the end of a link whose stream is at fault at this place: it is told, or an act was refused
 -- before, or memory ran out
@@ -70,14 +73,15 @@ TellsOf place end.Memory = Unit {0}
 -- A link that was given back, served so, is in talk with the records of its pass in the history, by
 -- the items that the drains of its session give along it. This speaks of whatever bytes there were:
 -- those that the link tells, where it tells them.
-pub record Talks (history mine : List Record) (link : LinkView) (served : Served) : Type 0 where
+pub record Talks (start : State) (history mine : List Record) (link : LinkView)
+    (served : Served) : Type 0 where
   pub input : List ℕ
   pub output : List ℕ
   pub tells : Tells link input output
   pub talk : IsTalk link.host input output link.ended mine served.session
-      (given_of served.session history) served.end false
+      (given_of start served.session history) served.end false
   pub connected : served.session ≢ 0 → IsTrue (has_connect served.session mine)
-  pub cause : IsCause link history served.session served.end
+  pub cause : IsCause start link history served.session served.end
   pub told : (place : ℕ) → fault_of input ≡ Some place → link.faults ≡ 0 → TellsOf place served.end
 
 -- the sessions of links that were given back; number 0 is no session
@@ -97,38 +101,46 @@ AllGivenBack gate =
 -- The pass of this number served this gate by readings of this clock: each link that was given back
 -- is in talk; the pass has no records beyond those of their sessions and flushes; and each record
 -- has a reading of its own.
-pub record IsWorker {L : Type 0} (view : L → LinkView) (history : List Record) (number : ℕ)
-    (gate : GateView L) (gave : Option (List ℕ)) : Type 0 where
+pub record IsWorker {L : Type 0} (view : L → LinkView) (start : State) (history : List Record)
+    (number : ℕ) (gate : GateView L) (gave : Option (List ℕ)) : Type 0 where
   pub given_back : AllGivenBack gate
-  pub talks : IfSome gate.returned (λ links.
-      AllByRecursion (λ back. Talks history (of_pass number history) (view back.0) back.1) links)
+  pub talks : IfSome gate.returned (λ links. AllByRecursion (λ back.
+      Talks start history (of_pass number history) (view back.0) back.1) links)
   pub owned : IfSome gate.returned (λ links.
       AllByRecursion (IsOfOne (sessions_of links)) (of_pass number history))
   pub timed : IfSome gave (λ readings.
       IsChosen (map (λ made. made.entry.moment) (of_pass number history)) readings)
 
 -- the gates and the clocks, one of each for each pass from this number on
-abbrev pub AreWorkers : {L : Type 0} → (L → LinkView) → List Record → ℕ → List (GateView L) →
-    List (Option (List ℕ)) → Type 0
-AreWorkers view history number [] [] = Unit {0}
-AreWorkers view history number (gate ∷ gates) (gave ∷ clocks) =
-    IsWorker view history number gate gave × AreWorkers view history (number + 1) gates clocks
-AreWorkers view history number [] (gave ∷ clocks) = ⊥
-AreWorkers view history number (gate ∷ gates) [] = ⊥
+abbrev pub AreWorkers : {L : Type 0} → (L → LinkView) → State → List Record → ℕ →
+    List (GateView L) → List (Option (List ℕ)) → Type 0
+AreWorkers view start history number [] [] = Unit {0}
+AreWorkers view start history number (gate ∷ gates) (gave ∷ clocks) =
+    IsWorker view start history number gate gave
+    × AreWorkers view start history (number + 1) gates clocks
+AreWorkers view start history number [] (gave ∷ clocks) = ⊥
+AreWorkers view start history number (gate ∷ gates) [] = ⊥
 
 -- the sessions that a gate tells
 abbrev pub told_sessions : {L : Type 0} → GateView L → List ℕ
 told_sessions gate = elim gate.returned [ None ↦ [] | Some links ↦ sessions_of links ]
 
--- What was seen is a legal history of the one-thread server from a server without sessions, each
--- record is of one of the passes, each pass has served its gate by it, and different links have
--- different sessions.
-pub record IsRun {L : Type 0} (view : L → LinkView) (history : List Record)
+-- What was seen is a legal history of the one-thread server from this state on, each record is of
+-- one of the passes, each pass has served its gate by it, and different links have different
+-- sessions.
+pub record IsRun {L : Type 0} (view : L → LinkView) (start : State) (history : List Record)
     (gates : List (GateView L)) (clocks : List (Option (List ℕ))) : Type 0 where
-  pub legal : IsLegal empty history
+  pub legal : IsLegal start history
   pub numbered : AllByRecursion (λ made. made.entry.pass < length gates) history
-  pub workers : AreWorkers view history 0 gates clocks
+  pub workers : AreWorkers view start history 0 gates clocks
   pub distinct : IsDistinct nat_eq (flat_map told_sessions gates)
+
+-- The moment is the first reading of the first of these clocks, where that tells its readings.
+abbrev pub IsFirstReading : ℕ → List (Option (List ℕ)) → Type 0
+IsFirstReading moment [] = ⊥
+IsFirstReading moment (None ∷ clocks) = Unit {0}
+IsFirstReading moment (Some [] ∷ clocks) = ⊥
+IsFirstReading moment (Some (reading ∷ readings) ∷ clocks) = moment ≡ reading
 
 -- one of these gates failed
 abbrev pub HasFailed : {L : Type 0} → List (GateView L) → Type 0
@@ -136,7 +148,8 @@ HasFailed [] = ⊥
 HasFailed (gate ∷ gates) = (gate.faults ≢ 0) ⊎ HasFailed gates
 
 -- What a run that serves asks its world for, beside a sink: a clock, and then its gate. What it was
--- given is left to be closed (`true`), or the clock, the gate or memory for them was refused.
+-- given is left to be closed (`true`), or the clock, the gate or memory for them or for the rows of
+-- a new server was refused.
 abbrev pub Opens : Bool → Asked → Asked → Type 0
 Opens true old new = new ≡ with_gate true (with_clock old)
 Opens false old new =

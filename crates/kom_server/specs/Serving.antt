@@ -1,26 +1,28 @@
 -- What a pass that serves alone leaves of its gate.
-use Rattle.std.specs.Prelude.{◌≡◌, ℕ, ◌+◌, nat_eq, List, length, map, Option, IfSome}
+use Rattle.std.specs.Prelude.{◌≡◌, ℕ, ◌+◌, nat_eq, List, [], ◌∷◌, length, map, Option, IfSome}
 use Rattle.std.specs.List.{AllByRecursion, IsDistinct}
 use Rattle.kom_links.specs.declared.served.Served.{Served}
 use Rattle.kom_links.specs.Doors.{GateView}
 use Rattle.kom_links.specs.Outside.{LinkView}
 use Rattle.kom_links.specs.Talk.{IsChosen}
-use Rattle.kom_model.specs.State.{empty}
+use Rattle.kom_model.specs.State.{State}
 use Rattle.kom_model.specs.Legal.{IsLegal}
 use Rattle.kom_server.specs.Passes.{PassView}
-use Rattle.kom_server.specs.Runs.{Talks, sessions_of, IsOfOne}
+use Rattle.kom_server.specs.Runs.{Talks, sessions_of, IsOfOne, IsFirstReading}
 
 -- The links that were given back are served by the records of the pass, which are the whole
--- history; each record is of one of their sessions, or a flush, and has a reading of its own.
-pub record Serves {L : Type 0} (view : L → LinkView) (pass : PassView)
+-- history from this state on; each record is of one of their sessions, or a flush, and has a
+-- reading of its own. The first reading opened the server.
+pub record Serves {L : Type 0} (view : L → LinkView) (start : State) (pass : PassView)
     (returned : Option (List (L × Served))) (gave : Option (List ℕ)) : Type 0 where
-  pub legal : IsLegal empty pass.seen
+  pub legal : IsLegal start pass.seen
   pub numbered : AllByRecursion (λ made. made.entry.pass ≡ pass.number) pass.seen
   pub talks : IfSome returned (λ links.
-      AllByRecursion (λ back. Talks pass.seen pass.seen (view back.0) back.1) links)
+      AllByRecursion (λ back. Talks start pass.seen pass.seen (view back.0) back.1) links)
   pub owned : IfSome returned (λ links. AllByRecursion (IsOfOne (sessions_of links)) pass.seen)
   pub timed : IfSome gave (λ readings.
       IsChosen (map (λ made. made.entry.moment) pass.seen) readings)
+  pub opened : IsFirstReading pass.opened (gave ∷ [])
   pub distinct : IfSome returned (λ links. IsDistinct nat_eq (sessions_of links))
 
 -- one link more was given than was given back

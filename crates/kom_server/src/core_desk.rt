@@ -5,8 +5,8 @@ ghost use Rattle.kom_types.specs.declared.acts.Act.TheVariants as act;
 ghost use Rattle.kom_types.specs.declared.items.Item.{Item as TakenItem};
 ghost use Rattle.kom_core.specs.Acts.{items_of, TakesNone};
 ghost use Rattle.kom_links.specs.Records.{IsOpen};
-ghost use Rattle.kom_model.specs.State.{empty};
 ghost use Rattle.kom_model.specs.Legal.{IsLegal, state_after};
+ghost use Rattle.kom_server.specs.Passes.{start_of};
 ghost use Rattle.kom_server.specs.Faults.{FaultTable, fault_in, noted_at, noted_at_none};
 ghost use Rattle.kom_server.specs.Faults.{noted_everywhere};
 ghost use Rattle.kom_server.specs.Desks.{IsKnown, AreNoted, Stands, desk_view, kept_with};
@@ -36,31 +36,35 @@ pub(crate) struct CoreDesk {
 }
 
 impl Model for CoreDesk {
+    ghost use Rattle.kom_server.specs.Passes.{start_of};
     ghost use Rattle.kom_server.specs.Desks.{Kept, Stands};
 
     ghost Value = { Kept };
 
     ghost view = { λ desk. record { pass = desk.pass; faults = desk.faults } };
 
-    ghost invariant = { λ desk. Stands desk.core.state
+    ghost invariant = { λ desk. Stands (start_of desk.pass) desk.core.state
         (record { pass = desk.pass; faults = desk.faults }) desk.sessions };
 }
 
 impl CoreDesk {
-    /// A desk of this pass that has made no act.
-    pub(crate) fn new(alloc: Global, number: u32) -> CoreDesk
-        ensures seen { result.pass.seen ≡ [] }
-        ensures number { result.pass.number ≡ number }
-        ensures no_fault { (desk_view result).fault_to 0 ≡ None }
+    /// A desk of the pass of this number over a new server that is opened at this moment. It has
+    /// made no act. It is refused where memory for the server's rows is.
+    pub(crate) fn new(alloc: Global, number: u32, opened: Moment) -> Result<CoreDesk, Memory>
+        ensures seen { IfOk result (λ desk. desk.pass.seen ≡ []) }
+        ensures number { IfOk result (λ desk. desk.pass.number ≡ number) }
+        ensures opened { IfOk result (λ desk. desk.pass.opened ≡ opened) }
+        ensures no_fault { IfOk result (λ desk. (desk_view desk).fault_to 0 ≡ None) }
     {
-        CoreDesk {
+        let core = Core::fresh(alloc, b"", opened)?;
+        Ok(CoreDesk {
             alloc,
-            core: Core::fresh(alloc),
-            pass: Pass::new(alloc, number),
+            core,
+            pass: Pass::new(alloc, number, opened),
             sessions: 0,
             faults: Faults::new(alloc),
             none: ArrayVec::new(),
-        }
+        })
     }
 
     /// Forgets the faults of the sessions that are closed, and the one of no session, before the
@@ -69,8 +73,9 @@ impl CoreDesk {
         ensures no_fault { (desk_view self.new).fault_to 0 ≡ None }
         ensures pass { self.new.pass ≡ self.old.pass }
         ensures known { (session : ℕ) →
-            IsKnown self.old.pass.seen session (fault_in self.old.faults session) }
-        ensures legal { IsLegal empty self.old.pass.seen }
+            IsKnown (start_of self.old.pass) self.old.pass.seen session
+            (fault_in self.old.faults session) }
+        ensures legal { IsLegal (start_of self.old.pass) self.old.pass.seen }
         ensures numbered { AllByRecursion (λ made.
             made.entry.pass ≡ self.old.pass.number) self.old.pass.seen }
     {
@@ -86,7 +91,7 @@ impl CoreDesk {
 
     /// Notes a fault at a session.
     fn note_at(&mut self, session: u32, fault: DeskFault) -> DeskFault
-        requires { IsKnown self.old.pass.seen session (Some fault) }
+        requires { IsKnown (start_of self.old.pass) self.old.pass.seen session (Some fault) }
         ensures result { result ≡ fault }
         ensures pass { self.new.pass ≡ self.old.pass }
         ensures faults { self.new.faults ≡ noted_at session fault self.old.faults }
@@ -97,7 +102,7 @@ impl CoreDesk {
 
     /// Notes a fault where no session is meant.
     fn note_at_none(&mut self, fault: DeskFault) -> DeskFault
-        requires { IsKnown self.old.pass.seen 0 (Some fault) }
+        requires { IsKnown (start_of self.old.pass) self.old.pass.seen 0 (Some fault) }
         ensures result { result ≡ fault }
         ensures pass { self.new.pass ≡ self.old.pass }
         ensures faults { self.new.faults ≡ noted_at_none fault self.old.faults }
@@ -108,7 +113,8 @@ impl CoreDesk {
 
     /// Notes a fault that is of no session.
     fn note_everywhere(&mut self, fault: DeskFault) -> DeskFault
-        requires { (session : ℕ) → IsKnown self.old.pass.seen session (Some fault) }
+        requires { (session : ℕ) →
+            IsKnown (start_of self.old.pass) self.old.pass.seen session (Some fault) }
         ensures result { result ≡ fault }
         ensures pass { self.new.pass ≡ self.old.pass }
         ensures faults { self.new.faults ≡ noted_everywhere fault self.old.faults }
@@ -127,11 +133,12 @@ impl CoreDesk {
     ) -> Result<(), DeskFault>
         requires { IsBetween act }
         ensures made { OnOk result ((short : Bool)
-            × Makes self.old self.new moment act short items.new.items) }
-        ensures refused { IfErr result (λ fault. Refuses self.old self.new act fault) }
+            × Makes (start_of self.old.pass) self.old self.new moment act short items.new.items) }
+        ensures refused { IfErr result (λ fault.
+            Refuses (start_of self.old.pass) self.old self.new act fault) }
         ensures none_taken { OnErr result (items.new.items ≡ []) }
-        ensures legal { IsLegal empty self.old.pass.seen }
-        ensures noted { AreNoted self.old.pass.seen self.old.faults }
+        ensures legal { IsLegal (start_of self.old.pass) self.old.pass.seen }
+        ensures noted { AreNoted (start_of self.old.pass) self.old.pass.seen self.old.faults }
     {
         make_between(
             &mut self.core,
@@ -148,10 +155,11 @@ impl CoreDesk {
     fn make_alone(&mut self, moment: Moment, act: Act) -> Result<(), DeskFault>
         requires { IsBetween act }
         ensures made { OnOk result ((short : Bool) × (items : List TakenItem)
-            × Makes self.old self.new moment act short items) }
-        ensures refused { IfErr result (λ fault. Refuses self.old self.new act fault) }
-        ensures legal { IsLegal empty self.old.pass.seen }
-        ensures noted { AreNoted self.old.pass.seen self.old.faults }
+            × Makes (start_of self.old.pass) self.old self.new moment act short items) }
+        ensures refused { IfErr result (λ fault.
+            Refuses (start_of self.old.pass) self.old self.new act fault) }
+        ensures legal { IsLegal (start_of self.old.pass) self.old.pass.seen }
+        ensures noted { AreNoted (start_of self.old.pass) self.old.pass.seen self.old.faults }
     {
         make_between(
             &mut self.core,
@@ -166,10 +174,12 @@ impl CoreDesk {
     /// Connects a session, with room for its row and for the Close of each session that stands
     /// then.
     fn join(&mut self, moment: Moment, user: &[u8], host: &[u8]) -> Result<u32, DeskFault>
-        ensures made { IfOk result (Joins self.old self.new moment user.now host.now) }
-        ensures refused { IfErr result (Refuses self.old self.new (act.Connect user.now host.now)) }
-        ensures legal { IsLegal empty self.old.pass.seen }
-        ensures noted { AreNoted self.old.pass.seen self.old.faults }
+        ensures made { IfOk result
+            (Joins (start_of self.old.pass) self.old self.new moment user.now host.now) }
+        ensures refused { IfErr result
+            (Refuses (start_of self.old.pass) self.old self.new (act.Connect user.now host.now)) }
+        ensures legal { IsLegal (start_of self.old.pass) self.old.pass.seen }
+        ensures noted { AreNoted (start_of self.old.pass) self.old.pass.seen self.old.faults }
     {
         if self.faults.reserve().is_err() || self.pass.reserve(self.sessions + 2).is_err() {
             return Err(DeskFault::Memory);
@@ -198,7 +208,7 @@ impl CoreDesk {
     fn leave(&mut self, moment: Moment, session: u32)
         requires { IsOpen session self.old.pass.seen }
         ensures closed { Leaves self.old self.new moment session }
-        ensures noted { AreNoted self.old.pass.seen self.old.faults }
+        ensures noted { AreNoted (start_of self.old.pass) self.old.pass.seen self.old.faults }
     {
         let entry = Entry {
             pass: self.pass.number(),
@@ -216,9 +226,9 @@ impl CoreDesk {
 
     /// Whether the server was shut down or its store refused a flush.
     fn is_stopped(&self) -> bool
-        ensures stopped { result ≡ ((state_after empty self.now.pass.seen).stopped
-            || (state_after empty self.now.pass.seen).store_refused) }
-        ensures noted { AreNoted self.now.pass.seen self.now.faults }
+        ensures stopped { let state = state_after (start_of self.now.pass) self.now.pass.seen in
+            result ≡ (state.stopped || state.store_refused) }
+        ensures noted { AreNoted (start_of self.now.pass) self.now.pass.seen self.now.faults }
     {
         self.core.stopped()
     }
@@ -236,14 +246,16 @@ fn make_between(
 ) -> Result<(), DeskFault>
     requires between { IsBetween act }
     requires stands { (faults : FaultTable)
-        × Stands core.old.state (kept_with pass.old faults) sessions }
+        × Stands (start_of pass.old) core.old.state (kept_with pass.old faults) sessions }
     ensures stands { (faults : FaultTable)
-        → Stands core.old.state (kept_with pass.old faults) sessions
-        → Stands core.new.state (kept_with pass.new faults) sessions }
-    ensures made { (faults : FaultTable) → OnOk result ((short : Bool) × Makes
-        (kept_with pass.old faults) (kept_with pass.new faults) moment act short items.new.items) }
-    ensures refused { (faults : FaultTable) → IfErr result (λ fault. Refuses
-        (kept_with pass.old faults) (kept_with pass.new faults) act fault) }
+        → Stands (start_of pass.old) core.old.state (kept_with pass.old faults) sessions
+        → Stands (start_of pass.new) core.new.state (kept_with pass.new faults) sessions }
+    ensures made { (faults : FaultTable) → OnOk result ((short : Bool)
+        × Makes (start_of pass.old) (kept_with pass.old faults) (kept_with pass.new faults)
+        moment act short items.new.items) }
+    ensures refused { (faults : FaultTable) → IfErr result (λ fault.
+        Refuses (start_of pass.old) (kept_with pass.old faults) (kept_with pass.new faults)
+        act fault) }
     ensures none_taken { OnErr result (items.new.items ≡ []) }
 {
     items.clear();

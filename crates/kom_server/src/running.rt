@@ -3,12 +3,14 @@ ghost use Rattle.std.specs.Prelude.{codes, IsTrue, IsNone, IsSome, IfSome, IsSom
 ghost use Rattle.std.specs.List.{AllByRecursion};
 ghost use Rattle.kom_links.specs.Outside.{IsNothing, Rose};
 ghost use Rattle.kom_links.specs.Asking.{with_sink};
-ghost use Rattle.kom_server.specs.Runs.{IsRefused, HasUsage, Opens, IsRun, HasFailed};
+ghost use Rattle.kom_server.specs.Passes.{start_of};
+ghost use Rattle.kom_server.specs.Runs.{IsRefused, HasUsage, Opens, IsRun, IsFirstReading};
+ghost use Rattle.kom_server.specs.Runs.{HasFailed};
 
 use crate::core_desk::CoreDesk;
 use crate::outcome::{Closing, Outcome};
 use crate::serving::serve_gate;
-use kom_links::{Gate, Sink, World, has_risen};
+use kom_links::{Clock, Gate, Sink, World, has_risen};
 use kom_types::Words;
 use std::alloc::Global;
 use std::sync::Wait;
@@ -50,9 +52,13 @@ pub fn run<R: Threads + Wait + Sync, W: World>(
     ensures zero { result.status ≡ 0 → IsSomeAnd result.end (λ closing.
         AllByRecursion (λ gate. (W.Gate.view gate).ended ≡ true) closing.gates.items) }
 
-    // What was served: one gate, by a pass of number 0 with one clock.
-    ensures once { IfSome result.end (λ closing. IsRun W.Gate.Link.view closing.pass.seen
+    // What was served: one gate, by a pass of number 0 with one clock, over a new server that was
+    // opened at the clock's first reading.
+    ensures once { IfSome result.end (λ closing. IsRun W.Gate.Link.view
+        (start_of closing.pass) closing.pass.seen
         (map (λ gate. W.Gate.view gate) closing.gates.items)
+        (map (λ clock. W.Clock.gave clock) closing.clocks.items)) }
+    ensures opened { IfSome result.end (λ closing. IsFirstReading closing.pass.opened
         (map (λ clock. W.Clock.gave clock) closing.clocks.items)) }
     ensures one_gate { IfSome result.end (λ closing. length closing.gates.items ≡ 1) }
     ensures number { IfSome result.end (λ closing. closing.pass.number ≡ 0) }
@@ -98,17 +104,20 @@ fn command_of(words: &Words) -> Option<Command>
     }
 }
 
-/// Serves the sessions at the gate over standard input and output, until the gate ends or fails,
-/// and says whether it failed. Nothing is served where the gate, the clock or memory for them is
-/// refused.
+/// Serves the sessions at the gate over standard input and output, on a new server, until the gate
+/// ends or fails, and says whether it failed. Nothing is served where the gate, the clock, or
+/// memory for them or for the server's rows is refused.
 fn once<R: Wait, W: World>(rt: &R, alloc: Global, world: &mut W) -> (bool, Option<Closing<W>>)
     ensures opens { Opens (is_some result.1) (W.view world.old).asked (W.view world.new).asked }
     ensures failed { IsTrue result.0 ↔ IsSomeAnd result.1 (λ closing.
         HasFailed (map (λ gate. W.Gate.view gate) closing.gates.items)) }
     ensures ended { result.0 ≡ false → IfSome result.1 (λ closing.
         AllByRecursion (λ gate. (W.Gate.view gate).ended ≡ true) closing.gates.items) }
-    ensures once { IfSome result.1 (λ closing. IsRun W.Gate.Link.view closing.pass.seen
+    ensures once { IfSome result.1 (λ closing. IsRun W.Gate.Link.view
+        (start_of closing.pass) closing.pass.seen
         (map (λ gate. W.Gate.view gate) closing.gates.items)
+        (map (λ clock. W.Clock.gave clock) closing.clocks.items)) }
+    ensures opened { IfSome result.1 (λ closing. IsFirstReading closing.pass.opened
         (map (λ clock. W.Clock.gave clock) closing.clocks.items)) }
     ensures one_gate { IfSome result.1 (λ closing. length closing.gates.items ≡ 1) }
     ensures number { IfSome result.1 (λ closing. closing.pass.number ≡ 0) }
@@ -122,10 +131,13 @@ fn once<R: Wait, W: World>(rt: &R, alloc: Global, world: &mut W) -> (bool, Optio
     let Ok(mut clock) = world.clock() else {
         return (false, None);
     };
+    let opened = clock.now();
+    let Ok(mut desk) = CoreDesk::new(alloc, 0, opened) else {
+        return (false, None);
+    };
     let Ok(mut gate) = world.std_gate() else {
         return (false, None);
     };
-    let mut desk = CoreDesk::new(alloc, 0);
     serve_gate(rt, alloc, &mut desk, &mut gate, &mut clock);
     let failed = gate.faults() != 0;
     gates.push_reserved(gate);

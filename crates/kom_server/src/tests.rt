@@ -89,7 +89,25 @@ fn a_client_is_answered_by_its_lines(rt: HostRuntime) -> Result<(), Fail> {
     let alloc = rt.alloc();
     // What the client sends, how many bytes a read and a write give and take at most, what is put,
     // and how it ends.
-    let rows: [(&[u8], usize, &[u8], SessionEnd); 17] = [
+    let rows: [(&[u8], usize, &[u8], SessionEnd); 20] = [
+        (
+            b"A1Ha\n1 62 5 0H 0\n2 88 4HOpen 00001000 0 { }\n3 76 4Hopen 0 1\n4 78 6\n",
+            0,
+            b"LysKOM\n=1\n=2 6\n=3 1 { 4HOpen 0000 6 }\n=4 4HOpen 00001000 0 77\n",
+            SessionEnd::End,
+        ),
+        (
+            b"A1Ha\n1 62 5 0H 0\n2 8 5 0H 1Hz\n3 62 5 0H 0\n4 62 5 1Hz 0\n",
+            1,
+            b"LysKOM\n=1\n=2\n%3 4 5\n=4\n",
+            SessionEnd::End,
+        ),
+        (
+            b"A1Ha\n1 42 255\n2 89 2HBo 1Hp 00000000 0 { }\n",
+            0,
+            b"LysKOM\n%1 6 0\n=2 6\n",
+            SessionEnd::End,
+        ),
         (ASKS, 0, ANSWERS, SessionEnd::End),
         (ASKS, 1, ANSWERS, SessionEnd::End),
         (

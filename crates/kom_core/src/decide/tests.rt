@@ -1,13 +1,21 @@
 use super::*;
-use kom_types::{Boxed, Bytes};
+use kom_types::{Boxed, Bytes, Effect};
 use std::test::Fail;
 
-/// Whether the last guard refuses, under reference 1, a reply that is a text of so many bytes.
+/// Whether the last guard refuses, under reference 1, a reply that is a text of so many bytes, and
+/// the effect with it.
 fn is_too_long(alloc: Global, bytes: usize) -> Result<bool, Memory> {
     let text = Bytes::of(vec![in alloc; b'x'; bytes]?);
     let reply = Reply::Text(Boxed::new(alloc, text)?);
-    let decision = limited(alloc, 1, answer(alloc, reply));
-    let refused = matches!(&decision.reply, Reply::Refused(46, 0));
+    let mut effects = Sequence::new(alloc);
+    effects.push(Effect::PersonGone { number: 6 })?;
+    let decision = Decision {
+        reply,
+        effects,
+        changes: Sequence::new(alloc),
+    };
+    let decision = limited(alloc, 1, decision);
+    let refused = matches!(&decision.reply, Reply::Refused(46, 0)) && decision.effects.is_empty();
     drop(decision);
     Ok(refused)
 }

@@ -1,11 +1,18 @@
-ghost use Rattle.std.specs.Prelude.{◌≡◌, ◌+◌, ◌^◌, ◌<◌, ◌≤◌};
+ghost use Rattle.std.specs.Prelude.{◌≡◌, ◌+◌, ◌^◌, ◌<◌, ◌≤◌, IfOk};
 
 use super::*;
 use kom_framing::Writer;
 use kom_replies::print_item;
-use kom_types::{Act, Bytes, Call, Moment, Refusal, Sequence, Why};
+use kom_types::{Act, Boxed, Bytes, Call, Moment, NewConference, Refusal, Sequence, Why};
 use std::process::Abort;
 use std::test::Fail;
+
+/// A core before its first act, whose administrator has the empty password.
+fn fresh(alloc: Global) -> Result<Core, Memory>
+    ensures { IfOk result (λ core. core.state.entries ≡ 0) }
+{
+    Core::fresh(alloc, b"", Moment::at_most(0))
+}
 
 /// Makes an act of pass 3.
 fn act(core: &mut Core, moment: u64, act: Act) -> Result<Answer, Memory>
@@ -178,7 +185,7 @@ fn handed(core: &mut Core) -> Option<(u32, u32, u64, bool)>
 
 #[test]
 fn a_visit_is_recorded(rt: HostRuntime) -> Result<(), Fail> {
-    visit(&rt, rt.alloc(), &mut Core::fresh(rt.alloc()))
+    visit(&rt, rt.alloc(), &mut fresh(rt.alloc())?)
 }
 
 fn visit(rt: &impl Abort, alloc: Global, core: &mut Core) -> Result<(), Fail>
@@ -195,7 +202,7 @@ fn visit(rt: &impl Abort, alloc: Global, core: &mut Core) -> Result<(), Fail>
 
 #[test]
 fn what_is_stable_is_given(rt: HostRuntime) -> Result<(), Fail> {
-    give_what_is_stable(&rt, rt.alloc(), &mut Core::fresh(rt.alloc()))
+    give_what_is_stable(&rt, rt.alloc(), &mut fresh(rt.alloc())?)
 }
 
 fn give_what_is_stable(rt: &impl Abort, alloc: Global, core: &mut Core) -> Result<(), Fail>
@@ -220,7 +227,7 @@ fn break_after_a_flush(rt: &impl Abort, core: &mut Core) -> Result<(), Fail>
 
 #[test]
 fn calls_are_answered(rt: HostRuntime) -> Result<(), Fail> {
-    ask_plain_calls(&rt, rt.alloc(), &mut Core::fresh(rt.alloc()))
+    ask_plain_calls(&rt, rt.alloc(), &mut fresh(rt.alloc())?)
 }
 
 fn ask_plain_calls(rt: &impl Abort, alloc: Global, core: &mut Core) -> Result<(), Fail>
@@ -270,7 +277,7 @@ fn ask_in_vain(rt: &impl Abort, alloc: Global, core: &mut Core) -> Result<(), Fa
 
 #[test]
 fn messages_are_accepted(rt: HostRuntime) -> Result<(), Fail> {
-    ask_for_messages(&rt, rt.alloc(), &mut Core::fresh(rt.alloc()))
+    ask_for_messages(&rt, rt.alloc(), &mut fresh(rt.alloc())?)
 }
 
 fn ask_for_messages(rt: &impl Abort, alloc: Global, core: &mut Core) -> Result<(), Fail>
@@ -320,9 +327,112 @@ fn check_accepted(
     check_line(rt, alloc, core, 1, Call::QueryAsync, accepted)
 }
 
+/// Session 1 is answered so when it logs in as person 5 with this password.
+fn check_login(
+    rt: &impl Abort,
+    alloc: Global,
+    core: &mut Core,
+    password: &[u8],
+    line: &'static [u8],
+) -> Result<(), Fail>
+    requires { core.old.state.entries + 2 < 2 ^ 62 }
+    ensures { core.new.state.entries ≤ core.old.state.entries + 3 }
+{
+    let call = Call::Login {
+        person: 5,
+        password: Bytes::copy_of(alloc, password)?,
+        invisible: false,
+    };
+    check_line(rt, alloc, core, 1, call, line)
+}
+
+/// Session 1 is answered so when it makes a conference for all of this name.
+fn check_conference(
+    rt: &impl Abort,
+    alloc: Global,
+    core: &mut Core,
+    name: &[u8],
+    line: &'static [u8],
+) -> Result<(), Fail>
+    requires { core.old.state.entries + 2 < 2 ^ 62 }
+    ensures { core.new.state.entries ≤ core.old.state.entries + 3 }
+{
+    let given = NewConference {
+        name: Bytes::copy_of(alloc, name)?,
+        kind: 8,
+        aux_items: Sequence::new(alloc),
+    };
+    let call = Call::CreateConf(Boxed::new(alloc, given)?);
+    check_line(rt, alloc, core, 1, call, line)
+}
+
+/// Session 1 finds these conferences by a pattern.
+fn check_found(
+    rt: &impl Abort,
+    alloc: Global,
+    core: &mut Core,
+    pattern: &[u8],
+    line: &'static [u8],
+) -> Result<(), Fail>
+    requires { core.old.state.entries + 2 < 2 ^ 62 }
+    ensures { core.new.state.entries ≤ core.old.state.entries + 3 }
+{
+    let call = Call::LookupZName {
+        name: Bytes::copy_of(alloc, pattern)?,
+        persons: false,
+        conferences: true,
+    };
+    check_line(rt, alloc, core, 1, call, line)
+}
+
+#[test]
+fn a_person_logs_in_and_makes_a_conference(rt: HostRuntime) -> Result<(), Fail> {
+    log_in_and_make(&rt, rt.alloc(), &mut fresh(rt.alloc())?)
+}
+
+fn log_in_and_make(rt: &impl Abort, alloc: Global, core: &mut Core) -> Result<(), Fail>
+    requires { core.old.state.entries ≡ 0 }
+{
+    connect(alloc, core, 0)?;
+    log_in(rt, alloc, core)?;
+    make_a_conference(rt, alloc, core)?;
+    check_line(rt, alloc, core, 1, Call::WhoAmI, b"=7 1\n")
+}
+
+fn log_in(rt: &impl Abort, alloc: Global, core: &mut Core) -> Result<(), Fail>
+    requires { core.old.state.entries + 5 < 2 ^ 62 }
+    ensures { core.new.state.entries ≤ core.old.state.entries + 6 }
+{
+    check_login(rt, alloc, core, b"x", b"LysKOM\n%7 4 5\n")?;
+    check_login(rt, alloc, core, b"", b"=7\n")
+}
+
+fn make_a_conference(rt: &impl Abort, alloc: Global, core: &mut Core) -> Result<(), Fail>
+    requires { core.old.state.entries + 11 < 2 ^ 62 }
+    ensures { core.new.state.entries ≤ core.old.state.entries + 12 }
+{
+    check_found(rt, alloc, core, b"open", b"=7 0 *\n")?;
+    check_conference(rt, alloc, core, b"Open", b"=7 6\n")?;
+    check_conference(rt, alloc, core, b"oPEN", b"%7 20 0\n")?;
+    check_found(rt, alloc, core, b"open", b"=7 1 { 4HOpen 0000 6 }\n")
+}
+
+#[test]
+fn rows_that_are_given_are_taken(rt: HostRuntime) -> Result<(), Fail> {
+    let rows = kom_state::State::empty(rt.alloc());
+    find_no_person(&rt, rt.alloc(), &mut Core::of(rt.alloc(), rows))
+}
+
+fn find_no_person(rt: &impl Abort, alloc: Global, core: &mut Core) -> Result<(), Fail>
+    requires { core.old.state.entries ≡ 0 }
+{
+    connect(alloc, core, 0)?;
+    check_login(rt, alloc, core, b"", b"LysKOM\n%7 10 5\n")
+}
+
 /// The act is refused by a fresh core, and leaves no record.
 fn check_absent(rt: &impl Abort, alloc: Global, what: Act) -> Result<(), Fail> {
-    refuse(rt, &mut Core::fresh(alloc), what)
+    refuse(rt, &mut fresh(alloc)?, what)
 }
 
 fn refuse(rt: &impl Abort, core: &mut Core, what: Act) -> Result<(), Fail>
@@ -343,7 +453,7 @@ fn acts_of_a_session_that_is_not_there_are_refused(rt: HostRuntime) -> Result<()
 
 #[test]
 fn a_drain_takes_64_items_at_most(rt: HostRuntime) -> Result<(), Fail> {
-    drain_twice(&rt, rt.alloc(), &mut Core::fresh(rt.alloc()))
+    drain_twice(&rt, rt.alloc(), &mut fresh(rt.alloc())?)
 }
 
 fn drain_twice(rt: &impl Abort, alloc: Global, core: &mut Core) -> Result<(), Fail>
@@ -382,7 +492,7 @@ fn lines_drained(alloc: Global, core: &mut Core) -> Result<usize, Memory>
 
 #[test]
 fn a_session_for_whom_too_much_waits_is_overrun(rt: HostRuntime) -> Result<(), Fail> {
-    overrun(&rt, rt.alloc(), &mut Core::fresh(rt.alloc()))
+    overrun(&rt, rt.alloc(), &mut fresh(rt.alloc())?)
 }
 
 fn overrun(rt: &impl Abort, alloc: Global, core: &mut Core) -> Result<(), Fail>

@@ -1,12 +1,16 @@
-ghost use Rattle.std.specs.Prelude.{◌≡◌, ℕ, IfOk, IsOk, Some, None};
+ghost use Rattle.std.specs.Prelude.{◌≡◌, ℕ, [], Some, None, IfOk, IsOk, OnOk, OnErr};
+ghost use Rattle.kom_state.specs.Room.{IsOrderly};
+ghost use Rattle.kom_model.specs.Effects.{apply_all};
 ghost use Rattle.kom_model.specs.After.{make_change, make_changes};
 ghost use Rattle.kom_core.specs.Deciding.{IsCall, DecidesFirm};
-ghost use Rattle.kom_core.specs.Steps.{ComesTo, Answers, IsOf};
+ghost use Rattle.kom_core.specs.Steps.{ComesTo, CarriesOut, Answers, IsOf};
 
 use super::{State, later};
 use crate::decide::decide;
 use crate::fan_out::{Delivery, fan_out};
-use kom_types::{ChangeList, Decision, Entry, Item, Memory, Moment, Reply, SessionChange};
+use kom_types::{
+    ChangeList, Decision, EffectList, Entry, Item, Memory, Moment, Reply, SessionChange,
+};
 
 impl State {
     /// Carries out the call of an entry, sends its messages, and queues its reply; where memory ran
@@ -15,11 +19,9 @@ impl State {
         requires { IsCall entry.now.act }
         ensures { Answers self.old entry.now session reference result self.new }
     {
-        match self.comes_to(entry) {
-            Ok((decision, messages)) => {
-                self.make_changes(decision.changes, later(self.moment, entry.moment));
+        match self.carry_out(entry) {
+            Ok((body, messages)) => {
                 self.queue_all(messages);
-                let body = decision.reply;
                 self.queue(session, Item::Reply { reference, body });
                 false
             }
@@ -31,6 +33,26 @@ impl State {
         }
     }
 
+    /// Makes what the call of an entry changes, and returns its reply and the messages that it
+    /// sends. Where memory runs out, nothing is changed.
+    fn carry_out(&mut self, entry: &Entry) -> Result<(Reply, Vec<Delivery>), Memory>
+        requires { IsCall entry.now.act }
+        ensures ok { IfOk result (λ both.
+            CarriesOut self.old entry.now both.0 both.1.items self.new) }
+        ensures err { OnErr result (self.new ≡ self.old) }
+        ensures firm { DecidesFirm self.old entry.now → IsOk result }
+    {
+        let (decision, messages) = self.comes_to(entry)?;
+        let Decision {
+            reply,
+            effects,
+            changes,
+        } = decision;
+        self.apply(effects)?;
+        self.make_changes(changes, later(self.moment, entry.moment));
+        Ok((reply, messages))
+    }
+
     /// What the call of an entry comes to, and the messages that it sends. Nothing is changed yet.
     fn comes_to(&self, entry: &Entry) -> Result<(Decision, Vec<Delivery>), Memory>
         requires { IsCall entry.now.act }
@@ -40,6 +62,21 @@ impl State {
         let decision = decide(self, entry)?;
         let messages = fan_out(self, entry, &decision)?;
         Ok((decision, messages))
+    }
+
+    /// Makes effects on the stored rows, in order. Where memory runs out, none is made.
+    fn apply(&mut self, effects: EffectList) -> Result<(), Memory>
+        requires { IsOrderly effects }
+        ensures ok { OnOk result (
+            self.new ≡ record self.old { db = apply_all effects self.old.db }) }
+        ensures err { OnErr result (self.new ≡ self.old) }
+        ensures none { effects ≡ [] → IsOk result }
+    {
+        if !effects.is_empty() {
+            self.rows.reserve(effects.as_slice())?;
+            self.rows.apply_all(effects);
+        }
+        Ok(())
     }
 
     /// Makes the changes of sessions, in order.

@@ -1,5 +1,6 @@
 use Rattle.std.proofs.Common.{◌≡◌, ◌+◌, ◌≤◌, length, ap, ◌∙◌, rules, arith}
 use Rattle.kom_types.specs.declared.acts.Entry.{Entry}
+use Rattle.kom_server.specs.Passes.{start_of}
 use Rattle.kom_server.specs.Faults.{FaultTable}
 use Rattle.kom_server.specs.Desks.{Stands, kept_with}
 use Rattle.kom_server.proofs.StandingDesk.{Ready, entries_within, stands_asked}
@@ -15,16 +16,19 @@ act_and_log-requires-clause-bound c =
 
 -- the desk stands after the act, whatever was answered
 stood : (c : After-act_and_log) → (faults : FaultTable) →
-    Stands c.args.core.now.state (kept_with c.args.pass.now faults) c.args.sessions →
-    Stands c.act_and_log.new.core.state (kept_with c.act_and_log.new.pass faults) c.args.sessions
+    Stands (start_of c.args.pass.now) c.args.core.now.state (kept_with c.args.pass.now faults) c.args.sessions →
+    Stands (start_of c.act_and_log.new.pass) c.act_and_log.new.core.state
+    (kept_with c.act_and_log.new.pass faults) c.args.sessions
 stood c faults stands =
     let some : c.args.sessions + 1 ≤ c.reserve.new.self.room = search rules in
     let entry : Entry = record { pass = c.number.result; moment = c.args.moment; act = c.args.act } in
-    let ready : Ready c.args.core.now.state (kept_with c.args.pass.now faults) c.reserve.new.self c.args.sessions 1 entry =
+    let ready : Ready c.args.core.now.state (kept_with c.args.pass.now faults) c.reserve.new.self c.args.sessions 1
+    entry =
     record {
       stands = stands;
       seen = c.reserve.ensures.seen;
       number = c.reserve.ensures.number;
+      opened = c.reserve.ensures.opened;
       bound = c.reserve.ensures.bound;
       room = some;
       entered = c.number.ensures.number ∙ c.reserve.ensures.number;

@@ -1,4 +1,5 @@
 use Rattle.std.proofs.Common.{◌≡◌, [], ◌∷◌, ◌∙◌}
+use Rattle.kom_server.specs.Passes.{start_of}
 use Rattle.kom_server.proofs.GrownHistories.{sole, run_alone}
 use Rattle.kom_server.proofs.running.once.Goals as goal
 
@@ -11,6 +12,7 @@ returns-clause-once g c =
     sole c.push_reserved-2.new.self.items c.in-Ok-with_capacity.clocks.items c.serve_gate.new.clock
     c.push_reserved-2.ensures.items c.in-Ok-with_capacity.ensures.items in
     rw (gates, clocks, c.into_pass-pass.ensures)
-    (run_alone g.W.Gate.Link.Link.view c.serve_gate.new.desk.pass (g.W.Gate.Gate.view c.serve_gate.new.gate)
-    (g.W.Clock.Clock.gave c.serve_gate.new.clock) (c.serve_gate.ensures.number ∙ c.new-desk.ensures.number)
+    (run_alone g.W.Gate.Link.Link.view (start_of c.serve_gate.new.desk.pass) c.serve_gate.new.desk.pass
+    (g.W.Gate.Gate.view c.serve_gate.new.gate)
+    (g.W.Clock.Clock.gave c.serve_gate.new.clock) (c.serve_gate.ensures.number ∙ c.in-Ok-new.ensures.number)
     c.serve_gate.ensures.serves c.serve_gate.ensures.all_back)

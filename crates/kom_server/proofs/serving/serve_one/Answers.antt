@@ -1,4 +1,6 @@
-use Rattle.kom_server.proofs.GrownHistories.{serves_one, given_back}
+use Rattle.std.proofs.Common.{ap, ◌∙◌}
+use Rattle.kom_server.specs.Passes.{PassView}
+use Rattle.kom_server.proofs.GrownHistories.{opened_before, serves_one, given_back}
 use Rattle.kom_server.proofs.serving.serve_one.Goals as goal
 
 pub serve_link-served-requires-clause-untouched : goal.serve_link-served-requires-clause-untouched
@@ -18,6 +20,12 @@ returns-clause-serves g c =
     c.serve_link-served.ensures.session c.serve_link-served.ensures.cause c.serve_link-served.ensures.others.host
     c.forget.ensures.pass c.forget.ensures.known c.forget.ensures.legal c.forget.ensures.numbered
     c.give_back.ensures.returned c.requires.serves
+
+pub returns-clause-opened : goal.returns-clause-opened
+returns-clause-opened g c =
+    ap (λ (pass : PassView). pass.opened) c.forget.ensures.pass
+    ∙ (opened_before c.args.desk.now c.serve_link-served.new.desk c.serve_link-served.ensures.talk.0
+    c.serve_link-served.ensures.talk.1).0
 
 pub returns-clause-all_back : goal.returns-clause-all_back
 returns-clause-all_back g c =

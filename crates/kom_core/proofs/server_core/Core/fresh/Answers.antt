@@ -1,8 +1,8 @@
-use Rattle.kom_core.proofs.Soundness.{IsSound-empty}
+use Rattle.std.proofs.Common.{sym, subst}
+use Rattle.kom_model.specs.Effects.{IsProtected}
+use Rattle.kom_model.proofs.Opening.{IsProtected-initial}
 use Rattle.kom_core.proofs.server_core.Core.fresh.Goals as goal
 
-pub invariant_of-result : goal.invariant_of-result
-invariant_of-result c = rw c.empty.ensures IsSound-empty
-
-pub returns-clause-sound : goal.returns-clause-sound
-returns-clause-sound c = rw c.empty.ensures IsSound-empty
+pub of-requires : goal.of-requires
+of-requires c =
+    subst IsProtected (sym c.in_ok-rows.ensures) (IsProtected-initial c.args.password.now c.args.moment)

@@ -1,11 +1,14 @@
+use Rattle.kom_server.specs.Passes.{PassView, start_of}
+use Rattle.kom_server.proofs.Starting.{starts}
 use Rattle.kom_server.proofs.Refusals.{known_still, call_told}
 use Rattle.kom_server.proofs.DeskViews.{calls_made, calls_refused}
 use Rattle.kom_server.proofs.core_desk.CoreDeskDesk.call.Goals as goal
 
 pub note_at-requires : goal.note_at-requires
 note_at-requires c =
-    known_still c.args.self.now.pass.seen c.make_alone.new.self.pass.seen c.args.session c.in-Err.fault
-    c.in-Err.ensures.refused.seen (call_told c.args.self.now.pass.seen c.args.session c.in-Err.fault
+    let pass : PassView = c.args.self.now.pass in
+    known_still pass c.make_alone.new.self.pass c.args.session c.in-Err.fault c.in-Err.ensures.refused.opened
+    c.in-Err.ensures.refused.seen (call_told (start_of pass) (starts pass) pass.seen c.args.session c.in-Err.fault
     c.in-Err.ensures.legal c.requires c.in-Err.ensures.refused.cause)
 
 pub returns-in-Ok : goal.returns-in-Ok

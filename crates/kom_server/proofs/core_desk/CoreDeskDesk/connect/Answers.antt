@@ -1,11 +1,15 @@
+use Rattle.kom_server.specs.Passes.{PassView, start_of}
+use Rattle.kom_server.proofs.Starting.{starts}
 use Rattle.kom_server.proofs.Refusals.{known_still, connect_told}
 use Rattle.kom_server.proofs.DeskViews.{connects_made, connects_refused}
 use Rattle.kom_server.proofs.core_desk.CoreDeskDesk.connect.Goals as goal
 
 pub note_at_none-requires : goal.note_at_none-requires
 note_at_none-requires c =
-    known_still c.args.self.now.pass.seen c.join.new.self.pass.seen 0 c.in-Err.fault c.in-Err.ensures.refused.seen
-    (connect_told c.args.self.now.pass.seen c.in-Err.fault c.in-Err.ensures.legal c.in-Err.ensures.refused.cause)
+    let pass : PassView = c.args.self.now.pass in
+    known_still pass c.join.new.self.pass 0 c.in-Err.fault c.in-Err.ensures.refused.opened
+    c.in-Err.ensures.refused.seen (connect_told (start_of pass) (starts pass) pass.seen c.in-Err.fault
+    c.in-Err.ensures.legal c.in-Err.ensures.refused.cause)
 
 pub returns-in-Ok : goal.returns-in-Ok
 returns-in-Ok c =

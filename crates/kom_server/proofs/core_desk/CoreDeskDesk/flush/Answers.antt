@@ -1,11 +1,14 @@
+use Rattle.kom_server.specs.Passes.{PassView, start_of}
 use Rattle.kom_server.proofs.Refusals.{known_still, flush_told}
 use Rattle.kom_server.proofs.DeskViews.{flushes_made, flushes_refused}
 use Rattle.kom_server.proofs.core_desk.CoreDeskDesk.flush.Goals as goal
 
 pub note_everywhere-requires : goal.note_everywhere-requires
 note_everywhere-requires c session =
-    known_still c.args.self.now.pass.seen c.make_alone.new.self.pass.seen session c.in-Err.fault c.in-Err.ensures.refused.seen
-    (flush_told c.args.self.now.pass.seen session c.in-Err.fault c.in-Err.ensures.refused.cause)
+    let pass : PassView = c.args.self.now.pass in
+    known_still pass c.make_alone.new.self.pass session c.in-Err.fault c.in-Err.ensures.refused.opened
+    c.in-Err.ensures.refused.seen
+    (flush_told (start_of pass) pass.seen session c.in-Err.fault c.in-Err.ensures.refused.cause)
 
 pub returns-in-Ok : goal.returns-in-Ok
 returns-in-Ok c =
