@@ -40,4 +40,16 @@ expect 'an empty word' 2 "$usage" "$komd" ''
 expect 'a command that is not built yet' 2 "$usage" "$komd" serve 127.0.0.1:4894 store
 expect 'a word that is no text' 2 "$usage" "$komd" $'once\xff'
 expect 'a last word that is no text' 2 "$usage" "$komd" once $'\xff'
+
+# 65,535 is the last number that a conference gets
+{
+    printf 'A5Hceder\n1 62 5 0H 0\n'
+    seq 6 65535 | awk '{ name = "c " $1; printf "2 88 %dH%s 0000 0 { }\n", length(name), name }'
+    printf '3 114\n4 88 2Hxy 0000 0 { }\n5 89 2Hxy 0H 00000000 0 { }\n6 114\n7 76 7Hc 65535 0 1\n'
+} >"$work/in"
+last=$("$komd" once <"$work/in" | tail -n 6 | tr '\n' '|')
+if [ "$last" != '=2 65535|=3 65536|%4 45 0|%5 45 0|=6 65536|=7 1 { 7Hc 65535 0000 65535 }|' ]; then
+    echo "the last number: answered $last"
+    failed=1
+fi
 exit $failed
