@@ -3,19 +3,18 @@
 
 usage: tools/bench_calls.py [KOMD]      (KOMD: the built program, crates/komd/out/komd if left out)
 
-For 10, 1,000 and 60,000 conferences a stream logs in, makes them by create-conf, and then asks a call many times; the same
-stream without these calls is taken off. The program reads a file and writes to /dev/null; each stream is run three times,
-the sizes taking turns, and the medians of its processor time are compared.
+For 10, 1,000 and 60,000 conferences a stream logs in, makes them by create-conf, and then asks a call many times; what the
+same stream takes with a quarter of these calls is taken off. The program reads a file and writes to /dev/null; each stream
+is run three times, the sizes taking turns, and the least processor times in user mode are compared.
 """
 import os
-import statistics
 import subprocess
 import sys
 import tempfile
 
 SIZES = (10, 1_000, 60_000)
 TURNS = 3
-MANY = 2_000_000
+MANY = 1_000_000
 
 
 def hollerith(text):
@@ -36,18 +35,18 @@ def calls(size):
     """The calls that are measured, with how many times each is asked."""
     yield "who-am-i", "56", MANY
     yield "get-uconf-stat", f"78 {size}", MANY
-    yield "lookup-z-name, one found", f"76 {hollerith(f'conf of number {size}')} 0 1", 5_000_000 // size
     yield "find-next-conf-no", f"116 {size - 1}", MANY
+    yield "lookup-z-name, one found", f"76 {hollerith(f'conf of number {size}')} 0 1", 5_000_000 // size
 
 
 def run(program, path):
-    """The processor time that a run takes, in seconds."""
+    """The processor time in user mode that a run takes, in seconds."""
     with open(path, "rb") as given:
         running = subprocess.Popen([program, "once"], stdin=given, stdout=subprocess.DEVNULL)
         _, status, used = os.wait4(running.pid, 0)
     if status:
         sys.exit(f"{program} ended with {status}")
-    return used.ru_utime + used.ru_stime
+    return used.ru_utime
 
 
 def main(words):
@@ -56,23 +55,23 @@ def main(words):
     with tempfile.TemporaryDirectory() as work:
         paths = {}
         for size in SIZES:
-            for name, call, times in [("", "", 0), *calls(size)]:
-                paths[size, name] = os.path.join(work, f"{size}{name}".replace(" ", "_"))
-                with open(paths[size, name], "w", encoding="ascii") as out:
-                    out.writelines(stream(size, call, times))
+            for name, call, times in calls(size):
+                for part in (1, 4):
+                    path = paths[size, name, part] = os.path.join(work, f"{size} {name} {part}")
+                    with open(path, "w", encoding="ascii") as out:
+                        out.writelines(stream(size, call, times * part // 4))
         taken = {key: [] for key in paths}
         for _ in range(TURNS):
             for key, path in paths.items():
                 taken[key].append(run(program, path))
         base = {}
         for size in SIZES:
-            made = statistics.median(taken[size, ""])
-            if size == SIZES[-1]:
-                print(f"create-conf with up to {size} conferences: {made / size * 1e6:.2f} us each")
             for name, _, times in calls(size):
-                each = (statistics.median(taken[size, name]) - made) / times * 1e6
+                each = (min(taken[size, name, 4]) - min(taken[size, name, 1])) / (times * 3 / 4) * 1e6
                 base.setdefault(name, each)
                 print(f"{name} at {size} conferences: {each:.2f} us, {each / base[name]:.2f} of that at {SIZES[0]}")
+        made = min(taken[SIZES[-1], "who-am-i", 1]) - MANY / 4 * base["who-am-i"] / 1e6
+        print(f"create-conf with up to {SIZES[-1]} conferences: {made / SIZES[-1] * 1e6:.1f} us each")
 
 
 if __name__ == "__main__":
