@@ -57,7 +57,7 @@ pub use sessions::{ClientVersion, DynamicSession, DynamicSessions, StaticSession
 pub use shortage::Memory;
 pub use side::Side;
 pub use texts::{
-    Block, CreatedText, Link, LocalText, Mapping, Mark, MarkRow, Marks, MiscInfo, MiscInfos,
-    MiscInput, MiscInputs, NewText, Recipient, TextRow, TextStat,
+    Block, Link, LocalText, Mapping, Mark, MarkRow, Marks, MiscInfo, MiscInfos, MiscInput,
+    MiscInputs, NewText, Recipient, TextRow, TextStat,
 };
 pub use times::{LAST_MOMENT, Moment, Time};

@@ -65,6 +65,8 @@ pub struct TextRow {
     pub body: Bytes,
     /// How many line feeds its body has.
     pub lines: u32,
+    /// Its number among the texts that its author made, or 0 where it has none.
+    pub created_local: u32,
 }
 
 /// A recipient of a text: a row of the store. (Protocol A, "Misc-Info".)
@@ -92,14 +94,6 @@ pub struct Link {
     /// Who made it later, or 0 where the text was made with it.
     pub sender: u32,
     pub at: Moment,
-}
-
-/// A text's number among those that a person made: a row of the store.
-#[derive(Clone, Copy, Debug)]
-pub struct CreatedText {
-    pub person: u32,
-    pub local: u32,
-    pub text: u32,
 }
 
 /// A person's mark on a text: a row of the store.

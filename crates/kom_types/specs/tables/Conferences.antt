@@ -17,6 +17,10 @@ is_secret_conference kind = is_on 32 kind
 abbrev pub is_letterbox : ℕ → Bool
 is_letterbox kind = is_on 16 kind
 
+-- texts without an author may be sent to it
+abbrev pub allows_anonymous : ℕ → Bool
+allows_anonymous kind = is_on 8 kind
+
 -- a secret conference is read-protected too
 abbrev pub is_secret_protected : ℕ → Bool
 is_secret_protected kind = not (is_secret_conference kind) || is_read_protected kind

@@ -1,10 +1,12 @@
--- Texts, and what they are linked to: rows in the order of adding. (Protocol A, "Texts".)
+-- Texts, and what they are linked to: rows in the order of adding. (Protocol A, "Texts" and
+-- "Misc-Info".)
 use Rattle.std.specs.Prelude.{ℕ, Bool, ◌==◌, ◌&&◌, not, nat_lt, count_by}
-use Rattle.std.specs.Prelude.{List, [], ◌∷◌, map, filter, find, fold, Option, if◌then◌else◌}
+use Rattle.std.specs.Prelude.{List, [], ◌∷◌, ◌++◌, map, filter, find, fold, Option, is_some}
+use Rattle.std.specs.Prelude.{if◌then◌else◌}
 use Rattle.kom_types.specs.Bits.{alike}
-use Rattle.kom_types.specs.declared.texts.CreatedText.{CreatedText}
 use Rattle.kom_types.specs.declared.texts.Link.{Link}
 use Rattle.kom_types.specs.declared.texts.LocalText.{LocalText}
+use Rattle.kom_types.specs.declared.texts.Mark.{Mark}
 use Rattle.kom_types.specs.declared.texts.MarkRow.{MarkRow}
 use Rattle.kom_types.specs.declared.texts.Recipient.{Recipient}
 use Rattle.kom_types.specs.declared.texts.TextRow.{TextRow}
@@ -13,15 +15,24 @@ use Rattle.kom_types.specs.declared.texts.TextRow.{TextRow}
 abbrev pub number_of_text : TextRow → ℕ
 number_of_text row = row.number
 
--- a text as it is made; a line ends at a line feed
+-- how many lines a body has: each ends at a line feed
+abbrev pub lines_of : List ℕ → ℕ
+lines_of body = count_by (λ byte. byte == 10) body
+
+-- a text as it is made
 abbrev pub fresh_text : ℕ → ℕ → ℕ → List ℕ → TextRow
 fresh_text number author at body = record {
   number = number;
   author = author;
   created = at;
   body = body;
-  lines = count_by (λ byte. byte == 10) body;
+  lines = lines_of body;
+  created_local = 0;
 }
+
+-- with a number among the texts that its author made
+abbrev pub with_created_local : ℕ → TextRow → TextRow
+with_created_local local row = record row { created_local = local }
 
 -- whether this is what makes a conference a recipient of a text
 abbrev pub is_recipient : ℕ → ℕ → Recipient → Bool
@@ -44,11 +55,26 @@ locals_of conference rows =
     map (λ row. record { local = row.local; text = row.text })
     (filter (λ row. row.conference == conference) rows)
 
--- the numbers of the texts that a person made, rising
-abbrev pub created_by : ℕ → List CreatedText → List LocalText
-created_by person rows =
-    map (λ row. record { local = row.local; text = row.text })
-    (filter (λ row. row.person == person) rows)
+-- a local number among others by its size
+abbrev pub by_local : LocalText → List LocalText → List LocalText
+by_local pair [] = pair ∷ []
+by_local pair (first ∷ pairs) =
+    if nat_lt pair.local first.local then pair ∷ first ∷ pairs else first ∷ by_local pair pairs
+
+abbrev pub rising_locals : List LocalText → List LocalText
+rising_locals pairs = fold (λ sorted pair. by_local pair sorted) [] pairs
+
+-- whether a text has a number among those that this person made
+abbrev pub is_created_by : ℕ → TextRow → Bool
+is_created_by person row = row.author == person && nat_lt 0 row.created_local
+
+-- the number of a text among those that its author made, with the text
+abbrev pub created_pair : TextRow → LocalText
+created_pair row = record { local = row.created_local; text = row.number }
+
+-- the numbers of the texts that a person made with the texts, rising
+abbrev pub created_by : ℕ → List TextRow → List LocalText
+created_by person rows = rising_locals (map created_pair (filter (is_created_by person) rows))
 
 -- whether this links a comment, or a footnote, to a text
 abbrev pub is_link : ℕ → ℕ → Bool → Link → Bool
@@ -91,6 +117,21 @@ abbrev pub marks_of : ℕ → List MarkRow → List MarkRow
 marks_of person rows =
     fold (λ sorted row. by_text row sorted) [] (filter (λ row. row.person == person) rows)
 
--- the marks on a text
+-- a mark as its person is told of it
+abbrev pub shown_mark : MarkRow → Mark
+shown_mark row = record { text = row.text; kind = row.kind }
+
+-- the marks on a text, in the order of setting
 abbrev pub marks_on : ℕ → List MarkRow → List MarkRow
 marks_on text rows = filter (λ row. row.text == text) rows
+
+-- a mark is set: in place of the one of its person on its text, or else after the others
+abbrev pub with_mark : MarkRow → List MarkRow → List MarkRow
+with_mark given rows =
+    if is_some (mark_of given.person given.text rows) then
+    map (λ row. if is_mark given.person given.text row then given else row) rows
+    else rows ++ given ∷ []
+
+-- a mark is taken away
+abbrev pub without_mark : ℕ → ℕ → List MarkRow → List MarkRow
+without_mark person text rows = filter (λ row. not (is_mark person text row)) rows
