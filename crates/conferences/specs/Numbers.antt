@@ -17,3 +17,7 @@ number-with_field (field.Nice days) row = refl
 number-with_field (field.KeepCommented days) row = refl
 number-with_field (field.Expire days) row = refl
 number-with_field (field.LastWritten at) row = refl
+
+-- with this next local number
+abbrev pub with_next_local : ℕ → ConferenceRow → ConferenceRow
+with_next_local next row = record row { next_local = next }

@@ -48,3 +48,20 @@ impl Change<ByNumber> for Rename {
         row.name = self.0;
     }
 }
+
+/// The next text of the conference gets this local number.
+#[derive(Drop)]
+pub(crate) struct SetNextLocal(pub(crate) u32);
+
+impl Change<ByNumber> for SetNextLocal {
+    ghost use Rattle.std.specs.Prelude.{refl};
+    ghost use Rattle.conferences.specs.Numbers.{with_next_local};
+
+    ghost changed = { λ set. with_next_local set.0 };
+
+    ghost keeps_number = { λ set row. refl };
+
+    fn change(self, row: &mut ConferenceRow) {
+        row.next_local = self.0;
+    }
+}

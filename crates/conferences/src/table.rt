@@ -2,8 +2,9 @@ ghost use Rattle.std.specs.Prelude.{◌≡◌, ◌+◌, ◌<◌, ◌≤◌, ◌�
 ghost use Rattle.std.specs.Prelude.{IsOk, IsTrue, OnOk, OnErr};
 ghost use Rattle.row_table.specs.Tables.{row_of, with_row, without_row, changed_row, IsByNumber};
 ghost use Rattle.kom_types.specs.tables.Conferences.{number_of_conference, with_field, with_name};
+ghost use Rattle.kom_types.specs.tables.Conferences.{with_local_drawn};
 
-use crate::changes::{Rename, SetField};
+use crate::changes::{Rename, SetField, SetNextLocal};
 use crate::keyed::ByNumber;
 use kom_types::{Bytes, ConfField, ConferenceRow, Memory};
 use row_table::Table;
@@ -98,6 +99,16 @@ impl Conferences {
         ensures spare { self.old.spare ≤ self.new.spare }
     {
         self.rows.change(number, SetField(field));
+    }
+
+    /// Notes that a text of a conference has got this local number: the next one gets a greater.
+    pub fn draw_local(&mut self, number: u32, local: u32)
+        requires { local < 4294967295 }
+        ensures rows { self.new.rows
+            ≡ changed_row number_of_conference number (with_local_drawn local) self.old.rows }
+        ensures spare { self.old.spare ≤ self.new.spare }
+    {
+        self.rows.change(number, SetNextLocal(local + 1));
     }
 
     /// Gives a conference another name.

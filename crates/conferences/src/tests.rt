@@ -30,3 +30,14 @@ fn conferences_are_changed(rt: HostRuntime) -> Result<(), Fail> {
     assert_eq!(rt; row.name.as_slice(), b"Old news".as_slice());
     Ok(())
 }
+
+#[test]
+fn local_numbers_are_drawn(rt: HostRuntime) -> Result<(), Fail> {
+    let mut conferences = Conferences::new(rt.alloc());
+    let news = Bytes::copy_of(rt.alloc(), b"News")?;
+    conferences.put(fresh_conference(4, news, 8, Moment(9), 5, 5))?;
+    assert_eq!(rt; conferences.get(4).map(|row| row.next_local), Some(1));
+    conferences.draw_local(4, 7);
+    assert_eq!(rt; conferences.get(4).map(|row| row.next_local), Some(8));
+    Ok(())
+}

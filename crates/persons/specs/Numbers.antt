@@ -22,3 +22,7 @@ number-counted counter.ReadTexts by row = refl
 number-counted counter.TextFetches by row = refl
 number-counted counter.CreatedPersons by row = refl
 number-counted counter.CreatedConferences by row = refl
+
+-- with this next number of a text
+abbrev pub with_next_created : ℕ → PersonRow → PersonRow
+with_next_created next row = record row { next_created = next }

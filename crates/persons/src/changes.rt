@@ -104,3 +104,20 @@ fn raised(by: u64, count: u32) -> u32
 {
     count.saturating_add(by.min(u64::from(u32::MAX)) as u32)
 }
+
+/// The next text that the person makes gets this number among its texts.
+#[derive(Drop)]
+pub(crate) struct SetNextCreated(pub(crate) u32);
+
+impl Change<ByNumber> for SetNextCreated {
+    ghost use Rattle.std.specs.Prelude.{refl};
+    ghost use Rattle.persons.specs.Numbers.{with_next_created};
+
+    ghost changed = { λ set. with_next_created set.0 };
+
+    ghost keeps_number = { λ set row. refl };
+
+    fn change(self, row: &mut PersonRow) {
+        row.next_created = self.0;
+    }
+}

@@ -2,9 +2,9 @@ ghost use Rattle.std.specs.Prelude.{◌≡◌, ◌+◌, ◌<◌, ◌≤◌, ◌�
 ghost use Rattle.std.specs.Prelude.{IsOk, IsTrue, OnOk, OnErr};
 ghost use Rattle.row_table.specs.Tables.{row_of, with_row, without_row, changed_row, IsByNumber};
 ghost use Rattle.kom_types.specs.tables.Persons.{number_of_person, with_field, counted};
-ghost use Rattle.kom_types.specs.tables.Persons.{logged_in, with_hash};
+ghost use Rattle.kom_types.specs.tables.Persons.{logged_in, with_hash, with_created_drawn};
 
-use crate::changes::{LogIn, Rise, SetField, SetHash};
+use crate::changes::{LogIn, Rise, SetField, SetHash, SetNextCreated};
 use crate::keyed::ByNumber;
 use kom_types::{Bytes, Counter, Memory, Moment, PersonField, PersonRow};
 use row_table::Table;
@@ -107,6 +107,16 @@ impl Persons {
         ensures spare { self.old.spare ≤ self.new.spare }
     {
         self.rows.change(number, Rise { counter, by });
+    }
+
+    /// Notes that a text that a person made has got this number: the next one gets a greater.
+    pub fn draw_created(&mut self, number: u32, local: u32)
+        requires { local < 4294967295 }
+        ensures rows { self.new.rows
+            ≡ changed_row number_of_person number (with_created_drawn local) self.old.rows }
+        ensures spare { self.old.spare ≤ self.new.spare }
+    {
+        self.rows.change(number, SetNextCreated(local + 1));
     }
 
     /// Notes that a person logs in at this moment, and the user name that was told.

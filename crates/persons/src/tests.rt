@@ -42,3 +42,13 @@ fn persons_are_changed(rt: HostRuntime) -> Result<(), Fail> {
     assert_eq!(rt; row.sessions, 1);
     Ok(())
 }
+
+#[test]
+fn numbers_of_texts_are_drawn(rt: HostRuntime) -> Result<(), Fail> {
+    let mut persons = Persons::new(rt.alloc());
+    persons.put(fresh_person(rt.alloc(), 5, 1, 0, Moment(9)))?;
+    assert_eq!(rt; persons.get(5).map(|row| row.next_created), Some(1));
+    persons.draw_created(5, 7);
+    assert_eq!(rt; persons.get(5).map(|row| row.next_created), Some(8));
+    Ok(())
+}
