@@ -15,7 +15,7 @@ use Rattle.kom_types.specs.declared.persons.PersonRow.{PersonRow}
 use Rattle.kom_model.specs.Db.{Db}
 use Rattle.kom_model.specs.Effects.{made, with_changed_conference, with_changed_person}
 use Rattle.memberships.specs.Table.{Table, UsesRoom, room_of_person, room_of_conference}
-use Rattle.memberships.specs.Lists.{room_in}
+use Rattle.row_slots.specs.Lists.{room_in}
 use Rattle.name_lookup.specs.NamedRows.{Lookup}
 use Rattle.kom_state.specs.Keeping.{stored}
 use Rattle.kom_state.specs.Room.{Room, Stored, IsMade, HasRoom, set_of, name_given, sets_membership, sets_for_person}

@@ -4,7 +4,7 @@ use Rattle.std.specs.List.{cons_option}
 use Rattle.std.proofs.Common.{count_by}
 use Rattle.std.proofs.lemmas.List.Sums.{sum_by-cons}
 use Rattle.kom_types.specs.declared.effects.Effect.{Effect}
-use Rattle.memberships.specs.Lists.{room_in}
+use Rattle.row_slots.specs.Lists.{room_in}
 use Rattle.kom_state.specs.Room.{Room, adds_conference, adds_person, sets_membership, sets_for_person}
 use Rattle.kom_state.specs.Room.{sets_in_conference, name_given, IsReady, HasRoom}
 

@@ -6,7 +6,7 @@ use Rattle.std.specs.List.{filter_map}
 use Rattle.kom_types.specs.declared.effects.Effect.{Effect}
 use Rattle.kom_types.specs.declared.effects.Effect.TheVariants as effect
 use Rattle.kom_types.specs.declared.memberships.MembershipRow.{MembershipRow}
-use Rattle.memberships.specs.Lists.{room_in}
+use Rattle.row_slots.specs.Lists.{room_in}
 use Rattle.memberships.specs.Table.{Table, room_of_person, room_of_conference}
 use Rattle.kom_model.specs.Db.{Db}
 use Rattle.kom_model.specs.Effects.{fits, made}

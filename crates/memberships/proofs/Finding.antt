@@ -7,13 +7,14 @@ use Rattle.std.proofs.lemmas.List.{length-map}
 use Rattle.std.proofs.lemmas.Map.Keys.{any_passes_from_place}
 use Rattle.std.proofs.lemmas.Option.{same_Some, none-some, slice_get-map, slice_get_past, slice_get_read}
 use Rattle.kom_types.specs.tables.Memberships.{membership_of, members_of, memberships_of}
+use Rattle.row_slots.proofs.Members.{position-place}
 use Rattle.memberships.specs.declared.kept.Kept.{Kept}
 use Rattle.memberships.specs.Entries.{Key, Entry, shown, place_of, row_of, in_turn, rows_of, kept_at, turn_of}
 use Rattle.memberships.specs.Keeping.{IsTable}
 use Rattle.memberships.proofs.Leaving.{is_person}
 use Rattle.memberships.proofs.Pairs.{all_filter, all_at, filter_passes}
 use Rattle.memberships.proofs.Order.{length-ordered}
-use Rattle.memberships.proofs.Places.{place_at, position-place}
+use Rattle.memberships.proofs.Places.{place_at}
 use Rattle.memberships.proofs.Turns.{turn, AreInTurn, in_turn_is, all_in_turn}
 use Rattle.memberships.proofs.Viewing.{blank, row_for, membership, members, memberships}
 

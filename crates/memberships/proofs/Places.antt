@@ -1,5 +1,5 @@
 -- Lists of different numbers: the place of each, after a number is put in or taken out.
-use Rattle.std.proofs.Common.{◌≡◌, ℕ, zero, suc, ◌+◌, ◌-◌, ◌<◌, ◌≤◌, min, Bool, true, false, cond, ◌||◌, eqb, ltb, leb, nat_eq, List, [], ◌∷◌, length, get_or, slice_get, insert, remove, position, map, Some, refl, sym, ◌∙◌, ap, subst, inl, inr, lt-ltb, one-add, zero-add, arith}
+use Rattle.std.proofs.Common.{◌≡◌, ℕ, zero, suc, ◌+◌, ◌-◌, ◌<◌, ◌≤◌, min, Bool, true, false, cond, ◌||◌, eqb, ltb, leb, nat_eq, List, [], ◌∷◌, length, get_or, slice_get, insert, map, Some, refl, sym, ◌∙◌, ap, subst, inl, inr, zero-add, arith}
 use Rattle.std.specs.Cmp.{nat_eq_equiv}
 use Rattle.std.specs.List.{AllByRecursion, IsDistinct, range_with_len}
 use Rattle.std.specs.Set.{remove_key, is_member}
@@ -10,6 +10,7 @@ use Rattle.std.proofs.lemmas.List.Sums.{position_or_len_is}
 use Rattle.std.proofs.lemmas.Map.Keys.{IsDistinct-head, IsDistinct-tail, IsDistinct-cons, IsDistinct-IsPermutation, apart_from_distinct}
 use Rattle.std.proofs.lemmas.Map.Steps.{length-le_from_distinct_below}
 use Rattle.std.proofs.lemmas.Option.{slice_get_within, get_or_from_slice_get}
+use Rattle.row_slots.proofs.Members.{place_here, place_there, later, place_within, remove_here, remove_there}
 use Rattle.memberships.specs.Entries.{place_of}
 use Rattle.memberships.proofs.Pairs.{all_weaker, map_agree}
 
@@ -22,22 +23,6 @@ own_eqb : (a : ℕ) → eqb a a ≡ true
 own_eqb a = eq-eqb a a refl
 
 -- ---- the place of a number
-
-place_here : (c x : ℕ) (xs : List ℕ) → eqb c x ≡ true → place_of c (x ∷ xs) ≡ 0
-place_here c x xs is = rw is refl
-
-place_there : (c x : ℕ) (xs : List ℕ) → eqb c x ≡ false → place_of c (x ∷ xs) ≡ suc (place_of c xs)
-place_there c x xs other = rw other (one-add (place_of c xs))
-
-later : (c x : ℕ) (xs : List ℕ) → eqb c x ≡ false → is_member nat_eq (x ∷ xs) c ≡ true → is_member nat_eq xs c ≡ true
-later c x xs other there = ap (λ b. b || is_member nat_eq xs c) (sym other) ∙ there
-
-pub place_within : (c : ℕ) (xs : List ℕ) → is_member nat_eq xs c ≡ true → place_of c xs < length xs
-place_within c [] there = absurd (false≢true there)
-place_within c (x ∷ xs) there = elim (cases_Bool (eqb c x)) [
-  | inl is ↦ omega (arith, place_here c x xs is)
-  | inr other ↦ omega (arith, place_there c x xs other, place_within c xs (later c x xs other there))
-]
 
 pub at_place : (c : ℕ) (xs : List ℕ) (d : ℕ) → is_member nat_eq xs c ≡ true → get_or xs (place_of c xs) d ≡ c
 at_place c [] d there = absurd (false≢true there)
@@ -158,12 +143,6 @@ IsDistinct-remove_key test (x ∷ xs) distinct =
           (IsDistinct-remove_key test xs rest)
     ]
 
-remove_here : (c x : ℕ) (xs : List ℕ) → eqb c x ≡ true → remove_key (nat_eq c) (x ∷ xs) ≡ xs
-remove_here c x xs is = rw is refl
-
-remove_there : (c x : ℕ) (xs : List ℕ) → eqb c x ≡ false → remove_key (nat_eq c) (x ∷ xs) ≡ x ∷ remove_key (nat_eq c) xs
-remove_there c x xs other = rw other refl
-
 of_first : (c d x : ℕ) (there : ℕ → Bool) → eqb c x ≡ true → there x ≡ false →
     there d ≡ cond (eqb c d) false (eqb d x || there d)
 of_first c d x there is none = elim (cases_Bool (eqb c d)) [
@@ -254,23 +233,6 @@ counts_up a (x ∷ xs) distinct =
 
 pub places_count_up : (xs : List ℕ) → IsDistinct nat_eq xs → map (λ c. place_of c xs) xs ≡ range_with_len 0 (length xs)
 places_count_up xs distinct = (λ i. map (λ c. sym (zero-add (place_of c xs)) i) xs) ∙ counts_up 0 xs distinct
-
--- ---- what a search finds
-
-pub position-place : (c : ℕ) (xs : List ℕ) → is_member nat_eq xs c ≡ true →
-    position (nat_eq c) xs ≡ Some (place_of c xs)
-position-place c xs there = let within : ltb (place_of c xs) (length xs) ≡ true =
-    lt-ltb _ _ (place_within c xs there) in rw within refl
-
-pub remove-place : (c : ℕ) (xs : List ℕ) → is_member nat_eq xs c ≡ true →
-    remove xs (place_of c xs) ≡ remove_key (nat_eq c) xs
-remove-place c [] there = absurd (false≢true there)
-remove-place c (x ∷ xs) there = elim (cases_Bool (eqb c x)) [
-  | inl is ↦ ap (remove (x ∷ xs)) (place_here c x xs is) ∙ sym (remove_here c x xs is)
-  | inr other ↦
-      ap (remove (x ∷ xs)) (place_there c x xs other) ∙ ap (λ l. x ∷ l) (remove-place c xs (later c x xs other there))
-      ∙ sym (remove_there c x xs other)
-]
 
 -- different numbers below n are no more than n
 pub length-le-different : (xs : List ℕ) (n : ℕ) → IsDistinct nat_eq xs → ((i : ℕ) → i < length xs → get_or xs i 0 < n) →

@@ -3,8 +3,8 @@ use Rattle.std.specs.Prelude.{◌≡◌, ◌≢◌, ℕ, ◌+◌, ◌≤◌, Lis
 use Rattle.std.specs.List.{IsDistinct, range_with_len}
 use Rattle.kom_types.specs.declared.memberships.MembershipRow.{MembershipRow}
 use Rattle.kom_types.specs.tables.Memberships.{memberships_of, count_of}
+use Rattle.row_slots.specs.Lists.{room_in}
 use Rattle.memberships.specs.Entries.{same_key}
-use Rattle.memberships.specs.Lists.{room_in}
 
 -- The rows in the order of joining; how many more there are turns for, and room without memory; and
 -- the persons and the conferences that a list is kept for, each with the room in its list.

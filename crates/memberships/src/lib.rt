@@ -2,7 +2,6 @@
 #![tactic(auto)]
 
 mod kept;
-mod lists;
 mod table;
 #[cfg(test)]
 mod tests;
@@ -10,6 +9,4 @@ mod tests;
 // A crate can name the table in a contract only if the types of its fields are exported.
 #[doc(hidden)]
 pub use kept::Kept;
-#[doc(hidden)]
-pub use lists::Lists;
 pub use table::Memberships;

@@ -1,14 +1,15 @@
 ghost use Rattle.std.specs.Prelude.{◌≡◌, ◌≤◌, ◌<◌, ◌+◌, [], None, length, slice_get, option_map};
-ghost use Rattle.std.specs.Prelude.{is_some, IsSome, IsOk, OnOk, OnErr};
+ghost use Rattle.std.specs.Prelude.{nat_eq, is_some, IsSome, IsOk, OnOk, OnErr};
+ghost use Rattle.std.specs.List.{IsDistinct};
 ghost use Rattle.kom_types.specs.tables.Memberships.{membership_of, members_of, memberships_of};
 ghost use Rattle.kom_types.specs.tables.Memberships.{count_of, with_membership, without_membership};
 ghost use Rattle.memberships.specs.Table.{room_of_person, room_of_conference};
 ghost use Rattle.memberships.specs.Table.{HasRoom, KeepsRoom, UsesRoom, IsOrderly};
 
 use crate::kept::Kept;
-use crate::lists::{Lists, place_in, short_place};
 use indexmap::IndexMap;
 use kom_types::{MembershipRow, Memory};
+use row_slots::Lists;
 use std::alloc::Global;
 use std::marker::Model;
 
@@ -30,7 +31,7 @@ impl Model for Memberships {
     ghost use Rattle.indexmap.specs.IndexMap.{spare};
     ghost use Rattle.memberships.specs.Entries.{rows_of};
     ghost use Rattle.memberships.specs.Keeping.{IsTable};
-    ghost use Rattle.memberships.specs.Lists.{list_of, rooms_of};
+    ghost use Rattle.row_slots.specs.Lists.{list_of, rooms_of};
     ghost use Rattle.memberships.specs.Table.{Table};
 
     ghost Value = { Table };
@@ -72,8 +73,8 @@ impl Memberships {
         ensures { result ≡ membership_of person conference self.now.rows }
     {
         let kept = self.entries.get(&(person, conference))?;
+        let place = self.conferences.position_of(person, conference)?;
         let list = self.conferences.list(person);
-        let place = place_in(list, conference)?;
         Some(kept.show(person, conference, short_place(list, place)))
     }
 
@@ -209,4 +210,13 @@ impl Memberships {
         self.persons.reserve(conference, additional)?;
         Ok(())
     }
+}
+
+/// A place in a list of different numbers, of which there are no more than values of a `u32`.
+fn short_place(list: &[u32], place: usize) -> u32
+    requires different { IsDistinct nat_eq list.now }
+    requires within { place < length list.now }
+    ensures { result ≡ place }
+{
+    place as u32
 }

@@ -2,12 +2,13 @@ use Rattle.std.proofs.Common.{Some, cond, refl, ap, ◌∙◌, arith}
 use Rattle.std.proofs.lemmas.Result.{IfOk-at_ok}
 use Rattle.kom_types.specs.tables.Memberships.{membership_of, with_membership}
 use Rattle.indexmap.specs.IndexMap.{Updates}
+use Rattle.row_slots.proofs.Rooms.{room_in-rooms_of}
 use Rattle.memberships.specs.Entries.{Key, same_key, kept_of, kept_at}
 use Rattle.memberships.specs.Table.{Table, room_of_person, room_of_conference}
 use Rattle.memberships.proofs.Finding.{absent_kept}
 use Rattle.memberships.proofs.Joining.{Joins, IsTable-joined}
 use Rattle.memberships.proofs.JoinedRows.{with_joined}
-use Rattle.memberships.proofs.Rooms.{room_in-rooms_of, sets_list}
+use Rattle.memberships.proofs.Rooms.{sets_list}
 use Rattle.memberships.proofs.table.Memberships.join.Goals as goal
 
 pub insert-requires-2 : goal.insert-requires-2

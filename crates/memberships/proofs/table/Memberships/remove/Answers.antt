@@ -2,10 +2,11 @@ use Rattle.std.proofs.Common.{is_some, sym, ap, ◌∙◌, arith}
 use Rattle.std.specs.Bool.{⊤}
 use Rattle.std.proofs.lemmas.Option.{MatchOption-at_none}
 use Rattle.kom_types.specs.tables.Memberships.{without_membership}
+use Rattle.row_slots.proofs.Rooms.{rooms_stay, no_room_falls}
 use Rattle.memberships.specs.Table.{Table}
 use Rattle.memberships.proofs.Finding.{is_there, none_kept, some_kept, person_there}
 use Rattle.memberships.proofs.Leaving.{Leaves, IsTable-left}
-use Rattle.memberships.proofs.Rooms.{rooms_stay, no_room_falls, sets_list}
+use Rattle.memberships.proofs.Rooms.{sets_list}
 use Rattle.memberships.proofs.LeftRows.{without_left, without_none}
 use Rattle.memberships.proofs.table.Memberships.remove.Goals as goal
 

@@ -1,7 +1,7 @@
 use Rattle.std.proofs.Common.{ap, arith}
 use Rattle.std.proofs.lemmas.Bool.{false≢true}
+use Rattle.row_slots.proofs.Rooms.{room_in-rooms_of, rooms_stay}
 use Rattle.memberships.specs.Table.{Table, room_of_person, room_of_conference}
-use Rattle.memberships.proofs.Rooms.{room_in-rooms_of, rooms_stay}
 use Rattle.memberships.proofs.table.Memberships.reserve.Goals as goal
 
 pub returns-in_err-reserve-2-clause-succeeds : goal.returns-in_err-reserve-2-clause-succeeds

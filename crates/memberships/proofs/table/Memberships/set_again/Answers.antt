@@ -3,13 +3,14 @@ use Rattle.std.specs.Option.{option_copied_mut}
 use Rattle.std.specs.Set.{remove_key}
 use Rattle.std.proofs.lemmas.Bool.{cases_eq}
 use Rattle.kom_types.specs.tables.Memberships.{membership_of, with_membership}
+use Rattle.row_slots.specs.Lists.{list_of, room_of}
+use Rattle.row_slots.proofs.Rooms.{rooms_stay}
 use Rattle.memberships.specs.Entries.{Key, same_key, kept_of, kept_at}
-use Rattle.memberships.specs.Lists.{list_of, room_of}
 use Rattle.memberships.specs.Table.{Table}
 use Rattle.memberships.proofs.Finding.{there_kept}
 use Rattle.memberships.proofs.Renewing.{Renews, IsTable-renewed}
 use Rattle.memberships.proofs.RenewedRows.{with_renewed}
-use Rattle.memberships.proofs.Rooms.{rooms_stay, is_some_copied}
+use Rattle.memberships.proofs.Rooms.{is_some_copied}
 use Rattle.memberships.proofs.Turns.{Sets}
 use Rattle.memberships.proofs.table.Memberships.set_again.Goals as goal
 

@@ -1,6 +1,6 @@
 use Rattle.std.proofs.Common.{arith}
 use Rattle.memberships.proofs.Places.{length-le-different}
-use Rattle.memberships.proofs.lists.short_place.Goals as goal
+use Rattle.memberships.proofs.table.short_place.Goals as goal
 
 pub overflow_cast-result : goal.overflow_cast-result
 overflow_cast-result c =

@@ -1,22 +1,23 @@
-ghost use Rattle.std.specs.Prelude.{◌≡◌, ℕ, ◌+◌, ◌^◌, ◌≤◌, ◌<◌, [], ◌∷◌, ◌++◌, length};
+ghost use Rattle.std.specs.Prelude.{◌≡◌, ℕ, ◌+◌, ◌≤◌, ◌<◌, [], ◌∷◌, ◌++◌};
 ghost use Rattle.std.specs.Prelude.{nat_eq, insert, position, OnOk, IsOk, IsTrue};
-ghost use Rattle.std.specs.List.{IsDistinct};
 ghost use Rattle.std.specs.Set.{remove_key, is_member};
-ghost use Rattle.memberships.specs.Lists.{list_of, room_of, HasList, HasOnlyChanged};
+ghost use Rattle.row_slots.specs.Lists.{list_of, room_of, HasList, HasOnlyChanged};
 
 use indexmap::IndexMap;
-use kom_types::Memory;
-use std::alloc::Global;
+use smallvec::SmallVec;
+use std::alloc::{AllocError, Global};
 
 /// A list of numbers for each key: empty where the key was never used.
+///
+/// A list of up to four numbers takes no memory of its own.
 #[derive(Drop)]
 pub struct Lists {
-    map: IndexMap<u32, Vec<u32>>,
+    map: IndexMap<u32, SmallVec<u32, 4>>,
 }
 
 impl Lists {
     /// An empty list for each key. It takes no memory.
-    pub(crate) fn new(alloc: Global) -> Lists
+    pub fn new(alloc: Global) -> Lists
         ensures { (key : ℕ) → list_of result key ≡ [] }
     {
         Lists {
@@ -25,13 +26,20 @@ impl Lists {
     }
 
     /// The list of a key.
-    pub(crate) fn list(&self, key: u32) -> &[u32]
+    pub fn list(&self, key: u32) -> &[u32]
         ensures { result.now ≡ list_of self.now key }
     {
         match self.map.get(&key) {
             Some(list) => list.as_slice(),
             None => &[],
         }
+    }
+
+    /// The place of a number in the list of a key. The time grows with the list.
+    pub fn position_of(&self, key: u32, number: u32) -> Option<usize>
+        ensures { result ≡ position (nat_eq number) (list_of self.now key) }
+    {
+        self.list(key).iter().position(|other| number == *other)
     }
 
     /// How many more numbers fit into the list of a key without memory.
@@ -45,7 +53,7 @@ impl Lists {
     }
 
     /// Makes room for so many more numbers in the list of a key.
-    pub(crate) fn reserve(&mut self, key: u32, additional: usize) -> Result<(), Memory>
+    pub fn reserve(&mut self, key: u32, additional: usize) -> Result<(), AllocError>
         ensures lists { (other : ℕ) → list_of self.new other ≡ list_of self.old other }
         ensures ok { OnOk result (additional ≤ room_of self.new key) }
         ensures room { (other : ℕ) → room_of self.old other ≤ room_of self.new other }
@@ -59,34 +67,33 @@ impl Lists {
     }
 
     /// Keeps a list for a key from now on, even if it is empty.
-    fn begin(&mut self, key: u32) -> Result<(), Memory>
+    fn begin(&mut self, key: u32) -> Result<(), AllocError>
         ensures lists { (other : ℕ) → list_of self.new other ≡ list_of self.old other }
-        ensures room { (other : ℕ) → room_of self.new other ≡ room_of self.old other }
+        ensures room { (other : ℕ) → room_of self.old other ≤ room_of self.new other }
         ensures ok { OnOk result (HasList self.new key) }
     {
         if self.map.contains_key(&key) {
             return Ok(());
         }
         let alloc = *self.map.allocator();
-        self.map.insert(key, Vec::new(alloc))?;
+        self.map.insert(key, SmallVec::new(alloc))?;
         Ok(())
     }
 
     /// Makes room in a list that is kept.
-    fn grow(&mut self, key: u32, additional: usize) -> Result<(), Memory>
+    fn grow(&mut self, key: u32, additional: usize) -> Result<(), AllocError>
         requires { HasList self.old key }
         ensures lists { (other : ℕ) → list_of self.new other ≡ list_of self.old other }
         ensures ok { OnOk result (additional ≤ room_of self.new key) }
         ensures room { (other : ℕ) → room_of self.old other ≤ room_of self.new other }
     {
         let list = self.map.get_mut(&key).unwrap();
-        list.reserve(additional)?;
-        Ok(())
+        list.reserve(additional)
     }
 
     /// Puts a number into the list of a key at a place, or at the end where the place is beyond it.
     /// Takes no memory.
-    pub(crate) fn insert(&mut self, key: u32, place: usize, number: u32)
+    pub fn insert(&mut self, key: u32, place: usize, number: u32)
         requires { 0 < room_of self.old key }
         ensures list { list_of self.new key ≡ insert (list_of self.old key) place number }
         ensures room { room_of self.new key + 1 ≡ room_of self.old key }
@@ -98,7 +105,7 @@ impl Lists {
     }
 
     /// Puts a number at the end of the list of a key. Takes no memory.
-    pub(crate) fn push(&mut self, key: u32, number: u32)
+    pub fn push(&mut self, key: u32, number: u32)
         requires { 0 < room_of self.old key }
         ensures list { list_of self.new key ≡ list_of self.old key ++ number ∷ [] }
         ensures room { room_of self.old key ≤ room_of self.new key + 1 }
@@ -109,30 +116,15 @@ impl Lists {
     }
 
     /// Takes a number out of the list of a key that has it.
-    pub(crate) fn remove(&mut self, key: u32, number: u32)
+    pub fn remove(&mut self, key: u32, number: u32)
         requires { IsTrue (is_member nat_eq (list_of self.old key) number) }
         ensures list { list_of self.new key ≡ remove_key (nat_eq number) (list_of self.old key) }
         ensures room { room_of self.new key ≡ room_of self.old key + 1 }
         ensures others { HasOnlyChanged self.old self.new key }
     {
-        let place = place_in(self.list(key), number).unwrap();
+        let place = self.position_of(key, number).unwrap();
         let list = self.map.get_mut(&key).unwrap();
+        prove!(list.len() <= list.capacity());
         list.remove(place);
     }
-}
-
-/// The place of a number in a list.
-pub(crate) fn place_in(list: &[u32], number: u32) -> Option<usize>
-    ensures { result ≡ position (nat_eq number) list.now }
-{
-    list.iter().position(|other| number == *other)
-}
-
-/// A place in a list of different numbers, of which there are no more than values of a `u32`.
-pub(crate) fn short_place(list: &[u32], place: usize) -> u32
-    requires different { IsDistinct nat_eq list.now }
-    requires within { place < length list.now }
-    ensures { result ≡ place }
-{
-    place as u32
 }

@@ -1,0 +1,41 @@
+-- Rows in the order of adding, each in a slot of its own; one that was taken away leaves its slot
+-- empty.
+use Rattle.std.specs.Prelude.{ℕ, zero, suc, ◌+◌, Bool, List, [], ◌∷◌, Option, Some, None}
+use Rattle.std.specs.Prelude.{if◌then◌else◌}
+
+-- What slots are to their callers: what stands in each, and how many more rows fit without memory.
+pub record Slotted (R : Type 0) : Type 0 where
+  pub slots : List (Option R)
+  pub spare : ℕ
+
+module _ {R : Type 0} where
+  -- the rows that are there, in the order of adding
+  abbrev pub rows_in : List (Option R) → List R
+  rows_in [] = []
+  rows_in (None ∷ slots) = rows_in slots
+  rows_in (Some row ∷ slots) = row ∷ rows_in slots
+
+  -- the places, from this one on, of the rows that pass a test; they rise
+  abbrev pub places_from : (R → Bool) → ℕ → List (Option R) → List ℕ
+  places_from test place [] = []
+  places_from test place (None ∷ slots) = places_from test (place + 1) slots
+  places_from test place (Some row ∷ slots) =
+      if test row then place ∷ places_from test (place + 1) slots
+      else places_from test (place + 1) slots
+
+  -- the places of all rows that pass a test
+  abbrev pub places_of : (R → Bool) → List (Option R) → List ℕ
+  places_of test slots = places_from test 0 slots
+
+  -- the slot of this place is empty then
+  abbrev pub emptied : ℕ → List (Option R) → List (Option R)
+  emptied place [] = []
+  emptied zero (slot ∷ slots) = None ∷ slots
+  emptied (suc place) (slot ∷ slots) = slot ∷ emptied place slots
+
+  -- the row in the slot of this place is another one then; an empty slot stays empty
+  abbrev pub replaced : ℕ → R → List (Option R) → List (Option R)
+  replaced place row [] = []
+  replaced zero row (None ∷ slots) = None ∷ slots
+  replaced zero row (Some first ∷ slots) = Some row ∷ slots
+  replaced (suc place) row (slot ∷ slots) = slot ∷ replaced place row slots

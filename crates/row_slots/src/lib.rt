@@ -1,0 +1,11 @@
+//! Rows in the order of adding, each in a slot of its own, found by its place; and lists of places,
+//! each found by a key.
+#![tactic(auto)]
+
+mod lists;
+mod slots;
+#[cfg(test)]
+mod tests;
+
+pub use lists::Lists;
+pub use slots::Slots;
