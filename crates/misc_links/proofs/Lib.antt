@@ -1,0 +1,8 @@
+pub mod Finding
+pub mod OneList
+pub mod Passing
+pub mod Receiving
+pub mod Rising
+pub mod Rooms
+pub mod Touching
+pub mod Updates

@@ -1,0 +1,5 @@
+pub mod Keeping
+pub mod Kinds
+pub mod Linked
+pub mod Received
+pub mod Receiving
