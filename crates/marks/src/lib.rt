@@ -1,0 +1,8 @@
+//! The marks that persons set on texts, found by the person and by the text.
+#![tactic(auto)]
+
+mod table;
+#[cfg(test)]
+mod tests;
+
+pub use table::MarkTable;
