@@ -1,0 +1,163 @@
+ghost use Rattle.std.specs.Prelude.{◌≡◌, ℕ, ◌+◌, ◌<◌, ◌≤◌, [], ◌∷◌, ◌++◌, length, option_copied};
+ghost use Rattle.std.specs.Prelude.{IfOk, IsOk, IsSome, OnErr, OnOk};
+ghost use Rattle.kom_types.specs.Mappings.{mapping_up, mapping_down};
+ghost use Rattle.local_maps.specs.Pairs.{AllBelow, IsRising, text_of, least_of, without};
+ghost use Rattle.local_maps.specs.Maps.{map_of, pairs_of, room_of, HasOnlyChanged};
+
+use crate::map::LocalMap;
+use indexmap::IndexMap;
+use kom_types::{Mapping, Memory};
+use std::alloc::Global;
+use std::marker::Model;
+
+/// The texts of several owners, conferences or authors, by their local numbers.
+#[derive(Drop)]
+pub struct LocalMaps {
+    maps: IndexMap<u32, LocalMap>,
+}
+
+impl Model for LocalMaps {
+    ghost use Rattle.local_maps.specs.Maps.{Owned};
+
+    ghost Value = { Owned };
+
+    ghost view = { λ m. record { kept = m.maps.entries } };
+}
+
+impl LocalMaps {
+    /// No texts of any owner. It takes no memory yet.
+    pub fn new(alloc: Global) -> LocalMaps
+        ensures pairs { (owner : ℕ) → pairs_of result owner ≡ [] }
+    {
+        LocalMaps {
+            maps: IndexMap::new(alloc),
+        }
+    }
+
+    /// The map of an owner, if one is kept.
+    pub fn map_of(&self, owner: u32) -> Option<&LocalMap>
+        ensures { option_copied result ≡ map_of self.now owner }
+    {
+        self.maps.get(&owner)
+    }
+
+    /// The text of a local number of an owner.
+    pub fn get(&self, owner: u32, local: u32) -> Option<u32>
+        ensures text { result ≡ text_of local (pairs_of self.now owner) }
+        ensures rising { IsRising (pairs_of self.now owner) }
+    {
+        self.maps.get(&owner)?.get(local)
+    }
+
+    /// How many texts an owner has.
+    pub fn len_of(&self, owner: u32) -> usize
+        ensures len { result ≡ length (pairs_of self.now owner) }
+        ensures rising { IsRising (pairs_of self.now owner) }
+    {
+        match self.maps.get(&owner) {
+            Some(map) => map.len(),
+            None => 0,
+        }
+    }
+
+    /// The least local number of an owner.
+    pub fn first_of(&self, owner: u32) -> Option<u32>
+        ensures { result ≡ least_of (pairs_of self.now owner) }
+    {
+        self.maps.get(&owner)?.first()
+    }
+
+    /// The first `count` texts of an owner from the local number `first` on, as `LocalMap::up`.
+    pub fn up(&self, owner: u32, next: u32, first: u32, count: u32) -> Result<Mapping, Memory>
+        ensures { IfOk result
+            (λ mapping. mapping ≡ mapping_up (pairs_of self.now owner) next first count) }
+    {
+        match self.maps.get(&owner) {
+            Some(map) => map.up(next, first, count),
+            None => LocalMap::new(self.alloc()).up(next, first, count),
+        }
+    }
+
+    /// The last `count` texts of an owner below a ceiling, as `LocalMap::down`.
+    pub fn down(&self, owner: u32, next: u32, ceiling: u32, count: u32) -> Result<Mapping, Memory>
+        ensures { IfOk result
+            (λ mapping. mapping ≡ mapping_down (pairs_of self.now owner) next ceiling count) }
+    {
+        match self.maps.get(&owner) {
+            Some(map) => map.down(next, ceiling, count),
+            None => LocalMap::new(self.alloc()).down(next, ceiling, count),
+        }
+    }
+
+    /// Adds a text of an owner after the owner's others.
+    pub fn append(&mut self, owner: u32, local: u32, text: u32) -> Result<(), Memory>
+        requires above { AllBelow local (pairs_of self.old owner) }
+        ensures ok { OnOk result (pairs_of self.new owner
+            ≡ pairs_of self.old owner ++ record { local = local; text = text } ∷ []) }
+        ensures err { OnErr result (pairs_of self.new owner ≡ pairs_of self.old owner) }
+        ensures succeeds { 0 < room_of self.old owner → IsOk result }
+        ensures room { room_of self.old owner ≤ room_of self.new owner + 1 }
+        ensures others { HasOnlyChanged self.old self.new owner }
+    {
+        self.begin(owner)?;
+        let map = self.maps.get_mut(&owner).unwrap();
+        map.append(local, text)
+    }
+
+    /// Takes a local number of an owner out, and gives its text.
+    pub fn remove(&mut self, owner: u32, local: u32) -> Option<u32>
+        ensures text { result ≡ text_of local (pairs_of self.old owner) }
+        ensures pairs { pairs_of self.new owner ≡ without local (pairs_of self.old owner) }
+        ensures room { room_of self.old owner ≤ room_of self.new owner }
+        ensures others { HasOnlyChanged self.old self.new owner }
+    {
+        match self.maps.get_mut(&owner) {
+            Some(map) => map.remove(local),
+            None => None,
+        }
+    }
+
+    /// Takes all of an owner out, with the room that there was for more.
+    pub fn remove_all(&mut self, owner: u32)
+        ensures pairs { pairs_of self.new owner ≡ [] }
+        ensures others { HasOnlyChanged self.old self.new owner }
+    {
+        self.maps.swap_remove(&owner);
+    }
+
+    /// Makes room for so many more texts of an owner.
+    pub fn reserve(&mut self, owner: u32, additional: usize) -> Result<(), Memory>
+        ensures pairs { pairs_of self.new owner ≡ pairs_of self.old owner }
+        ensures ok { OnOk result (additional ≤ room_of self.new owner) }
+        ensures succeeds { additional ≤ room_of self.old owner → IsOk result }
+        ensures room { room_of self.old owner ≤ room_of self.new owner }
+        ensures others { HasOnlyChanged self.old self.new owner }
+    {
+        if additional == 0 {
+            return Ok(());
+        }
+        self.begin(owner)?;
+        let map = self.maps.get_mut(&owner).unwrap();
+        map.reserve(additional)
+    }
+
+    /// Keeps a map for an owner from now on, even if it has no texts.
+    fn begin(&mut self, owner: u32) -> Result<(), Memory>
+        ensures pairs { pairs_of self.new owner ≡ pairs_of self.old owner }
+        ensures ok { OnOk result (IsSome (map_of self.new owner)) }
+        ensures succeeds { IsSome (map_of self.old owner) → IsOk result }
+        ensures room { room_of self.old owner ≤ room_of self.new owner }
+        ensures others { HasOnlyChanged self.old self.new owner }
+    {
+        if self.maps.contains_key(&owner) {
+            return Ok(());
+        }
+        let alloc = self.alloc();
+        self.maps.insert(owner, LocalMap::new(alloc))?;
+        Ok(())
+    }
+
+    fn alloc(&self) -> Global {
+        *self.maps.allocator()
+    }
+}
