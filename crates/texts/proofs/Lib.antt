@@ -1,0 +1,6 @@
+pub mod Created
+pub mod Filters
+pub mod Keeping
+pub mod Locals
+pub mod Rising
+pub mod Rooms

@@ -1,0 +1,17 @@
+//! The texts, and all that hangs on them: recipients, links, marks, and the local numbers by which
+//! they are found.
+#![tactic(auto)]
+
+mod changes;
+mod keyed;
+mod needs;
+mod reading;
+mod row;
+mod table;
+#[cfg(test)]
+mod tests;
+mod texts;
+
+pub use needs::Need;
+pub use row::fresh_text;
+pub use texts::Texts;

@@ -1,0 +1,101 @@
+ghost use Rattle.std.specs.Prelude.{◌≡◌, ◌+◌, ◌<◌, ◌≤◌, ◌↔◌, [], None, length, option_copied};
+ghost use Rattle.std.specs.Prelude.{IsOk, IsTrue, OnOk, OnErr};
+ghost use Rattle.row_table.specs.Tables.{row_of, with_row, without_row, changed_row, IsByNumber};
+ghost use Rattle.kom_types.specs.tables.Texts.{number_of_text, with_created_local};
+
+use crate::changes::SetCreatedLocal;
+use crate::keyed::ByNumber;
+use kom_types::{Memory, TextRow};
+use row_table::Table;
+use std::alloc::Global;
+use std::marker::Model;
+
+/// The rows of the texts.
+///
+/// All but `reserve`, and a `put` that takes memory, are done in constant time.
+#[derive(Drop)]
+pub struct TextTable {
+    rows: Table<ByNumber>,
+}
+
+impl Model for TextTable {
+    ghost use Rattle.row_table.specs.Tables.{Tabled};
+    ghost use Rattle.kom_types.specs.declared.texts.TextRow.{TextRow};
+
+    ghost Value = { Tabled TextRow };
+
+    ghost view = { λ texts. texts.rows };
+}
+
+impl TextTable {
+    /// The table without a text. It takes no memory yet.
+    pub fn new(alloc: Global) -> TextTable
+        ensures { result.rows ≡ [] }
+    {
+        TextTable {
+            rows: Table::new(alloc),
+        }
+    }
+
+    pub fn len(&self) -> usize
+        ensures len { result ≡ length self.now.rows }
+        ensures rising { IsByNumber number_of_text self.now.rows }
+    {
+        self.rows.len()
+    }
+
+    pub fn is_empty(&self) -> bool
+        ensures { IsTrue result ↔ (self.now.rows ≡ []) }
+    {
+        self.rows.is_empty()
+    }
+
+    /// The row of a text, if it is there.
+    pub fn get(&self, number: u32) -> Option<&TextRow>
+        ensures row { option_copied result ≡ row_of number_of_text number self.now.rows }
+        ensures rising { IsByNumber number_of_text self.now.rows }
+    {
+        self.rows.get(number)
+    }
+
+    /// Puts a row in, in place of the one of its number if there is one, which takes no memory.
+    pub fn put(&mut self, row: TextRow) -> Result<(), Memory>
+        ensures ok { OnOk result (self.new.rows ≡ with_row number_of_text row self.old.rows) }
+        ensures err { OnErr result (self.new.rows ≡ self.old.rows) }
+        ensures absent { OnErr result (row_of number_of_text row.number self.old.rows ≡ None) }
+        ensures succeeds { 0 < self.old.spare → IsOk result }
+        ensures spare { self.old.spare ≤ self.new.spare + 1 }
+    {
+        self.rows.put(row)?;
+        Ok(())
+    }
+
+    /// Takes the row of a text out, if it is there.
+    pub fn remove(&mut self, number: u32) -> Option<TextRow>
+        ensures value { result ≡ row_of number_of_text number self.old.rows }
+        ensures rows { self.new.rows ≡ without_row number_of_text number self.old.rows }
+        ensures spare { self.old.spare ≤ self.new.spare }
+    {
+        self.rows.remove(number)
+    }
+
+    /// Makes room for so many more texts.
+    pub fn reserve(&mut self, additional: usize) -> Result<(), Memory>
+        ensures rows { self.new.rows ≡ self.old.rows }
+        ensures ok { OnOk result (additional ≤ self.new.spare) }
+        ensures err { OnErr result (self.old.spare < additional) }
+        ensures spare { self.old.spare ≤ self.new.spare }
+    {
+        self.rows.reserve(additional)?;
+        Ok(())
+    }
+
+    /// Gives a text a number among those that its author made. Takes no memory.
+    pub fn set_created_local(&mut self, number: u32, local: u32)
+        ensures rows { self.new.rows
+            ≡ changed_row number_of_text number (with_created_local local) self.old.rows }
+        ensures spare { self.old.spare ≤ self.new.spare }
+    {
+        self.rows.change(number, SetCreatedLocal(local));
+    }
+}
