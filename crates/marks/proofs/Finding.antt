@@ -8,7 +8,7 @@ use Rattle.kom_types.specs.tables.Texts.{is_mark, mark_of, shown_mark}
 use Rattle.row_slots.specs.Slots.{rows_in, places_of}
 use Rattle.row_slots.proofs.Places.{row_at, rows-places_of}
 use Rattle.marks.specs.Keeping.{is_of, is_on, is_person_at, mark_at, IsKept}
-use Rattle.marks.proofs.Passing.{found, found_row}
+use Rattle.row_slots.proofs.Passing.{found, found_row}
 
 and_turned : (one two : Bool) → (one && two) ≡ (two && one)
 and_turned true true = refl

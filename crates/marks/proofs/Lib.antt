@@ -1,6 +1,5 @@
 pub mod Finding
 pub mod OneList
-pub mod Passing
 pub mod Replaced
 pub mod Rising
 pub mod Updates

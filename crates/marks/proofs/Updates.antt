@@ -9,7 +9,7 @@ use Rattle.row_slots.proofs.Places.{row_at, places_of-push, places_of-emptied, i
 use Rattle.row_slots.proofs.Rows.{rows_in-push}
 use Rattle.marks.specs.Keeping.{is_of, is_on, IsKept}
 use Rattle.marks.proofs.Finding.{mark_parts}
-use Rattle.marks.proofs.Passing.{none_pass, all_stay, fewer_pass, one_passes}
+use Rattle.row_slots.proofs.Passing.{none_pass, all_stay, fewer_pass, one_passes}
 use Rattle.marks.proofs.Replaced.{places_of-replaced, rows_in-replaced, length-filter-changed}
 
 -- without a mark that is not there

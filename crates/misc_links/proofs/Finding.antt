@@ -8,7 +8,7 @@ use Rattle.kom_types.specs.tables.Texts.{is_link, link_of}
 use Rattle.row_slots.specs.Slots.{rows_in}
 use Rattle.row_slots.proofs.Places.{row_at}
 use Rattle.misc_links.specs.Keeping.{is_from, is_parent_at, IsKept}
-use Rattle.misc_links.proofs.Passing.{found, found_row}
+use Rattle.row_slots.proofs.Passing.{found, found_row}
 
 and_swapped : (one two three : Bool) → (one && two && three) ≡ (one && three && two)
 and_swapped true true three = elim three as (λ c. c ≡ (c && true)) [ true ↦ refl | false ↦ refl ]

@@ -1,6 +1,5 @@
 pub mod Finding
 pub mod OneList
-pub mod Passing
 pub mod Receiving
 pub mod Rising
 pub mod Rooms

@@ -11,7 +11,7 @@ use Rattle.row_slots.proofs.Places.{row_at, places_of-push, places_of-emptied, i
 use Rattle.row_slots.proofs.Rows.{rows_in-push}
 use Rattle.misc_links.specs.Received.{AreOnce}
 use Rattle.misc_links.specs.Receiving.{is_of, is_conference_at, IsKept}
-use Rattle.misc_links.proofs.Passing.{found, found_row, none_pass, all_stay, fewer_pass, one_passes, distinct}
+use Rattle.row_slots.proofs.Passing.{found, found_row, none_pass, all_stay, fewer_pass, one_passes, distinct}
 
 -- what a recipient is of
 recipient_parts : (text conference : ℕ) (row : Recipient) → is_recipient text conference row ≡ true →

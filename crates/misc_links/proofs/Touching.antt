@@ -10,7 +10,7 @@ use Rattle.row_slots.specs.Slots.{rows_in, places_from, places_of}
 use Rattle.row_slots.proofs.Places.{row_at, rows-places_of}
 use Rattle.misc_links.specs.Keeping.{is_from, is_into, link_at, IsKept}
 use Rattle.misc_links.specs.Linked.{touches, touching}
-use Rattle.misc_links.proofs.Passing.{passes_at}
+use Rattle.row_slots.proofs.Passing.{passes_at}
 use Rattle.misc_links.proofs.Rising.{AllAbove, Rises, has, has_none}
 
 module _ {R : Type 0} (test : R → Bool) where

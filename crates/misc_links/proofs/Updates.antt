@@ -11,7 +11,7 @@ use Rattle.row_slots.proofs.Rows.{rows_in-push}
 use Rattle.misc_links.specs.Keeping.{is_from, is_into, IsKept}
 use Rattle.misc_links.specs.Kinds.{is_same}
 use Rattle.misc_links.proofs.Finding.{link_parts}
-use Rattle.misc_links.proofs.Passing.{none_pass, all_stay, fewer_pass, one_passes}
+use Rattle.row_slots.proofs.Passing.{none_pass, all_stay, fewer_pass, one_passes}
 
 -- without a link that is not there
 pub without_none : (child parent : ℕ) (footnote : Bool) (rows : List Link) → link_of child parent footnote rows ≡ None →

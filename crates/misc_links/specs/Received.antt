@@ -3,18 +3,18 @@ use Rattle.std.specs.Prelude.{ℕ, ◌+◌, ◌≤◌, ◌==◌, List, if◌then
 use Rattle.std.specs.List.{IsDistinct}
 use Rattle.kom_types.specs.declared.texts.Recipient.{Recipient}
 use Rattle.kom_types.specs.tables.Texts.{is_recipient}
-use Rattle.row_slots.specs.Lists.{room_in}
+use Rattle.row_slots.specs.DenseLists.{dense_room_in}
 
--- The recipients in the order of adding; how many more fit without memory; and the texts that a
--- list is kept for of their recipients, each with the room in its list.
+-- The recipients in the order of adding; how many more fit without memory; and the room of each
+-- text's list, from text 0 on.
 pub record Received : Type 0 where
   pub recipients : List Recipient
   pub spare : ℕ
-  pub texts : List (ℕ × ℕ)
+  pub texts : List ℕ
 
 -- how many more recipients of a text its list has room for
 abbrev pub room_of_text : Received → ℕ → ℕ
-room_of_text table text = room_in table.texts text
+room_of_text table text = dense_room_in table.texts text
 
 -- no text has a conference twice
 abbrev pub AreOnce : List Recipient → Type 0

@@ -5,7 +5,7 @@ ghost use Rattle.misc_links.specs.Received.{room_of_text, AreOnce, HasRoom, Keep
 ghost use Rattle.misc_links.specs.Receiving.{is_conference_at};
 
 use kom_types::{Memory, Recipient};
-use row_slots::{Lists, Slots};
+use row_slots::{DenseLists, Slots};
 use std::alloc::Global;
 use std::marker::Model;
 
@@ -14,11 +14,11 @@ use std::marker::Model;
 pub struct Recipients {
     rows: Slots<Recipient>,
     /// The places of the recipients of each text.
-    by_text: Lists,
+    by_text: DenseLists,
 }
 
 impl Model for Recipients {
-    ghost use Rattle.row_slots.specs.Lists.{list_of, rooms_of};
+    ghost use Rattle.row_slots.specs.DenseLists.{dense_list, dense_rooms};
     ghost use Rattle.row_slots.specs.Slots.{rows_in};
     ghost use Rattle.misc_links.specs.Received.{Received};
     ghost use Rattle.misc_links.specs.Receiving.{IsKept};
@@ -28,10 +28,10 @@ impl Model for Recipients {
     ghost view = { λ a. record {
       recipients = rows_in a.rows.slots;
       spare = a.rows.spare;
-      texts = rooms_of a.by_text;
+      texts = dense_rooms a.by_text;
     } };
 
-    ghost invariant = { λ a. IsKept a.rows.slots (list_of a.by_text) };
+    ghost invariant = { λ a. IsKept a.rows.slots (dense_list a.by_text) };
 }
 
 impl Recipients {
@@ -41,7 +41,7 @@ impl Recipients {
     {
         Recipients {
             rows: Slots::new(alloc),
-            by_text: Lists::new(alloc),
+            by_text: DenseLists::new(alloc),
         }
     }
 

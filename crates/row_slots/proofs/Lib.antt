@@ -1,4 +1,6 @@
+pub mod DenseRooms
 pub mod Members
+pub mod Passing
 pub mod Places
 pub mod Rooms
 pub mod Rows

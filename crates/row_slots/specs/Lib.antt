@@ -1,2 +1,3 @@
+pub mod DenseLists
 pub mod Lists
 pub mod Slots

@@ -2,10 +2,12 @@
 //! each found by a key.
 #![tactic(auto)]
 
+mod dense_lists;
 mod lists;
 mod slots;
 #[cfg(test)]
 mod tests;
 
+pub use dense_lists::DenseLists;
 pub use lists::Lists;
 pub use slots::Slots;

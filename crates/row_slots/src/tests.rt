@@ -86,3 +86,55 @@ fn each_key_has_its_list(rt: HostRuntime) -> Result<(), Fail> {
     assert_eq!(rt; lists.position_of(7, 40), None);
     Ok(())
 }
+
+// Puts a number at the end of the list of a key, with room for it.
+fn put_dense(lists: &mut DenseLists, key: u32, number: u32) -> Result<(), AllocError> {
+    lists.reserve(key, 1)?;
+    lists.push(key, number);
+    Ok(())
+}
+
+#[test]
+fn each_of_the_keys_in_turn_has_its_list(rt: HostRuntime) -> Result<(), Fail> {
+    let mut lists = DenseLists::new(rt.alloc());
+    for number in [10, 20, 30, 40, 50, 60] {
+        put_dense(&mut lists, 1, number)?;
+    }
+    put_dense(&mut lists, 2, 70)?;
+    assert_eq!(rt; lists.list(0).len(), 0);
+    assert_eq!(rt; lists.list(1), [10, 20, 30, 40, 50, 60].as_slice());
+    assert_eq!(rt; lists.list(2), [70].as_slice());
+    assert_eq!(rt; lists.list(3).len(), 0);
+    Ok(())
+}
+
+#[test]
+fn a_key_far_above_the_others_has_its_list(rt: HostRuntime) -> Result<(), Fail> {
+    let mut lists = DenseLists::new(rt.alloc());
+    put_dense(&mut lists, 1, 10)?;
+    put_dense(&mut lists, 1000, 20)?;
+    assert_eq!(rt; lists.list(1), [10].as_slice());
+    assert_eq!(rt; lists.list(2).len(), 0);
+    assert_eq!(rt; lists.list(999).len(), 0);
+    assert_eq!(rt; lists.list(1000), [20].as_slice());
+    assert_eq!(rt; lists.list(1001).len(), 0);
+    assert_eq!(rt; lists.list(u32::MAX).len(), 0);
+    put_dense(&mut lists, 999, 30)?;
+    assert_eq!(rt; lists.list(999), [30].as_slice());
+    assert_eq!(rt; lists.list(1000), [20].as_slice());
+    Ok(())
+}
+
+#[test]
+fn a_number_is_taken_out_of_its_list_alone(rt: HostRuntime) -> Result<(), Fail> {
+    let mut lists = DenseLists::new(rt.alloc());
+    for number in [10, 20, 30, 40, 50, 60] {
+        put_dense(&mut lists, 1, number)?;
+        put_dense(&mut lists, 2, number)?;
+    }
+    assert_eq!(rt; lists.list(1).contains(&30), true);
+    lists.remove(1, 30);
+    assert_eq!(rt; lists.list(1), [10, 20, 40, 50, 60].as_slice());
+    assert_eq!(rt; lists.list(2), [10, 20, 30, 40, 50, 60].as_slice());
+    Ok(())
+}

@@ -3,7 +3,7 @@ use Rattle.std.specs.Option.{option_flatten}
 use Rattle.row_slots.specs.Lists.{list_of}
 use Rattle.row_slots.proofs.Places.{row_at}
 use Rattle.marks.specs.Keeping.{is_on}
-use Rattle.marks.proofs.Passing.{none_of, read_of, nth}
+use Rattle.row_slots.proofs.Passing.{none_of, read_of, nth}
 use Rattle.marks.proofs.table.MarkTable.nth_on.Goals as goal
 
 pub returns-in_err-place : goal.returns-in_err-place

@@ -3,7 +3,7 @@ use Rattle.std.specs.Option.{option_flatten}
 use Rattle.row_slots.proofs.Places.{row_at}
 use Rattle.misc_links.specs.Keeping.{is_from}
 use Rattle.misc_links.specs.Kinds.{list_at}
-use Rattle.misc_links.proofs.Passing.{none_of, read_of, nth}
+use Rattle.row_slots.proofs.Passing.{none_of, read_of, nth}
 use Rattle.misc_links.proofs.links.Links.nth_from.Goals as goal
 
 pub returns-in_err-place : goal.returns-in_err-place

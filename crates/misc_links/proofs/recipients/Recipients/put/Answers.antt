@@ -1,7 +1,7 @@
 use Rattle.std.proofs.Common.{Some, ◌≡◌, ◌∷◌, [], ◌++◌, length, ap, ◌∙◌, arith}
 use Rattle.std.proofs.lemmas.Result.{IfOk-at_ok}
 use Rattle.row_slots.specs.Slots.{rows_in}
-use Rattle.row_slots.proofs.Rooms.{room_in-rooms_of}
+use Rattle.row_slots.proofs.DenseRooms.{dense_room_in-dense_rooms}
 use Rattle.row_slots.proofs.Rows.{rows_in-push}
 use Rattle.kom_types.specs.tables.Texts.{recipient_of}
 use Rattle.misc_links.specs.Received.{Received, room_of_text}
@@ -12,7 +12,7 @@ use Rattle.misc_links.proofs.recipients.Recipients.put.Goals as goal
 pub push-requires-2 : goal.push-requires-2
 push-requires-2 c =
     let same = ap (λ (t : Received). room_of_text t c.args.recipient.text) c.self.view_is in
-    omega (arith, same, room_in-rooms_of c.self.inside.by_text c.args.recipient.text, c.requires.room.of_text)
+    omega (arith, same, dense_room_in-dense_rooms c.self.inside.by_text c.args.recipient.text, c.requires.room.of_text)
 
 pub invariant_of-self : goal.invariant_of-self
 invariant_of-self c =
@@ -44,8 +44,8 @@ returns-clause-room c =
       spare = omega (arith, c.push.ensures.spare);
       texts = λ other. omega (
         arith,
-        room_in-rooms_of c.self.inside.by_text other,
-        room_in-rooms_of c.push-2.new.self other,
+        dense_room_in-dense_rooms c.self.inside.by_text other,
+        dense_room_in-dense_rooms c.push-2.new.self other,
         uses_one c.args.recipient.text c.self.inside.by_text c.push-2.new.self c.push-2.ensures.others
             c.push-2.ensures.room other,
       );

@@ -3,7 +3,7 @@ use Rattle.std.specs.Option.{option_flatten}
 use Rattle.std.specs.Set.{remove_key}
 use Rattle.row_slots.specs.Slots.{rows_in}
 use Rattle.row_slots.proofs.Places.{row_at}
-use Rattle.row_slots.proofs.Rooms.{rooms_stay, no_room_falls}
+use Rattle.row_slots.proofs.DenseRooms.{dense_rooms_stay, no_dense_room_falls}
 use Rattle.misc_links.proofs.OneList.{has_changed}
 use Rattle.misc_links.proofs.Receiving.{are_once, recipient_found, row_found, without_none, has_place, rows_left, IsKept-left}
 use Rattle.misc_links.proofs.recipients.Recipients.remove.Goals as goal
@@ -69,6 +69,6 @@ returns-clause-room c =
     rw (← c.self.view_is)
     (record {
       spare = c.take-recipient.ensures.spare;
-      texts = rooms_stay c.self.inside.by_text c.remove.new.self
-          (no_room_falls _ _ c.args.text c.remove.ensures.others (omega (arith, c.remove.ensures.room)));
+      texts = dense_rooms_stay c.self.inside.by_text c.remove.new.self
+          (no_dense_room_falls _ _ c.args.text c.remove.ensures.others (omega (arith, c.remove.ensures.room)));
     })

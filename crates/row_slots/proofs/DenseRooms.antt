@@ -1,0 +1,56 @@
+-- The lists and the rooms of keys that are numbered one after the other, and those after a change of one list.
+use Rattle.std.proofs.Common.{◌≡◌, ℕ, zero, suc, ◌-◌, ◌<◌, ◌≤◌, true, List, [], ◌∷◌, length, slice_get, Option, Some, None, option_map, nat_eq, unwrap_or, inl, inr, refl, sym, ◌∙◌, ap, subst, arith}
+use Rattle.std.specs.Option.{option_map_or}
+use Rattle.std.specs.Set.{is_member}
+use Rattle.std.proofs.Math.ListN.{set}
+use Rattle.std.proofs.lemmas.Bool.{cases_eq, false≢true}
+use Rattle.std.proofs.lemmas.Option.{slice_get-map}
+use Rattle.smallvec.specs.SmallVec.{SmallVec, small_vec_len}
+use Rattle.row_slots.specs.declared.dense_lists.DenseLists.{DenseLists}
+use Rattle.row_slots.specs.DenseLists.{dense_room, dense_rooms, dense_room_in, HasOnlyDenseChanged}
+
+-- ---- the rooms of all keys
+
+-- the room of a key by the rooms of all
+pub dense_room_in-dense_rooms : (lists : DenseLists) (key : ℕ) →
+    dense_room_in (dense_rooms lists) key ≡ dense_room lists key
+dense_room_in-dense_rooms lists key =
+    ap (λ o. unwrap_or o 0)
+    (slice_get-map (λ (list : SmallVec ℕ). list.capacity - small_vec_len list) lists.lists.items key)
+    ∙ by (slice_get lists.lists.items key)
+  where
+    by : (o : Option (SmallVec ℕ)) →
+        unwrap_or (option_map (λ list. list.capacity - small_vec_len list) o) 0
+        ≡ option_map_or (λ list. list.capacity - small_vec_len list) o 0
+    by None = refl
+    by (Some list) = refl
+
+pub dense_rooms_stay : (old new : DenseLists) → ((key : ℕ) → dense_room old key ≤ dense_room new key) → (key : ℕ) →
+    dense_room_in (dense_rooms old) key ≤ dense_room_in (dense_rooms new) key
+dense_rooms_stay old new le key =
+    omega (arith, dense_room_in-dense_rooms old key, dense_room_in-dense_rooms new key, le key)
+
+-- where one list has changed, and its room did not fall, none did
+pub no_dense_room_falls : (old new : DenseLists) (key : ℕ) → HasOnlyDenseChanged old new key →
+    dense_room old key ≤ dense_room new key → (other : ℕ) → dense_room old other ≤ dense_room new other
+no_dense_room_falls old new key only le other = elim (cases_eq other key) [
+  | inl is ↦ subst (λ k. dense_room old k ≤ dense_room new k) (sym is) le
+  | inr unlike ↦ omega (arith, only.rooms other unlike)
+]
+
+-- ---- the list of a key that has a number
+
+-- one is kept for it
+pub has_list : (lists : List (SmallVec ℕ)) (key number : ℕ) →
+    is_member nat_eq (option_map_or (λ list. list.items) (slice_get lists key) []) number ≡ true → key < length lists
+has_list [] key number there = absurd (false≢true there)
+has_list (list ∷ lists) zero number there = omega arith
+has_list (list ∷ lists) (suc key) number there = omega (arith, has_list lists key number there)
+
+-- ---- one list is another
+
+pub slice_get-set_same : {X : Type 0} (xs : List X) (place : ℕ) (x : X) → place < length xs →
+    slice_get (set xs place x) place ≡ Some x
+slice_get-set_same [] place x within = absurd (omega arith)
+slice_get-set_same (first ∷ xs) zero x within = refl
+slice_get-set_same (first ∷ xs) (suc place) x within = slice_get-set_same xs place x (omega arith)
