@@ -7,7 +7,8 @@ ghost use Rattle.std.specs.Prelude.{◌*◌, ◌<◌, ◌^◌};
 mod measures;
 
 use bench_watch::{Counts, Request, Watch};
-use read_ranges::{Range, Ranges};
+use kom_types::ReadRange;
+use read_ranges::Ranges;
 use std::io;
 use std::process::ExitCode;
 use std::rt::Clock;
@@ -47,7 +48,7 @@ fn lists<R: Print + Clock + AllocGlobal>(
     rt: &R,
     watch: &mut Watch,
     read: &mut Ranges,
-    list: &[Range],
+    list: &[ReadRange],
 ) -> io::Result<()> {
     watch.tell(rt, "100 sets", measures::set_often(read, list))?;
     watch.tell(

@@ -2,7 +2,8 @@
 ghost use Rattle.std.specs.Prelude.{◌≡◌, ◌*◌, ◌<◌, ◌≤◌, ◌^◌, length, IfOk};
 ghost use Rattle.read_ranges.specs.Numbers.{union_of};
 
-use read_ranges::{Range, RangeFault, Ranges, list};
+use kom_types::ReadRange;
+use read_ranges::{RangeFault, Ranges, list};
 use std::alloc::{AllocError, Global};
 
 const LOOK_UPS: u32 = 1_000_000;
@@ -17,13 +18,13 @@ const ENDS: u32 = 500_000;
 /// How often a number between two ranges is marked and unmarked.
 const GAPS: u32 = 5000;
 
-pub fn far_apart(alloc: Global, ranges: u32) -> Result<Vec<Range>, AllocError>
+pub fn far_apart(alloc: Global, ranges: u32) -> Result<Vec<ReadRange>, AllocError>
     requires { 8 * ranges < 2 ^ 32 }
     ensures { IfOk result (λ list. length list.items ≡ ranges) }
 {
     let mut list = Vec::new(alloc);
     for place in 0..ranges {
-        list.push(Range {
+        list.push(ReadRange {
             first: 8 * place + 1,
             last: 8 * place + 2,
         })?;
@@ -32,7 +33,7 @@ pub fn far_apart(alloc: Global, ranges: u32) -> Result<Vec<Range>, AllocError>
 }
 
 /// How many ranges the sets had.
-pub fn set_often(read: &mut Ranges, list: &[Range]) -> u64 {
+pub fn set_often(read: &mut Ranges, list: &[ReadRange]) -> u64 {
     let mut sum: u64 = 0;
     for _ in 0..LISTS {
         if read.set(list).is_ok() {
@@ -43,7 +44,7 @@ pub fn set_often(read: &mut Ranges, list: &[Range]) -> u64 {
 }
 
 /// How many ranges the copies had.
-pub fn copied(alloc: Global, list: &[Range]) -> Result<u64, AllocError> {
+pub fn copied(alloc: Global, list: &[ReadRange]) -> Result<u64, AllocError> {
     let mut sum: u64 = 0;
     for _ in 0..LISTS {
         let copy = Vec::from_slice(alloc, list)?;
@@ -73,7 +74,7 @@ pub enum Refusal {
 
 /// The set of a list. Of each range it asks for its own fault, for its order and for the highest
 /// number, in this order, and tells of the first range that has one.
-pub fn taken(list: Vec<Range>, highest: u32) -> Result<Ranges, Refusal>
+pub fn taken(list: Vec<ReadRange>, highest: u32) -> Result<Ranges, Refusal>
     ensures { IfOk result (λ read. read.numbers ≡ union_of list.items) }
 {
     for at in 0..list.len() {
@@ -88,7 +89,7 @@ pub fn taken(list: Vec<Range>, highest: u32) -> Result<Ranges, Refusal>
 }
 
 /// How many ranges the lists had that were made sets and given back.
-pub fn given_back(list: Vec<Range>, highest: u32) -> u64 {
+pub fn given_back(list: Vec<ReadRange>, highest: u32) -> u64 {
     let mut list = list;
     let mut sum: u64 = 0;
     for _ in 0..LISTS {
@@ -131,7 +132,7 @@ pub fn unread(read: &Ranges, span: u32) -> u64
 }
 
 /// How many numbers of the span walks find in the list.
-pub fn walked(list: &[Range], span: u32) -> u64
+pub fn walked(list: &[ReadRange], span: u32) -> u64
     requires { 0 < span }
 {
     let mut state = 1;
@@ -143,7 +144,7 @@ pub fn walked(list: &[Range], span: u32) -> u64
     sum
 }
 
-fn is_in(list: &[Range], number: u32) -> bool {
+fn is_in(list: &[ReadRange], number: u32) -> bool {
     list.iter()
         .any(|range| range.first <= number && number <= range.last)
 }

@@ -1,7 +1,10 @@
+pub mod Cuts
 pub mod Edits
 pub mod Faults
 pub mod Found
 pub mod Lists
 pub mod Merging
 pub mod Rises
+pub mod Rising
 pub mod Sets
+pub mod Unread

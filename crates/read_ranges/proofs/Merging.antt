@@ -2,14 +2,14 @@
 use Rattle.std.proofs.Common.{◌≡◌, ◌≢◌, ℕ, ◌+◌, ◌<◌, ◌≤◌, List, [], ◌∷◌, ◌++◌, length, take, drop, set}
 use Rattle.std.proofs.Common.{sym, ap, ◌∙◌, subst, append_assoc, arith}
 use Rattle.std.proofs.lemmas.List.{drop_more, drop-set-lt, take_more_set}
-use Rattle.read_ranges.specs.declared.Range.{Range}
+use Rattle.kom_types.specs.declared.memberships.ReadRange.{ReadRange}
 use Rattle.read_ranges.specs.Numbers.{range, greatest}
 use Rattle.read_ranges.specs.Merged.{merged}
 use borrow.Author.Count.{below_more}
 use Rattle.read_ranges.specs.ListFault.{range_at, EndWithinBelow}
 use Rattle.read_ranges.proofs.Lists.{merged_touching, merged_apart}
 
-module _ (xs whole : List Range) (count at : ℕ) (last : Range) (within : at < length xs)
+module _ (xs whole : List ReadRange) (count at : ℕ) (last : ReadRange) (within : at < length xs)
     (made : take count xs ++ merged (last ∷ drop at xs) ≡ whole) where
   here : drop at xs ≡ range_at xs at ∷ drop (at + 1) xs
   here = drop_more xs at (range 0 0) within
@@ -37,7 +37,7 @@ module _ (xs whole : List Range) (count at : ℕ) (last : Range) (within : at < 
       ∙ ap (λ ys. take count xs ++ ys) (sym (merged_apart last (range_at xs at) (drop (at + 1) xs) apart))
       ∙ made_here)
 
-module _ (xs ys : List Range) (at : ℕ) (within : at < length xs) (within_others : at < length ys)
+module _ (xs ys : List ReadRange) (at : ℕ) (within : at < length xs) (within_others : at < length ys)
     (others : drop at xs ≡ drop at ys) where
   -- what follows the place is the same
   pub others_after : drop (at + 1) xs ≡ drop (at + 1) ys
@@ -55,13 +55,13 @@ module _ (xs ys : List Range) (at : ℕ) (within : at < length xs) (within_other
 
   -- also once a range before it is written
   pub others_after_set :
-      (i : ℕ) (r : Range) → i < at → drop (at + 1) (set xs i r) ≡ drop (at + 1) ys
+      (i : ℕ) (r : ReadRange) → i < at → drop (at + 1) (set xs i r) ≡ drop (at + 1) ys
   others_after_set i r before = drop-set-lt (at + 1) xs i r (omega arith) ∙ others_after
 
   -- a range that ends within bounds, after those that do
   pub ends_more : EndWithinBelow ys at → (range_at xs at).last ≤ greatest → EndWithinBelow ys (at + 1)
-  ends_more ends end = below_more (λ k. (range_at ys k).last ≤ greatest) at ends (subst (λ (r : Range). r.last ≤ greatest) range_there end)
+  ends_more ends end = below_more (λ k. (range_at ys k).last ≤ greatest) at ends (subst (λ (r : ReadRange). r.last ≤ greatest) range_there end)
 
 -- the first range ends within bounds
-pub ends_first : (xs : List Range) → (range_at xs 0).last ≤ greatest → EndWithinBelow xs 1
+pub ends_first : (xs : List ReadRange) → (range_at xs 0).last ≤ greatest → EndWithinBelow xs 1
 ends_first xs end = below_more (λ k. (range_at xs k).last ≤ greatest) 0 (λ k lt. absurd (omega arith)) end

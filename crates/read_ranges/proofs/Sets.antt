@@ -6,9 +6,9 @@ use Rattle.std.specs.Cmp.{nat_cmp_total, unsigned_tied}
 use Rattle.std.specs.FinSet.{FinSet, empty, contains, insert, remove, from_list, contains-from_list_nat, contains-insert, contains-remove, same_set, nat_cmp-IsAntisymmetric}
 use Rattle.std.proofs.lemmas.Bool.Decides.{nat_tests}
 use Rattle.std.proofs.lemmas.List.Folds.{list_any-append}
-use Rattle.read_ranges.specs.declared.Range.{Range}
+use Rattle.kom_types.specs.declared.memberships.ReadRange.{ReadRange}
 use Rattle.read_ranges.specs.Numbers.{range, RiseFrom, AreRanges, greatest, numbers_from, numbers_in, union_of, with_number, cut, ranges_of, IsWithinBounds}
-use Rattle.read_ranges.proofs.Rises.{is_in, holds_in, held_at_least, held_at_most, one_list, rise_lower}
+use Rattle.read_ranges.proofs.Rises.{is_in_range, holds_in, held_at_least, held_at_most, one_list, rise_lower}
 
 -- which numbers a run of numbers has
 any_from : (first count n : ℕ) → list_any (λ y. nat_eq y n) (numbers_from first count) ≡ (leb first n && ltb n (first + count))
@@ -16,20 +16,20 @@ unfolding numbers_from
 any_from first zero n = grind (arith, nat_tests)
 any_from first (suc count) n = rw (any_from (first + 1) count n) (grind (arith, nat_tests))
 
-any_in : (r : Range) (n : ℕ) → list_any (λ y. nat_eq y n) (numbers_in r) ≡ is_in n r
+any_in : (r : ReadRange) (n : ℕ) → list_any (λ y. nat_eq y n) (numbers_in r) ≡ is_in_range n r
 any_in r n = any_from r.first (r.last + 1 - r.first) n ∙ grind (arith, nat_tests)
 
-any_flat : (rs : List Range) (n : ℕ) → list_any (λ y. nat_eq y n) (flat_map numbers_in rs) ≡ holds_in rs n
+pub any_flat : (rs : List ReadRange) (n : ℕ) → list_any (λ y. nat_eq y n) (flat_map numbers_in rs) ≡ holds_in rs n
 any_flat [] n = refl
 any_flat (r ∷ rs) n = list_any-append (λ y. nat_eq y n) (numbers_in r) (flat_map numbers_in rs) ∙ rw (any_in r n, any_flat rs n) refl
 
 -- the union of ranges has the numbers that are in one of them
-pub contains-union_of : (rs : List Range) (n : ℕ) → contains (union_of rs) n ≡ holds_in rs n
+pub contains-union_of : (rs : List ReadRange) (n : ℕ) → contains (union_of rs) n ≡ holds_in rs n
 unfolding union_of
 contains-union_of rs n = contains-from_list_nat (flat_map numbers_in rs) n ∙ any_flat rs n
 
 -- ranges with a number put before them
-rise_with : (n : ℕ) (rs : List Range) → n ≤ greatest → RiseFrom (n + 1) rs → RiseFrom n (with_number n rs)
+pub rise_with : (n : ℕ) (rs : List ReadRange) → n ≤ greatest → RiseFrom (n + 1) rs → RiseFrom n (with_number n rs)
 rise_with n [] fits rise = (omega arith, omega arith, fits, tt)
 rise_with n (r ∷ rs) fits rise =
     elim (eqb r.first (n + 1)) as (λ b. eqb r.first (n + 1) ≡ b → RiseFrom n (cond b ((range n r.last) ∷ rs) ((range n n) ∷ r ∷ rs))) [
@@ -37,10 +37,10 @@ rise_with n (r ∷ rs) fits rise =
       | false ↦ λ e. (omega arith, omega arith, fits, (grind (arith, nat_tests), rise.1, rise.2, rise.3))
     ] refl
 
-holds_with : (n : ℕ) (rs : List Range) → RiseFrom (n + 1) rs → (m : ℕ) → holds_in (with_number n rs) m ≡ (eqb m n || holds_in rs m)
+pub holds_with : (n : ℕ) (rs : List ReadRange) → RiseFrom (n + 1) rs → (m : ℕ) → holds_in (with_number n rs) m ≡ (eqb m n || holds_in rs m)
 holds_with n [] rise m = grind (arith, nat_tests)
 holds_with n (r ∷ rs) rise m =
-    elim (eqb r.first (n + 1)) as (λ b. eqb r.first (n + 1) ≡ b → holds_in (cond b ((range n r.last) ∷ rs) ((range n n) ∷ r ∷ rs)) m ≡ (eqb m n || (is_in m r || holds_in rs m))) [
+    elim (eqb r.first (n + 1)) as (λ b. eqb r.first (n + 1) ≡ b → holds_in (cond b ((range n r.last) ∷ rs) ((range n n) ∷ r ∷ rs)) m ≡ (eqb m n || (is_in_range m r || holds_in rs m))) [
       | true ↦ λ e. grind (arith, nat_tests)
       | false ↦ λ e. grind (arith, nat_tests)
     ] refl
@@ -91,7 +91,7 @@ in_bounds s within n =
     ] refl
 
 -- the union of rising ranges is within bounds
-pub within_set_of : (rs : List Range) → AreRanges rs → IsWithinBounds (union_of rs)
+pub within_set_of : (rs : List ReadRange) → AreRanges rs → IsWithinBounds (union_of rs)
 within_set_of rs rise n held =
     let is : holds_in rs n ≡ true = sym (contains-union_of rs n) ∙ held in
     (held_at_least 1 rs n rise is, held_at_most 1 rs n rise is)
@@ -101,7 +101,7 @@ pub union_of-ranges_of : (s : FinSet nat_cmp) → IsWithinBounds s → union_of 
 union_of-ranges_of s within = same_numbers _ _ (λ n. contains-union_of (ranges_of s) n ∙ holds_ranges_of s n ∙ in_bounds s within n)
 
 -- rising ranges are the ranges of their union
-pub ranges_of-union_of : (rs : List Range) → AreRanges rs → ranges_of (union_of rs) ≡ rs
+pub ranges_of-union_of : (rs : List ReadRange) → AreRanges rs → ranges_of (union_of rs) ≡ rs
 ranges_of-union_of rs rise =
     one_list 1 _ rs (rise_ranges_of (union_of rs)) rise
     (λ n. holds_ranges_of (union_of rs) n ∙ in_bounds (union_of rs) (within_set_of rs rise) n ∙ contains-union_of rs n)
@@ -112,12 +112,12 @@ unfolding union_of
 union_of-nil = refl
 
 -- ranges that hold n beside what others hold
-pub union_of-marked : (xs ys : List Range) (n : ℕ) → ((m : ℕ) → holds_in ys m ≡ (eqb m n || holds_in xs m)) → union_of ys ≡ insert (union_of xs) n
+pub union_of-marked : (xs ys : List ReadRange) (n : ℕ) → ((m : ℕ) → holds_in ys m ≡ (eqb m n || holds_in xs m)) → union_of ys ≡ insert (union_of xs) n
 union_of-marked xs ys n held = same_numbers _ _ (λ m.
     contains-union_of ys m ∙ held m ∙ sym (contains-insert nat_cmp_total (union_of xs) n m ∙ rw (unsigned_tied m n, contains-union_of xs m) refl))
 
 -- ranges that hold what others hold, without n
-pub union_of-unmarked : (xs ys : List Range) (n : ℕ) → ((m : ℕ) → holds_in ys m ≡ (not (eqb m n) && holds_in xs m)) → union_of ys ≡ remove (union_of xs) n
+pub union_of-unmarked : (xs ys : List ReadRange) (n : ℕ) → ((m : ℕ) → holds_in ys m ≡ (not (eqb m n) && holds_in xs m)) → union_of ys ≡ remove (union_of xs) n
 union_of-unmarked xs ys n held = same_numbers _ _ (λ m.
     contains-union_of ys m ∙ held m ∙ sym (contains-remove nat_cmp_total (union_of xs) n m ∙ rw (unsigned_tied m n, contains-union_of xs m) (grind (arith, nat_tests))))
 

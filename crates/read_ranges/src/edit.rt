@@ -6,7 +6,7 @@ ghost use Rattle.read_ranges.specs.Places.{EndsJustBelow, Marks};
 
 use crate::kept::Kept;
 use crate::search::place_of;
-use crate::{Memory, Range};
+use kom_types::{Memory, ReadRange};
 
 /// Adds a number: alone, at an end of a range, or between two ranges that become one.
 pub fn mark(kept: &mut Kept, n: u32) -> Result<(), Memory>
@@ -20,14 +20,14 @@ pub fn mark(kept: &mut Kept, n: u32) -> Result<(), Memory>
 {
     let ranges = kept.as_slice();
     let at = place_of(ranges, n - 1);
-    let Some(&Range { first, last }) = ranges.get(at) else {
-        return kept.insert(at, Range { first: n, last: n });
+    let Some(&ReadRange { first, last }) = ranges.get(at) else {
+        return kept.insert(at, ReadRange { first: n, last: n });
     };
     if first.saturating_sub(n) > 1 {
-        return kept.insert(at, Range { first: n, last: n });
+        return kept.insert(at, ReadRange { first: n, last: n });
     }
     if n < first {
-        kept.write(at, Range { first: n, last });
+        kept.write(at, ReadRange { first: n, last });
     } else if last < n {
         extend(kept, at, n);
     }
@@ -45,11 +45,11 @@ fn extend(kept: &mut Kept, at: usize, n: u32)
     let ranges = kept.as_slice();
     let first = ranges[at].first;
     match ranges.get(at + 1) {
-        Some(&Range { first: next, last }) if next - 1 == n => {
-            kept.write(at, Range { first, last });
+        Some(&ReadRange { first: next, last }) if next - 1 == n => {
+            kept.write(at, ReadRange { first, last });
             kept.remove(at + 1);
         }
-        _ => kept.write(at, Range { first, last: n }),
+        _ => kept.write(at, ReadRange { first, last: n }),
     }
 }
 
@@ -67,15 +67,18 @@ pub fn unmark(kept: &mut Kept, n: u32) -> Result<(), Memory>
     let ranges = kept.as_slice();
     let at = place_of(ranges, n);
     match ranges.get(at) {
-        Some(&Range { first, last }) if first <= n => {
+        Some(&ReadRange { first, last }) if first <= n => {
             if first == last {
                 kept.remove(at);
             } else if first == n {
-                kept.write(at, Range { first: n + 1, last });
+                kept.write(at, ReadRange { first: n + 1, last });
             } else if last == n {
-                kept.write(at, Range { first, last: n - 1 });
+                kept.write(at, ReadRange { first, last: n - 1 });
             } else {
-                let (below, above) = (Range { first, last: n - 1 }, Range { first: n + 1, last });
+                let (below, above) = (
+                    ReadRange { first, last: n - 1 },
+                    ReadRange { first: n + 1, last },
+                );
                 kept.insert(at + 1, above)?;
                 kept.write(at, below);
             }

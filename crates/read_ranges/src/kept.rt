@@ -6,15 +6,15 @@ ghost use Rattle.read_ranges.specs.ListFault.{EndWithinBelow};
 ghost use Rattle.read_ranges.specs.Merged.{merged};
 
 use crate::list::merge;
-use crate::{Memory, Range};
+use kom_types::{Memory, ReadRange};
 use std::alloc::{AllocError, AllocFailed, Global};
 use std::marker::Model;
 
 /// While there is one range it stands in `one`, and `many` is empty.
 #[derive(Debug, Drop)]
 pub(crate) struct Kept {
-    one: Option<Range>,
-    many: Vec<Range>,
+    one: Option<ReadRange>,
+    many: Vec<ReadRange>,
 }
 
 impl Model for Kept {
@@ -60,7 +60,7 @@ impl Kept {
     }
 
     /// Keeps a given list, with one range in place of those that touch.
-    pub fn of_list(list: Vec<Range>) -> Kept
+    pub fn of_list(list: Vec<ReadRange>) -> Kept
         ensures items { result.items ≡ merged list.items }
         ensures bounds { EndWithinBelow list.items (length list.items) }
         ensures spare { length list.items ≤ result.spare }
@@ -73,7 +73,7 @@ impl Kept {
 
     /// The ranges as a list. Memory is wanted for a single range alone, and where there is none the
     /// ranges come back.
-    pub fn into_list(self) -> Result<Vec<Range>, AllocFailed<Kept>>
+    pub fn into_list(self) -> Result<Vec<ReadRange>, AllocFailed<Kept>>
         ensures ok { IfOk result (λ list. list.items ≡ self.items) }
         ensures err { IfErr result (λ refused. refused.value.items ≡ self.items) }
         ensures full { OnErr result (length self.items ≡ 1) }
@@ -90,7 +90,7 @@ impl Kept {
         }
     }
 
-    pub fn as_slice(&self) -> &[Range]
+    pub fn as_slice(&self) -> &[ReadRange]
         ensures { result.now ≡ self.now.items }
     {
         match &self.one {
@@ -100,7 +100,7 @@ impl Kept {
     }
 
     /// Keeps this range alone, or none.
-    pub fn keep_only(&mut self, range: Option<Range>)
+    pub fn keep_only(&mut self, range: Option<ReadRange>)
         ensures items { self.new.items ≡ option_to_list range }
         ensures spare { self.new.spare ≡ self.old.spare }
     {
@@ -122,7 +122,7 @@ impl Kept {
     }
 
     /// Writes a range in the place of another.
-    pub fn write(&mut self, at: usize, range: Range)
+    pub fn write(&mut self, at: usize, range: ReadRange)
         requires { at < length self.old.items }
         ensures items { self.new.items ≡ slice_set self.old.items at range }
         ensures spare { self.new.spare ≡ self.old.spare }
@@ -146,7 +146,7 @@ impl Kept {
         }
     }
 
-    pub fn insert(&mut self, at: usize, range: Range) -> Result<(), Memory>
+    pub fn insert(&mut self, at: usize, range: ReadRange) -> Result<(), Memory>
         requires { at ≤ length self.old.items }
         ensures ok { OnOk result (self.new.items ≡ insert self.old.items at range) }
         ensures err { OnErr result (self.new.items ≡ self.old.items) }
@@ -177,7 +177,7 @@ impl Kept {
     }
 
     /// Adds a range at the end, where there is room.
-    pub fn push(&mut self, range: Range)
+    pub fn push(&mut self, range: ReadRange)
         requires { length self.old.items < self.old.spare }
         ensures items { self.new.items ≡ self.old.items ++ range ∷ [] }
         ensures spare { self.old.spare ≤ self.new.spare }

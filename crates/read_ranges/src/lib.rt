@@ -4,17 +4,19 @@
 //! meets or touches another. A set of one range, as 1 to n, needs no memory.
 #![tactic(auto)]
 
-ghost use Rattle.std.specs.Prelude.{◌≡◌, ◌≢◌, ◌≤◌, ◌<◌, ◌↔◌, ℕ, List, length};
+ghost use Rattle.std.specs.Prelude.{◌≡◌, ◌≢◌, ◌≤◌, ◌<◌, ◌↔◌, ℕ, List, [], length};
 ghost use Rattle.std.specs.Prelude.{OnOk, OnErr, IfOk, IfErr, IsErrOf, IsNone, IfSome};
 ghost use Rattle.std.specs.Ordering.{nat_cmp};
 ghost use Rattle.std.specs.FinSet as set;
-ghost use Rattle.read_ranges.specs.declared.Range.{Range};
+ghost use Rattle.kom_types.specs.declared.memberships.ReadRange.{ReadRange};
 ghost use Rattle.read_ranges.specs.Numbers.{AreRanges, AreRangesOf, union_of, ranges_of};
 ghost use Rattle.read_ranges.specs.Numbers.{numbers_from, count_of, made_by, IsWithinBounds};
 ghost use Rattle.read_ranges.specs.Numbers.{IsNextUnread, IsReadFrom};
 ghost use Rattle.read_ranges.specs.ListFault.{IsFaultless, IsErrExactlyAt};
 ghost use Rattle.read_ranges.specs.ListFault.{IsFirstInvalid, IsFirstOutOfOrder};
+ghost use Rattle.read_ranges.specs.Merged.{merged};
 
+mod changes;
 mod edit;
 mod kept;
 pub mod list;
@@ -22,32 +24,11 @@ mod search;
 #[cfg(test)]
 mod tests;
 
+pub use changes::{Marked, rise, up_to};
 use kept::Kept;
+use kom_types::{Memory, ReadRange};
 use std::alloc::{AllocError, AllocFailed, Global};
 use std::marker::Model;
-
-/// The numbers from the first to the last.
-#[derive(Clone, Copy, Debug, PartialEq, Eq)]
-pub struct Range {
-    pub first: u32,
-    pub last: u32,
-}
-
-/// There was no memory. The set stays as it was.
-#[derive(Clone, Copy, Debug, PartialEq, Eq)]
-pub struct Memory;
-
-impl From<AllocError> for Memory {
-    fn from(_error: AllocError) -> Memory {
-        Memory
-    }
-}
-
-impl<T: Drop> From<AllocFailed<T>> for Memory {
-    fn from(_error: AllocFailed<T>) -> Memory {
-        Memory
-    }
-}
 
 /// Why a list of ranges is refused. The set stays as it was.
 #[derive(Clone, Copy, Debug, PartialEq, Eq)]
@@ -106,6 +87,7 @@ impl Ranges {
     /// The empty set. It takes no memory, and has room for one range.
     pub fn new(alloc: Global) -> Ranges
         ensures empty { result.numbers ≡ set.empty }
+        ensures none { ranges_of result.numbers ≡ [] }
         ensures spare { 1 ≤ result.spare }
     {
         Ranges {
@@ -114,9 +96,10 @@ impl Ranges {
     }
 
     /// The set of the numbers of a list, whose memory becomes the set's own. The ranges may touch.
-    pub fn from_list(list: Vec<Range>) -> Ranges
+    pub fn from_list(list: Vec<ReadRange>) -> Ranges
         requires { IsFaultless list.items }
         ensures numbers { result.numbers ≡ union_of list.items }
+        ensures ranges { ranges_of result.numbers ≡ merged list.items }
         ensures spare { length list.items ≤ result.spare }
     {
         Ranges {
@@ -125,7 +108,7 @@ impl Ranges {
     }
 
     /// The ranges of the set as a list, which has the set's memory.
-    pub fn into_list(self) -> Result<Vec<Range>, AllocFailed<Ranges>>
+    pub fn into_list(self) -> Result<Vec<ReadRange>, AllocFailed<Ranges>>
         ensures ok { IfOk result (λ list. list.items ≡ ranges_of self.numbers) }
 
         // Memory is wanted for a set of one range alone. Without it the set comes back.
@@ -167,7 +150,7 @@ impl Ranges {
     }
 
     /// The ranges of the set, in rising order.
-    pub fn ranges(&self) -> &[Range]
+    pub fn ranges(&self) -> &[ReadRange]
         ensures ranges { result.now ≡ ranges_of self.now.numbers }
         ensures rising { AreRanges result.now }
         ensures union { union_of result.now ≡ self.now.numbers }
@@ -203,7 +186,7 @@ impl Ranges {
     }
 
     /// Makes the set the numbers of a list of rising ranges, which may touch.
-    pub fn set(&mut self, list: &[Range]) -> Result<(), RangeFault>
+    pub fn set(&mut self, list: &[ReadRange]) -> Result<(), RangeFault>
         ensures ok { OnOk result (self.new.numbers ≡ union_of list.now) }
         ensures err { OnErr result (self.new.numbers ≡ self.old.numbers) }
         ensures spare { self.old.spare ≤ self.new.spare }
@@ -230,7 +213,7 @@ impl Ranges {
         ensures numbers { self.new.numbers ≡ set.from_list (numbers_from 1 n) }
         ensures spare { self.new.spare ≡ self.old.spare }
     {
-        let whole = Range { first: 1, last: n };
+        let whole = ReadRange { first: 1, last: n };
         self.kept.keep_only(if n == 0 { None } else { Some(whole) });
     }
 
@@ -249,5 +232,5 @@ impl Ranges {
 /// set.
 pub fn one_list_of_ranges()
     ensures exists { (s : set.FinSet nat_cmp) → IsWithinBounds s → AreRangesOf (ranges_of s) s }
-    ensures only { (rs : List Range) → AreRanges rs → ranges_of (union_of rs) ≡ rs }
+    ensures only { (rs : List ReadRange) → AreRanges rs → ranges_of (union_of rs) ≡ rs }
 {}

@@ -6,17 +6,18 @@ ghost use Rattle.read_ranges.specs.ListFault.{EndWithinBelow, range_at};
 ghost use Rattle.read_ranges.specs.Merged.{merged};
 ghost use Rattle.read_ranges.specs.Numbers.{greatest};
 
+use crate::RangeFault;
 use crate::kept::Kept;
-use crate::{Range, RangeFault};
+use kom_types::ReadRange;
 
 /// What is wrong with the range at a place, if anything is: the range itself, and only then its
 /// order.
-pub fn fault_at(list: &[Range], at: usize) -> Option<RangeFault>
+pub fn fault_at(list: &[ReadRange], at: usize) -> Option<RangeFault>
     requires { at < length list.now }
     ensures fault { IsFaultAt list.now at result }
     ensures bound { let range = range_at list.now at in range.last ≤ greatest }
 {
-    let Range { first, last } = list[at];
+    let ReadRange { first, last } = list[at];
     if first == 0 || last < first {
         return Some(RangeFault::Invalid(at));
     }
@@ -27,7 +28,7 @@ pub fn fault_at(list: &[Range], at: usize) -> Option<RangeFault>
 }
 
 /// The place of the first faulty range.
-pub fn first_fault(list: &[Range]) -> Option<usize>
+pub fn first_fault(list: &[ReadRange]) -> Option<usize>
     ensures { MatchOption result (IsFaultless list.now) (IsFirstFault list.now) }
 {
     for at in 0..list.len() {
@@ -39,14 +40,14 @@ pub fn first_fault(list: &[Range]) -> Option<usize>
 }
 
 /// Whether the second range begins right after the first.
-fn touches(before: Range, after: Range) -> bool
+fn touches(before: ReadRange, after: ReadRange) -> bool
     ensures { IsTrue result ↔ (after.first ≡ before.last + 1) }
 {
     before.last.checked_add(1) == Some(after.first)
 }
 
 /// Finds the first fault of the list.
-pub fn check(list: &[Range]) -> Result<(), RangeFault>
+pub fn check(list: &[ReadRange]) -> Result<(), RangeFault>
     ensures faultless { OnOk result (IsFaultless list.now) }
     ensures bounds { OnOk result (EndWithinBelow list.now (length list.now)) }
     ensures refused { IfErr result (IsListFault list.now) }
@@ -60,7 +61,7 @@ pub fn check(list: &[Range]) -> Result<(), RangeFault>
 }
 
 /// How many ranges the list makes.
-pub(crate) fn merged_count(list: &[Range]) -> usize
+pub(crate) fn merged_count(list: &[ReadRange]) -> usize
     ensures { result ≡ length (merged list.now) }
 {
     let Some((&first, others)) = list.split_first() else {
@@ -80,7 +81,7 @@ pub(crate) fn merged_count(list: &[Range]) -> usize
 }
 
 /// Keeps the ranges that the list makes, in place of those before.
-pub(crate) fn refill(kept: &mut Kept, list: &[Range])
+pub(crate) fn refill(kept: &mut Kept, list: &[ReadRange])
     requires { length (merged list.now) ≤ kept.old.spare }
     ensures items { kept.new.items ≡ merged list.now }
     ensures spare { kept.old.spare ≤ kept.new.spare }
@@ -102,7 +103,7 @@ pub(crate) fn refill(kept: &mut Kept, list: &[Range])
 }
 
 /// The range itself. No number is past the bounds of a set.
-fn within_bounds(range: Range) -> Range
+fn within_bounds(range: ReadRange) -> ReadRange
     ensures same { result ≡ range }
     ensures bound { range.last ≤ greatest }
 {
@@ -110,7 +111,7 @@ fn within_bounds(range: Range) -> Range
 }
 
 /// Makes one range of those that touch, where the list stands, and tells how many there are then.
-pub(crate) fn merge(list: &mut [Range]) -> usize
+pub(crate) fn merge(list: &mut [ReadRange]) -> usize
     ensures count { result ≤ length list.old }
     ensures items { take result list.new ≡ merged list.old }
     ensures bounds { EndWithinBelow list.old (length list.old) }

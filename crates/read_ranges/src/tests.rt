@@ -1,14 +1,16 @@
+mod random_steps;
+
 use super::*;
 use std::test::Fail;
 
 const LAST: u32 = 4294967295;
 
-fn range(first: u32, last: u32) -> Range {
-    Range { first, last }
+fn range(first: u32, last: u32) -> ReadRange {
+    ReadRange { first, last }
 }
 
 /// The set of a list that is known to be right.
-fn of_list(alloc: Global, list: &[Range]) -> Result<Ranges, RangeFault> {
+fn of_list(alloc: Global, list: &[ReadRange]) -> Result<Ranges, RangeFault> {
     let mut read = Ranges::new(alloc);
     read.set(list)?;
     Ok(read)
@@ -31,7 +33,7 @@ fn a_mark_between_two_ranges_joins_them(rt: HostRuntime) -> Result<(), Fail> {
 
 #[test]
 fn lists_are_taken_or_refused(rt: HostRuntime) -> Result<(), Fail> {
-    let cases: [(&[Range], Result<(), RangeFault>, &[Range]); 9] = [
+    let cases: [(&[ReadRange], Result<(), RangeFault>, &[ReadRange]); 9] = [
         (&[range(1, 3), range(4, 6)], Ok(()), &[range(1, 6)]),
         (
             &[range(1, 5), range(5, 7)],
@@ -198,5 +200,113 @@ fn marks_and_unmarks_do_as_flags_do(rt: HostRuntime) -> Result<(), Fail> {
         read.ranges(),
         [range(2, 2), range(4, 6), range(8, 8), range(10, 11)].as_slice()
     );
+    Ok(())
+}
+
+#[test]
+fn numbers_are_marked_in_a_copy(rt: HostRuntime) -> Result<(), Fail> {
+    let read = of_list(rt.alloc(), &[range(1, 4), range(6, 9)])?;
+    let cases: [(&[u32], &[ReadRange], u32); 4] = [
+        (&[5], &[range(1, 9)], 1),
+        (&[4, 6, 9, 4], &[range(1, 4), range(6, 9)], 0),
+        (&[12, 5, 11, 12], &[range(1, 9), range(11, 12)], 3),
+        (&[], &[range(1, 4), range(6, 9)], 0),
+    ];
+    for (numbers, ranges, newly) in cases {
+        assert!(rt; numbers.iter().all(|&number| number != 0));
+        let marked = read.all_marked(numbers)?;
+        assert_eq!(rt; marked.ranges.as_slice(), ranges);
+        assert_eq!(rt; marked.newly, newly);
+    }
+    assert_eq!(rt; read.ranges(), [range(1, 4), range(6, 9)].as_slice());
+    Ok(())
+}
+
+#[test]
+fn a_number_is_taken_out_of_a_copy(rt: HostRuntime) -> Result<(), Fail> {
+    let read = of_list(rt.alloc(), &[range(1, 9)])?;
+    let cases: [(u32, &[ReadRange]); 4] = [
+        (9, &[range(1, 8)]),
+        (5, &[range(1, 4), range(6, 9)]),
+        (1, &[range(2, 9)]),
+        (10, &[range(1, 9)]),
+    ];
+    for (number, ranges) in cases {
+        assert!(rt; number != 0);
+        assert_eq!(rt; read.unmarked(number)?.as_slice(), ranges);
+    }
+    let one = of_list(rt.alloc(), &[range(7, 7)])?;
+    assert!(rt; one.unmarked(7)?.is_empty());
+    assert_eq!(rt; read.ranges(), [range(1, 9)].as_slice());
+    Ok(())
+}
+
+#[test]
+fn unread_numbers_at_gaps_and_ends(rt: HostRuntime) -> Result<(), Fail> {
+    let read = of_list(rt.alloc(), &[range(1, 4), range(6, 9)])?;
+    let cases = [
+        (1, 4, false),
+        (1, 5, true),
+        (5, 5, true),
+        (4, 6, true),
+        (6, 9, false),
+        (6, 10, true),
+        (10, LAST, true),
+        (10, 9, false),
+        (1, 0, false),
+    ];
+    for (first, last, unread) in cases {
+        assert!(rt; first != 0);
+        assert_eq!(rt;
+            read.has_unread(first, last),
+            unread,
+            "from {first} to {last}"
+        );
+    }
+    let all = of_list(rt.alloc(), &[range(1, LAST)])?;
+    assert!(rt; !all.has_unread(1, LAST));
+    assert!(rt; !all.has_unread(LAST, LAST));
+    assert!(rt; Ranges::new(rt.alloc()).has_unread(LAST, LAST));
+    Ok(())
+}
+
+#[test]
+fn ranges_from_1_on(rt: HostRuntime) -> Result<(), Fail> {
+    let cases: [(u32, &[ReadRange]); 4] = [
+        (0, &[]),
+        (1, &[range(1, 1)]),
+        (7, &[range(1, 7)]),
+        (LAST, &[range(1, LAST)]),
+    ];
+    for (last, ranges) in cases {
+        assert_eq!(rt; up_to(rt.alloc(), last)?.as_slice(), ranges);
+    }
+    Ok(())
+}
+
+#[test]
+fn lists_rise_or_do_not(rt: HostRuntime) {
+    let cases: [(&[ReadRange], bool); 8] = [
+        (&[], true),
+        (&[range(1, 3), range(4, 6)], true),
+        (&[range(1, 3), range(5, 5)], true),
+        (&[range(1, 5), range(5, 7)], false),
+        (&[range(5, 4)], false),
+        (&[range(3, 4), range(1, 2)], false),
+        (&[range(0, 3)], false),
+        (&[range(1, LAST)], true),
+    ];
+    for (list, rises) in cases {
+        assert_eq!(rt; rise(list), rises);
+    }
+}
+
+#[test]
+fn a_set_of_a_list_has_no_ranges_that_touch(rt: HostRuntime) -> Result<(), Fail> {
+    let given = [range(1, 3), range(4, 6), range(8, 9)].to_vec(rt.alloc())?;
+    assert!(rt; rise(&given));
+    let read = Ranges::from_list(given);
+    assert_eq!(rt; read.ranges(), [range(1, 6), range(8, 9)].as_slice());
+    assert!(rt; Ranges::new(rt.alloc()).ranges().is_empty());
     Ok(())
 }

@@ -1,6 +1,6 @@
 use Rattle.std.proofs.Common.{ℕ, List, Some, IfSome, IsNone, ◌↔◌, ◌∙◌, arith}
 use Rattle.std.proofs.lemmas.Bool.Decides.{nat_tests}
-use Rattle.read_ranges.specs.declared.Range.{Range}
+use Rattle.kom_types.specs.declared.memberships.ReadRange.{ReadRange}
 use Rattle.read_ranges.specs.Numbers.{union_of, IsReadFrom, IsNextUnread}
 use Rattle.read_ranges.proofs.Found.{next_exact, next_here, next_after_end, holds_at, holds_past_all}
 use Rattle.read_ranges.proofs.search.next_unread.Goals as goal
@@ -12,7 +12,7 @@ after_end c =
     next_exact _ _ _ (next_after_end _ c.requires.ranges _ _ c.place_of.ensures _ found.3.0 found.1 c.if-first-from.true _ c.checked_add.ensures)
 
 -- where n is in no range, n itself is next
-here : (xs : List Range) (n : ℕ) → IsNextUnread (union_of xs) n n → IsNone (Some n) ↔ IsReadFrom (union_of xs) n
+here : (xs : List ReadRange) (n : ℕ) → IsNextUnread (union_of xs) n n → IsNone (Some n) ↔ IsReadFrom (union_of xs) n
 here xs n next = (next_exact xs n (Some n) next).1
 
 pub returns-in-Some-clause-found : goal.returns-in-Some-clause-found
