@@ -9,7 +9,7 @@ use Rattle.std.proofs.lemmas.Option.{same_Some, none-some, slice_get-map, slice_
 use Rattle.kom_types.specs.tables.Memberships.{membership_of, members_of, memberships_of}
 use Rattle.row_slots.proofs.Members.{position-place}
 use Rattle.memberships.specs.declared.kept.Kept.{Kept}
-use Rattle.memberships.specs.Entries.{Key, Entry, shown, place_of, row_of, in_turn, rows_of, kept_at, turn_of}
+use Rattle.memberships.specs.Entries.{Key, Entry, shown, place_of, row_of, in_turn, rows_of, reads_of, kept_at, turn_of}
 use Rattle.memberships.specs.Keeping.{IsTable}
 use Rattle.memberships.proofs.Leaving.{is_person}
 use Rattle.memberships.proofs.Pairs.{all_filter, all_at, filter_passes}
@@ -18,10 +18,10 @@ use Rattle.memberships.proofs.Places.{place_at}
 use Rattle.memberships.proofs.Turns.{turn, AreInTurn, in_turn_is, all_in_turn}
 use Rattle.memberships.proofs.Viewing.{blank, row_for, membership, members, memberships}
 
--- what is read of a list that is another
-pub read_of : (xs ys : List ℕ) (place x : ℕ) → ys ≡ xs → place < length ys → x ≡ get_or ys place x →
+-- an element of a list that is another
+pub element_of : (xs ys : List ℕ) (place x : ℕ) → ys ≡ xs → place < length ys → x ≡ get_or ys place x →
     slice_get xs place ≡ Some x
-read_of xs ys place x same within is =
+element_of xs ys place x same within is =
     ap (λ l. slice_get l place) (sym same) ∙ slice_get_read ys (length ys) place x refl within is
 
 pub none_of : (xs ys : List ℕ) (place : ℕ) → ys ≡ xs → length ys ≤ place → slice_get xs place ≡ None
@@ -160,6 +160,27 @@ module _ (es : List Entry) (next : ℕ) (conferences persons : ℕ → List ℕ)
           ∙ ap (λ (k : Key). Some (row_of conferences (k, entry.1))) (sym key)
           ∙ sym (members_place c place ∙ ap (option_map (row_of conferences)) e)
 
+  -- the membership of a person at a place is kept
+  pub conference_kept : (c place person : ℕ) → slice_get (persons c) place ≡ Some person →
+      is_some (kept_at (person, c) es) ≡ true
+  conference_kept c place person at = by (slice_get (in_conference c) place) refl
+    where
+      by : (o : Option Entry) → slice_get (in_conference c) place ≡ o → is_some (kept_at (person, c) es) ≡ true
+      by None e = absurd (none-some person
+          (sym (ap (option_map (λ (x : Entry). x.0.0)) e) ∙ sym (persons_place c place) ∙ at))
+      by (Some entry) e =
+          let is : entry.0.0 ≡ person =
+          same_Some _ _ (sym (ap (option_map (λ (x : Entry). x.0.0)) e) ∙ sym (persons_place c place) ∙ at) in
+          let of : entry.0.1 ≡ c = entry_in c place entry e in
+          ap is_some ((λ i. kept_at (sym is i, sym of i) es) ∙ entry_kept c place entry e)
+
+  -- and shown there
+  pub member_found : (c place person : ℕ) (v : Kept) → slice_get (persons c) place ≡ Some person →
+      kept_at (person, c) es ≡ Some v →
+      slice_get (members_of c (rows_of conferences es)) place
+      ≡ Some (shown person c (place_of c (conferences person)) v)
+  member_found c place person v at there = sym (conference_found c place person at) ∙ found person c v there
+
   pub conference_count : (c : ℕ) → length (members_of c (rows_of conferences es)) ≡ length (persons c)
   conference_count c =
       ap length (members es next conferences persons table c) ∙ length-map (in_conference c) (row_of conferences)
@@ -182,3 +203,7 @@ IsTable-empty es next conferences persons none no_conferences no_persons = recor
 pub rows-empty : (es : List Entry) (conferences : ℕ → List ℕ) → es ≡ [] → rows_of conferences es ≡ []
 unfolding rows_of in_turn
 rows-empty es conferences none = rw none refl
+
+pub reads-empty : (es : List Entry) → es ≡ [] → reads_of es ≡ []
+unfolding reads_of in_turn
+reads-empty es none = rw none refl

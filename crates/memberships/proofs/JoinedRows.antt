@@ -6,6 +6,7 @@ use Rattle.std.proofs.lemmas.List.{map-append}
 use Rattle.std.proofs.lemmas.Option.{none-some}
 use Rattle.kom_types.specs.declared.memberships.MembershipRow.{MembershipRow}
 use Rattle.kom_types.specs.tables.Memberships.{membership_of, count_of, opened, with_membership}
+use Rattle.read_ranges.specs.Numbers.{ReadSet}
 use Rattle.memberships.specs.declared.kept.Kept.{Kept}
 use Rattle.memberships.specs.Entries.{Key, Entry, kept_of, shown, place_of, row_of, in_turn, rows_of, kept_at}
 use Rattle.memberships.specs.Keeping.{IsTable}
@@ -17,12 +18,13 @@ use Rattle.memberships.proofs.Rows.{open_row, open-own, open-other, other_confer
 use Rattle.memberships.proofs.Viewing.{membership, count}
 
 module _ (es fs : List Entry) (next : ℕ) (conferences persons lists : ℕ → List ℕ) (given : MembershipRow)
+    (read : ReadSet)
     (table : IsTable es next conferences persons)
-    (joins : Joins es fs next given.person given.conference (kept_of given next given.last_time_read))
+    (joins : Joins es fs next given.person given.conference (kept_of given next given.last_time_read read))
     (puts : Sets conferences lists given.person
     (insert (conferences given.person) given.position given.conference)) where
   abbrev new : Kept
-  new = kept_of given next given.last_time_read
+  new = kept_of given next given.last_time_read read
 
   abbrev here : Key
   here = (given.person, given.conference)

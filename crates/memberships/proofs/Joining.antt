@@ -8,6 +8,7 @@ use Rattle.std.proofs.lemmas.Bool.{cases_eq, eq-eqb, ne_eqb, false_from_ne_true,
 use Rattle.std.proofs.lemmas.List.{map-append, append-nil}
 use Rattle.std.proofs.lemmas.List.Elements.{filter-append}
 use Rattle.std.proofs.lemmas.Option.{same_Some, none-some}
+use Rattle.read_ranges.specs.Numbers.{ranges_of}
 use Rattle.memberships.specs.declared.kept.Kept.{Kept}
 use Rattle.memberships.specs.Entries.{Key, Entry, same_key, in_turn, persons_in, kept_at, turn_of}
 use Rattle.memberships.specs.Keeping.{IsTable}
@@ -15,10 +16,11 @@ use Rattle.memberships.proofs.Pairs.{pairwise_push}
 use Rattle.memberships.proofs.Places.{flip_eqb, IsDistinct-insert, is_member-insert}
 use Rattle.memberships.proofs.Turns.{key_decides, key_laws, turn, AreInTurn, one_turn, in_turn_is, all_in_turn, TurnsDiffer, Sets}
 
--- the entries fs are es with one more, which has the next turn
+-- the entries fs are es with one more, which has the next turn, and nothing is read in it
 pub record Joins (es fs : List Entry) (next person conference : ℕ) (new : Kept) : Type 0 where
   pub absent : kept_at (person, conference) es ≡ None
   pub last : new.turn ≡ next
+  pub unread : ranges_of new.read.numbers ≡ []
   pub unique : IsDistinct same_key (keys_of fs)
   pub changed : (key : Key) → kept_at key fs ≡ cond (same_key (person, conference) key) (Some new) (kept_at key es)
 

@@ -22,7 +22,7 @@ abbrev pub is_other : Key → Entry → Bool
 is_other key e = not (same_key key e.0)
 
 -- a filter by the key leaves entries of which none has it as they are
-filter-others : (key : Key) (es : List Entry) → AllByRecursion (λ e. same_key key e.0 ≡ false) es →
+pub filter-others : (key : Key) (es : List Entry) → AllByRecursion (λ e. same_key key e.0 ≡ false) es →
     filter (is_other key) es ≡ es
 filter-others key [] others = refl
 filter-others key (e ∷ es) others = let other : same_key key e.0 ≡ false = others.0 in

@@ -6,6 +6,7 @@ pub mod LeftRows
 pub mod Order
 pub mod Pairs
 pub mod Places
+pub mod ReadRows
 pub mod RenewedRows
 pub mod Renewing
 pub mod Rooms

@@ -35,12 +35,12 @@ same_membership p c q m a b row =
 
 module _ (es fs : List Entry) (next : ℕ) (conferences persons lists : ℕ → List ℕ) (given : MembershipRow) (old : Kept)
     (table : IsTable es next conferences persons)
-    (renews : Renews es fs given.person given.conference old (kept_of given old.turn old.last_time_read))
+    (renews : Renews es fs given.person given.conference old (kept_of given old.turn old.last_time_read old.read))
     (moves : Sets conferences lists given.person
     (insert (remove_key (nat_eq given.conference) (conferences given.person)) given.position
     given.conference)) where
   abbrev new : Kept
-  new = kept_of given old.turn old.last_time_read
+  new = kept_of given old.turn old.last_time_read old.read
 
   abbrev here : Key
   here = (given.person, given.conference)

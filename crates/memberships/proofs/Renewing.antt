@@ -4,12 +4,13 @@ use Rattle.std.specs.List.{AllByRecursion, IsDistinct}
 use Rattle.std.specs.Map.{keys_of}
 use Rattle.std.specs.Set.{is_member, remove_key}
 use Rattle.std.proofs.lemmas.Bool.{cases_eq, eq-eqb, eqb-true}
+use Rattle.std.proofs.lemmas.Option.{same_Some}
 use Rattle.memberships.specs.declared.kept.Kept.{Kept}
-use Rattle.memberships.specs.Entries.{Key, Entry, same_key, in_turn, kept_at, turn_of}
+use Rattle.memberships.specs.Entries.{Key, Entry, same_key, in_turn, persons_in, kept_at, turn_of}
 use Rattle.memberships.specs.Keeping.{IsTable}
-use Rattle.memberships.proofs.Pairs.{Pairwise, all_map}
+use Rattle.memberships.proofs.Pairs.{Pairwise, all_map, map-map, map_agree}
 use Rattle.memberships.proofs.Places.{flip_eqb, IsDistinct-insert, IsDistinct-remove_key, is_member-insert, is_member-remove_key}
-use Rattle.memberships.proofs.Turns.{key_decides, turn, KeysDiffer, AreInTurn, one_turn, in_turn_is, TurnsDiffer, Sets}
+use Rattle.memberships.proofs.Turns.{key_decides, turn, KeysDiffer, AreInTurn, one_turn, in_turn_is, all_in_turn, TurnsDiffer, Sets}
 
 -- the entries fs are es with another one of the same turn at a key
 pub record Renews (es fs : List Entry) (person conference : ℕ) (old new : Kept) : Type 0 where
@@ -134,6 +135,51 @@ module _ (es fs : List Entry) (next : ℕ) (conferences persons : ℕ → List �
   kept_turns = one_turn (in_turn fs) (map (renewed here new) (in_turn es)) (λ key. kept_at key fs)
       (in_turn_is fs renews.unique apart) now_in_turn
 
+  there_stays : (key : Key) → is_some (kept_at key fs) ≡ is_some (kept_at key es)
+  there_stays key = by (same_key here key) refl
+    where
+      by : (b : Bool) → same_key here key ≡ b → is_some (kept_at key fs) ≡ is_some (kept_at key es)
+      by true is = ap is_some (at_here key is) ∙ sym (ap is_some (before key is))
+      by false other = ap is_some (elsewhere key other)
+
+  persons_stay : (c : ℕ) → persons c ≡ persons_in c fs
+  persons_stay c =
+      table.in_order c
+      ∙ sym (ap (λ l. map (λ (e : Entry). e.0.0) (filter (λ (e : Entry). eqb e.0.1 c) l)) kept_turns
+      ∙ persons_renewed here new c (in_turn es))
+
+  -- what two functions make of the entries in turn is the same if it is at the key, and elsewhere
+  pub each_entry : {X : Type 0} (f g : Entry → X) → f (here, new) ≡ g (here, old) →
+      ((e : Entry) → same_key here e.0 ≡ false → f e ≡ g e) → map f (in_turn fs) ≡ map g (in_turn es)
+  each_entry f g at_key others =
+      ap (map f) kept_turns ∙ map-map f (renewed here new) (in_turn es)
+      ∙ map_agree (λ e. f (renewed here new e)) g (in_turn es)
+      (all_in_turn (λ e. f (renewed here new e) ≡ g e) (in_turn es) (λ key. kept_at key es) turns
+      (λ key v there. by key v there (same_key here key) refl))
+    where
+      by : (key : Key) (v : Kept) → kept_at key es ≡ Some v → (b : Bool) → same_key here key ≡ b →
+          f (renewed here new (key, v)) ≡ g (key, v)
+      by key v there true is =
+          let same : old ≡ v = same_Some old v (sym (before key is) ∙ there) in
+          ap (λ b. f (key, cond b (record new { turn = v.turn }) v)) is
+          ∙ ap (λ (w : Kept). f (key, record new { turn = w.turn })) (sym same)
+          ∙ ap (λ n. f (key, record new { turn = n })) (sym renews.same_turn)
+          ∙ ap (λ k. f (k, new)) (sym ((key_decides here key).0 is)) ∙ at_key
+          ∙ (λ i. g ((key_decides here key).0 is i, same i))
+      by key v there false other =
+          ap (λ b. f (key, cond b (record new { turn = v.turn }) v)) other ∙ others (key, v) other
+
+  -- with the same lists
+  pub IsTable-kept : IsTable fs next conferences persons
+  IsTable-kept = record {
+    unique = renews.unique;
+    given = λ key n found. table.given key n (sym (turns_stay key) ∙ found);
+    apart = apart;
+    once = table.once;
+    listed = λ p c. table.listed p c ∙ sym (there_stays (p, c));
+    in_order = persons_stay;
+  }
+
   pub is_there : is_member nat_eq (conferences person) conference ≡ true
   is_there = table.listed person conference ∙ ap is_some renews.there
 
@@ -171,13 +217,6 @@ module _ (es fs : List Entry) (next : ℕ) (conferences persons : ℕ → List �
             ∙ sym (ap (is_member nat_eq (conferences person)) (sym (eqb-true conference c e)) ∙ is_there)
         by false e = ap (λ b. b || cond b false (is_member nat_eq (conferences person) c)) e
 
-    there_stays : (key : Key) → is_some (kept_at key fs) ≡ is_some (kept_at key es)
-    there_stays key = by (same_key here key) refl
-      where
-        by : (b : Bool) → same_key here key ≡ b → is_some (kept_at key fs) ≡ is_some (kept_at key es)
-        by true is = ap is_some (at_here key is) ∙ sym (ap is_some (before key is))
-        by false other = ap is_some (elsewhere key other)
-
     members_now : (p c : ℕ) → is_member nat_eq (lists p) c ≡ is_some (kept_at (p, c) fs)
     members_now p c = elim (cases_eq p person) [
       | inl is ↦ subst (λ q. is_member nat_eq (lists q) c ≡ is_some (kept_at (q, c) fs)) (sym is)
@@ -193,7 +232,5 @@ module _ (es fs : List Entry) (next : ℕ) (conferences persons : ℕ → List �
       apart = apart;
       once = once;
       listed = members_now;
-      in_order = λ c. table.in_order c
-          ∙ sym (ap (λ l. map (λ (e : Entry). e.0.0) (filter (λ (e : Entry). eqb e.0.1 c) l)) kept_turns
-          ∙ persons_renewed here new c (in_turn es));
+      in_order = persons_stay;
     }

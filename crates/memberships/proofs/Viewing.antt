@@ -1,5 +1,6 @@
 -- What the rows of a table are: of a person, of a conference, and of both.
-use Rattle.std.proofs.Common.{◌≡◌, ℕ, true, false, cond, ◌&&◌, eqb, ltb, nat_eq, List, [], ◌∷◌, length, map, filter, find, fold, Option, Some, None, is_some, option_map, unwrap_or, inl, inr, refl, sym, ◌∙◌, ap, subst}
+use Rattle.std.proofs.Common.{◌≡◌, ℕ, Bool, true, false, cond, ◌&&◌, eqb, ltb, nat_eq, List, [], ◌∷◌, length, map, filter, find, fold, Option, Some, None, is_some, option_map, unwrap_or, inl, inr, refl, sym, ◌∙◌, ap, subst}
+use Rattle.std.specs.FinSet as set
 use Rattle.std.specs.List.{AllByRecursion, IsDistinct, range_with_len}
 use Rattle.std.specs.Set.{is_member}
 use Rattle.std.proofs.lemmas.Bool.{cases_Bool, eqb-true, eq-eqb, and_from}
@@ -22,19 +23,23 @@ use Rattle.memberships.proofs.Turns.{key_decides, KeysDiffer, AreInTurn, in_turn
 
 -- ---- by both
 
-find-rows : (lists : ℕ → List ℕ) (p c : ℕ) (es : List Entry) →
-    find (is_membership p c) (map (row_of lists) es)
-    ≡ option_map (λ kept. row_of lists ((p, c), kept)) (kept_at (p, c) es)
-find-rows lists p c [] = refl
-find-rows lists p c (e ∷ es) =
-    (λ i. cond (flip_eqb e.0.0 p i && flip_eqb e.0.1 c i) (Some (row_of lists e))
-    (find (is_membership p c) (map (row_of lists) es)))
-    ∙ elim (same_key (p, c) e.0) as (λ b. same_key (p, c) e.0 ≡ b →
-    cond b (Some (row_of lists e)) (find (is_membership p c) (map (row_of lists) es))
-    ≡ option_map (λ kept. row_of lists ((p, c), kept)) (cond b (Some e.1) (kept_at (p, c) es))) [
-      | true ↦ λ is. ap (λ (k : Key). Some (row_of lists (k, e.1))) (sym ((key_decides (p, c) e.0).0 is))
-      | false ↦ λ other. find-rows lists p c es
+-- a test of what is made of entries that tells the key finds what is made of the key's entry
+pub find-made : {X : Type 0} (made : Entry → X) (test : X → Bool) (key : Key) →
+    ((e : Entry) → test (made e) ≡ same_key key e.0) → (es : List Entry) →
+    find test (map made es) ≡ option_map (λ kept. made (key, kept)) (kept_at key es)
+find-made made test key tells [] = refl
+find-made made test key tells (e ∷ es) =
+    ap (λ b. cond b (Some (made e)) (find test (map made es))) (tells e)
+    ∙ elim (same_key key e.0) as (λ b. same_key key e.0 ≡ b →
+    cond b (Some (made e)) (find test (map made es))
+    ≡ option_map (λ kept. made (key, kept)) (cond b (Some e.1) (kept_at key es))) [
+      | true ↦ λ is. ap (λ (k : Key). Some (made (k, e.1))) (sym ((key_decides key e.0).0 is))
+      | false ↦ λ other. find-made made test key tells es
     ] refl
+
+pub tells_membership : (lists : ℕ → List ℕ) (p c : ℕ) (e : Entry) →
+    is_membership p c (row_of lists e) ≡ same_key (p, c) e.0
+tells_membership lists p c e = λ i. flip_eqb e.0.0 p i && flip_eqb e.0.1 c i
 
 -- ---- of a person
 
@@ -118,7 +123,15 @@ some_mapped f (Some x) y e = (x, refl, same_Some (f x) y e)
 
 -- what is kept where nothing is
 pub blank : Kept
-blank = record { turn = 0; priority = 0; added_by = 0; added_at = 0; last_time_read = 0; kind = 0 }
+blank = record {
+  turn = 0;
+  priority = 0;
+  added_by = 0;
+  added_at = 0;
+  last_time_read = 0;
+  kind = 0;
+  read = record { numbers = set.empty; spare = 0 };
+}
 
 abbrev pub kept_or_blank : Key → List Entry → Kept
 kept_or_blank key es = unwrap_or (kept_at key es) blank
@@ -132,7 +145,8 @@ module _ (es : List Entry) (next : ℕ) (conferences persons : ℕ → List ℕ)
       membership_of p c (rows_of conferences es)
       ≡ option_map (λ kept. row_of conferences ((p, c), kept)) (kept_at (p, c) es)
   unfolding rows_of
-  membership p c = find-rows conferences p c (in_turn es)
+  membership p c =
+      find-made (row_of conferences) (is_membership p c) (p, c) (tells_membership conferences p c) (in_turn es)
       ∙ ap (option_map (λ kept. row_of conferences ((p, c), kept))) (turns.found (p, c))
 
   pub members : (c : ℕ) →

@@ -3,6 +3,8 @@ use Rattle.std.specs.Prelude.{ℕ, Bool, ◌==◌, ◌&&◌, nat_eq, List, map, 
 use Rattle.std.specs.List.{position_or_len}
 use Rattle.std.specs.Map.{lookup}
 use Rattle.kom_types.specs.declared.memberships.MembershipRow.{MembershipRow}
+use Rattle.read_ranges.specs.Numbers.{ReadSet, ranges_of}
+use Rattle.read_ranges.specs.Reads.{ReadRow}
 use Rattle.memberships.specs.declared.kept.Kept.{Kept}
 use Rattle.memberships.specs.Order.{ordered}
 
@@ -17,16 +19,21 @@ Entry = Key × Kept
 abbrev pub same_key : Key → Key → Bool
 same_key one other = nat_eq one.0 other.0 && nat_eq one.1 other.1
 
--- what is kept of a row, with a turn and a moment of its own
-abbrev pub kept_of : MembershipRow → ℕ → ℕ → Kept
-kept_of row turn last_time_read = record {
+-- what is kept of a row, with a turn, a moment and a set of read numbers of its own
+abbrev pub kept_of : MembershipRow → ℕ → ℕ → ReadSet → Kept
+kept_of row turn last_time_read read = record {
   turn = turn;
   priority = row.priority;
   added_by = row.added_by;
   added_at = row.added_at;
   last_time_read = last_time_read;
   kind = row.kind;
+  read = read;
 }
+
+-- with a set of read numbers, and the moment at which it was set
+abbrev pub kept_with_read : ℕ → ReadSet → Kept → Kept
+kept_with_read at read kept = record kept { last_time_read = at; read = read }
 
 -- the row of what is kept, at a position
 abbrev pub shown : ℕ → ℕ → ℕ → Kept → MembershipRow
@@ -56,6 +63,14 @@ in_turn entries = ordered (λ e. e.1.turn) entries
 -- the rows of the entries, in the order of joining
 unfoldable pub rows_of : (ℕ → List ℕ) → List Entry → List MembershipRow
 rows_of lists entries = map (row_of lists) (in_turn entries)
+
+-- what the person of an entry has read of its conference
+abbrev pub read_row : Entry → ReadRow
+read_row e = record { person = e.0.0; conference = e.0.1; ranges = ranges_of e.1.read.numbers }
+
+-- what was read in each membership, in the order of joining
+unfoldable pub reads_of : List Entry → List ReadRow
+reads_of entries = map read_row (in_turn entries)
 
 -- the persons in a conference, in the order of joining
 abbrev pub persons_in : ℕ → List Entry → List ℕ

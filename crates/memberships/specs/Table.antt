@@ -1,15 +1,20 @@
 -- A table of memberships, as contracts see it.
-use Rattle.std.specs.Prelude.{◌≡◌, ◌≢◌, ℕ, ◌+◌, ◌≤◌, List, map}
+use Rattle.std.specs.Prelude.{◌≡◌, ◌≢◌, ℕ, ◌+◌, ◌≤◌, List, map, All}
 use Rattle.std.specs.List.{IsDistinct, range_with_len}
 use Rattle.kom_types.specs.declared.memberships.MembershipRow.{MembershipRow}
+use Rattle.kom_types.specs.declared.memberships.Member.{Member}
 use Rattle.kom_types.specs.tables.Memberships.{memberships_of, count_of}
+use Rattle.read_ranges.specs.Numbers.{AreRanges}
+use Rattle.read_ranges.specs.Reads.{ReadRow}
 use Rattle.row_slots.specs.Lists.{room_in}
-use Rattle.memberships.specs.Entries.{same_key}
+use Rattle.memberships.specs.Entries.{Key, same_key}
 
--- The rows in the order of joining; how many more there are turns for, and room without memory; and
--- the persons and the conferences that a list is kept for, each with the room in its list.
+-- The rows in the order of joining; what was read in each, in the same order; how many more there
+-- are turns for, and room without memory; and the persons and the conferences that a list is kept
+-- for, each with the room in its list.
 pub record Table : Type 0 where
   pub rows : List MembershipRow
+  pub reads : List ReadRow
   pub spare : ℕ
   pub person_rooms : List (ℕ × ℕ)
   pub conference_rooms : List (ℕ × ℕ)
@@ -51,3 +56,18 @@ pub record IsOrderly (rows : List MembershipRow) : Type 0 where
   pub once : IsDistinct same_key (map (λ row. (row.person, row.conference)) rows)
   pub counted : (person : ℕ) → map (λ row. row.position) (memberships_of person rows)
       ≡ range_with_len 0 (count_of person rows)
+
+-- There is what was read for each membership, in the same order, and it is ranges.
+pub record IsReadOf (rows : List MembershipRow) (reads : List ReadRow) : Type 0 where
+  pub same : map {B = Key} (λ read. (read.person, read.conference)) reads
+      ≡ map (λ row. (row.person, row.conference)) rows
+  pub ranges : All (λ read. AreRanges read.ranges) reads
+
+-- the member that a person is by a membership
+abbrev pub member_of : MembershipRow → Member
+member_of row = record {
+  person = row.person;
+  added_by = row.added_by;
+  added_at = row.added_at;
+  kind = row.kind;
+}

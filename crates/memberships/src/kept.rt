@@ -1,10 +1,12 @@
-ghost use Rattle.std.specs.Prelude.{◌≡◌};
-ghost use Rattle.memberships.specs.Entries.{kept_of, shown};
+ghost use Rattle.std.specs.Prelude.{◌≡◌, ℕ};
+ghost use Rattle.memberships.specs.Entries.{kept_of, kept_with_read, shown};
+ghost use Rattle.memberships.specs.Table.{member_of};
 
-use kom_types::{MembershipRow, Moment};
+use kom_types::{Member, MembershipRow, Moment};
+use read_ranges::Ranges;
 
 /// A membership as it is kept by its person and its conference.
-#[derive(Clone, Copy, Debug)]
+#[derive(Debug, Drop)]
 pub struct Kept {
     /// Rises with each new membership, and so tells the order of joining.
     pub turn: u64,
@@ -14,21 +16,43 @@ pub struct Kept {
     pub last_time_read: Moment,
     /// The eight bits of its type.
     pub kind: u8,
+    /// The local numbers that the person has read.
+    pub read: Ranges,
 }
 
 impl Kept {
-    /// What is kept of a row, with a turn and a moment of its own.
-    pub(crate) fn of(row: &MembershipRow, turn: u64, last_time_read: Moment) -> Kept
-        ensures { result ≡ kept_of row.now turn last_time_read }
+    /// What is kept of a new membership, with its turn.
+    pub(crate) fn of(row: &MembershipRow, turn: u64, read: Ranges) -> Kept
+        ensures { result ≡ kept_of row.now turn row.now.last_time_read read }
     {
         Kept {
             turn,
             priority: row.priority,
             added_by: row.added_by,
             added_at: row.added_at,
-            last_time_read,
+            last_time_read: row.last_time_read,
             kind: row.kind,
+            read,
         }
+    }
+
+    /// Becomes what is kept of a row. The turn, what was read and its moment stay.
+    pub(crate) fn renew(&mut self, row: &MembershipRow)
+        ensures { self.new
+            ≡ kept_of row.now self.old.turn self.old.last_time_read self.old.read }
+    {
+        self.priority = row.priority;
+        self.added_by = row.added_by;
+        self.added_at = row.added_at;
+        self.kind = row.kind;
+    }
+
+    /// Has this set of read numbers and its moment in place of those before.
+    pub(crate) fn set_read(&mut self, at: Moment, read: Ranges)
+        ensures { self.new ≡ kept_with_read at read self.old }
+    {
+        self.last_time_read = at;
+        self.read = read;
     }
 
     /// The row of the membership of a person in a conference, at a position.
@@ -43,6 +67,19 @@ impl Kept {
             added_by: self.added_by,
             added_at: self.added_at,
             last_time_read: self.last_time_read,
+            kind: self.kind,
+        }
+    }
+
+    /// The member that a person is by this membership.
+    pub(crate) fn member(&self, person: u32) -> Member
+        ensures { (conference position : ℕ)
+            → result ≡ member_of (shown person conference position self.now) }
+    {
+        Member {
+            person,
+            added_by: self.added_by,
+            added_at: self.added_at,
             kind: self.kind,
         }
     }

@@ -1,21 +1,27 @@
 ghost use Rattle.std.specs.Prelude.{◌≡◌, ◌≤◌, ◌<◌, ◌+◌, [], None, length, slice_get, option_map};
-ghost use Rattle.std.specs.Prelude.{nat_eq, is_some, IsSome, IsOk, OnOk, OnErr};
+ghost use Rattle.std.specs.Prelude.{nat_eq, is_some, IsNone, IsSome, IfSome, IsOk, OnOk, OnErr};
 ghost use Rattle.std.specs.List.{IsDistinct};
 ghost use Rattle.kom_types.specs.tables.Memberships.{membership_of, members_of, memberships_of};
 ghost use Rattle.kom_types.specs.tables.Memberships.{count_of, with_membership, without_membership};
 ghost use Rattle.memberships.specs.Table.{room_of_person, room_of_conference};
 ghost use Rattle.memberships.specs.Table.{HasRoom, KeepsRoom, UsesRoom, IsOrderly};
+ghost use Rattle.memberships.specs.Table.{IsReadOf, member_of};
+ghost use Rattle.read_ranges.specs.ListFault.{IsFaultless};
+ghost use Rattle.read_ranges.specs.Merged.{merged};
+ghost use Rattle.read_ranges.specs.Numbers.{ranges_of};
+ghost use Rattle.read_ranges.specs.Reads.{read_of, with_reader, without_reader};
+ghost use Rattle.read_ranges.specs.Reads.{with_read, read_at};
 
 use crate::kept::Kept;
 use indexmap::IndexMap;
-use kom_types::{MembershipRow, Memory};
+use kom_types::{Member, MembershipRow, Memory, Moment, ReadRange};
+use read_ranges::Ranges;
 use row_slots::Lists;
 use std::alloc::Global;
 use std::marker::Model;
 
 /// The memberships of persons in conferences, in the order of joining, each with its position among
-/// those of its person.
-#[derive(Drop)]
+/// those of its person and with what was read in it.
 pub struct Memberships {
     /// What is kept of each membership, by its person and its conference.
     entries: IndexMap<(u32, u32), Kept>,
@@ -26,10 +32,23 @@ pub struct Memberships {
     next_turn: u64,
 }
 
+// A call of its own, so that whoever lets the table go has one step to prove and not one for each part.
+impl Drop for Memberships {
+    fn drop(self) {
+        let Memberships {
+            entries,
+            conferences,
+            persons,
+            next_turn: _,
+        } = self;
+        drop((entries, conferences, persons));
+    }
+}
+
 impl Model for Memberships {
     ghost use Rattle.std.specs.Prelude.{◌-◌, min};
     ghost use Rattle.indexmap.specs.IndexMap.{spare};
-    ghost use Rattle.memberships.specs.Entries.{rows_of};
+    ghost use Rattle.memberships.specs.Entries.{rows_of, reads_of};
     ghost use Rattle.memberships.specs.Keeping.{IsTable};
     ghost use Rattle.row_slots.specs.Lists.{list_of, rooms_of};
     ghost use Rattle.memberships.specs.Table.{Table};
@@ -38,6 +57,7 @@ impl Model for Memberships {
 
     ghost view = { λ a. record {
       rows = rows_of (list_of a.conferences) a.entries.entries;
+      reads = reads_of a.entries.entries;
       spare = min (spare a.entries) (18446744073709551615 - a.next_turn);
       person_rooms = rooms_of a.conferences;
       conference_rooms = rooms_of a.persons;
@@ -50,7 +70,8 @@ impl Model for Memberships {
 impl Memberships {
     /// No memberships. Takes no memory.
     pub fn new(alloc: Global) -> Memberships
-        ensures { result.rows ≡ [] }
+        ensures rows { result.rows ≡ [] }
+        ensures reads { result.reads ≡ [] }
     {
         Memberships {
             entries: IndexMap::new(alloc),
@@ -64,6 +85,7 @@ impl Memberships {
     pub fn len(&self) -> usize
         ensures len { result ≡ length self.now.rows }
         ensures orderly { IsOrderly self.now.rows }
+        ensures reads { IsReadOf self.now.rows self.now.reads }
     {
         self.entries.len()
     }
@@ -128,11 +150,36 @@ impl Memberships {
         self.get(person, conference)
     }
 
-    /// Sets a membership. A new one joins after the others. One that is there moves to its new
-    /// position, and keeps its turn in the order of joining and when what was read in it was set.
+    /// The member at a place among those in a conference in the order of joining, in constant time.
+    pub fn nth_member(&self, conference: u32, place: usize) -> Option<Member>
+        ensures { result
+            ≡ option_map member_of (slice_get (members_of conference self.now.rows) place) }
+    {
+        let person = *self.persons.list(conference).get(place)?;
+        let kept = self.entries.get(&(person, conference))?;
+        Some(kept.member(person))
+    }
+
+    /// What a person has read of a conference, in constant time.
+    pub fn read(&self, person: u32, conference: u32) -> Option<&Ranges>
+        ensures there { is_some result
+            ≡ is_some (membership_of person conference self.now.rows) }
+        ensures ranges { IfSome result
+            (λ read. ranges_of read.now.numbers ≡ read_of person conference self.now.reads) }
+        ensures none { IsNone result → read_of person conference self.now.reads ≡ [] }
+    {
+        Some(&self.entries.get(&(person, conference))?.read)
+    }
+
+    /// Sets a membership. A new one joins after the others, and nothing is read in it. One that is
+    /// there moves to its new position, and keeps its turn in the order of joining, what was read in
+    /// it and when that was set.
     pub fn set(&mut self, row: MembershipRow) -> Result<(), Memory>
         ensures ok { OnOk result (self.new.rows ≡ with_membership row self.old.rows) }
+        ensures reads { OnOk result
+            (self.new.reads ≡ with_reader row.person row.conference self.old.reads) }
         ensures err { OnErr result (self.new.rows ≡ self.old.rows) }
+        ensures err_reads { OnErr result (self.new.reads ≡ self.old.reads) }
         ensures succeeds { 0 < self.old.spare → 0 < room_of_person self.old row.person
             → 0 < room_of_conference self.old row.conference → IsOk result }
         ensures room { UsesRoom self.old self.new row.person row.conference }
@@ -156,10 +203,13 @@ impl Memberships {
         requires absent { membership_of row.now.person row.now.conference self.old.rows ≡ None }
         requires room { HasRoom self.old row.now.person row.now.conference 1 }
         ensures rows { self.new.rows ≡ with_membership row.now self.old.rows }
+        ensures reads { self.new.reads
+            ≡ with_reader row.now.person row.now.conference self.old.reads }
         ensures room { UsesRoom self.old self.new row.now.person row.now.conference }
     {
         let (person, conference) = (row.person, row.conference);
-        let kept = Kept::of(row, self.next_turn, row.last_time_read);
+        let read = Ranges::new(*self.entries.allocator());
+        let kept = Kept::of(row, self.next_turn, read);
         let _none = self.entries.insert((person, conference), kept).unwrap();
         self.next_turn += 1;
         self.conferences
@@ -171,20 +221,38 @@ impl Memberships {
     fn set_again(&mut self, row: &MembershipRow)
         requires { IsSome (membership_of row.now.person row.now.conference self.old.rows) }
         ensures rows { self.new.rows ≡ with_membership row.now self.old.rows }
+        ensures reads { self.new.reads
+            ≡ with_reader row.now.person row.now.conference self.old.reads }
         ensures room { KeepsRoom self.old self.new }
     {
         let (person, conference) = (row.person, row.conference);
         let kept = self.entries.get_mut(&(person, conference)).unwrap();
-        *kept = Kept::of(row, kept.turn, kept.last_time_read);
+        kept.renew(row);
         self.conferences.remove(person, conference);
         self.conferences
             .insert(person, row.position as usize, conference);
+    }
+
+    /// Sets what a person has read of a conference, which was told at a moment. Ranges that touch
+    /// become one. Nothing changes where there is no such membership. Takes no memory.
+    pub fn set_read(&mut self, person: u32, conference: u32, at: Moment, ranges: Vec<ReadRange>)
+        requires { IsFaultless ranges.items }
+        ensures rows { self.new.rows ≡ read_at person conference at self.old.rows }
+        ensures reads { self.new.reads
+            ≡ with_read person conference (merged ranges.items) self.old.reads }
+        ensures room { KeepsRoom self.old self.new }
+    {
+        let Some(kept) = self.entries.get_mut(&(person, conference)) else {
+            return;
+        };
+        kept.set_read(at, Ranges::from_list(ranges));
     }
 
     /// Takes the membership of a person in a conference out, and says whether it was there.
     pub fn remove(&mut self, person: u32, conference: u32) -> bool
         ensures there { result ≡ is_some (membership_of person conference self.old.rows) }
         ensures rows { self.new.rows ≡ without_membership person conference self.old.rows }
+        ensures reads { self.new.reads ≡ without_reader person conference self.old.reads }
         ensures room { KeepsRoom self.old self.new }
     {
         if self.entries.swap_remove(&(person, conference)).is_none() {
@@ -198,6 +266,7 @@ impl Memberships {
     /// Makes room for so many more memberships, of a person and in a conference.
     pub fn reserve(&mut self, person: u32, conference: u32, additional: usize) -> Result<(), Memory>
         ensures rows { self.new.rows ≡ self.old.rows }
+        ensures reads { self.new.reads ≡ self.old.reads }
         ensures ok { OnOk result (HasRoom self.new person conference additional) }
         ensures succeeds { HasRoom self.old person conference additional → IsOk result }
         ensures room { KeepsRoom self.old self.new }

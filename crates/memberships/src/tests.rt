@@ -1,5 +1,7 @@
 use crate::Memberships;
-use kom_types::{MembershipRow, Memory, Moment};
+use kom_types::{MembershipRow, Memory, Moment, ReadRange};
+use read_ranges::{RangeFault, list};
+use std::alloc::Global;
 use std::test::Fail;
 
 // A membership that was added at a moment, at a position.
@@ -92,6 +94,123 @@ fn positions_close_up_after_a_removal(rt: HostRuntime) -> Result<(), Fail> {
     assert_eq!(rt; persons(&table, 1), [6, 0]);
     assert_eq!(rt; table.kind_of(5, 1), None);
     assert_eq!(rt; table.kind_of(6, 1), Some(0b1000_0000));
+    Ok(())
+}
+
+// The ranges that a person has read of a conference: the first two, each as first and last, and 0
+// where there is none.
+fn read(table: &Memberships, person: u32, conference: u32) -> [u32; 4] {
+    let ranges = match table.read(person, conference) {
+        Some(read) => read.ranges(),
+        None => &[],
+    };
+    let (one, two) = (bounds(ranges, 0), bounds(ranges, 1));
+    [one.0, one.1, two.0, two.1]
+}
+
+fn bounds(ranges: &[ReadRange], place: usize) -> (u32, u32) {
+    match ranges.get(place) {
+        Some(range) => (range.first, range.last),
+        None => (0, 0),
+    }
+}
+
+fn range(first: u32, last: u32) -> ReadRange {
+    ReadRange { first, last }
+}
+
+// Sets what was read of conference 1 at the 60th second: from 1 to 4, from 5 to an end, from 9 to 12.
+fn set_read(
+    table: &mut Memberships,
+    alloc: Global,
+    person: u32,
+    end: u32,
+) -> Result<(), RangeFault> {
+    let ranges = three_ranges(alloc, end)?;
+    list::check(&ranges)?;
+    table.set_read(person, 1, Moment::at_most(60), ranges);
+    Ok(())
+}
+
+fn three_ranges(alloc: Global, end: u32) -> Result<Vec<ReadRange>, Memory> {
+    Ok([range(1, 4), range(5, end), range(9, 12)].to_vec(alloc)?)
+}
+
+// The seconds of when what was read in a membership was set, or 0 where there is none.
+fn set_at(table: &Memberships, person: u32, conference: u32) -> u64 {
+    match table.get(person, conference) {
+        Some(row) => row.last_time_read.seconds(),
+        None => 0,
+    }
+}
+
+#[test]
+fn new_members_have_read_nothing(rt: HostRuntime) -> Result<(), Fail> {
+    let mut table = Memberships::new(rt.alloc());
+    fill(&mut table)?;
+    assert!(rt; table.read(5, 1).is_some());
+    assert_eq!(rt; read(&table, 5, 1), [0, 0, 0, 0]);
+    assert!(rt; table.read(6, 2).is_none());
+    Ok(())
+}
+
+#[test]
+fn members_have_read_what_was_set(rt: HostRuntime) -> Result<(), Fail> {
+    let mut table = Memberships::new(rt.alloc());
+    fill(&mut table)?;
+    set_read(&mut table, rt.alloc(), 5, 7)?;
+    assert_eq!(rt; read(&table, 5, 1), [1, 7, 9, 12]);
+    assert_eq!(rt; read(&table, 6, 1), [0, 0, 0, 0]);
+    assert_eq!(rt; read(&table, 5, 2), [0, 0, 0, 0]);
+    assert_eq!(rt; set_at(&table, 5, 1), 60);
+    assert_eq!(rt; set_at(&table, 6, 1), 20);
+    Ok(())
+}
+
+#[test]
+fn what_was_read_stays_when_set_again(rt: HostRuntime) -> Result<(), Fail> {
+    let mut table = Memberships::new(rt.alloc());
+    fill(&mut table)?;
+    set_read(&mut table, rt.alloc(), 5, 8)?;
+    table.set(row(5, 1, 2, 70))?;
+    assert_eq!(rt; read(&table, 5, 1), [1, 12, 0, 0]);
+    assert_eq!(rt; set_at(&table, 5, 1), 60);
+    Ok(())
+}
+
+#[test]
+fn what_was_read_goes_with_a_removal(rt: HostRuntime) -> Result<(), Fail> {
+    let mut table = Memberships::new(rt.alloc());
+    fill(&mut table)?;
+    set_read(&mut table, rt.alloc(), 5, 8)?;
+    assert!(rt; table.remove(5, 1));
+    assert!(rt; table.read(5, 1).is_none());
+    table.set(row(5, 1, 0, 80))?;
+    assert_eq!(rt; read(&table, 5, 1), [0, 0, 0, 0]);
+    assert_eq!(rt; set_at(&table, 5, 1), 80);
+    Ok(())
+}
+
+#[test]
+fn only_members_have_read_something(rt: HostRuntime) -> Result<(), Fail> {
+    let mut table = Memberships::new(rt.alloc());
+    fill(&mut table)?;
+    set_read(&mut table, rt.alloc(), 7, 8)?;
+    assert!(rt; table.read(7, 1).is_none());
+    assert_eq!(rt; table.len(), 4);
+    Ok(())
+}
+
+#[test]
+fn members_are_in_the_order_of_joining(rt: HostRuntime) -> Result<(), Fail> {
+    let mut table = Memberships::new(rt.alloc());
+    fill(&mut table)?;
+    let member = table.nth_member(1, 1).ok_or("two are in 1")?;
+    assert_eq!(rt; member.person, 6);
+    assert_eq!(rt; member.added_by, 5);
+    assert_eq!(rt; member.added_at.seconds(), 20);
+    assert_eq!(rt; member.kind, 0b1000_0000);
+    assert!(rt; table.nth_member(1, 2).is_none());
     Ok(())
 }
 

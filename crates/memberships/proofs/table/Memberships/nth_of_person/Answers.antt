@@ -1,7 +1,7 @@
 use Rattle.std.proofs.Common.{Some, is_some, option_copied, sym, ap, ◌∙◌}
 use Rattle.std.proofs.lemmas.Bool.{false≢true}
 use Rattle.memberships.specs.Entries.{shown}
-use Rattle.memberships.proofs.Finding.{none_of, read_of, person_none, person_kept, person_found}
+use Rattle.memberships.proofs.Finding.{none_of, element_of, person_none, person_kept, person_found}
 use Rattle.memberships.proofs.table.Memberships.nth_of_person.Goals as goal
 
 pub returns-in_err-conference : goal.returns-in_err-conference
@@ -14,14 +14,14 @@ returns-in_err-conference c =
 pub returns-in_err-kept : goal.returns-in_err-kept
 returns-in_err-kept c =
     let gives = c.in_ok-conference.ensures.lookup in
-    let at = read_of _ _ c.args.place c.in_ok-conference.field-0.now c.list-list.ensures gives.3.0 gives.1 in
+    let at = element_of _ _ c.args.place c.in_ok-conference.field-0.now c.list-list.ensures gives.3.0 gives.1 in
     let there = person_kept _ _ _ _ c.self.invariant c.args.person c.args.place c.in_ok-conference.field-0.now at in
     absurd (false≢true (ap is_some (ap option_copied (sym c.in_err-kept.was) ∙ c.get-2.ensures.value) ∙ there))
 
 pub returns : goal.returns
 returns c =
     let gives = c.in_ok-conference.ensures.lookup in
-    let at = read_of _ _ c.args.place c.in_ok-conference.field-0.now c.list-list.ensures gives.3.0 gives.1 in
+    let at = element_of _ _ c.args.place c.in_ok-conference.field-0.now c.list-list.ensures gives.3.0 gives.1 in
     let there = sym c.get-2.ensures.value ∙ ap option_copied c.in_ok-kept.was in
     rw (← c.self.view_is)
     (ap Some c.show.ensures

@@ -2,12 +2,14 @@ use Rattle.std.proofs.Common.{is_some, sym, ap, ◌∙◌, arith}
 use Rattle.std.specs.Bool.{⊤}
 use Rattle.std.proofs.lemmas.Option.{MatchOption-at_none}
 use Rattle.kom_types.specs.tables.Memberships.{without_membership}
+use Rattle.read_ranges.specs.Reads.{without_reader}
 use Rattle.row_slots.proofs.Rooms.{rooms_stay, no_room_falls}
 use Rattle.memberships.specs.Table.{Table}
 use Rattle.memberships.proofs.Finding.{is_there, none_kept, some_kept, person_there}
 use Rattle.memberships.proofs.Leaving.{Leaves, IsTable-left}
 use Rattle.memberships.proofs.Rooms.{sets_list}
 use Rattle.memberships.proofs.LeftRows.{without_left, without_none}
+use Rattle.memberships.proofs.ReadRows.{reads_left, reads_none}
 use Rattle.memberships.proofs.table.Memberships.remove.Goals as goal
 
 pub returns-then-is_none-clause-there : goal.returns-then-is_none-clause-there
@@ -22,6 +24,13 @@ returns-then-is_none-clause-rows c =
     without_none _ _ _ _ _ c.args.person c.args.conference c.self.invariant absent
     (MatchOption-at_none _ (λ _. ⊤) (none_kept _ c.if-is_none.ensures) c.swap_remove.ensures.unchanged)
     ∙ ap (λ (t : Table). without_membership c.args.person c.args.conference t.rows) c.self.view_is
+
+pub returns-then-is_none-clause-reads : goal.returns-then-is_none-clause-reads
+returns-then-is_none-clause-reads c =
+    let absent = none_kept _ (ap is_some (sym c.swap_remove.ensures.value) ∙ c.if-is_none.ensures) in
+    reads_none _ _ _ _ c.self.invariant c.args.person c.args.conference _ absent
+    (MatchOption-at_none _ (λ _. ⊤) (none_kept _ c.if-is_none.ensures) c.swap_remove.ensures.unchanged)
+    ∙ ap (λ (t : Table). without_reader c.args.person c.args.conference t.reads) c.self.view_is
 
 -- the person is in the list of the conference
 pub remove-requires-2 : goal.remove-requires-2
@@ -51,6 +60,11 @@ returns-clause-rows c =
     without_left _ _ _ _ _ _ c.args.person c.args.conference there.0 c.self.invariant there.1 (leaves c)
     (sets_list _ _ _ _ c.remove.ensures.others c.remove.ensures.list)
     ∙ ap (λ (t : Table). without_membership c.args.person c.args.conference t.rows) c.self.view_is
+
+pub returns-clause-reads : goal.returns-clause-reads
+returns-clause-reads c =
+    reads_left _ _ _ _ c.self.invariant c.args.person c.args.conference _ (leaves c)
+    ∙ ap (λ (t : Table). without_reader c.args.person c.args.conference t.reads) c.self.view_is
 
 pub returns-clause-room : goal.returns-clause-room
 returns-clause-room c =
