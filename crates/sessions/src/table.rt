@@ -1,4 +1,4 @@
-ghost use Rattle.std.specs.Prelude.{◌≡◌, ◌==◌, ◌^◌, ◌-◌, ◌++◌, ◌∷◌, [], not, false, None};
+ghost use Rattle.std.specs.Prelude.{slice_get, ◌≡◌, ◌==◌, ◌^◌, ◌-◌, ◌++◌, ◌∷◌, [], not, false, None};
 ghost use Rattle.std.specs.Prelude.{filter, find, length, take, option_copied, IfSome, OnOk, OnErr};
 ghost use Rattle.std.specs.Prelude.{IsSome, IsTrue, ◌↔◌, MatchOption, min, map};
 ghost use Rattle.kom_types.specs.Printing.{print_of};
@@ -77,6 +77,14 @@ impl Sessions {
             ≡ find (λ seat. seat.number == session) (map (λ row. row.seat) self.now) }
     {
         Some(self.get(session)?.seat())
+    }
+
+    /// All that a call may read of the session at a place, in the order of their numbers.
+    pub fn nth_seat(&self, place: usize) -> Option<&Seat>
+        ensures { option_copied result ≡ slice_get (map (λ row. row.seat) self.now) place }
+    {
+        let row = self.rows.get(place)?;
+        Some(row.seat())
     }
 
     /// Takes the row of a session out, if it is there.

@@ -5,7 +5,7 @@ ghost use Rattle.kom_types.specs.tables.Texts.{number_of_text, recipient_of, rec
 ghost use Rattle.kom_types.specs.tables.Texts.{link_of, links_from, links_into, locals_of};
 ghost use Rattle.kom_types.specs.tables.Texts.{created_by, mark_of, marks_of, marks_on};
 ghost use Rattle.kom_types.specs.tables.Texts.{shown_mark};
-ghost use Rattle.local_maps.specs.Pairs.{AllBelow, IsRising};
+ghost use Rattle.local_maps.specs.Pairs.{least_of, AllBelow, IsRising};
 ghost use Rattle.misc_links.specs.Linked.{touching};
 ghost use Rattle.texts.specs.Keeping.{IsFrom};
 
@@ -125,6 +125,14 @@ impl Texts {
         ensures { result ≡ slice_get (marks_on text self.now.rows.marks) place }
     {
         self.marks.nth_on(text, place)
+    }
+
+    /// The least local number of a conference that has a text.
+    pub fn first_local(&self, conference: u32) -> Option<u32>
+        ensures { result ≡ least_of (locals_of conference self.now.rows.recipients) }
+    {
+        let map = self.locals.map_of(conference)?;
+        map.first()
     }
 
     /// A part of the texts of a conference upwards. `next` is its next local number. (Protocol A,

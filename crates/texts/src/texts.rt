@@ -20,7 +20,6 @@ use std::alloc::Global;
 use std::marker::Model;
 
 /// The texts, their recipients, links and marks, and the local numbers by which they are found.
-#[derive(Drop)]
 pub struct Texts {
     pub(crate) texts: TextTable,
     pub(crate) recipients: Recipients,
@@ -30,6 +29,22 @@ pub struct Texts {
     pub(crate) locals: LocalMaps,
     /// The texts of each author by their numbers among them.
     pub(crate) created: LocalMaps,
+}
+
+// A call of its own, so that whoever lets the texts go has one step to prove and not one for each part.
+impl Drop for Texts {
+    fn drop(self) {
+        let Texts {
+            texts,
+            recipients,
+            links,
+            marks,
+            locals,
+            created,
+        } = self;
+        drop((texts, recipients, links));
+        drop((marks, locals, created));
+    }
 }
 
 impl Model for Texts {
