@@ -1,10 +1,10 @@
 -- What can change the stored rows: a closed list of effects, each a row that is added, set or
 -- removed. That the state changes so is this server's own choice.
 use Rattle.std.specs.Prelude.{ℕ, ◌+◌, Bool, true, false, ◌==◌, ◌||◌, ◌&&◌, not, nat_le, nat_lt}
-use Rattle.std.specs.Prelude.{List, [], ◌∷◌, length, Some, None, is_some, is_none}
+use Rattle.std.specs.Prelude.{List, [], ◌∷◌, ◌++◌, length, Some, None, is_some, is_none}
 use Rattle.std.specs.Prelude.{if◌then◌else◌, IsTrue}
 use Rattle.std.specs.List.{AllByRecursion, list_any}
-use Rattle.row_table.specs.Tables.{with_row, changed_row}
+use Rattle.row_table.specs.Tables.{with_row, without_row, changed_row}
 use Rattle.kom_types.specs.declared.conferences.ConferenceRow.{ConferenceRow}
 use Rattle.kom_types.specs.declared.effects.ConfField.{ConfField}
 use Rattle.kom_types.specs.declared.effects.ConfField.TheVariants as field
@@ -12,20 +12,32 @@ use Rattle.kom_types.specs.declared.effects.Effect.{Effect}
 use Rattle.kom_types.specs.declared.effects.Effect.TheVariants as effect
 use Rattle.kom_types.specs.declared.memberships.MembershipRow.{MembershipRow}
 use Rattle.kom_types.specs.declared.persons.PersonRow.{PersonRow}
+use Rattle.kom_types.specs.declared.texts.Link.{Link}
+use Rattle.kom_types.specs.declared.texts.Recipient.{Recipient}
+use Rattle.kom_types.specs.declared.texts.TextRow.{TextRow}
 use Rattle.kom_types.specs.Bits.{alike}
 use Rattle.kom_types.specs.Names.{clash}
 use Rattle.kom_types.specs.tables.Conferences as Conferences
 use Rattle.kom_types.specs.tables.Conferences.{number_of_conference, is_secret_protected}
 use Rattle.kom_types.specs.tables.Conferences.{is_letterbox, fresh_conference, with_name}
-use Rattle.kom_types.specs.tables.Memberships.{with_membership}
+use Rattle.kom_types.specs.tables.Conferences.{with_local_drawn}
+use Rattle.kom_types.specs.tables.Memberships.{with_membership, without_membership}
 use Rattle.kom_types.specs.tables.Persons as Persons
 use Rattle.kom_types.specs.tables.Persons.{number_of_person, fresh_person, counted, logged_in}
-use Rattle.kom_types.specs.tables.Persons.{with_hash}
+use Rattle.kom_types.specs.tables.Persons.{with_hash, with_created_drawn}
+use Rattle.kom_types.specs.tables.Texts.{number_of_text, fresh_text, without_recipient}
+use Rattle.kom_types.specs.tables.Texts.{without_link, with_mark, without_mark, with_created_local}
+use Rattle.read_ranges.specs.Changed.{rise_after}
+use Rattle.read_ranges.specs.Merged.{merged}
+use Rattle.read_ranges.specs.Reads.{with_reader, without_reader, with_read, read_at}
 use Rattle.kom_model.specs.Db.{Db, conference_of, person_of, membership_of, memberships_of}
-use Rattle.kom_model.specs.Db.{conferences_of}
+use Rattle.kom_model.specs.Db.{conferences_of, text_of, recipient_of, recipients_of, link_of}
+use Rattle.kom_model.specs.Db.{links_from, links_into, mark_of, marks_of, marks_on}
+use Rattle.kom_model.specs.Db.{next_local_of, next_created_of}
 
 -- the limits of this server: conferences that are ever made, bytes of a name and of a user name,
--- memberships of a person
+-- memberships of a person; texts, and local numbers, that are ever drawn; bytes of a text;
+-- recipients of a text; comments in or out of a text, and footnotes; marks of a person
 abbrev pub last_conference : ℕ
 last_conference = 65535
 
@@ -37,6 +49,22 @@ longest_user_name = 1024
 
 abbrev pub most_memberships : ℕ
 most_memberships = 2000
+
+abbrev pub last_drawn : ℕ
+last_drawn = 4294967294
+
+abbrev pub longest_body : ℕ
+longest_body = 1048576
+
+abbrev pub most_recipients : ℕ
+most_recipients = 100
+
+abbrev pub most_links : Bool → ℕ
+most_links false = 1000
+most_links true = 100
+
+abbrev pub most_marks : ℕ
+most_marks = 2000
 
 -- no conference but the one of this number has a name that clashes
 abbrev pub is_free : Db → ℕ → List ℕ → Bool
@@ -86,8 +114,63 @@ may_join db person conference =
     is_some (membership_of db person conference)
     || nat_lt (length (memberships_of db person)) most_memberships
 
+-- a text of the number is made: the number was never used
+abbrev pub may_add_text : Db → ℕ → List ℕ → Bool
+may_add_text db number body =
+    nat_le db.next_text number && nat_le number last_drawn && is_none (text_of db number)
+    && nat_le (length body) longest_body
+
+-- nothing is left that hangs on a text
+abbrev pub is_bare : Db → ℕ → Bool
+is_bare db text =
+    length (recipients_of db text) == 0 && length (links_from db text false) == 0
+    && length (links_from db text true) == 0 && length (links_into db text false) == 0
+    && length (links_into db text true) == 0 && length (marks_on db text) == 0
+
+-- the number is the next one of the conference, or a later one
+abbrev pub may_draw : Db → ℕ → ℕ → Bool
+may_draw db conference local =
+    nat_le (next_local_of db conference) local && nat_le local last_drawn
+
+-- the tags of a recipient, of one of a copy, and of one that is shown to few
+abbrev pub is_recipient_tag : ℕ → Bool
+is_recipient_tag tag = tag == 0 || tag == 1 || tag == 15
+
+-- a text may have one recipient more
+abbrev pub may_add_recipient : Db → Recipient → Bool
+may_add_recipient db given =
+    is_some (text_of db given.text) && is_some (conference_of db given.conference)
+    && is_none (recipient_of db given.text given.conference) && is_recipient_tag given.tag
+    && may_draw db given.conference given.local
+    && nat_lt (length (recipients_of db given.text)) most_recipients
+
+-- two texts may be linked
+abbrev pub may_link : Db → Link → Bool
+may_link db given =
+    is_some (text_of db given.child) && is_some (text_of db given.parent)
+    && is_none (link_of db given.child given.parent given.footnote)
+    && nat_lt (length (links_from db given.child given.footnote)) (most_links given.footnote)
+    && nat_lt (length (links_into db given.parent given.footnote)) (most_links given.footnote)
+
+-- a person has a mark on the text already, or may have one more
+abbrev pub may_mark : Db → ℕ → ℕ → Bool
+may_mark db person text =
+    is_some (mark_of db person text) || nat_lt (length (marks_of db person)) most_marks
+
+-- a text that has no number among those of its author may get this one
+abbrev pub may_number : Db → ℕ → ℕ → TextRow → Bool
+may_number db person local row =
+    row.author == person && row.created_local == 0
+    && nat_le (next_created_of db person) local && nat_le local last_drawn
+
+abbrev pub may_create : Db → ℕ → ℕ → ℕ → Bool
+may_create db person local text = elim (text_of db text) [
+  | None ↦ false
+  | Some row ↦ is_some (person_of db person) && may_number db person local row
+]
+
 -- Whether an effect fits: what it changes is there, what it adds is not, numbers were never used,
--- and the limits hold. Removals, read sets, texts, marks and aux-items are not built yet: they do
+-- and the limits hold. Removals of conferences and persons, and aux-items, are not built yet: they do
 -- not fit.
 unfoldable pub fits : Effect → Db → Bool
 fits (effect.ConfAdded number name kind at creator supervisor) db =
@@ -104,22 +187,24 @@ fits (effect.Password number hash) db = is_some (person_of db number)
 fits (effect.LoggedIn number at user) db =
     is_some (person_of db number) && nat_le (length user) longest_user_name
 fits (effect.Counted number counter by) db = is_some (person_of db number)
-fits (effect.TextAdded number author at body) db = false
-fits (effect.TextGone number) db = false
-fits (effect.RecipientAdded recipient) db = false
-fits (effect.RecipientGone text conference) db = false
-fits (effect.LinkAdded link) db = false
-fits (effect.LinkGone child parent footnote) db = false
+fits (effect.TextAdded number author at body) db = may_add_text db number body
+fits (effect.TextGone number) db = is_some (text_of db number) && is_bare db number
+fits (effect.RecipientAdded recipient) db = may_add_recipient db recipient
+fits (effect.RecipientGone text conference) db = is_some (recipient_of db text conference)
+fits (effect.LinkAdded link) db = may_link db link
+fits (effect.LinkGone child parent footnote) db = is_some (link_of db child parent footnote)
 fits (effect.MemberSet person conference position priority added_by added_at kind) db =
     is_some (person_of db person) && is_some (conference_of db conference)
     && may_join db person conference
-fits (effect.MemberGone person conference) db = false
-fits (effect.ReadSet person conference at ranges) db = false
-fits (effect.MarkSet person text kind) db = false
-fits (effect.MarkGone person text) db = false
+fits (effect.MemberGone person conference) db = is_some (membership_of db person conference)
+fits (effect.ReadSet person conference at ranges) db =
+    is_some (membership_of db person conference) && rise_after 0 ranges
+fits (effect.MarkSet person text kind) db =
+    is_some (person_of db person) && is_some (text_of db text) && may_mark db person text
+fits (effect.MarkGone person text) db = is_some (mark_of db person text)
 fits (effect.AuxAdded on_text object item) db = false
 fits (effect.AuxGone on_text object number) db = false
-fits (effect.Created person local text) db = false
+fits (effect.Created person local text) db = may_create db person local text
 
 -- with a conference that is made, and its number used
 abbrev pub with_conference : ConferenceRow → Db → Db
@@ -136,6 +221,17 @@ with_changed_conference number change db =
 abbrev pub with_changed_person : ℕ → (PersonRow → PersonRow) → Db → Db
 with_changed_person number change db =
     record db { persons = changed_row number_of_person number change db.persons }
+
+-- with a recipient, whose conference has drawn its local number then
+abbrev pub with_recipient : Recipient → Db → Db
+with_recipient given db =
+    with_changed_conference given.conference (with_local_drawn given.local)
+    (record db { recipients = db.recipients ++ given ∷ [] })
+
+-- with one text changed
+abbrev pub with_changed_text : ℕ → (TextRow → TextRow) → Db → Db
+with_changed_text number change db =
+    record db { texts = changed_row number_of_text number change db.texts }
 
 -- the membership that an effect sets; a new one counts as read when it was added
 abbrev pub member_row : ℕ → ℕ → ℕ → ℕ → ℕ → ℕ → ℕ → MembershipRow
@@ -166,23 +262,41 @@ made (effect.PersonField number what) db = with_changed_person number (Persons.w
 made (effect.Password number hash) db = with_changed_person number (with_hash hash) db
 made (effect.LoggedIn number at user) db = with_changed_person number (logged_in at user) db
 made (effect.Counted number counter by) db = with_changed_person number (counted counter by) db
-made (effect.TextAdded number author at body) db = db
-made (effect.TextGone number) db = db
-made (effect.RecipientAdded recipient) db = db
-made (effect.RecipientGone text conference) db = db
-made (effect.LinkAdded link) db = db
-made (effect.LinkGone child parent footnote) db = db
+made (effect.TextAdded number author at body) db = record db {
+  texts = with_row number_of_text (fresh_text number author at body) db.texts;
+  next_text = number + 1;
+}
+made (effect.TextGone number) db =
+    record db { texts = without_row number_of_text number db.texts }
+made (effect.RecipientAdded recipient) db = with_recipient recipient db
+made (effect.RecipientGone text conference) db =
+    record db { recipients = without_recipient text conference db.recipients }
+made (effect.LinkAdded link) db = record db { links = db.links ++ link ∷ [] }
+made (effect.LinkGone child parent footnote) db =
+    record db { links = without_link child parent footnote db.links }
 made (effect.MemberSet person conference position priority added_by added_at kind) db = record db {
   memberships = with_membership
       (member_row person conference position priority added_by added_at kind) db.memberships;
+  reads = with_reader person conference db.reads;
 }
-made (effect.MemberGone person conference) db = db
-made (effect.ReadSet person conference at ranges) db = db
-made (effect.MarkSet person text kind) db = db
-made (effect.MarkGone person text) db = db
+made (effect.MemberGone person conference) db = record db {
+  memberships = without_membership person conference db.memberships;
+  reads = without_reader person conference db.reads;
+}
+made (effect.ReadSet person conference at ranges) db = record db {
+  memberships = read_at person conference at db.memberships;
+  reads = with_read person conference (merged ranges) db.reads;
+}
+made (effect.MarkSet person text kind) db = record db {
+  marks = with_mark (record { person = person; text = text; kind = kind }) db.marks;
+}
+made (effect.MarkGone person text) db =
+    record db { marks = without_mark person text db.marks }
 made (effect.AuxAdded on_text object item) db = db
 made (effect.AuxGone on_text object number) db = db
-made (effect.Created person local text) db = db
+made (effect.Created person local text) db =
+    with_changed_person person (with_created_drawn local)
+    (with_changed_text text (with_created_local local) db)
 
 -- An effect that does not fit changes nothing.
 abbrev pub apply : Effect → Db → Db

@@ -15,3 +15,5 @@ pub mod Laws
 pub mod Rows
 pub mod DbRows
 pub mod CallRows
+pub mod TextRows
+pub mod MemberRows

@@ -4,5 +4,8 @@ pub mod Guards
 pub mod Persons
 pub mod Conferences
 pub mod Sessions
+pub mod Memberships
+pub mod Texts
+pub mod NewTexts
 pub mod Server
 pub mod AuxItems

@@ -1,6 +1,8 @@
 ghost use Rattle.kom_model.specs.CallRows.{CallRows};
 ghost use Rattle.kom_model.specs.DbRows.{DbRows};
+ghost use Rattle.kom_model.specs.MemberRows.{MemberRows};
 ghost use Rattle.kom_model.specs.Rows.{Rows};
+ghost use Rattle.kom_model.specs.TextRows.{TextRows};
 
 /// A law alone: the definitions give the states, the refusals and the outputs of small histories
 /// that were worked out by hand.
@@ -18,4 +20,15 @@ pub fn worked_rights()
 /// by hand.
 pub fn worked_calls()
     ensures { CallRows }
+{}
+
+/// A law alone: the definitions of the calls over texts give what was worked out by hand.
+pub fn worked_texts()
+    ensures { TextRows }
+{}
+
+/// A law alone: the definitions of the calls over memberships and over what was read give what was
+/// worked out by hand.
+pub fn worked_memberships()
+    ensures { MemberRows }
 {}

@@ -1,7 +1,8 @@
-ghost use Rattle.std.specs.Prelude.{◌≡◌};
-ghost use Rattle.kom_model.specs.Db.{Db, conference_head_of, membership_kind_of};
+ghost use Rattle.std.specs.Prelude.{◌≡◌, length, slice_get};
+ghost use Rattle.kom_model.specs.Db.{Db, conference_head_of, membership_kind_of, text_author_of};
+ghost use Rattle.kom_model.specs.Db.{person_flags_of, recipients_of};
 
-use kom_types::ConferenceHead;
+use kom_types::{ConferenceHead, Recipient};
 
 /// How the rights of persons read the stored rows. `None` comes exactly if there is no such row.
 pub trait Rows {
@@ -14,4 +15,20 @@ pub trait Rows {
     /// The eight bits of the type of a person's membership in a conference.
     fn membership_kind(&self, person: u32, conference: u32) -> Option<u8>
         ensures { result ≡ membership_kind_of (db self.now) person conference };
+
+    /// The eight bits of a person's flags.
+    fn flags(&self, person: u32) -> Option<u8>
+        ensures { result ≡ person_flags_of (db self.now) person };
+
+    /// Who made a text: 0 if it is anonymous.
+    fn author(&self, text: u32) -> Option<u32>
+        ensures { result ≡ text_author_of (db self.now) text };
+
+    /// How many recipients a text has.
+    fn recipient_count(&self, text: u32) -> usize
+        ensures { result ≡ length (recipients_of (db self.now) text) };
+
+    /// The recipient of a text at a place among its recipients, in the order of adding.
+    fn recipient(&self, text: u32, place: usize) -> Option<Recipient>
+        ensures { result ≡ slice_get (recipients_of (db self.now) text) place };
 }

@@ -14,7 +14,7 @@ use Rattle.kom_model.specs.declared.call_errors.Refused.{Refused}
 use Rattle.kom_model.specs.declared.viewers.Viewer.{Viewer}
 use Rattle.kom_model.specs.Db.{Db, person_of, conferences_of, next_conference_of}
 use Rattle.kom_model.specs.Effects.{longest_name, last_conference}
-use Rattle.kom_model.specs.Rights.{sees, supervises}
+use Rattle.kom_model.specs.Rights.{sees, supervises, reads, reads_conference, may_submit}
 use Rattle.kom_model.specs.calls.Call.{Asked, Definition, seat_of, refuse}
 
 -- what a guard refuses, or none
@@ -67,6 +67,18 @@ login_guard caller = unless (not (caller.person == 0)) 6 0
 abbrev pub conference_guard : Db → Viewer → ℕ → Guard
 conference_guard db caller number =
     if number == 0 then refusal 8 0 else unless (sees db caller number) 9 number
+
+-- the text is there and read
+abbrev pub text_guard : Db → Viewer → ℕ → Guard
+text_guard db caller number =
+    if number == 0 then refusal 15 0 else unless (reads db caller number) 14 number
+
+-- the texts of the conference are shown to the caller; and the caller may send some to it
+abbrev pub reads_guard : Db → Viewer → ℕ → Guard
+reads_guard db caller conference = unless (reads_conference db caller conference) 11 conference
+
+abbrev pub submit_guard : Db → Viewer → ℕ → Guard
+submit_guard db caller conference = unless (may_submit db caller conference) 11 conference
 
 -- the person is there
 abbrev pub person_guard : Db → ℕ → Guard

@@ -1,0 +1,287 @@
+-- The calls about texts that are there. (Protocol A, "Protocol Requests".)
+use Rattle.std.specs.Prelude.{ℕ, ◌+◌, ◌-◌, Bool, true, false, ◌==◌, ◌||◌, ◌&&◌, not, nat_le, nat_lt}
+use Rattle.std.specs.Prelude.{List, [], ◌∷◌, ◌++◌, length, map, filter, find, take, drop, reverse}
+use Rattle.std.specs.Prelude.{Option, Some, None, is_some, is_none}
+use Rattle.kom_types.specs.declared.effects.ConfField.TheVariants as field
+use Rattle.kom_types.specs.declared.effects.Counter.TheVariants as counter
+use Rattle.kom_types.specs.declared.effects.Effect.{Effect}
+use Rattle.kom_types.specs.declared.effects.Effect.TheVariants as effect
+use Rattle.kom_types.specs.declared.replies.Reply.TheVariants as reply
+use Rattle.kom_types.specs.declared.texts.Mapping.{Mapping}
+use Rattle.kom_types.specs.declared.texts.Recipient.{Recipient}
+use Rattle.kom_types.specs.declared.texts.TextRow.{TextRow}
+use Rattle.kom_types.specs.Mappings.{mapping_up, mapping_down}
+use Rattle.kom_types.specs.tables.Texts.{shown_mark}
+use Rattle.kom_model.specs.declared.viewers.Viewer.{Viewer}
+use Rattle.kom_model.specs.Db.{Db, text_of, texts_of, text_author_of, next_text_of}
+use Rattle.kom_model.specs.Db.{recipient_of, recipients_of}
+use Rattle.kom_model.specs.Db.{link_of, links_from, links_into, links_of, locals_of, created_by}
+use Rattle.kom_model.specs.Db.{next_local_of, next_created_of, mark_of, marks_of, marks_on}
+use Rattle.kom_model.specs.Effects.{last_drawn, is_recipient_tag, most_recipients, most_links}
+use Rattle.kom_model.specs.Effects.{most_marks}
+use Rattle.kom_model.specs.Rights.{supervises, reads, is_author, shows_recipient}
+use Rattle.kom_model.specs.calls.Call.{Asked, Definition, answer, done, unguarded}
+use Rattle.kom_model.specs.calls.Guards.{Guard, guarded, refusal, unless, caller, login_guard}
+use Rattle.kom_model.specs.calls.Guards.{conference_guard, person_guard, text_guard, reads_guard}
+use Rattle.kom_model.specs.calls.Guards.{submit_guard}
+
+-- who made a text: 0 if it is anonymous, or not there
+abbrev pub author_of : Db → ℕ → ℕ
+author_of db text = elim (text_author_of db text) [ None ↦ 0 | Some author ↦ author ]
+
+abbrev pub body_of : Db → ℕ → List ℕ
+body_of db text = elim (text_of db text) [ None ↦ [] | Some row ↦ row.body ]
+
+-- the caller made the text; it made it, or supervises who did, or its session is strong
+abbrev pub is_own : Db → Viewer → ℕ → Bool
+is_own db caller text = is_author caller.person (author_of db text)
+
+abbrev pub answers_for : Db → Viewer → ℕ → Bool
+answers_for db caller text =
+    is_own db caller text || supervises db caller.person (author_of db text) || caller.strong
+
+-- what is asked of a text's bytes, from the first to the last one, as far as there are some
+abbrev pub cut : ℕ → ℕ → List ℕ → List ℕ
+cut start end bytes = take (end + 1 - start) (drop start bytes)
+
+-- call 25, get-text
+abbrev pub get_text : Asked → ℕ → ℕ → ℕ → Definition
+get_text asked text start end = guarded
+    (login_guard (caller asked) ∷ text_guard asked.db (caller asked) text
+    ∷ unless (nat_le start (length (body_of asked.db text))) 19 start ∷ [])
+    (record {
+      reply = reply.Text (cut start end (body_of asked.db text));
+      effects = effect.Counted (caller asked).person counter.TextFetches 1 ∷ [];
+      changes = [];
+    })
+
+-- what hangs on a text goes before it: links, recipients, marks
+abbrev pub gone_text : Db → ℕ → List Effect
+gone_text db text =
+    map (λ link. effect.LinkGone link.child link.parent link.footnote) (links_of db text)
+    ++ map (λ row. effect.RecipientGone row.text row.conference) (recipients_of db text)
+    ++ map (λ row. effect.MarkGone row.person row.text) (marks_on db text)
+    ++ effect.TextGone text ∷ []
+
+-- call 29, delete-text
+abbrev pub delete_text : Asked → ℕ → Definition
+delete_text asked text = guarded
+    (login_guard (caller asked) ∷ text_guard asked.db (caller asked) text
+    ∷ unless (answers_for asked.db (caller asked) text) 12 text ∷ [])
+    (done (gone_text asked.db text) [])
+
+-- a local number of the conference is left
+abbrev pub local_guard : Db → ℕ → Guard
+local_guard db conference = unless (nat_le (next_local_of db conference) last_drawn) 45 0
+
+-- a recipient that is added now, by whom: 0 if the text is made with it
+abbrev pub new_recipient : Asked → ℕ → ℕ → ℕ → ℕ → Recipient
+new_recipient asked text conference tag sender = record {
+  text = text;
+  conference = conference;
+  tag = tag;
+  local = next_local_of asked.db conference;
+  sender = sender;
+  at = asked.moment;
+}
+
+-- the conference was written in now
+abbrev pub written : Asked → ℕ → Effect
+written asked conference = effect.ConfField conference (field.LastWritten asked.moment)
+
+-- call 30, add-recipient
+abbrev pub add_recipient : Asked → ℕ → ℕ → ℕ → Definition
+add_recipient asked text conference tag = guarded
+    (login_guard (caller asked) ∷ text_guard asked.db (caller asked) text
+    ∷ conference_guard asked.db (caller asked) conference
+    ∷ unless (is_recipient_tag tag) 26 tag
+    ∷ unless (is_none (recipient_of asked.db text conference)) 27 conference
+    ∷ submit_guard asked.db (caller asked) conference
+    ∷ unless (nat_lt (length (recipients_of asked.db text)) most_recipients) 33 text
+    ∷ local_guard asked.db conference ∷ [])
+    (done
+    (effect.RecipientAdded (new_recipient asked text conference tag (caller asked).person)
+    ∷ written asked conference ∷ []) [])
+
+-- a recipient that is there is shown to the caller
+abbrev pub shows_to : Db → Viewer → ℕ → ℕ → Bool
+shows_to db caller text conference = elim (recipient_of db text conference) [
+  | None ↦ false
+  | Some row ↦ shows_recipient db caller (author_of db text) row
+]
+
+-- who added a recipient, or a link: 0 if the text was made with it
+abbrev pub sender_of : Db → ℕ → ℕ → ℕ
+sender_of db text conference =
+    elim (recipient_of db text conference) [ None ↦ 0 | Some row ↦ row.sender ]
+
+abbrev pub linker_of : Db → ℕ → ℕ → Bool → ℕ
+linker_of db child parent footnote =
+    elim (link_of db child parent footnote) [ None ↦ 0 | Some row ↦ row.sender ]
+
+-- the caller may take a recipient away
+abbrev pub may_take : Db → Viewer → ℕ → ℕ → Bool
+may_take db caller text conference =
+    answers_for db caller text || sender_of db text conference == caller.person
+    || supervises db caller.person conference
+
+-- call 31, sub-recipient
+abbrev pub sub_recipient : Asked → ℕ → ℕ → Definition
+sub_recipient asked text conference = guarded
+    (login_guard (caller asked) ∷ text_guard asked.db (caller asked) text
+    ∷ unless (not (conference == 0)) 8 0
+    ∷ unless (shows_to asked.db (caller asked) text conference) 30 conference
+    ∷ unless (may_take asked.db (caller asked) text conference) 12 text ∷ [])
+    (done (effect.RecipientGone text conference ∷ []) [])
+
+-- a comment, or a footnote, that is linked to a text now
+abbrev pub linked : Asked → ℕ → ℕ → Bool → Effect
+linked asked child parent footnote = effect.LinkAdded (record {
+  child = child;
+  parent = parent;
+  footnote = footnote;
+  sender = (caller asked).person;
+  at = asked.moment;
+})
+
+-- two texts are not linked so yet; and there is room for one link more into the one, and from the
+-- other
+abbrev pub unlinked_guard : Db → ℕ → ℕ → Bool → ℕ → Guard
+unlinked_guard db child parent footnote code =
+    unless (is_none (link_of db child parent footnote)) code child
+
+abbrev pub into_guard : Db → ℕ → Bool → ℕ → ℕ → Guard
+into_guard db parent footnote code status =
+    unless (nat_lt (length (links_into db parent footnote)) (most_links footnote)) code status
+
+abbrev pub from_guard : Db → ℕ → Bool → ℕ → Guard
+from_guard db child footnote code =
+    unless (nat_lt (length (links_from db child footnote)) (most_links footnote)) code child
+
+-- call 32, add-comment
+abbrev pub add_comment : Asked → ℕ → ℕ → Definition
+add_comment asked child parent = guarded
+    (login_guard (caller asked) ∷ text_guard asked.db (caller asked) child
+    ∷ text_guard asked.db (caller asked) parent ∷ unless (not (child == parent)) 12 child
+    ∷ unlinked_guard asked.db child parent false 28 ∷ into_guard asked.db parent false 34 parent
+    ∷ from_guard asked.db child false 34 ∷ [])
+    (done (linked asked child parent false ∷ []) [])
+
+-- two texts are linked so
+abbrev pub linked_guard : Db → ℕ → ℕ → Bool → ℕ → Guard
+linked_guard db child parent footnote code =
+    unless (is_some (link_of db child parent footnote)) code child
+
+-- call 33, sub-comment
+abbrev pub sub_comment : Asked → ℕ → ℕ → Definition
+sub_comment asked child parent = guarded
+    (login_guard (caller asked) ∷ text_guard asked.db (caller asked) child
+    ∷ text_guard asked.db (caller asked) parent ∷ linked_guard asked.db child parent false 31
+    ∷ unless (answers_for asked.db (caller asked) child
+    || linker_of asked.db child parent false == (caller asked).person) 12 child ∷ [])
+    (done (effect.LinkGone child parent false ∷ []) [])
+
+-- call 37, add-footnote
+abbrev pub add_footnote : Asked → ℕ → ℕ → Definition
+add_footnote asked child parent = guarded
+    (login_guard (caller asked) ∷ text_guard asked.db (caller asked) child
+    ∷ text_guard asked.db (caller asked) parent ∷ unless (not (child == parent)) 12 child
+    ∷ unless (is_own asked.db (caller asked) child && is_own asked.db (caller asked) parent)
+    37 parent
+    ∷ unlinked_guard asked.db child parent true 29 ∷ into_guard asked.db parent true 35 parent
+    ∷ from_guard asked.db child true 35 ∷ [])
+    (done (linked asked child parent true ∷ []) [])
+
+-- call 38, sub-footnote
+abbrev pub sub_footnote : Asked → ℕ → ℕ → Definition
+sub_footnote asked child parent = guarded
+    (login_guard (caller asked) ∷ text_guard asked.db (caller asked) child
+    ∷ text_guard asked.db (caller asked) parent ∷ linked_guard asked.db child parent true 32
+    ∷ unless (is_own asked.db (caller asked) child || (caller asked).strong) 12 child ∷ [])
+    (done (effect.LinkGone child parent true ∷ []) [])
+
+-- call 72, mark-text: the mark may be there already
+abbrev pub mark_text : Asked → ℕ → ℕ → Definition
+mark_text asked text kind = let person = (caller asked).person in guarded
+    (login_guard (caller asked) ∷ text_guard asked.db (caller asked) text
+    ∷ unless (is_some (mark_of asked.db person text)
+    || nat_lt (length (marks_of asked.db person)) most_marks) 36 0 ∷ [])
+    (done (effect.MarkSet person text kind ∷ []) [])
+
+-- call 73, unmark-text: also of a text that is not read any more
+abbrev pub unmark_text : Asked → ℕ → Definition
+unmark_text asked text = let person = (caller asked).person in guarded
+    (login_guard (caller asked) ∷ unless (not (text == 0)) 15 0
+    ∷ unless (is_some (mark_of asked.db person text)) 44 text ∷ [])
+    (done (effect.MarkGone person text ∷ []) [])
+
+-- call 23, get-marks
+abbrev pub get_marks : Asked → Definition
+get_marks asked = guarded
+    (login_guard (caller asked) ∷ [])
+    (answer (reply.Marks (map shown_mark (marks_of asked.db (caller asked).person))))
+
+-- call 115, first-unused-text-no
+abbrev pub first_unused_text_no : Asked → Definition
+first_unused_text_no asked = unguarded (answer (reply.Number (next_text_of asked.db)))
+
+-- the first of these texts that is read
+abbrev pub first_read : Asked → (TextRow → Bool) → List TextRow → Option TextRow
+first_read asked test rows = find (λ row. test row && reads asked.db (caller asked) row.number) rows
+
+-- a text's number is answered, or that there is none
+abbrev pub nearest_text : Asked → ℕ → Option TextRow → Definition
+nearest_text asked start None =
+    guarded (login_guard (caller asked) ∷ refusal 14 start ∷ []) (answer reply.Done)
+nearest_text asked start (Some row) =
+    guarded (login_guard (caller asked) ∷ []) (answer (reply.Number row.number))
+
+-- call 60, find-next-text-no
+abbrev pub find_next_text_no : Asked → ℕ → Definition
+find_next_text_no asked start =
+    nearest_text asked start (first_read asked (λ row. nat_lt start row.number) (texts_of asked.db))
+
+-- call 61, find-previous-text-no
+abbrev pub find_previous_text_no : Asked → ℕ → Definition
+find_previous_text_no asked start = nearest_text asked start
+    (first_read asked (λ row. nat_lt row.number start) (reverse (texts_of asked.db)))
+
+-- how many texts a mapping tells of at most
+abbrev pub most_mapped : ℕ
+most_mapped = 255
+
+-- local numbers begin at 1; and not too many are asked for
+abbrev pub first_guard : ℕ → Guard
+first_guard first = unless (not (first == 0)) 17 0
+
+abbrev pub count_guard : ℕ → Guard
+count_guard count = unless (nat_le count most_mapped) 19 count
+
+-- call 103, local-to-global
+abbrev pub local_to_global : Asked → ℕ → ℕ → ℕ → Definition
+local_to_global asked conference first count = guarded
+    (login_guard (caller asked) ∷ conference_guard asked.db (caller asked) conference
+    ∷ reads_guard asked.db (caller asked) conference ∷ first_guard first ∷ count_guard count ∷ [])
+    (answer (reply.Mapping (mapping_up (locals_of asked.db conference)
+    (next_local_of asked.db conference) first count)))
+
+-- call 121, local-to-global-reverse
+abbrev pub local_to_global_reverse : Asked → ℕ → ℕ → ℕ → Definition
+local_to_global_reverse asked conference ceiling count = guarded
+    (login_guard (caller asked) ∷ conference_guard asked.db (caller asked) conference
+    ∷ reads_guard asked.db (caller asked) conference ∷ count_guard count ∷ [])
+    (answer (reply.Mapping (mapping_down (locals_of asked.db conference)
+    (next_local_of asked.db conference) ceiling count)))
+
+-- a part upwards of the texts that a person made, of those that the caller reads
+abbrev pub created_up : Asked → ℕ → ℕ → ℕ → Mapping
+created_up asked person first count = mapping_up
+    (filter (λ pair. reads asked.db (caller asked) pair.text) (created_by asked.db person))
+    (next_created_of asked.db person) first count
+
+-- call 104, map-created-texts
+abbrev pub map_created_texts : Asked → ℕ → ℕ → ℕ → Definition
+map_created_texts asked person first count = guarded
+    (login_guard (caller asked) ∷ person_guard asked.db person ∷ first_guard first
+    ∷ count_guard count ∷ [])
+    (answer (reply.Mapping (created_up asked person first count)))
