@@ -5,6 +5,7 @@ use Rattle.kom_types.specs.tables.Conferences.{is_read_protected, is_secret_conf
 use Rattle.kom_model.specs.declared.viewers.Viewer.{Viewer}
 use Rattle.kom_model.specs.Db.{Db, conference_head_of}
 use Rattle.kom_model.specs.Rights.{supervises, sees, reads_conference, stands_for, is_let_in}
+use Rattle.kom_model.specs.Rights.{may_submit, is_submitter}
 
 -- what a head that may be there tells
 abbrev told : (ConferenceHead → Bool) → Option ConferenceHead → Bool
@@ -57,3 +58,19 @@ pub reads_open : (db : Db) (viewer : Viewer) (conference : ℕ) (head : Conferen
 reads_open db viewer conference head is not_set =
     reads_some db viewer conference head is
     ∙ ap (λ b. not b || is_let_in db viewer conference head.supervisor) not_set
+
+pub submits_none : (db : Db) (viewer : Viewer) (conference : ℕ) → conference_head_of db conference ≡ None →
+    may_submit db viewer conference ≡ false
+unfolding may_submit
+submits_none db viewer conference is =
+    ap (told (λ head. viewer.strong || is_submitter db viewer.person head.submitters
+    || stands_for db viewer.person head.supervisor)) is
+
+pub submits_some : (db : Db) (viewer : Viewer) (conference : ℕ) (head : ConferenceHead) →
+    conference_head_of db conference ≡ Some head →
+    may_submit db viewer conference ≡ (viewer.strong || is_submitter db viewer.person head.submitters
+    || stands_for db viewer.person head.supervisor)
+unfolding may_submit
+submits_some db viewer conference head is =
+    ap (told (λ head. viewer.strong || is_submitter db viewer.person head.submitters
+    || stands_for db viewer.person head.supervisor)) is

@@ -1,1 +1,3 @@
+mod Authors
 mod Heads
+mod Recipients

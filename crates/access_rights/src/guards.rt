@@ -2,7 +2,8 @@ ghost use Rattle.std.specs.Prelude.{map};
 ghost use Rattle.kom_model.specs.calls.Guards as Guard;
 ghost use Rattle.kom_model.specs.calls.Guards.{Guards};
 
-use crate::rights::{sees, supervises};
+use crate::rights::{reads_conference, sees, supervises};
+use crate::texts::{may_submit, reads};
 use kom_model::{Refused, Rows, Viewer};
 use kom_types::AuxInputs;
 use sessions::Sessions;
@@ -42,6 +43,34 @@ pub fn conference_guard<R: Rows>(rows: &R, caller: &Viewer, number: u32) -> Resu
     } else {
         unless(sees(rows, caller, number), 9, number)
     }
+}
+
+/// The text is there and read.
+pub fn text_guard<R: Rows>(rows: &R, caller: &Viewer, number: u32) -> Result<(), Refused>
+    ensures { Guards (Guard.text_guard (R.db rows.now) caller.now number) result }
+{
+    if number == 0 {
+        Err(Refused {
+            code: 15,
+            status: 0,
+        })
+    } else {
+        unless(reads(rows, caller, number), 14, number)
+    }
+}
+
+/// The texts of the conference are shown to the caller.
+pub fn reads_guard<R: Rows>(rows: &R, caller: &Viewer, conference: u32) -> Result<(), Refused>
+    ensures { Guards (Guard.reads_guard (R.db rows.now) caller.now conference) result }
+{
+    unless(reads_conference(rows, caller, conference), 11, conference)
+}
+
+/// The caller may send texts to the conference.
+pub fn submit_guard<R: Rows>(rows: &R, caller: &Viewer, conference: u32) -> Result<(), Refused>
+    ensures { Guards (Guard.submit_guard (R.db rows.now) caller.now conference) result }
+{
+    unless(may_submit(rows, caller, conference), 11, conference)
 }
 
 /// The caller's session is strong.

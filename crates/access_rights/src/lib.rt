@@ -1,14 +1,19 @@
-//! The rights of persons over conferences, over any stored rows, and the guards that calls share.
+//! The rights of persons over conferences and texts, over any stored rows, and the guards that
+//! calls share.
 //! No function takes memory.
 #![tactic(auto)]
 
 mod guards;
+mod memberships;
 mod rights;
 #[cfg(test)]
 mod tests;
+mod texts;
 
 pub use guards::{
-    conference_guard, items_guard, login_guard, name_guard, own_guard, session_guard, size_guard,
-    strong_guard, type_guard, unless,
+    conference_guard, items_guard, login_guard, name_guard, own_guard, reads_guard, session_guard,
+    size_guard, strong_guard, submit_guard, text_guard, type_guard, unless,
 };
+pub use memberships::{is_reserved, member_guard, row_guard, shows_membership, shows_reads};
 pub use rights::{reads_conference, sees, supervises};
+pub use texts::{is_author, may_submit, reads, shows_recipient};

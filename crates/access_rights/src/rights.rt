@@ -80,20 +80,20 @@ fn belongs<R: Rows>(rows: &R, person: u32, conference: u32, supervisor: u32) -> 
 }
 
 /// Whether the person is the supervisor that is named, or an active member of it.
-fn stands_for<R: Rows>(rows: &R, person: u32, supervisor: u32) -> bool
+pub(crate) fn stands_for<R: Rows>(rows: &R, person: u32, supervisor: u32) -> bool
     ensures { result ≡ stands_for (R.db rows.now) person supervisor }
 {
     person != 0 && (person == supervisor || is_active_member(rows, person, supervisor))
 }
 
-fn is_member<R: Rows>(rows: &R, person: u32, conference: u32) -> bool
+pub(crate) fn is_member<R: Rows>(rows: &R, person: u32, conference: u32) -> bool
     ensures { result ≡ is_member (R.db rows.now) person conference }
 {
     rows.membership_kind(person, conference).is_some()
 }
 
 /// Whether the person is a member and was not only invited.
-fn is_active_member<R: Rows>(rows: &R, person: u32, conference: u32) -> bool
+pub(crate) fn is_active_member<R: Rows>(rows: &R, person: u32, conference: u32) -> bool
     ensures { result ≡ is_active_member (R.db rows.now) person conference }
 {
     match rows.membership_kind(person, conference) {

@@ -1,59 +1,15 @@
+mod memberships;
+mod small;
+mod texts;
+
 use super::*;
-use kom_model::{Refused, Rows, Viewer};
-use kom_types::{AuxInput, AuxInputs, Bytes, ConferenceHead, Memory, Moment, SessionChange};
+use kom_model::{Refused, Viewer};
+use kom_types::{AuxInput, AuxInputs, Bytes, Memory, Moment, SessionChange};
 use sessions::{SessionRow, Sessions};
+use small::{READ_PROTECTED, SECRET, Small, secret};
 use std::alloc::Global;
 use std::process::Abort;
 use std::test::Fail;
-
-// The bits of a conference's type.
-const READ_PROTECTED: u8 = 128;
-
-const SECRET: u8 = 32;
-
-// Rows with one conference, and one member of it.
-#[derive(Clone, Copy)]
-struct Small {
-    number: u32,
-    kind: u8,
-    supervisor: u32,
-    member: u32,
-}
-
-impl Rows for Small {
-    ghost use Rattle.std.specs.Prelude.{[], ◌∷◌};
-    ghost use Rattle.kom_types.specs.tables.Conferences.{fresh_conference};
-    ghost use Rattle.kom_model.specs.Effects.{member_row};
-
-    ghost db = { λ small. record {
-      conferences = fresh_conference small.number [] small.kind 0 0 small.supervisor ∷ [];
-      persons = [];
-      memberships = member_row small.member small.number 0 0 0 0 0 ∷ [];
-      next_conference = small.number;
-    } };
-
-    #[tactic(auto, unfolding(kom_model::specs::Db::conference_head_of, kom_model::specs::Db::conference_of))]
-    fn conference(&self, number: u32) -> Option<ConferenceHead> {
-        if self.number == number {
-            Some(ConferenceHead {
-                kind: self.kind,
-                supervisor: self.supervisor,
-                submitters: 0,
-            })
-        } else {
-            None
-        }
-    }
-
-    #[tactic(auto, unfolding(kom_model::specs::Db::membership_kind_of, kom_model::specs::Db::membership_of))]
-    fn membership_kind(&self, person: u32, conference: u32) -> Option<u8> {
-        if self.member == person && self.number == conference {
-            Some(0)
-        } else {
-            None
-        }
-    }
-}
 
 // What a guard came to is a refusal with this code and status, or none where the code is 0.
 fn check_guard(
@@ -117,12 +73,7 @@ fn looks() -> [Look; 5] {
 
 #[test]
 fn a_secret_conference_is_seen_by_its_own(rt: HostRuntime) -> Result<(), Fail> {
-    let small = Small {
-        number: 7,
-        kind: READ_PROTECTED | SECRET,
-        supervisor: 5,
-        member: 6,
-    };
+    let small = secret();
     for row in &looks() {
         check_look(&rt, &small, row)?;
     }
@@ -136,6 +87,7 @@ fn check_look(rt: &impl Abort, small: &Small, row: &Look) -> Result<(), Fail> {
     };
     assert_eq!(rt; sees(small, &caller, 7), row.sees);
     assert_eq!(rt; reads_conference(small, &caller, 7), row.sees);
+    assert_eq!(rt; reads_guard(small, &caller, 7).is_ok(), row.sees);
     assert_eq!(rt; own_guard(small, &caller, 7).is_ok(), row.owns);
     assert_eq!(rt; conference_guard(small, &caller, 7).is_ok(), row.sees);
     Ok(())
@@ -168,12 +120,7 @@ fn a_conference_is_refused_by_its_number(rt: HostRuntime) -> Result<(), Fail> {
             status: 9,
         },
     ];
-    let small = Small {
-        number: 7,
-        kind: READ_PROTECTED | SECRET,
-        supervisor: 5,
-        member: 6,
-    };
+    let small = secret();
     let stranger = Viewer {
         person: 8,
         strong: false,

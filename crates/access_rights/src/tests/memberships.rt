@@ -1,0 +1,83 @@
+use super::check_guard;
+use super::small::{Small, secret};
+use crate::{member_guard, row_guard, shows_membership, shows_reads};
+use kom_model::Viewer;
+use std::process::Abort;
+use std::test::Fail;
+
+// The bit of a membership that is shown to few, and the flag of a person that keeps to itself what
+// it has read.
+const SECRET_MEMBERSHIP: u8 = 32;
+
+const UNREAD_IS_SECRET: u8 = 128;
+
+// Who looks, whether it is shown a secret membership of person 6 in conference 7, and whether it is
+// told what 6 has read.
+#[derive(Clone, Copy)]
+struct Look {
+    person: u32,
+    strong: bool,
+    shown: bool,
+    told: bool,
+}
+
+// The person itself, the supervisor of the conference, another member, a stranger, and one whose
+// session is strong.
+fn looks() -> [Look; 4] {
+    [
+        Look {
+            person: 6,
+            strong: false,
+            shown: true,
+            told: true,
+        },
+        Look {
+            person: 5,
+            strong: false,
+            shown: true,
+            told: false,
+        },
+        Look {
+            person: 8,
+            strong: false,
+            shown: false,
+            told: false,
+        },
+        Look {
+            person: 8,
+            strong: true,
+            shown: true,
+            told: true,
+        },
+    ]
+}
+
+fn check_look(rt: &impl Abort, small: &Small, look: Look) -> Result<(), Fail> {
+    let viewer = Viewer {
+        person: look.person,
+        strong: look.strong,
+    };
+    assert_eq!(rt;
+        shows_membership(small, &viewer, 6, 7, SECRET_MEMBERSHIP),
+        look.shown
+    );
+    assert_eq!(rt; shows_reads(small, &viewer, 6), look.told);
+    let code = if look.shown { 0 } else { 13 };
+    check_guard(rt, row_guard(small, &viewer, 6, 7), code, code / 13 * 7)
+}
+
+#[test]
+fn secret_memberships_are_shown_to_few(rt: HostRuntime) -> Result<(), Fail> {
+    let small = Small {
+        kind: 0,
+        member_kind: SECRET_MEMBERSHIP,
+        flags: UNREAD_IS_SECRET,
+        ..secret()
+    };
+    for look in looks() {
+        check_look(&rt, &small, look)?;
+    }
+    check_guard(&rt, member_guard(&small, 6, 7), 0, 0)?;
+    check_guard(&rt, member_guard(&small, 8, 7), 13, 7)?;
+    check_guard(&rt, member_guard(&small, 6, 8), 13, 8)
+}

@@ -1,0 +1,177 @@
+use super::check_guard;
+use super::small::{READ_PROTECTED, Small, TEXT, secret};
+use crate::{may_submit, reads, shows_recipient, submit_guard, text_guard};
+use kom_model::Viewer;
+use kom_types::Recipient;
+use std::process::Abort;
+use std::test::Fail;
+
+// Persons of which each may do something or not, by sessions that are not strong.
+#[derive(Clone, Copy)]
+struct Asked {
+    person: u32,
+    may: bool,
+}
+
+fn viewer(person: u32) -> Viewer {
+    Viewer {
+        person,
+        strong: false,
+    }
+}
+
+fn strong() -> Viewer {
+    Viewer {
+        person: 8,
+        strong: true,
+    }
+}
+
+// Whether nobody, the supervisor, the member, a stranger and the author may do something.
+fn each(may: [bool; 5]) -> [Asked; 5] {
+    [
+        Asked {
+            person: 0,
+            may: may[0],
+        },
+        Asked {
+            person: 5,
+            may: may[1],
+        },
+        Asked {
+            person: 6,
+            may: may[2],
+        },
+        Asked {
+            person: 8,
+            may: may[3],
+        },
+        Asked {
+            person: 9,
+            may: may[4],
+        },
+    ]
+}
+
+fn check_reads(rt: &impl Abort, small: &Small, may: [bool; 5]) -> Result<(), Fail> {
+    for row in &each(may) {
+        assert_eq!(rt; reads(small, &viewer(row.person), TEXT), row.may);
+    }
+    assert!(rt; reads(small, &strong(), TEXT));
+    Ok(())
+}
+
+#[test]
+fn a_text_is_read_by_its_author_and_readers(rt: HostRuntime) -> Result<(), Fail> {
+    check_reads(&rt, &secret(), [false, true, true, false, true])
+}
+
+#[test]
+fn an_anonymous_text_is_read_by_readers(rt: HostRuntime) -> Result<(), Fail> {
+    let small = Small {
+        author: 0,
+        ..secret()
+    };
+    check_reads(&rt, &small, [false, true, true, false, false])
+}
+
+#[test]
+fn a_text_without_a_recipient_is_read_by_its_author(rt: HostRuntime) -> Result<(), Fail> {
+    let small = Small {
+        recipient: Recipient {
+            text: 4,
+            ..secret().recipient
+        },
+        ..secret()
+    };
+    check_reads(&rt, &small, [false, false, false, false, true])
+}
+
+#[test]
+fn a_text_is_refused_by_its_number(rt: HostRuntime) -> Result<(), Fail> {
+    let small = secret();
+    check_guard(&rt, text_guard(&small, &viewer(6), 0), 15, 0)?;
+    check_guard(&rt, text_guard(&small, &viewer(6), 4), 14, 4)?;
+    check_guard(&rt, text_guard(&small, &viewer(8), TEXT), 14, TEXT)?;
+    check_guard(&rt, text_guard(&small, &viewer(6), TEXT), 0, 0)
+}
+
+fn check_shown(
+    rt: &impl Abort,
+    small: &Small,
+    recipient: &Recipient,
+    may: [bool; 5],
+) -> Result<(), Fail> {
+    for row in &each(may) {
+        let shown = shows_recipient(small, &viewer(row.person), small.author, recipient);
+        assert_eq!(rt; shown, row.may);
+    }
+    assert!(rt; shows_recipient(small, &strong(), small.author, recipient));
+    Ok(())
+}
+
+#[test]
+fn a_recipient_is_shown_to_who_sees_the_conference(rt: HostRuntime) -> Result<(), Fail> {
+    let shown = Small {
+        kind: READ_PROTECTED,
+        ..secret()
+    };
+    check_shown(&rt, &shown, &shown.recipient, [true; 5])?;
+    let secret = secret();
+    check_shown(
+        &rt,
+        &secret,
+        &secret.recipient,
+        [false, true, true, false, false],
+    )
+}
+
+#[test]
+fn a_blind_recipient_is_shown_to_few(rt: HostRuntime) -> Result<(), Fail> {
+    let small = Small {
+        kind: READ_PROTECTED,
+        ..secret()
+    };
+    check_shown(&rt, &small, &blind(0), [false, true, true, false, true])?;
+    check_shown(&rt, &small, &blind(8), [false, true, true, true, true])
+}
+
+fn blind(sender: u32) -> Recipient {
+    Recipient {
+        tag: 15,
+        sender,
+        ..secret().recipient
+    }
+}
+
+fn check_submits(rt: &impl Abort, submitters: u32, may: [bool; 5]) -> Result<(), Fail> {
+    let small = Small {
+        submitters,
+        ..secret()
+    };
+    for row in &each(may) {
+        assert_eq!(rt; may_submit(&small, &viewer(row.person), 7), row.may);
+    }
+    assert!(rt; may_submit(&small, &strong(), 7));
+    Ok(())
+}
+
+// All, the stranger alone, the conference's members, and none: the supervisor always may.
+#[test]
+fn texts_are_taken_from_submitters(rt: HostRuntime) -> Result<(), Fail> {
+    check_submits(&rt, 0, [true; 5])?;
+    check_submits(&rt, 8, [false, true, false, true, false])?;
+    check_submits(&rt, 7, [false, true, true, false, false])?;
+    check_submits(&rt, 11, [false, true, false, false, false])
+}
+
+#[test]
+fn a_text_is_refused_by_a_conference(rt: HostRuntime) -> Result<(), Fail> {
+    let small = Small {
+        submitters: 5,
+        ..secret()
+    };
+    check_guard(&rt, submit_guard(&small, &viewer(6), 7), 11, 7)?;
+    check_guard(&rt, submit_guard(&small, &viewer(5), 9), 11, 9)?;
+    check_guard(&rt, submit_guard(&small, &viewer(5), 7), 0, 0)
+}
