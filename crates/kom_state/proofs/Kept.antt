@@ -1,5 +1,5 @@
 -- What is kept of the conferences and their names stays so when a conference is added or changed.
-use Rattle.std.proofs.Common.{◌≡◌, ℕ, ◌+◌, ◌≤◌, true, false, List, None, is_some, refl, sym, ap, ◌∙◌, arith}
+use Rattle.std.proofs.Common.{◌≡◌, ℕ, ◌+◌, ◌≤◌, true, false, List, [], None, is_some, refl, sym, ap, ◌∙◌, arith}
 use Rattle.std.specs.List.{list_any}
 use Rattle.std.proofs.lemmas.Bool.{and_parts, not-true, leb-true}
 use Rattle.row_table.specs.Tables.{row_of, with_row, changed_row}
@@ -77,3 +77,7 @@ module _ (rows : List ConferenceRow) (names : List Named) (next : ℕ) (kept : I
     same_names = kept.same_names ∙ sym (names-kept number change rows keeps);
     within = kept.within;
   })
+
+pub IsKept-none : (rows : List ConferenceRow) (names : List Named) → rows ≡ [] → names ≡ [] → IsKept rows names 1
+IsKept-none rows names no_rows no_names =
+    rw (no_rows, no_names) (record { by_number = tt; below = tt; same_names = refl; within = omega arith })

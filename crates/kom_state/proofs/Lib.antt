@@ -7,3 +7,10 @@ pub mod EffectLists
 pub mod Taken
 pub mod Making
 pub mod Rooms
+pub mod TableRows
+pub mod LocalNumbers
+pub mod Drawing
+pub mod Needed
+pub mod Fitted
+pub mod Walking
+pub mod Pushing

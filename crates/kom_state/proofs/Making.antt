@@ -14,12 +14,15 @@ use Rattle.kom_types.specs.declared.memberships.MembershipRow.{MembershipRow}
 use Rattle.kom_types.specs.declared.persons.PersonRow.{PersonRow}
 use Rattle.kom_model.specs.Db.{Db}
 use Rattle.kom_model.specs.Effects.{made, with_changed_conference, with_changed_person}
-use Rattle.memberships.specs.Table.{Table, UsesRoom, room_of_person, room_of_conference}
+use Rattle.memberships.specs.Table.{Table, UsesRoom, KeepsRoom, room_of_person, room_of_conference}
+use Rattle.read_ranges.specs.Reads.{ReadRow, with_reader}
 use Rattle.row_slots.specs.Lists.{room_in}
 use Rattle.name_lookup.specs.NamedRows.{Lookup}
+use Rattle.texts.specs.Stored.{TextRows, Stored as Texts}
+use Rattle.texts.specs.Needs.{UsesRoom as UsesTextRoom}
 use Rattle.kom_state.specs.Keeping.{stored}
 use Rattle.kom_state.specs.Room.{Room, Stored, IsMade, HasRoom, set_of, name_given, sets_membership, sets_for_person}
-use Rattle.kom_state.specs.Room.{sets_in_conference}
+use Rattle.kom_state.specs.Room.{sets_in_conference, needs_of}
 use Rattle.kom_state.proofs.Using.{Uses, HasRoom-after, count_by-cons}
 
 pub IsMade-using : (what : Effect) (old new : Stored) → new.db ≡ made what old.db → Uses what old.room new.room →
@@ -28,14 +31,15 @@ IsMade-using what old new db uses = record { db = db; room = HasRoom-after what 
 
 -- one person is changed
 pub IsMade-person : (what : Effect) (number : ℕ) (change : PersonRow → PersonRow) (conferences : Tabled ConferenceRow)
-    (old new : Tabled PersonRow) (memberships : Table) (names : Lookup) (next : ℕ) →
+    (old new : Tabled PersonRow) (memberships : Table) (names : Lookup) (texts : Texts) (next next_text : ℕ) →
     ((db : Db) → made what db ≡ with_changed_person number change db) →
     new.rows ≡ changed_row number_of_person number change old.rows → old.spare ≤ new.spare →
-    IsMade what (stored conferences old memberships names next) (stored conferences new memberships names next)
-IsMade-person what number change conferences old new memberships names next makes rows spare =
+    IsMade what (stored conferences old memberships names texts next next_text)
+    (stored conferences new memberships names texts next next_text)
+IsMade-person what number change conferences old new memberships names texts next next_text makes rows spare =
     IsMade-using what _ _
-    (ap (λ rows. record (stored conferences old memberships names next).db { persons = rows }) rows
-    ∙ sym (makes (stored conferences old memberships names next).db))
+    (ap (λ rows. record (stored conferences old memberships names texts next next_text).db { persons = rows }) rows
+    ∙ sym (makes (stored conferences old memberships names texts next next_text).db))
     (record {
       conferences = omega arith;
       persons = omega arith;
@@ -43,19 +47,22 @@ IsMade-person what number change conferences old new memberships names next make
       of_person = λ number. omega arith;
       of_conference = λ number. omega arith;
       name = λ _. refl;
+      texts = λ need. omega arith;
     })
 
 -- one conference is changed, and may have another name
 pub IsMade-conference : (what : Effect) (number : ℕ) (change : ConferenceRow → ConferenceRow)
     (old new : Tabled ConferenceRow) (persons : Tabled PersonRow) (memberships : Table) (names new_names : Lookup)
-    (next : ℕ) → ((db : Db) → made what db ≡ with_changed_conference number change db) →
+    (texts : Texts) (next next_text : ℕ) → ((db : Db) → made what db ≡ with_changed_conference number change db) →
     new.rows ≡ changed_row number_of_conference number change old.rows → old.spare ≤ new.spare →
     (name_given what ≡ None → new_names.ready ≡ names.ready) →
-    IsMade what (stored old persons memberships names next) (stored new persons memberships new_names next)
-IsMade-conference what number change old new persons memberships names new_names next makes rows spare ready =
+    IsMade what (stored old persons memberships names texts next next_text)
+    (stored new persons memberships new_names texts next next_text)
+IsMade-conference what number change old new persons memberships names new_names texts next next_text makes rows spare
+    ready =
     IsMade-using what _ _
-    (ap (λ rows. record (stored old persons memberships names next).db { conferences = rows }) rows
-    ∙ sym (makes (stored old persons memberships names next).db))
+    (ap (λ rows. record (stored old persons memberships names texts next next_text).db { conferences = rows }) rows
+    ∙ sym (makes (stored old persons memberships names texts next next_text).db))
     (record {
       conferences = omega arith;
       persons = omega arith;
@@ -63,18 +70,22 @@ IsMade-conference what number change old new persons memberships names new_names
       of_person = λ number. omega arith;
       of_conference = λ number. omega arith;
       name = ready;
+      texts = λ need. omega arith;
     })
 
 pub IsMade-added : (number : ℕ) (name : List ℕ) (kind at creator supervisor : ℕ) (old new : Tabled ConferenceRow)
-    (persons : Tabled PersonRow) (memberships : Table) (names new_names : Lookup) (next : ℕ) →
+    (persons : Tabled PersonRow) (memberships : Table) (names new_names : Lookup) (texts : Texts) (next next_text : ℕ) →
     new.rows ≡ with_row number_of_conference (fresh_conference number name kind at creator supervisor) old.rows →
     old.spare ≤ new.spare + 1 →
-    IsMade (effect.ConfAdded number name kind at creator supervisor) (stored old persons memberships names next)
-    (stored new persons memberships new_names (number + 1))
+    IsMade (effect.ConfAdded number name kind at creator supervisor)
+    (stored old persons memberships names texts next next_text)
+    (stored new persons memberships new_names texts (number + 1) next_text)
 unfolding made
-IsMade-added number name kind at creator supervisor old new persons memberships names new_names next rows spare =
+IsMade-added number name kind at creator supervisor old new persons memberships names new_names texts next next_text
+    rows spare =
     IsMade-using _ _ _
-    (ap (λ rows. (stored (record new { rows = rows }) persons memberships new_names (number + 1)).db) rows)
+    (ap (λ rows. (stored (record new { rows = rows }) persons memberships new_names texts (number + 1) next_text).db)
+    rows)
     (record {
       conferences = omega arith;
       persons = omega arith;
@@ -82,18 +93,20 @@ IsMade-added number name kind at creator supervisor old new persons memberships 
       of_person = λ number. omega arith;
       of_conference = λ number. omega arith;
       name = λ none. absurd (none-some name (sym none));
+      texts = λ need. omega arith;
     })
 
 pub IsMade-joined : (number privileges flags last_login : ℕ) (conferences : Tabled ConferenceRow)
-    (old new : Tabled PersonRow) (memberships : Table) (names : Lookup) (next : ℕ) →
+    (old new : Tabled PersonRow) (memberships : Table) (names : Lookup) (texts : Texts) (next next_text : ℕ) →
     new.rows ≡ with_row number_of_person (fresh_person number privileges flags last_login) old.rows →
     old.spare ≤ new.spare + 1 →
-    IsMade (effect.PersonAdded number privileges flags last_login) (stored conferences old memberships names next)
-    (stored conferences new memberships names next)
+    IsMade (effect.PersonAdded number privileges flags last_login)
+    (stored conferences old memberships names texts next next_text)
+    (stored conferences new memberships names texts next next_text)
 unfolding made
-IsMade-joined number privileges flags last_login conferences old new memberships names next rows spare =
+IsMade-joined number privileges flags last_login conferences old new memberships names texts next next_text rows spare =
     IsMade-using _ _ _
-    (ap (λ rows. (stored conferences (record new { rows = rows }) memberships names next).db) rows)
+    (ap (λ rows. (stored conferences (record new { rows = rows }) memberships names texts next next_text).db) rows)
     (record {
       conferences = omega arith;
       persons = omega arith;
@@ -101,6 +114,42 @@ IsMade-joined number privileges flags last_login conferences old new memberships
       of_person = λ number. omega arith;
       of_conference = λ number. omega arith;
       name = λ _. refl;
+      texts = λ need. omega arith;
+    })
+
+-- ---- texts
+-- texts are changed, and what is drawn of a conference and a person
+pub record Changes (what : Effect) (old_conferences new_conferences : Tabled ConferenceRow)
+    (old_persons new_persons : Tabled PersonRow) (old new : Texts) (conference_rows : List ConferenceRow)
+    (person_rows : List PersonRow) (rows : TextRows) : Type 0 where
+  pub conferences : new_conferences.rows ≡ conference_rows
+  pub conference_spare : old_conferences.spare ≤ new_conferences.spare
+  pub persons : new_persons.rows ≡ person_rows
+  pub person_spare : old_persons.spare ≤ new_persons.spare
+  pub texts : new.rows ≡ rows
+  pub room : UsesTextRoom old.room new.room (needs_of what)
+
+pub IsMade-texts : (what : Effect) (old_conferences new_conferences : Tabled ConferenceRow)
+    (old_persons new_persons : Tabled PersonRow) (memberships : Table) (names : Lookup) (old new : Texts)
+    (next next_text new_next_text : ℕ) (conference_rows : List ConferenceRow) (person_rows : List PersonRow)
+    (rows : TextRows) →
+    (stored (record new_conferences { rows = conference_rows }) (record new_persons { rows = person_rows })
+    memberships names (record new { rows = rows }) next new_next_text).db
+    ≡ made what (stored old_conferences old_persons memberships names old next next_text).db →
+    Changes what old_conferences new_conferences old_persons new_persons old new conference_rows person_rows rows →
+    IsMade what (stored old_conferences old_persons memberships names old next next_text)
+    (stored new_conferences new_persons memberships names new next new_next_text)
+IsMade-texts what old_conferences new_conferences old_persons new_persons memberships names old new next next_text
+    new_next_text conference_rows person_rows rows db changes =
+    IsMade-using what _ _ (rw (changes.conferences, changes.persons, changes.texts) db) (record {
+      conferences =
+          let kept : old_conferences.spare ≤ new_conferences.spare = changes.conference_spare in omega arith;
+      persons = let kept : old_persons.spare ≤ new_persons.spare = changes.person_spare in omega arith;
+      memberships = omega arith;
+      of_person = λ number. omega arith;
+      of_conference = λ number. omega arith;
+      name = λ _. refl;
+      texts = changes.room;
     })
 
 -- ---- memberships
@@ -126,15 +175,45 @@ falls_at at number old new here other = by (cases_eq number at)
     by (inl same) = rw (eq-eqb at number (sym same)) (here same)
     by (inr apart) = let le : old ≤ new = other apart in rw (ne_eqb at number (λ e. apart (sym e))) (omega arith)
 
+-- memberships and what was read in them are changed, and no room falls
+pub IsMade-members : (what : Effect) (change : List MembershipRow → List MembershipRow)
+    (reads : List ReadRow → List ReadRow) (conferences : Tabled ConferenceRow) (persons : Tabled PersonRow)
+    (old new : Table) (names : Lookup) (texts : Texts) (next next_text : ℕ) →
+    ((db : Db) → made what db ≡ record db { memberships = change db.memberships; reads = reads db.reads }) →
+    new.rows ≡ change old.rows → new.reads ≡ reads old.reads → KeepsRoom old new →
+    IsMade what (stored conferences persons old names texts next next_text)
+    (stored conferences persons new names texts next next_text)
+IsMade-members what change reads conferences persons old new names texts next next_text makes rows read keeps =
+    IsMade-using what _ _
+    (ap (λ rows. (stored conferences persons (record new { rows = rows }) names texts next next_text).db) rows
+    ∙ ap (λ reads. (stored conferences persons (record new { rows = change old.rows; reads = reads }) names texts next
+    next_text).db) read
+    ∙ sym (makes (stored conferences persons old names texts next next_text).db))
+    (record {
+      conferences = omega arith;
+      persons = omega arith;
+      memberships = let spare = keeps.spare in omega (arith, spare);
+      of_person = λ number. let persons = keeps.persons number in omega (arith, persons);
+      of_conference = λ number. let conferences = keeps.conferences number in omega (arith, conferences);
+      name = λ _. refl;
+      texts = λ need. omega arith;
+    })
+
 pub IsMade-set : (row : MembershipRow) (conferences : Tabled ConferenceRow) (persons : Tabled PersonRow)
-    (old new : Table) (names : Lookup) (next : ℕ) → row.last_time_read ≡ row.added_at →
-    new.rows ≡ with_membership row old.rows → UsesRoom old new row.person row.conference →
-    IsMade (set_of row) (stored conferences persons old names next) (stored conferences persons new names next)
+    (old new : Table) (names : Lookup) (texts : Texts) (next next_text : ℕ) → row.last_time_read ≡ row.added_at →
+    new.rows ≡ with_membership row old.rows → new.reads ≡ with_reader row.person row.conference old.reads →
+    UsesRoom old new row.person row.conference →
+    IsMade (set_of row) (stored conferences persons old names texts next next_text)
+    (stored conferences persons new names texts next next_text)
 unfolding made
-IsMade-set row conferences persons old new names next fresh rows uses =
+IsMade-set row conferences persons old new names texts next next_text fresh rows read uses =
     IsMade-using (set_of row) _ _
-    (ap (λ rows. (stored conferences persons (record new { rows = rows }) names next).db) (rows
-    ∙ ap (λ at. with_membership (record row { last_time_read = at }) old.rows) fresh))
+    (ap (λ rows. (stored conferences persons (record new { rows = rows }) names texts next next_text).db) (rows
+    ∙ ap (λ at. with_membership (record row { last_time_read = at }) old.rows) fresh)
+    ∙ ap (λ reads. (stored conferences persons (record new {
+      rows = with_membership (record row { last_time_read = row.added_at }) old.rows;
+      reads = reads;
+    }) names texts next next_text).db) read)
     (record {
       conferences = omega arith;
       persons = omega arith;
@@ -146,4 +225,5 @@ IsMade-set row conferences persons old new names next fresh rows uses =
           (λ e. subst (λ n. room_of_conference old n ≤ room_of_conference new n + 1) (sym e) uses.of_conference)
           (uses.other_conferences number);
       name = λ _. refl;
+      texts = λ need. omega arith;
     })

@@ -5,8 +5,10 @@ use Rattle.std.proofs.Common.{count_by}
 use Rattle.std.proofs.lemmas.List.Sums.{sum_by-cons}
 use Rattle.kom_types.specs.declared.effects.Effect.{Effect}
 use Rattle.row_slots.specs.Lists.{room_in}
+use Rattle.texts.specs.Needs.{UsesRoom as UsesTextRoom}
 use Rattle.kom_state.specs.Room.{Room, adds_conference, adds_person, sets_membership, sets_for_person}
-use Rattle.kom_state.specs.Room.{sets_in_conference, name_given, IsReady, HasRoom}
+use Rattle.kom_state.specs.Room.{sets_in_conference, name_given, IsReady, HasRoom, needs_of, all_needs}
+use Rattle.kom_state.proofs.Needed.{count_of-append}
 
 -- what room falls, and that the name stays ready where none is given
 pub record Uses (what : Effect) (old new : Room) : Type 0 where
@@ -18,6 +20,7 @@ pub record Uses (what : Effect) (old new : Room) : Type 0 where
   pub of_conference : (number : ℕ) → room_in old.of_conference number
       ≤ room_in new.of_conference number + cond (sets_in_conference number what) 1 0
   pub name : name_given what ≡ None → new.name ≡ old.name
+  pub texts : UsesTextRoom old.texts new.texts (needs_of what)
 
 ready_after : (given : Option (List ℕ)) (names : List (List ℕ)) (old new : Option (List ℕ)) →
     (given ≡ None → new ≡ old) → IsReady old (cons_option given names) → IsReady new names
@@ -48,6 +51,12 @@ HasRoom-after what old new uses rest has = record {
     count_by-cons (sets_in_conference number) what rest,
   );
   name = ready_after _ _ _ _ uses.name has.name;
+  texts = λ need. omega (
+    arith,
+    has.texts need,
+    uses.texts need,
+    count_of-append need (needs_of what) (all_needs rest),
+  );
 }
 
 ready_first : (given : Option (List ℕ)) (names : List (List ℕ)) (ready : Option (List ℕ)) →
@@ -76,4 +85,10 @@ HasRoom-first what room rest has = record {
     count_by-cons (sets_in_conference number) what [],
   );
   name = ready_first _ _ _ has.name;
+  texts = λ need. omega (
+    arith,
+    has.texts need,
+    count_of-append need (needs_of what) (all_needs rest),
+    count_of-append need (needs_of what) (all_needs []),
+  );
 }

@@ -1,22 +1,31 @@
--- How the stored rows are kept: in three tables, beside the names of the conferences.
+-- How the stored rows are kept: in tables, beside the names of the conferences.
 use Rattle.std.specs.Prelude.{◌≡◌, ℕ, ◌<◌, ◌≤◌, List, map}
 use Rattle.std.specs.List.{AllByRecursion}
 use Rattle.row_table.specs.Tables.{Tabled, IsByNumber}
 use Rattle.kom_types.specs.declared.conferences.ConferenceRow.{ConferenceRow}
 use Rattle.kom_types.specs.declared.persons.PersonRow.{PersonRow}
+use Rattle.kom_types.specs.declared.texts.TextRow.{TextRow}
 use Rattle.kom_types.specs.tables.Conferences.{number_of_conference}
 use Rattle.memberships.specs.Table.{Table}
 use Rattle.name_lookup.specs.NamedRows.{Named, Lookup, named}
+use Rattle.texts.specs.Stored.{Stored as Texts}
 use Rattle.kom_state.specs.Room.{Stored}
 
 -- what the tables are as stored rows
-abbrev pub stored : Tabled ConferenceRow → Tabled PersonRow → Table → Lookup → ℕ → Stored
-stored conferences persons memberships names next_conference = record {
+abbrev pub stored : Tabled ConferenceRow → Tabled PersonRow → Table → Lookup → Texts → ℕ → ℕ
+    → Stored
+stored conferences persons memberships names texts next_conference next_text = record {
   db = record {
     conferences = conferences.rows;
     persons = persons.rows;
     memberships = memberships.rows;
+    reads = memberships.reads;
+    texts = texts.rows.texts;
+    recipients = texts.rows.recipients;
+    links = texts.rows.links;
+    marks = texts.rows.marks;
     next_conference = next_conference;
+    next_text = next_text;
   };
   room = record {
     conferences = conferences.spare;
@@ -25,6 +34,7 @@ stored conferences persons memberships names next_conference = record {
     of_person = memberships.person_rooms;
     of_conference = memberships.conference_rooms;
     name = names.ready;
+    texts = texts.room;
   };
 }
 
@@ -35,6 +45,10 @@ name_row row = named row.number row.name
 -- the numbers of the conferences are below this one
 abbrev pub AreBelow : ℕ → List ConferenceRow → Type 0
 AreBelow next rows = AllByRecursion (λ row. row.number < next) rows
+
+-- the numbers of the texts are below this one
+abbrev pub AreTextsBelow : ℕ → List TextRow → Type 0
+AreTextsBelow next rows = AllByRecursion (λ row. row.number < next) rows
 
 -- the numbers of the conferences rise, and are below the next one; the names are theirs; and a
 -- number may be left to give

@@ -1,18 +1,23 @@
 -- What contracts see of the stored rows as they are kept, and the room that effects need.
-use Rattle.std.specs.Prelude.{◌≡◌, ℕ, ◌≤◌, Bool, true, false, ◌==◌, List, [], ◌∷◌, Option, Some}
-use Rattle.std.specs.Prelude.{None, is_some}
-use Rattle.std.specs.Prelude.{count_by}
+use Rattle.std.specs.Prelude.{◌≡◌, ℕ, ◌≤◌, Bool, true, false, ◌==◌, List, [], ◌∷◌, ◌++◌, Option}
+use Rattle.std.specs.Prelude.{Some, None, is_some, count_by}
 use Rattle.std.specs.List.{filter_map}
 use Rattle.kom_types.specs.declared.effects.Effect.{Effect}
 use Rattle.kom_types.specs.declared.effects.Effect.TheVariants as effect
 use Rattle.kom_types.specs.declared.memberships.MembershipRow.{MembershipRow}
+use Rattle.kom_types.specs.declared.texts.MarkRow.{MarkRow}
 use Rattle.row_slots.specs.Lists.{room_in}
 use Rattle.memberships.specs.Table.{Table, room_of_person, room_of_conference}
+use Rattle.texts.specs.Needs.{HasRoom as HasTextRoom, text_needs, recipient_needs, link_needs}
+use Rattle.texts.specs.Needs.{mark_needs, created_needs}
+use Rattle.texts.specs.Stored.{Room as TextRoom}
+use Rattle.texts.specs.declared.needs.Need.{Need}
 use Rattle.kom_model.specs.Db.{Db}
 use Rattle.kom_model.specs.Effects.{fits, made}
 
 -- How many more rows fit without memory: conferences, persons and memberships; memberships of each
--- person and in each conference, as `room_in` reads them; and the name that can be given.
+-- person and in each conference, as `room_in` reads them; the name that can be given; and texts
+-- with all that hangs on them.
 pub record Room : Type 0 where
   pub conferences : ℕ
   pub persons : ℕ
@@ -20,6 +25,7 @@ pub record Room : Type 0 where
   pub of_person : List (ℕ × ℕ)
   pub of_conference : List (ℕ × ℕ)
   pub name : Option (List ℕ)
+  pub texts : TextRoom
 
 -- the stored rows, and for how many more there is room
 pub record Stored : Type 0 where
@@ -60,6 +66,33 @@ is_of_person (effect.LoggedIn number at user) = true
 is_of_person (effect.Counted number counter by) = true
 is_of_person other = false
 
+-- whether it adds, changes or takes away a text, or what hangs on one
+abbrev pub is_of_text : Effect → Bool
+is_of_text (effect.TextAdded number author at body) = true
+is_of_text (effect.TextGone number) = true
+is_of_text (effect.RecipientAdded given) = true
+is_of_text (effect.RecipientGone text conference) = true
+is_of_text (effect.LinkAdded given) = true
+is_of_text (effect.LinkGone child parent footnote) = true
+is_of_text (effect.MarkSet person text kind) = true
+is_of_text (effect.MarkGone person text) = true
+is_of_text (effect.Created person local text) = true
+is_of_text other = false
+
+-- what an effect needs of the room for texts, and what effects need
+abbrev pub needs_of : Effect → List Need
+needs_of (effect.TextAdded number author at body) = text_needs
+needs_of (effect.RecipientAdded given) = recipient_needs given
+needs_of (effect.LinkAdded given) = link_needs given
+needs_of (effect.MarkSet person text kind) =
+    mark_needs (record { person = person; text = text; kind = kind })
+needs_of (effect.Created person local text) = created_needs person
+needs_of other = []
+
+abbrev pub all_needs : List Effect → List Need
+all_needs [] = []
+all_needs (what ∷ effects) = needs_of what ++ all_needs effects
+
 -- the name that an effect gives to a conference
 abbrev pub name_given : Effect → Option (List ℕ)
 name_given (effect.ConfAdded number name kind at creator supervisor) = Some name
@@ -82,6 +115,7 @@ pub record HasRoom (room : Room) (effects : List Effect) : Type 0 where
   pub of_conference : (number : ℕ)
       → count_by (sets_in_conference number) effects ≤ room_in room.of_conference number
   pub name : IsReady room.name (filter_map name_given effects)
+  pub texts : HasTextRoom room.texts (all_needs effects)
 
 -- room in a table for the memberships that effects set
 pub record HasMemberRoom (table : Table) (effects : List Effect) : Type 0 where
@@ -104,6 +138,10 @@ IsOrderly effects = IsAtMostOne (filter_map name_given effects)
 abbrev pub set_of : MembershipRow → Effect
 set_of row = effect.MemberSet row.person row.conference row.position row.priority row.added_by
     row.added_at row.kind
+
+-- the effect that sets a mark
+abbrev pub mark_set : MarkRow → Effect
+mark_set row = effect.MarkSet row.person row.text row.kind
 
 -- an effect fits, and there is room for it
 pub record IsPossible (what : Effect) (old : Stored) : Type 0 where

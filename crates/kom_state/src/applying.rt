@@ -3,10 +3,12 @@ ghost use Rattle.kom_types.specs.declared.effects.Effect.{Effect as Change};
 ghost use Rattle.kom_model.specs.Effects.{fits, made, apply, apply_all};
 ghost use Rattle.kom_state.specs.Room.{HasRoom, IsPossible, IsMade, is_of_person, set_of};
 
+mod text_effects;
+
 use crate::state::State;
 use conferences::fresh_conference;
 use kom_types::{
-    Bytes, ConfField, Counter, Effect, EffectList, MembershipRow, Moment, PersonField,
+    Bytes, ConfField, Counter, Effect, EffectList, MembershipRow, Moment, PersonField, ReadRanges,
 };
 use persons::fresh_person;
 
@@ -72,7 +74,19 @@ impl State {
                 last_time_read: added_at,
                 kind,
             }),
-            other => self.apply_to_person(other),
+            Effect::MemberGone { person, conference } => self.remove_membership(person, conference),
+            Effect::ReadSet {
+                person,
+                conference,
+                at,
+                ranges,
+            } => self.set_read(person, conference, at, ranges),
+            Effect::PersonAdded { .. }
+            | Effect::PersonField { .. }
+            | Effect::Password { .. }
+            | Effect::LoggedIn { .. }
+            | Effect::Counted { .. } => self.apply_to_person(effect),
+            other => self.apply_to_texts(other),
         }
     }
 
@@ -173,5 +187,19 @@ impl State {
         ensures { IsMade (set_of row) self.old self.new }
     {
         self.memberships.set(row).unwrap();
+    }
+
+    fn remove_membership(&mut self, person: u32, conference: u32)
+        ensures { IsMade (Effect.MemberGone person conference) self.old self.new }
+    {
+        self.memberships.remove(person, conference);
+    }
+
+    fn set_read(&mut self, person: u32, conference: u32, at: Moment, ranges: ReadRanges)
+        requires { IsPossible (Effect.ReadSet person conference at ranges) self.old }
+        ensures { IsMade (Effect.ReadSet person conference at ranges) self.old self.new }
+    {
+        self.memberships
+            .set_read(person, conference, at, ranges.into_vec());
     }
 }

@@ -1,10 +1,13 @@
-ghost use Rattle.std.specs.Prelude.{◌≡◌, [], ◌∷◌, map, option_copied, IfOk};
+ghost use Rattle.std.specs.Prelude.{◌≡◌, [], ◌∷◌, ◌++◌, map, option_copied, IfOk};
 ghost use Rattle.kom_model.specs.calls.Call.{seat_of, answer, done};
 ghost use Rattle.kom_model.specs.calls.Guards.{caller as caller_of};
+ghost use Rattle.kom_model.specs.calls.Sessions.{counts};
 
 use crate::state::State;
 use kom_model::Viewer;
-use kom_types::{Decision, Effect, Memory, Moment, Reply, Seat, Sequence, SessionChange};
+use kom_types::{
+    Counter, Decision, Effect, EffectList, Memory, Moment, Reply, Seat, Sequence, SessionChange,
+};
 use sessions::Sessions;
 use std::alloc::Global;
 use std::marker::Model;
@@ -157,4 +160,23 @@ impl<'a> Asked<'a> {
             },
         }
     }
+}
+
+/// Adds to effects that a counter of a person rises, unless by nothing.
+pub fn push_count(
+    effects: &mut EffectList,
+    person: u32,
+    counter: Counter,
+    by: u64,
+) -> Result<(), Memory>
+    ensures { IfOk result (λ done. effects.new ≡ effects.old ++ counts person counter by) }
+{
+    if by > 0 {
+        effects.push(Effect::Counted {
+            number: person,
+            counter,
+            by,
+        })?;
+    }
+    Ok(())
 }

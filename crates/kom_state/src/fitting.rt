@@ -4,8 +4,12 @@ ghost use Rattle.kom_model.specs.Effects.{fits, is_free, may_name, may_add_confe
 ghost use Rattle.kom_model.specs.Effects.{may_set, may_set_field, has_letterbox, may_join};
 ghost use Rattle.kom_types.specs.tables.Conferences.{is_secret_protected, is_letterbox};
 
+mod text_effects;
+
 use crate::state::State;
 use kom_types::{ConfField, ConferenceRow, Effect};
+use read_ranges::rise;
+pub use text_effects::{is_recipient_tag, most_links};
 
 /// The bits of a conference's type.
 const READ_PROTECTED: u8 = 128;
@@ -61,17 +65,45 @@ impl State {
                     && self.has_conference(*conference)
                     && self.may_join(*person, *conference)
             }
+            Effect::MemberGone { person, conference } => self.is_member(*person, *conference),
+            Effect::ReadSet {
+                person,
+                conference,
+                ranges,
+                ..
+            } => self.is_member(*person, *conference) && rise(ranges.as_slice()),
+            Effect::TextAdded { number, body, .. } => self.may_add_text(*number, body.as_slice()),
+            Effect::TextGone { number } => self.has_text(*number) && self.is_bare(*number),
+            Effect::RecipientAdded(given) => self.may_add_recipient(given),
+            Effect::RecipientGone { text, conference } => {
+                self.recipient(*text, *conference).is_some()
+            }
+            Effect::LinkAdded(given) => self.may_link(given),
+            Effect::LinkGone {
+                child,
+                parent,
+                footnote,
+            } => self.link(*child, *parent, *footnote).is_some(),
+            Effect::MarkSet { person, text, .. } => {
+                self.has_person(*person) && self.has_text(*text) && self.may_mark(*person, *text)
+            }
+            Effect::MarkGone { person, text } => self.mark(*person, *text).is_some(),
+            Effect::Created {
+                person,
+                local,
+                text,
+            } => self.may_create(*person, *local, *text),
             _ => false,
         }
     }
 
-    fn has_conference(&self, number: u32) -> bool
+    pub(crate) fn has_conference(&self, number: u32) -> bool
         ensures { result ≡ is_some (conference_of self.now.db number) }
     {
         self.conference(number).is_some()
     }
 
-    fn has_person(&self, number: u32) -> bool
+    pub(crate) fn has_person(&self, number: u32) -> bool
         ensures { result ≡ is_some (person_of self.now.db number) }
     {
         self.person(number).is_some()

@@ -13,7 +13,10 @@ mod rights;
 mod state;
 #[cfg(test)]
 mod tests;
+mod walks;
 
-pub use asked::Asked;
+pub use asked::{Asked, push_count};
+pub use fitting::{is_recipient_tag, most_links};
 pub use opening::initial_effects;
 pub use state::State;
+pub use walks::{MemberWalk, MembershipWalk};

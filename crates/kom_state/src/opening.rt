@@ -1,7 +1,7 @@
 ghost use Rattle.std.specs.Prelude.{◌≡◌, [], take, IfOk};
 ghost use Rattle.kom_model.specs.Initial.{initial, initial_effects as effects_at_first};
 ghost use Rattle.kom_model.specs.Initial.{initial_conference as conference_at_first};
-ghost use Rattle.kom_model.specs.Effects.{apply};
+ghost use Rattle.kom_model.specs.Effects.{apply, apply_all};
 
 use crate::state::State;
 use kom_types::{Bytes, Effect, EffectList, Memory, Moment, Sequence};
@@ -24,11 +24,22 @@ impl State {
     pub fn initial(alloc: Global, password: &[u8], moment: Moment) -> Result<State, Memory>
         ensures { IfOk result (λ state. state.db ≡ initial password.now moment) }
     {
+        let effects = initial_effects(alloc, password, moment)?;
         let mut state = State::empty(alloc);
-        for effect in initial_effects(alloc, password, moment)?.into_vec() {
-            state.make(effect)?;
+        match state.make_all(effects) {
+            Ok(()) => Ok(state),
+            Err(memory) => Err(memory),
         }
-        Ok(state)
+    }
+
+    /// Makes those of the effects that fit, in their order.
+    fn make_all(&mut self, effects: EffectList) -> Result<(), Memory>
+        ensures { IfOk result (λ done. self.new.db ≡ apply_all effects self.old.db) }
+    {
+        for effect in effects.into_vec() {
+            self.make(effect)?;
+        }
+        Ok(())
     }
 
     /// Makes an effect if it fits.

@@ -1,14 +1,20 @@
 ghost use Rattle.std.specs.Prelude.{◌≡◌, length, map, filter, slice_get, option_copied, is_some};
-ghost use Rattle.std.specs.Prelude.{IfOk};
+ghost use Rattle.std.specs.Prelude.{[], option_map, IfOk, IfSome, IsNone};
 ghost use Rattle.row_table.specs.Tables.{IsByNumber};
 ghost use Rattle.kom_types.specs.Names.{finds};
 ghost use Rattle.kom_model.specs.Db.{conference_of, person_of, membership_of};
 ghost use Rattle.kom_model.specs.Db.{memberships_of, members_of, conferences_of};
 ghost use Rattle.kom_types.specs.tables.Conferences.{number_of_conference};
+ghost use Rattle.kom_model.specs.Db.{read_of};
+ghost use Rattle.kom_model.specs.calls.Memberships.{member_of};
+ghost use Rattle.read_ranges.specs.Numbers.{ranges_of};
 ghost use Rattle.kom_state.specs.Keeping.{AreBelow};
 
+mod text_rows;
+
 use crate::state::State;
-use kom_types::{ConferenceRow, MembershipRow, Memory, Numbers, PersonRow};
+use kom_types::{ConferenceRow, Member, MembershipRow, Memory, Numbers, PersonRow};
+use read_ranges::Ranges;
 
 impl State {
     /// The conference of a number, in constant time.
@@ -76,13 +82,23 @@ impl State {
         self.memberships.count_of_conference(conference)
     }
 
-    /// The membership at a place among those in a conference. The time grows with the memberships
-    /// of its person.
+    /// The member at a place among those of a conference, in the order of joining, in constant time.
     #[tactic(auto, unfolding(kom_model::specs::Db::members_of))]
-    pub fn nth_member(&self, conference: u32, place: usize) -> Option<MembershipRow>
-        ensures { result ≡ slice_get (members_of self.now.db conference) place }
+    pub fn nth_member(&self, conference: u32, place: usize) -> Option<Member>
+        ensures { result ≡ option_map member_of (slice_get (members_of self.now.db conference) place) }
     {
-        self.memberships.nth_of_conference(conference, place)
+        self.memberships.nth_member(conference, place)
+    }
+
+    /// What a person has read of a conference, if it is a member, in constant time.
+    #[tactic(auto, unfolding(kom_model::specs::Db::membership_of, kom_model::specs::Db::read_of))]
+    pub fn read(&self, person: u32, conference: u32) -> Option<&Ranges>
+        ensures there { is_some result ≡ is_some (membership_of self.now.db person conference) }
+        ensures ranges { IfSome result
+            (λ read. ranges_of read.now.numbers ≡ read_of self.now.db person conference) }
+        ensures none { IsNone result → read_of self.now.db person conference ≡ [] }
+    {
+        self.memberships.read(person, conference)
     }
 
     /// The numbers of the conferences whose names a pattern finds, rising.

@@ -1,5 +1,7 @@
-ghost use Rattle.std.specs.Prelude.{◌≡◌, OnOk, count_by, option_copied};
+ghost use Rattle.std.specs.Prelude.{◌≡◌, ◌++◌, OnOk, IfOk, count_by, option_copied};
 ghost use Rattle.std.specs.List.{filter_map};
+ghost use Rattle.texts.specs.Needs.{HasRoom as HasTextRoom, count_of, same};
+ghost use Rattle.kom_state.specs.Room.{all_needs, needs_of};
 ghost use Rattle.kom_state.specs.Room.{HasRoom, IsOrderly, IsReady, HasMemberRoom};
 ghost use Rattle.kom_state.specs.Room.{adds_conference, adds_person, key_set};
 ghost use Rattle.kom_state.specs.Room.{sets_membership, name_given};
@@ -8,6 +10,8 @@ use crate::state::State;
 use kom_types::{Effect, Memory};
 use memberships::Memberships;
 use name_lookup::Names;
+use std::alloc::Global;
+use texts::{Need, Texts};
 
 impl State {
     /// Takes the room that effects need, of which one at most gives a name.
@@ -24,13 +28,104 @@ impl State {
         let persons = effects.iter().filter(|effect| adds_person(effect)).count();
         self.persons.reserve(persons)?;
         reserve_memberships(&mut self.memberships, effects)?;
+        reserve_texts(&mut self.texts, effects, self.alloc)?;
         reserve_name(&mut self.names, effects)
     }
+}
+
+/// Makes room for all that effects add to texts.
+fn reserve_texts(texts: &mut Texts, effects: &[Effect], alloc: Global) -> Result<(), Memory>
+    ensures rows { texts.new.rows ≡ texts.old.rows }
+    ensures ok { OnOk result (HasTextRoom texts.new.room (all_needs effects.now)) }
+{
+    let needs = all_needs(effects, alloc)?;
+    reserve_needs(texts, needs.as_slice())
+}
+
+/// Makes room for each thing that is needed, as often as it is needed.
+fn reserve_needs(texts: &mut Texts, needs: &[Need]) -> Result<(), Memory>
+    ensures rows { texts.new.rows ≡ texts.old.rows }
+    ensures ok { OnOk result (HasTextRoom texts.new.room needs.now) }
+{
+    for need in needs {
+        let count = count_of(*need, needs);
+        texts.reserve(*need, count)?;
+    }
+    Ok(())
+}
+
+fn count_of(need: Need, needs: &[Need]) -> usize
+    ensures { result ≡ count_of need needs.now }
+{
+    needs.iter().filter(|other| is_same(need, **other)).count()
+}
+
+/// Whether two needs are the same.
+fn is_same(need: Need, other: Need) -> bool
+    ensures { result ≡ same need other }
+{
+    match (need, other) {
+        (Need::Text, Need::Text)
+        | (Need::Recipient, Need::Recipient)
+        | (Need::Link, Need::Link)
+        | (Need::Mark, Need::Mark) => true,
+        (Need::RecipientOf(text), Need::RecipientOf(second)) => text == second,
+        (Need::Local(conference), Need::Local(second)) => conference == second,
+        (Need::LinkFrom(text, footnote), Need::LinkFrom(second, kind)) => {
+            text == second && footnote == kind
+        }
+        (Need::LinkInto(text, footnote), Need::LinkInto(second, kind)) => {
+            text == second && footnote == kind
+        }
+        (Need::MarkOf(person), Need::MarkOf(second)) => person == second,
+        (Need::MarkOn(text), Need::MarkOn(second)) => text == second,
+        (Need::Created(person), Need::Created(second)) => person == second,
+        _ => false,
+    }
+}
+
+/// All that effects need of the room for texts.
+fn all_needs(effects: &[Effect], alloc: Global) -> Result<Vec<Need>, Memory>
+    ensures { IfOk result (λ needs. needs.items ≡ all_needs effects.now) }
+{
+    let mut needs = Vec::new(alloc);
+    for effect in effects {
+        push_needs(&mut needs, effect)?;
+    }
+    Ok(needs)
+}
+
+/// Adds what an effect needs of the room for texts.
+fn push_needs(needs: &mut Vec<Need>, effect: &Effect) -> Result<(), Memory>
+    ensures { IfOk result (λ done. needs.new.items ≡ needs.old.items ++ needs_of effect.now) }
+{
+    match effect {
+        Effect::TextAdded { .. } => needs.push(Need::Text)?,
+        Effect::RecipientAdded(given) => {
+            needs.push(Need::Recipient)?;
+            needs.push(Need::RecipientOf(given.text))?;
+            needs.push(Need::Local(given.conference))?;
+        }
+        Effect::LinkAdded(given) => {
+            needs.push(Need::Link)?;
+            needs.push(Need::LinkFrom(given.child, given.footnote))?;
+            needs.push(Need::LinkInto(given.parent, given.footnote))?;
+        }
+        Effect::MarkSet { person, text, .. } => {
+            needs.push(Need::Mark)?;
+            needs.push(Need::MarkOf(*person))?;
+            needs.push(Need::MarkOn(*text))?;
+        }
+        Effect::Created { person, .. } => needs.push(Need::Created(*person))?,
+        _ => {}
+    }
+    Ok(())
 }
 
 /// Makes room for all memberships that effects set, of each person and in each conference.
 fn reserve_memberships(memberships: &mut Memberships, effects: &[Effect]) -> Result<(), Memory>
     ensures rows { memberships.new.rows ≡ memberships.old.rows }
+    ensures reads { memberships.new.reads ≡ memberships.old.reads }
     ensures ok { OnOk result (HasMemberRoom memberships.new effects.now) }
 {
     let count = membership_count(effects);

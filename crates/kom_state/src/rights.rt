@@ -1,6 +1,6 @@
 use crate::state::State;
 use kom_model::Rows;
-use kom_types::ConferenceHead;
+use kom_types::{ConferenceHead, Recipient};
 
 impl Rows for State {
     ghost db = { λ state. state.db };
@@ -18,5 +18,25 @@ impl Rows for State {
     #[tactic(auto, unfolding(kom_model::specs::Db::membership_kind_of, kom_model::specs::Db::membership_of))]
     fn membership_kind(&self, person: u32, conference: u32) -> Option<u8> {
         self.memberships.kind_of(person, conference)
+    }
+
+    #[tactic(auto, unfolding(kom_model::specs::Db::person_flags_of))]
+    fn flags(&self, person: u32) -> Option<u8> {
+        let row = self.person(person)?;
+        Some(row.flags)
+    }
+
+    #[tactic(auto, unfolding(kom_model::specs::Db::text_author_of))]
+    fn author(&self, text: u32) -> Option<u32> {
+        let row = self.text(text)?;
+        Some(row.author)
+    }
+
+    fn recipient_count(&self, text: u32) -> usize {
+        State::recipient_count(self, text)
+    }
+
+    fn recipient(&self, text: u32, place: usize) -> Option<Recipient> {
+        self.nth_recipient(text, place).copied()
     }
 }

@@ -7,28 +7,51 @@ use name_lookup::Names;
 use persons::Persons;
 use std::alloc::Global;
 use std::marker::Model;
+use texts::Texts;
 
 /// The stored rows.
-#[derive(Drop)]
 pub struct State {
     pub(crate) conferences: Conferences,
     pub(crate) persons: Persons,
     pub(crate) memberships: Memberships,
     // The names of the conferences, by which they are found.
     pub(crate) names: Names,
+    pub(crate) texts: Texts,
     pub(crate) next_conference: u32,
+    pub(crate) next_text: u32,
     pub(crate) alloc: Global,
+}
+
+// A call of its own, so that whoever lets a state go has one step to prove and not one for each part.
+impl Drop for State {
+    fn drop(self) {
+        let State {
+            conferences,
+            persons,
+            memberships,
+            names,
+            texts,
+            next_conference: _,
+            next_text: _,
+            alloc: _,
+        } = self;
+        drop((conferences, persons, memberships));
+        drop((names, texts));
+    }
 }
 
 impl Model for State {
     ghost use Rattle.kom_state.specs.Room.{Stored};
     ghost use Rattle.kom_state.specs.Keeping.{stored, IsKept};
+    ghost use Rattle.kom_state.specs.Drawing.{AreDrawn};
 
     ghost Value = { Stored };
 
-    ghost view = { λ s. stored s.conferences s.persons s.memberships s.names s.next_conference };
+    ghost view = { λ s. stored s.conferences s.persons s.memberships s.names s.texts
+        s.next_conference s.next_text };
 
-    ghost invariant = { λ s. IsKept s.conferences.rows s.names.names s.next_conference };
+    ghost invariant = { λ s. IsKept s.conferences.rows s.names.names s.next_conference
+        × AreDrawn s.conferences.rows s.persons.rows s.texts.rows s.next_text };
 }
 
 impl State {
@@ -41,7 +64,9 @@ impl State {
             persons: Persons::new(alloc),
             memberships: Memberships::new(alloc),
             names: Names::new(alloc),
+            texts: Texts::new(alloc),
             next_conference: 1,
+            next_text: 1,
             alloc,
         }
     }

@@ -1,3 +1,6 @@
+mod member_effects;
+mod text_effects;
+
 use super::*;
 use kom_model::Rows;
 use kom_types::{Bytes, ConfField, Counter, Effect, Memory, Moment, PersonField};
@@ -115,18 +118,14 @@ fn privileges_of(state: &State, number: u32) -> Option<u16> {
 
 #[test]
 fn names_that_clash_do_not_fit(rt: HostRuntime) -> Result<(), Fail> {
-    let mut state = State::empty(rt.alloc());
-    give_names(&rt, &mut state)?;
-    give_names_up(&rt, &mut state)?;
-    drop(state);
-    Ok(())
+    give_names(&rt, &mut State::empty(rt.alloc()))
 }
 
 // A name that clashes does not fit.
 fn give_names(rt: &impl Abort, state: &mut State) -> Result<(), Fail> {
     assert!(rt; add(state, 4, b"News", 8)?);
     assert!(rt; !add(state, 6, b"nEWS", 8)?);
-    Ok(())
+    give_names_up(rt, state)
 }
 
 // A name that is given up is free.
@@ -139,20 +138,16 @@ fn give_names_up(rt: &impl Abort, state: &mut State) -> Result<(), Fail> {
 
 #[test]
 fn members_join(rt: HostRuntime) -> Result<(), Fail> {
-    let mut state = State::empty(rt.alloc());
-    open_all(&rt, &mut state)?;
-    join_two(&rt, &mut state)?;
-    check_members(&rt, &state)?;
-    drop(state);
-    Ok(())
+    join_two(&rt, &mut State::empty(rt.alloc()))
 }
 
 // The administrator joins two conferences that are there, and none that is not.
 fn join_two(rt: &impl Abort, state: &mut State) -> Result<(), Fail> {
+    open_all(rt, state)?;
     assert!(rt; !join(state, 5, 9)?);
     assert!(rt; join(state, 5, 4)?);
     assert!(rt; join(state, 5, 1)?);
-    Ok(())
+    check_members(rt, state)
 }
 
 fn check_members(rt: &impl Abort, state: &State) -> Result<(), Fail> {
@@ -169,13 +164,14 @@ fn place_of(state: &State, person: u32, conference: u32) -> Option<u32> {
 
 #[test]
 fn rows_are_changed(rt: HostRuntime) -> Result<(), Fail> {
-    let mut state = State::empty(rt.alloc());
-    open_all(&rt, &mut state)?;
-    change_person(&rt, &mut state)?;
-    log_in(&rt, &mut state)?;
-    change_conference(&rt, &mut state)?;
-    drop(state);
-    Ok(())
+    change_rows(&rt, &mut State::empty(rt.alloc()))
+}
+
+fn change_rows(rt: &impl Abort, state: &mut State) -> Result<(), Fail> {
+    open_all(rt, state)?;
+    change_person(rt, state)?;
+    log_in(rt, state)?;
+    change_conference(rt, state)
 }
 
 fn change_person(rt: &impl Abort, state: &mut State) -> Result<(), Fail> {

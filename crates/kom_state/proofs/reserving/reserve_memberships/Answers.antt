@@ -14,6 +14,7 @@ loop-effect-preserved c =
       | in-Some+in_ok-reserve w ↦
           let new = w.reserve.new.self in record {
             rows = ap (λ t. t.rows) w.memberships-is ∙ w.reserve.ensures.rows ∙ c.loop-effect.invariant.rows;
+            reads = ap (λ t. t.reads) w.memberships-is ∙ w.reserve.ensures.reads ∙ c.loop-effect.invariant.reads;
             each = rw w.memberships-is (All-more (IsReservedFor new count) effects at what c.loop-effect-test.true
                 (λ k d lt.
                 IsReservedFor-kept old new count w.reserve.ensures.room _ (c.loop-effect.invariant.each k d lt))
@@ -23,6 +24,7 @@ loop-effect-preserved c =
           }
       | in_default w ↦ record {
         rows = ap (λ t. t.rows) w.memberships-is ∙ c.loop-effect.invariant.rows;
+        reads = ap (λ t. t.reads) w.memberships-is ∙ c.loop-effect.invariant.reads;
         each = rw w.memberships-is (All-more (IsReservedFor old count) effects at what c.loop-effect-test.true
             c.loop-effect.invariant.each (subst (IsReservedFor old count) c.effect-item.is
             (IsReservedFor-none old count what (sym c.key_set.ensures ∙ w.in_default.is))));

@@ -4,15 +4,20 @@ use Rattle.kom_model.specs.Effects.{made}
 use Rattle.kom_state.proofs.Names.{name-with_field}
 use Rattle.kom_state.proofs.Kept.{IsKept-changed}
 use Rattle.kom_state.proofs.Making.{IsMade-conference}
+use Rattle.conferences.specs.Numbers.{number-with_field}
+use Rattle.kom_state.proofs.Drawing.{AreDrawn-conference, next-with_field}
 use Rattle.kom_state.proofs.state.State.set_conference_field.Goals as goal
 
 pub invariant_of-self : goal.invariant_of-self
-invariant_of-self c =
-    IsKept-changed _ _ _ c.self.invariant c.args.number (with_field c.args.field) _ (name-with_field c.args.field)
-    c.set_field.ensures.rows
+invariant_of-self c = (
+  IsKept-changed _ _ _ c.self.invariant.0 c.args.number (with_field c.args.field) _ (name-with_field c.args.field)
+      c.set_field.ensures.rows,
+  AreDrawn-conference _ _ _ _ c.self.invariant.1 c.args.number (with_field c.args.field) _
+      (number-with_field c.args.field) (next-with_field c.args.field) c.set_field.ensures.rows,
+)
 
 pub returns : goal.returns
 unfolding made
 returns c = rw (← c.self.view_is)
-    (IsMade-conference _ c.args.number (with_field c.args.field) _ _ _ _ c.self.inside.names c.self.inside.names _
+    (IsMade-conference _ c.args.number (with_field c.args.field) _ _ _ _ c.self.inside.names c.self.inside.names _ _ _
     (λ db. refl) c.set_field.ensures.rows c.set_field.ensures.spare (λ _. refl))

@@ -8,5 +8,5 @@ unwrap-requires c =
 
 pub returns : goal.returns
 returns c = rw (← c.self.view_is)
-    (IsMade-set c.args.row _ _ _ _ c.self.inside.names _ c.requires.fresh
-    (rw c.unwrap.ensures at c.set.ensures.ok) c.set.ensures.room)
+    (IsMade-set c.args.row _ _ _ _ c.self.inside.names _ _ _ c.requires.fresh
+    (rw c.unwrap.ensures at c.set.ensures.ok) (rw c.unwrap.ensures at c.set.ensures.reads) c.set.ensures.room)

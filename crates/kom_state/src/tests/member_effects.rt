@@ -1,0 +1,78 @@
+//! Tests of the effects on memberships.
+use super::{join, make, open_all};
+use crate::State;
+use kom_types::{Effect, Memory, Moment, ReadRange, Sequence};
+use std::process::Abort;
+use std::test::Fail;
+
+// The administrator has read two ranges of a conference, the second ending here.
+fn read(state: &mut State, conference: u32, end: u32) -> Result<bool, Memory> {
+    let mut ranges = Sequence::new(state.alloc);
+    ranges.push(ReadRange { first: 1, last: 2 })?;
+    ranges.push(ReadRange {
+        first: 3,
+        last: end,
+    })?;
+    let effect = Effect::ReadSet {
+        person: 5,
+        conference,
+        at: Moment(20),
+        ranges,
+    };
+    make(state, effect)
+}
+
+fn leave(state: &mut State, conference: u32) -> Result<bool, Memory> {
+    make(
+        state,
+        Effect::MemberGone {
+            person: 5,
+            conference,
+        },
+    )
+}
+
+// What the administrator has read of a conference begins with this range, or with none.
+fn check_read(
+    rt: &impl Abort,
+    state: &State,
+    conference: u32,
+    first: Option<ReadRange>,
+) -> Result<(), Fail> {
+    let read = match state.read(5, conference) {
+        Some(read) => read.ranges(),
+        None => &[],
+    };
+    assert_eq!(rt; read.first().copied(), first);
+    Ok(())
+}
+
+#[test]
+fn what_was_read_is_told(rt: HostRuntime) -> Result<(), Fail> {
+    check_told(&rt, &mut State::empty(rt.alloc()))
+}
+
+// Ranges that touch are one; a membership set again keeps them, and one that begins anew has none.
+fn check_told(rt: &impl Abort, state: &mut State) -> Result<(), Fail> {
+    open_all(rt, state)?;
+    assert!(rt; join(state, 5, 4)?);
+    check_read(rt, state, 4, None)?;
+    assert!(rt; read(state, 4, 7)? && join(state, 5, 4)?);
+    check_read(rt, state, 4, Some(ReadRange { first: 1, last: 7 }))?;
+    assert_eq!(rt; state.first_local(4), 1);
+    assert!(rt; leave(state, 4)? && join(state, 5, 4)?);
+    check_read(rt, state, 4, None)
+}
+
+#[test]
+fn what_does_not_fit_is_not_read(rt: HostRuntime) -> Result<(), Fail> {
+    check_unread(&rt, &mut State::empty(rt.alloc()))
+}
+
+// Nothing is read without a membership, and ranges rise.
+fn check_unread(rt: &impl Abort, state: &mut State) -> Result<(), Fail> {
+    open_all(rt, state)?;
+    assert!(rt; !read(state, 4, 7)? && !leave(state, 4)?);
+    assert!(rt; join(state, 5, 4)? && !read(state, 4, 2)?);
+    check_read(rt, state, 4, None)
+}
