@@ -1,0 +1,204 @@
+ghost use Rattle.std.specs.Prelude.{◌≡◌, ◌∷◌, ◌++◌, [], map, filter, IfOk, if◌then◌else◌};
+ghost use Rattle.std.specs.List.{list_all};
+ghost use Rattle.kom_model.specs.Db.{next_text_of};
+ghost use Rattle.kom_model.specs.calls.Call.{Meets};
+ghost use Rattle.kom_model.specs.calls.Guards.{Guards};
+ghost use Rattle.kom_model.specs.calls.NewTexts as NewTexts;
+ghost use Rattle.kom_types.specs.tables.Texts.{lines_of};
+
+use crate::naming::{items_are_good, names_footnote, names_recipient};
+use crate::on_recipients::{new_recipient, written};
+use access_rights::{items_guard, login_guard, size_guard, unless};
+use kom_model::CallError;
+use kom_state::{Asked, State, push_count};
+use kom_types::{
+    Bytes, Counter, Decision, Effect, EffectList, Link, Memory, MiscInput, NewText, Reply, Sequence,
+};
+
+/// How many bytes a text has at most.
+const LONGEST_BODY: u32 = 1_048_576;
+
+/// The greatest number that a text gets, in all and in a conference or among those of its author.
+const LAST_DRAWN: u32 = 4_294_967_294;
+
+/// Call 86, create-text.
+pub fn create_text(asked: &Asked<'_>, given: &NewText) -> Result<Decision, CallError>
+    ensures { Meets (NewTexts.create_text asked.now given.now) result }
+{
+    new_text(asked, false, given)
+}
+
+/// Call 87, create-anonymous-text.
+pub fn create_anonymous_text(asked: &Asked<'_>, given: &NewText) -> Result<Decision, CallError>
+    ensures { Meets (NewTexts.create_anonymous_text asked.now given.now) result }
+{
+    new_text(asked, true, given)
+}
+
+/// A text is made, by the caller or without an author.
+#[tactic(auto, unfolding(kom_model::specs::Db::next_text_of))]
+fn new_text(asked: &Asked<'_>, anonymous: bool, given: &NewText) -> Result<Decision, CallError>
+    ensures { Meets (NewTexts.new_text anonymous asked.now given.now) result }
+{
+    let caller = asked.caller();
+    login_guard(&caller)?;
+    size_guard(given.body.as_slice(), LONGEST_BODY)?;
+    items_are_good(asked, anonymous, given.misc_inputs.as_slice())?;
+    unless(
+        has_numbers(
+            asked.rows(),
+            caller.person,
+            anonymous,
+            given.misc_inputs.as_slice(),
+        ),
+        45,
+        0,
+    )?;
+    items_guard(&given.aux_items)?;
+    let number = asked.rows().next_text();
+    Ok(Decision {
+        reply: Reply::Number(number),
+        effects: text_effects(asked, anonymous, number, given)?,
+        changes: Sequence::new(asked.allocator()),
+    })
+}
+
+/// Whether the next number of a text is left, one in each conference that is named, and one among
+/// the texts of an author.
+fn has_numbers(rows: &State, person: u32, anonymous: bool, items: &[MiscInput]) -> bool
+    ensures { result ≡ NewTexts.has_numbers rows.now.db person anonymous items.now }
+{
+    rows.next_text() <= LAST_DRAWN
+        && have_locals(rows, items)
+        && has_created(rows, person, anonymous)
+}
+
+/// Whether a local number of each conference that is named is left.
+fn have_locals(rows: &State, items: &[MiscInput]) -> bool
+    ensures { result ≡ list_all (NewTexts.has_local rows.now.db) items.now }
+{
+    items.iter().all(|item| has_local(rows, item))
+}
+
+/// Whether a number among the texts of an author is left, where there is one.
+fn has_created(rows: &State, person: u32, anonymous: bool) -> bool
+    ensures { result ≡ NewTexts.has_created rows.now.db person anonymous }
+{
+    anonymous || rows.next_created(person) <= LAST_DRAWN
+}
+
+/// Whether a local number of the conference that an item names is left.
+fn has_local(rows: &State, item: &MiscInput) -> bool
+    ensures { result ≡ NewTexts.has_local rows.now.db item.now }
+{
+    !names_recipient(item) || rows.next_local(item.value) <= LAST_DRAWN
+}
+
+/// A text is made, with all that is named.
+fn text_effects(
+    asked: &Asked<'_>,
+    anonymous: bool,
+    text: u32,
+    given: &NewText,
+) -> Result<EffectList, Memory>
+    ensures { IfOk result (λ effects. effects
+        ≡ NewTexts.text_effects asked.now anonymous text given.now) }
+{
+    let alloc = asked.allocator();
+    let mut effects = Sequence::new(alloc);
+    effects.push(Effect::TextAdded {
+        number: text,
+        author: if anonymous { 0 } else { asked.caller().person },
+        at: asked.moment(),
+        body: Bytes::copy_of(alloc, given.body.as_slice())?,
+    })?;
+    push_items(&mut effects, asked, text, given.misc_inputs.as_slice())?;
+    push_written(&mut effects, asked, given.misc_inputs.as_slice())?;
+    if !anonymous {
+        push_author(&mut effects, asked, text, given.body.as_slice())?;
+    }
+    Ok(effects)
+}
+
+fn push_items(
+    effects: &mut EffectList,
+    asked: &Asked<'_>,
+    text: u32,
+    items: &[MiscInput],
+) -> Result<(), Memory>
+    ensures { IfOk result (λ done. effects.new
+        ≡ effects.old ++ map (NewTexts.item_effect asked.now text) items.now) }
+{
+    for item in items {
+        effects.push(item_effect(asked, text, item))?;
+    }
+    Ok(())
+}
+
+/// What an item makes of a text: a recipient; or a comment, or a footnote, to a text.
+fn item_effect(asked: &Asked<'_>, text: u32, item: &MiscInput) -> Effect
+    ensures { result ≡ NewTexts.item_effect asked.now text item.now }
+{
+    if names_recipient(item) {
+        let tag = item.tag as u8;
+        Effect::RecipientAdded(new_recipient(asked, text, item.value, tag, 0))
+    } else {
+        Effect::LinkAdded(Link {
+            child: text,
+            parent: item.value,
+            footnote: names_footnote(item),
+            sender: 0,
+            at: asked.moment(),
+        })
+    }
+}
+
+fn push_written(
+    effects: &mut EffectList,
+    asked: &Asked<'_>,
+    items: &[MiscInput],
+) -> Result<(), Memory>
+    ensures { IfOk result (λ done. effects.new ≡ effects.old
+        ++ map (NewTexts.item_written asked.now)
+        (filter NewTexts.names_recipient items.now)) }
+{
+    for item in items {
+        if names_recipient(item) {
+            effects.push(written(asked, item.value))?;
+        }
+    }
+    Ok(())
+}
+
+/// The text is counted among those that its author made.
+#[tactic(auto, unfolding(kom_model::specs::Db::next_created_of))]
+fn push_author(
+    effects: &mut EffectList,
+    asked: &Asked<'_>,
+    text: u32,
+    body: &[u8],
+) -> Result<(), Memory>
+    ensures { IfOk result (λ done. effects.new
+        ≡ effects.old ++ NewTexts.author_effects asked.now text body.now) }
+{
+    let person = asked.caller().person;
+    effects.push(Effect::Created {
+        person,
+        local: asked.rows().next_created(person),
+        text,
+    })?;
+    push_count(
+        effects,
+        person,
+        Counter::CreatedLines,
+        lines_of(body) as u64,
+    )?;
+    push_count(effects, person, Counter::CreatedBytes, body.len() as u64)
+}
+
+/// How many lines a body has: each ends at a line feed.
+fn lines_of(body: &[u8]) -> usize
+    ensures { result ≡ lines_of body.now }
+{
+    body.iter().filter(|byte| **byte == b'\n').count()
+}
