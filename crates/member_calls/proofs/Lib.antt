@@ -1,0 +1,3 @@
+mod GuardLists
+mod LocalGuards
+mod RangeGuards
