@@ -1,10 +1,11 @@
 ghost use Rattle.std.specs.Prelude.{◌≡◌, not, find, IfOk};
 ghost use Rattle.kom_model.specs.calls.Call.{Meets};
+ghost use Rattle.kom_model.specs.calls.Memberships as Memberships;
 ghost use Rattle.kom_model.specs.calls.Sessions as Sessions;
 ghost use Rattle.kom_model.specs.calls.Sessions.{is_message as is_message_number};
 
 use crate::leaving::{leaving_changes, leaving_effects};
-use access_rights::{login_guard, size_guard, unless};
+use access_rights::{conference_guard, login_guard, member_guard, size_guard, unless};
 use kom_model::CallError;
 use kom_state::Asked;
 use kom_types::{Bytes, ClientVersion, Decision, Effect, Memory, Numbers, Reply, SessionChange};
@@ -27,6 +28,19 @@ pub fn logout(asked: &Asked<'_>) -> Result<Decision, CallError>
         effects: leaving_effects(asked)?,
         changes: leaving_changes(asked)?,
     })
+}
+
+/// Call 2, change-conference: into a conference that the caller is a member of, or 0, into none.
+pub fn change_conference(asked: &Asked<'_>, conference: u32) -> Result<Decision, CallError>
+    ensures { Meets (Memberships.change_conference asked.now conference) result }
+{
+    let caller = asked.caller();
+    login_guard(&caller)?;
+    if conference != 0 {
+        conference_guard(asked.rows(), &caller, conference)?;
+        member_guard(asked.rows(), caller.person, conference)?;
+    }
+    Ok(asked.with_change(SessionChange::Working(asked.session(), conference))?)
 }
 
 /// Call 4, change-what-i-am-doing.

@@ -1,3 +1,6 @@
+mod AlongNumbers
 mod Bits
+mod Memberships
+mod ReadTexts
 mod Seen
 mod Shown
