@@ -10,12 +10,14 @@ use Rattle.kom_types.specs.declared.calls.Call.{Call}
 use Rattle.kom_types.specs.declared.calls.Call.TheVariants as call
 use Rattle.kom_types.specs.declared.conferences.ConferenceRow.{ConferenceRow}
 use Rattle.kom_types.specs.declared.decisions.Decision.{Decision}
+use Rattle.kom_types.specs.declared.texts.TextRow.{TextRow}
 use Rattle.kom_types.specs.calls.Numbers.{number_of_call}
 use Rattle.kom_model.specs.declared.call_errors.Refused.{Refused}
 use Rattle.kom_model.specs.State.{State}
 use Rattle.kom_model.specs.Kinds.{firm_numbers, accept_async, is_among}
 use Rattle.kom_model.specs.calls.Call.{Asked}
 use Rattle.kom_model.specs.calls.Conferences.{nearest}
+use Rattle.kom_model.specs.calls.Texts.{nearest_text}
 use Rattle.kom_model.specs.Decide.{asked_in, definition_of, decision_of, was_refused, is_firm}
 use Rattle.kom_model.specs.After.{moment_of}
 use Rattle.kom_core.specs.Deciding.{Decides, DecidesFirm}
@@ -25,6 +27,11 @@ nearest-none : (asked : Asked) (start : ℕ) (found : Option ConferenceRow) →
     (nearest asked start found).rest.effects ≡ []
 nearest-none asked start None = refl
 nearest-none asked start (Some row) = refl
+
+nearest_text-none : (asked : Asked) (start : ℕ) (found : Option TextRow) →
+    (nearest_text asked start found).rest.effects ≡ []
+nearest_text-none asked start None = refl
+nearest_text-none asked start (Some row) = refl
 
 -- a call that takes no memory has none
 firm-none : (asked : Asked) (what : Call) → is_among firm_numbers (number_of_call what) ≡ true →
@@ -37,6 +44,29 @@ firm-none asked (call.CreatePerson given) among = cc
 firm-none asked (call.SetPersFlags person flags) among = cc
 firm-none asked (call.ChangeName conference name) among = cc
 firm-none asked (call.CreateConf given) among = cc
+firm-none asked (call.GetText text start end) among = cc
+firm-none asked (call.DeleteText text) among = cc
+firm-none asked (call.AddRecipient text conference tag) among = cc
+firm-none asked (call.SubRecipient text conference) among = cc
+firm-none asked (call.AddComment text parent) among = cc
+firm-none asked (call.SubComment text parent) among = cc
+firm-none asked (call.AddFootnote text parent) among = cc
+firm-none asked (call.SubFootnote text parent) among = cc
+firm-none asked (call.MarkText text kind) among = cc
+firm-none asked (call.UnmarkText text) among = cc
+firm-none asked (call.CreateText given) among = cc
+firm-none asked (call.CreateAnonymousText given) among = cc
+firm-none asked (call.ChangeConference conference) among = cc
+firm-none asked (call.SubMember conference person) among = cc
+firm-none asked (call.MarkAsRead conference locals) among = cc
+firm-none asked (call.SetUnread conference count) among = cc
+firm-none asked (call.SetLastRead conference local) among = cc
+firm-none asked (call.AddMember conference person priority place kind) among = cc
+firm-none asked (call.SetMembershipType person conference kind) among = cc
+firm-none asked (call.MarkAsUnread conference local) among = cc
+firm-none asked (call.SetReadRanges conference ranges) among = cc
+firm-none asked (call.FindNextTextNo start) among = nearest_text-none asked start _
+firm-none asked (call.FindPreviousTextNo start) among = nearest_text-none asked start _
 firm-none asked (call.FindNextConfNo start) among = nearest-none asked start _
 firm-none asked (call.FindPreviousConfNo start) among = nearest-none asked start _
 firm-none asked other among = refl

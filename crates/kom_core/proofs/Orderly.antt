@@ -1,6 +1,6 @@
 -- The effects of a call give one name at most.
-use Rattle.std.proofs.Common.{◌≡◌, ◌==◌, ℕ, ◌-◌, true, false, cond, List, [], ◌∷◌, ◌++◌, Option, Some, None, refl}
-use Rattle.std.proofs.Common.{sym, subst}
+use Rattle.std.proofs.Common.{◌≡◌, ◌==◌, ℕ, ◌-◌, Bool, true, false, cond, List, [], ◌∷◌, ◌++◌, length, map, filter}
+use Rattle.std.proofs.Common.{Option, Some, None, refl, sym, subst}
 use Rattle.std.specs.List.{filter_map}
 use Rattle.std.proofs.lemmas.List.Elements.{filter_map-append}
 use Rattle.kom_types.specs.declared.acts.Act.{Act}
@@ -16,14 +16,27 @@ use Rattle.kom_types.specs.declared.effects.Effect.{Effect}
 use Rattle.kom_types.specs.declared.effects.Effect.TheVariants as effect
 use Rattle.kom_types.specs.declared.persons.NewPerson.{NewPerson}
 use Rattle.kom_types.specs.declared.seats.Seat.{Seat}
+use Rattle.kom_types.specs.declared.texts.Link.{Link}
+use Rattle.kom_types.specs.declared.texts.MarkRow.{MarkRow}
+use Rattle.kom_types.specs.declared.texts.MiscInput.{MiscInput}
+use Rattle.kom_types.specs.declared.texts.NewText.{NewText}
+use Rattle.kom_types.specs.declared.texts.Recipient.{Recipient}
+use Rattle.kom_types.specs.declared.texts.TextRow.{TextRow}
+use Rattle.kom_types.specs.tables.Texts.{lines_of}
 use Rattle.kom_state.specs.Room.{name_given, IsOrderly}
 use Rattle.kom_model.specs.State.{State}
-use Rattle.kom_model.specs.Db.{next_conference_of}
+use Rattle.kom_model.specs.Db.{Db, membership_of, next_conference_of, next_text_of, links_of, recipients_of, marks_on}
 use Rattle.kom_model.specs.calls.Call.{Asked, seat_of}
 use Rattle.kom_model.specs.calls.Conferences.{nearest}
 use Rattle.kom_model.specs.calls.Guards.{Guard, with_items, items_guard, caller}
+use Rattle.read_ranges.specs.Changed.{all_marked, size_of}
+use Rattle.kom_model.specs.calls.Memberships.{mark_as_read, had_read, reads_now, member_effects, joins, is_near}
+use Rattle.kom_model.specs.calls.Memberships.{set_member, type_effects}
+use Rattle.kom_model.specs.calls.NewTexts.{names_recipient, names_footnote, item_effect, item_written, author_effects}
+use Rattle.kom_model.specs.calls.NewTexts.{text_effects, new_text}
 use Rattle.kom_model.specs.calls.Persons.{person_effects}
 use Rattle.kom_model.specs.calls.Sessions.{counts, seat_left, leaving_effects}
+use Rattle.kom_model.specs.calls.Texts.{gone_text, new_recipient, nearest_text}
 use Rattle.kom_model.specs.Decide.{asked_in, definition_of, decision_of}
 use Rattle.kom_model.specs.After.{moment_of}
 use Rattle.kom_core.specs.Deciding.{IsCall, Decides}
@@ -71,6 +84,107 @@ nearest-orderly : (asked : Asked) (start : ℕ) (found : Option ConferenceRow) �
 nearest-orderly asked start None = tt
 nearest-orderly asked start (Some row) = tt
 
+nearest_text-orderly : (asked : Asked) (start : ℕ) (found : Option TextRow) →
+    IsOrderly (nearest_text asked start found).rest.effects
+nearest_text-orderly asked start None = tt
+nearest_text-orderly asked start (Some row) = tt
+
+-- ---- texts
+nameless-append : (first rest : List Effect) → IsNameless first → IsNameless rest → IsNameless (first ++ rest)
+nameless-append first rest one other = rw (filter_map-append name_given first rest, one) other
+
+nameless-map : {X : Type 0} (make : X → Effect) → ((x : X) → name_given (make x) ≡ None) → (xs : List X) →
+    IsNameless (map make xs)
+nameless-map make none [] = refl
+nameless-map make none (x ∷ xs) = rw (none x) (nameless-map make none xs)
+
+abbrev gone_link : Link → Effect
+gone_link link = effect.LinkGone link.child link.parent link.footnote
+
+abbrev gone_recipient : Recipient → Effect
+gone_recipient row = effect.RecipientGone row.text row.conference
+
+abbrev gone_mark : MarkRow → Effect
+gone_mark row = effect.MarkGone row.person row.text
+
+gone-nameless : (db : Db) (text : ℕ) → IsNameless (gone_text db text)
+gone-nameless db text =
+    let links = map gone_link (links_of db text) in
+    let recipients = map gone_recipient (recipients_of db text) in
+    let marks = map gone_mark (marks_on db text) in
+    nameless-append (links ++ recipients ++ marks) (effect.TextGone text ∷ [])
+    (nameless-append (links ++ recipients) marks
+    (nameless-append links recipients (nameless-map gone_link (λ link. refl) (links_of db text))
+    (nameless-map gone_recipient (λ row. refl) (recipients_of db text)))
+    (nameless-map gone_mark (λ row. refl) (marks_on db text))) refl
+
+item-nameless : (asked : Asked) (text : ℕ) (item : MiscInput) → name_given (item_effect asked text item) ≡ None
+item-nameless asked text item =
+    elim (names_recipient item) as (λ b. name_given (cond b
+    (effect.RecipientAdded (new_recipient asked text item.value item.tag 0))
+    (effect.LinkAdded (record {
+      child = text;
+      parent = item.value;
+      footnote = names_footnote item;
+      sender = 0;
+      at = asked.moment;
+    }))) ≡ None)
+    [ true ↦ refl | false ↦ refl ]
+
+author-nameless : (asked : Asked) (text : ℕ) (body : List ℕ) → IsNameless (author_effects asked text body)
+author-nameless asked text body =
+    let person = (caller asked).person in
+    nameless-append (counts person counter.CreatedLines (lines_of body)) _ (counts-nameless person counter.CreatedLines _)
+    (counts-nameless person counter.CreatedBytes (length body))
+
+text-nameless : (asked : Asked) (anonymous : Bool) (text : ℕ) (given : NewText) →
+    IsNameless (text_effects asked anonymous text given)
+text-nameless asked anonymous text given =
+    let made = map (item_effect asked text) given.misc_inputs in
+    let written = map (item_written asked) (filter names_recipient given.misc_inputs) in
+    nameless-append (made ++ written) (cond anonymous [] (author_effects asked text given.body))
+    (nameless-append made written
+    (nameless-map (item_effect asked text) (item-nameless asked text) given.misc_inputs)
+    (nameless-map (item_written asked) (λ item. refl) (filter names_recipient given.misc_inputs)))
+    (elim anonymous as (λ b. IsNameless (cond b [] (author_effects asked text given.body)))
+    [ true ↦ refl | false ↦ author-nameless asked text given.body ])
+
+-- ---- memberships
+marks-orderly : (asked : Asked) (conference : ℕ) (locals : List ℕ) →
+    IsOrderly (mark_as_read asked conference locals).rest.effects
+marks-orderly asked conference locals =
+    let ranges = all_marked locals (had_read asked conference) in
+    let newly = size_of ranges - size_of (had_read asked conference) in
+    let counted = counts (caller asked).person counter.ReadTexts newly in
+    nameless-before (reads_now asked conference ranges ∷ []) counted refl
+    (IsOrderly-nameless counted (counts-nameless (caller asked).person counter.ReadTexts newly))
+
+member-nameless : (asked : Asked) (person conference priority place kind : ℕ) →
+    IsNameless (member_effects asked person conference priority place kind)
+member-nameless asked person conference priority place kind =
+    elim (membership_of asked.db person conference) as (λ found. IsNameless (elim found [
+      | None ↦ joins asked person conference priority place kind ∷ []
+      | Some row ↦ cond (is_near asked.db (caller asked) person) (set_member row priority place kind ∷ []) []
+    ])) [
+      | None ↦ refl
+      | Some row ↦ elim (is_near asked.db (caller asked) person) as
+          (λ b. IsNameless (cond b (set_member row priority place kind ∷ []) [])) [ true ↦ refl | false ↦ refl ]
+    ]
+
+type-nameless : (db : Db) (person conference kind : ℕ) → IsNameless (type_effects db person conference kind)
+type-nameless db person conference kind =
+    elim (membership_of db person conference) as (λ found. IsNameless (elim found [
+      | None ↦ []
+      | Some row ↦ set_member row row.priority row.position kind ∷ []
+    ])) [ None ↦ refl | Some row ↦ refl ]
+
+new_text-orderly : (anonymous : Bool) (asked : Asked) (given : NewText) →
+    IsOrderly (new_text anonymous asked given).rest.effects
+new_text-orderly anonymous asked given =
+    with_items-orderly (items_guard given.aux_items) _
+    (IsOrderly-nameless (text_effects asked anonymous (next_text_of asked.db) given)
+    (text-nameless asked anonymous (next_text_of asked.db) given))
+
 -- of a call that no early guard refuses
 rest-orderly : (asked : Asked) (what : Call) → IsOrderly (definition_of asked what).rest.effects
 rest-orderly asked call.Logout = IsOrderly-nameless (leaving_effects asked) (leaving-nameless asked)
@@ -80,6 +194,19 @@ rest-orderly asked (call.CreatePerson given) =
     with_items-orderly (items_guard given.aux_items) _ (person-orderly asked (next_conference_of asked.db) given)
 rest-orderly asked (call.ChangeName conference name) = refl
 rest-orderly asked (call.CreateConf given) = with_items-orderly (items_guard given.aux_items) _ refl
+rest-orderly asked (call.DeleteText text) =
+    IsOrderly-nameless (gone_text asked.db text) (gone-nameless asked.db text)
+rest-orderly asked (call.CreateText given) = new_text-orderly false asked given
+rest-orderly asked (call.CreateAnonymousText given) = new_text-orderly true asked given
+rest-orderly asked (call.MarkAsRead conference locals) = marks-orderly asked conference locals
+rest-orderly asked (call.AddMember conference person priority place kind) =
+    IsOrderly-nameless (member_effects asked person conference priority place kind)
+    (member-nameless asked person conference priority place kind)
+rest-orderly asked (call.SetMembershipType person conference kind) =
+    IsOrderly-nameless (type_effects asked.db person conference kind)
+    (type-nameless asked.db person conference kind)
+rest-orderly asked (call.FindNextTextNo start) = nearest_text-orderly asked start _
+rest-orderly asked (call.FindPreviousTextNo start) = nearest_text-orderly asked start _
 rest-orderly asked (call.FindNextConfNo start) = nearest-orderly asked start _
 rest-orderly asked (call.FindPreviousConfNo start) = nearest-orderly asked start _
 rest-orderly asked other = tt

@@ -34,6 +34,13 @@ MayChange call.WhoAmI = ⊥
 MayChange call.FirstUnusedConfNo = ⊥
 MayChange (call.FindNextConfNo start) = ⊥
 MayChange (call.FindPreviousConfNo start) = ⊥
+MayChange call.FirstUnusedTextNo = ⊥
+MayChange (call.FindNextTextNo start) = ⊥
+MayChange (call.FindPreviousTextNo start) = ⊥
+MayChange call.GetMarks = ⊥
+MayChange (call.LocalToGlobal conference first count) = ⊥
+MayChange (call.LocalToGlobalReverse conference ceiling count) = ⊥
+MayChange (call.MapCreatedTexts author first count) = ⊥
 MayChange call.QueryAsync = ⊥
 MayChange (call.GetClientName session) = ⊥
 MayChange (call.GetClientVersion session) = ⊥
@@ -43,8 +50,40 @@ MayChange call.QueryPredefinedAuxItems = ⊥
 MayChange (call.LookupZName name persons conferences) = ⊥
 MayChange (call.GetUconfStat conference) = ⊥
 MayChange call.GetCollateTable = ⊥
+MayChange (call.GetUnreadConfs person) = ⊥
+MayChange (call.GetMembers conference first count) = ⊥
+MayChange (call.QueryReadTexts person conference want_ranges most) = ⊥
+MayChange (call.GetMembership person first count want_ranges most) = ⊥
 MayChange (call.Refused code status) = ⊥
 MayChange other = Unit {0}
+
+-- the call changes a membership
+abbrev pub ChangesMember : Call → Type 0
+ChangesMember (call.SubMember conference person) = Unit {0}
+ChangesMember (call.MarkAsRead conference locals) = Unit {0}
+ChangesMember (call.SetUnread conference count) = Unit {0}
+ChangesMember (call.SetLastRead conference local) = Unit {0}
+ChangesMember (call.AddMember conference person priority place kind) = Unit {0}
+ChangesMember (call.SetMembershipType person conference kind) = Unit {0}
+ChangesMember (call.MarkAsUnread conference local) = Unit {0}
+ChangesMember (call.SetReadRanges conference ranges) = Unit {0}
+ChangesMember other = ⊥
+
+-- the call changes a text, or what hangs on one
+abbrev pub ChangesText : Call → Type 0
+ChangesText (call.GetText text start end) = Unit {0}
+ChangesText (call.DeleteText text) = Unit {0}
+ChangesText (call.AddRecipient text conference tag) = Unit {0}
+ChangesText (call.SubRecipient text conference) = Unit {0}
+ChangesText (call.AddComment text parent) = Unit {0}
+ChangesText (call.SubComment text parent) = Unit {0}
+ChangesText (call.AddFootnote text parent) = Unit {0}
+ChangesText (call.SubFootnote text parent) = Unit {0}
+ChangesText (call.MarkText text kind) = Unit {0}
+ChangesText (call.UnmarkText text) = Unit {0}
+ChangesText (call.CreateText given) = Unit {0}
+ChangesText (call.CreateAnonymousText given) = Unit {0}
+ChangesText other = ⊥
 
 -- memory did not run out
 abbrev pub HadMemory : Result Decision CallError → Type 0

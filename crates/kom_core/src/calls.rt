@@ -4,7 +4,7 @@ ghost use Rattle.kom_model.specs.declared.call_errors.CallError.TheVariants as e
 ghost use Rattle.kom_model.specs.Kinds.{firm_numbers, is_among};
 ghost use Rattle.kom_model.specs.Decide.{definition_of};
 ghost use Rattle.kom_model.specs.calls.Call.{Meets};
-ghost use Rattle.kom_core.specs.Deciding.{MayChange, HadMemory};
+ghost use Rattle.kom_core.specs.Deciding.{MayChange, ChangesMember, ChangesText, HadMemory};
 
 use kom_model::{CallError, Refused};
 use kom_state::Asked;
@@ -24,6 +24,11 @@ pub(crate) fn make(asked: &Asked<'_>, call: &Call) -> Result<Decision, CallError
         Call::FindPreviousConfNo { start } => {
             Ok(query_calls::find_previous_conf_no(asked, *start)?)
         }
+        Call::FirstUnusedTextNo => Ok(query_calls::first_unused_text_no(asked)),
+        Call::FindNextTextNo { start } => Ok(query_calls::find_next_text_no(asked, *start)?),
+        Call::FindPreviousTextNo { start } => {
+            Ok(query_calls::find_previous_text_no(asked, *start)?)
+        }
         Call::QueryAsync => query_calls::query_async(asked),
         Call::GetClientName { session } => query_calls::get_client_name(asked, *session),
         Call::GetClientVersion { session } => query_calls::get_client_version(asked, *session),
@@ -37,6 +42,41 @@ pub(crate) fn make(asked: &Asked<'_>, call: &Call) -> Result<Decision, CallError
         } => query_calls::lookup_z_name(asked, name, *persons, *conferences),
         Call::GetUconfStat { conference } => query_calls::get_uconf_stat(asked, *conference),
         Call::GetCollateTable => query_calls::get_collate_table(asked),
+        Call::GetUnreadConfs { person } => query_calls::get_unread_confs(asked, *person),
+        Call::GetMembers {
+            conference,
+            first,
+            count,
+        } => query_calls::get_members(asked, *conference, *first, *count),
+        Call::QueryReadTexts {
+            person,
+            conference,
+            want_ranges,
+            most,
+        } => query_calls::query_read_texts(asked, *person, *conference, *want_ranges, *most),
+        Call::GetMembership {
+            person,
+            first,
+            count,
+            want_ranges,
+            most,
+        } => query_calls::get_membership(asked, *person, *first, *count, *want_ranges, *most),
+        Call::GetMarks => query_calls::get_marks(asked),
+        Call::LocalToGlobal {
+            conference,
+            first,
+            count,
+        } => query_calls::local_to_global(asked, *conference, *first, *count),
+        Call::LocalToGlobalReverse {
+            conference,
+            ceiling,
+            count,
+        } => query_calls::local_to_global_reverse(asked, *conference, *ceiling, *count),
+        Call::MapCreatedTexts {
+            author,
+            first,
+            count,
+        } => query_calls::map_created_texts(asked, *author, *first, *count),
         Call::Refused(code, status) => refuse(*code, *status),
         _ => make_change(asked, call),
     }
@@ -55,6 +95,9 @@ fn make_change(asked: &Asked<'_>, call: &Call) -> Result<Decision, CallError>
             password,
             invisible,
         } => person_calls::login(asked, *person, password, *invisible),
+        Call::ChangeConference { conference } => {
+            person_calls::change_conference(asked, *conference)
+        }
         Call::ChangeWhatIAmDoing { doing } => person_calls::change_what_i_am_doing(asked, doing),
         Call::Enable { level } => person_calls::enable(asked, *level),
         Call::SetClientVersion(given) => person_calls::set_client_version(asked, given.get()),
@@ -72,7 +115,99 @@ fn make_change(asked: &Asked<'_>, call: &Call) -> Result<Decision, CallError>
             conf_calls::change_name(asked, *conference, name)
         }
         Call::CreateConf(given) => conf_calls::create_conf(asked, given.get()),
+        Call::SubMember { .. }
+        | Call::MarkAsRead { .. }
+        | Call::SetUnread { .. }
+        | Call::SetLastRead { .. }
+        | Call::AddMember { .. }
+        | Call::SetMembershipType { .. }
+        | Call::MarkAsUnread { .. }
+        | Call::SetReadRanges { .. } => make_member_change(asked, call),
+        Call::GetText { .. }
+        | Call::DeleteText { .. }
+        | Call::AddRecipient { .. }
+        | Call::SubRecipient { .. }
+        | Call::AddComment { .. }
+        | Call::SubComment { .. }
+        | Call::AddFootnote { .. }
+        | Call::SubFootnote { .. }
+        | Call::MarkText { .. }
+        | Call::UnmarkText { .. }
+        | Call::CreateText(_)
+        | Call::CreateAnonymousText(_) => make_text_change(asked, call),
         _ => refuse(2, 0),
+    }
+}
+
+/// The same of a call that changes a membership.
+fn make_member_change(asked: &Asked<'_>, call: &Call) -> Result<Decision, CallError>
+    requires { ChangesMember call.now }
+    ensures meets { Meets (definition_of asked.now call.now) result }
+    ensures firm { is_among firm_numbers (number_of_call call.now) ≡ true → HadMemory result }
+{
+    match call {
+        Call::SubMember { conference, person } => {
+            member_calls::sub_member(asked, *conference, *person)
+        }
+        Call::MarkAsRead { conference, locals } => {
+            member_calls::mark_as_read(asked, *conference, locals)
+        }
+        Call::SetUnread { conference, count } => {
+            member_calls::set_unread(asked, *conference, *count)
+        }
+        Call::SetLastRead { conference, local } => {
+            member_calls::set_last_read(asked, *conference, *local)
+        }
+        Call::AddMember {
+            conference,
+            person,
+            priority,
+            place,
+            kind,
+        } => member_calls::add_member(asked, *conference, *person, *priority, *place, *kind),
+        Call::SetMembershipType {
+            person,
+            conference,
+            kind,
+        } => member_calls::set_membership_type(asked, *person, *conference, *kind),
+        Call::MarkAsUnread { conference, local } => {
+            member_calls::mark_as_unread(asked, *conference, *local)
+        }
+        Call::SetReadRanges { conference, ranges } => {
+            member_calls::set_read_ranges(asked, *conference, ranges)
+        }
+        _ => unreachable!(),
+    }
+}
+
+/// The same of a call that changes a text, or what hangs on one.
+fn make_text_change(asked: &Asked<'_>, call: &Call) -> Result<Decision, CallError>
+    requires { ChangesText call.now }
+    ensures meets { Meets (definition_of asked.now call.now) result }
+    ensures firm { is_among firm_numbers (number_of_call call.now) ≡ true → HadMemory result }
+{
+    match call {
+        Call::GetText { text, start, end } => text_calls::get_text(asked, *text, *start, *end),
+        Call::DeleteText { text } => text_calls::delete_text(asked, *text),
+        Call::AddRecipient {
+            text,
+            conference,
+            kind,
+        } => text_calls::add_recipient(asked, *text, *conference, *kind),
+        Call::SubRecipient { text, conference } => {
+            text_calls::sub_recipient(asked, *text, *conference)
+        }
+        Call::AddComment { text, parent } => text_calls::add_comment(asked, *text, *parent),
+        Call::SubComment { text, parent } => text_calls::sub_comment(asked, *text, *parent),
+        Call::AddFootnote { text, parent } => text_calls::add_footnote(asked, *text, *parent),
+        Call::SubFootnote { text, parent } => text_calls::sub_footnote(asked, *text, *parent),
+        Call::MarkText { text, kind } => text_calls::mark_text(asked, *text, *kind),
+        Call::UnmarkText { text } => text_calls::unmark_text(asked, *text),
+        Call::CreateText(given) => text_calls::create_text(asked, given.get()),
+        Call::CreateAnonymousText(given) => {
+            text_calls::create_anonymous_text(asked, given.get())
+        }
+        _ => unreachable!(),
     }
 }
 
