@@ -9,3 +9,4 @@ pub mod Refusals
 pub mod DeskViews
 pub mod Within
 pub mod GrownHistories
+pub mod NewPasses

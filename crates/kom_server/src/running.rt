@@ -9,7 +9,7 @@ ghost use Rattle.kom_server.specs.Runs.{HasFailed};
 
 use crate::core_desk::CoreDesk;
 use crate::outcome::{Closing, Outcome};
-use crate::serving::serve_gate;
+use crate::serving::serve_new;
 use kom_links::{Clock, Gate, Sink, World, has_risen};
 use kom_types::Words;
 use std::alloc::Global;
@@ -138,8 +138,7 @@ fn once<R: Wait, W: World>(rt: &R, alloc: Global, world: &mut W) -> (bool, Optio
     let Ok(mut gate) = world.std_gate() else {
         return (false, None);
     };
-    serve_gate(rt, alloc, &mut desk, &mut gate, &mut clock);
-    let failed = gate.faults() != 0;
+    let failed = serve_new(rt, alloc, &mut desk, &mut gate, &mut clock);
     gates.push_reserved(gate);
     clocks.push_reserved(clock);
     let pass = desk.into_pass();

@@ -1,8 +1,9 @@
-ghost use Rattle.std.specs.Prelude.{◌≡◌, None, true};
+ghost use Rattle.std.specs.Prelude.{◌≡◌, ◌≢◌, ◌↔◌, [], ◌∷◌, None, true, false, IsTrue};
+ghost use Rattle.kom_links.specs.Doors.{IsNewGate};
 ghost use Rattle.kom_links.specs.Outside.{IsFresh};
 ghost use Rattle.kom_server.specs.Passes.{start_of};
 ghost use Rattle.kom_server.specs.Desks.{desk_view};
-ghost use Rattle.kom_server.specs.Runs.{AllGivenBack};
+ghost use Rattle.kom_server.specs.Runs.{AllGivenBack, IsFirstReading};
 ghost use Rattle.kom_server.specs.Serving.{Serves, OneIsOut};
 
 use crate::core_desk::CoreDesk;
@@ -11,8 +12,33 @@ use kom_session::serve_link;
 use std::alloc::Global;
 use std::sync::Wait;
 
+/// Serves the sessions at a gate that has given no link yet, on a new server, until the gate ends or
+/// fails, and says whether it failed.
+pub(crate) fn serve_new<R: Wait, G: Gate, C: Clock>(
+    rt: &R,
+    alloc: Global,
+    desk: &mut CoreDesk,
+    gate: &mut G,
+    clock: &mut C,
+) -> bool
+    requires no_fault { (desk_view desk.old).fault_to 0 ≡ None }
+    requires unused { desk.old.pass.seen ≡ [] }
+    requires first { IsFirstReading desk.old.pass.opened (C.gave clock.old ∷ []) }
+    requires fresh { IsNewGate (G.view gate.old) }
+    ensures serves { Serves G.Link.view (start_of desk.new.pass) desk.new.pass
+        (G.view gate.new).returned (C.gave clock.new) }
+    ensures all_back { AllGivenBack (G.view gate.new) }
+    ensures number { desk.new.pass.number ≡ desk.old.pass.number }
+    ensures opened { desk.new.pass.opened ≡ desk.old.pass.opened }
+    ensures failed { IsTrue result ↔ ((G.view gate.new).faults ≢ 0) }
+    ensures ended { result ≡ false → (G.view gate.new).ended ≡ true }
+{
+    serve_gate(rt, alloc, desk, gate, clock);
+    gate.faults() != 0
+}
+
 /// Serves the links of a gate one after the other, until the gate ends or fails.
-pub(crate) fn serve_gate<R: Wait, G: Gate, C: Clock>(
+fn serve_gate<R: Wait, G: Gate, C: Clock>(
     rt: &R,
     alloc: Global,
     desk: &mut CoreDesk,

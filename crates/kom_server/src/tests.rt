@@ -132,12 +132,7 @@ fn a_client_is_answered_by_its_lines(rt: HostRuntime) -> Result<(), Fail> {
             b"LysKOM\n%%Protocol error.\n",
             SessionEnd::Broken(11),
         ),
-        (
-            b"A1Ha\n1 25 1 0 0\n",
-            0,
-            b"LysKOM\n%1 2 0\n",
-            SessionEnd::End,
-        ),
+        (b"A1Ha\n1 84 1\n", 0, b"LysKOM\n%1 2 0\n", SessionEnd::End),
         (
             b"A1Ha\n1 35\n2 75\n3 94\n4 96\n5 55 0\n",
             0,
