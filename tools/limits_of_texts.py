@@ -1,0 +1,181 @@
+#!/usr/bin/env python3
+"""Tries the limits of texts on the built program `komd`: limits_of_texts.py [PROGRAM]
+
+Each case is a list of calls with what each is to be answered; the calls are too many, or too long, to stand in a file. The
+limits: bytes of a text, recipients of a text, comments and footnotes in and out of a text, and marks of a person. It prints
+a line for each call that is answered otherwise, and a count, and ends with 1 if there is one, else with 0. PROGRAM is
+crates/komd/out/komd unless it is named.
+"""
+import pathlib
+import subprocess
+import sys
+
+ROOT = pathlib.Path(__file__).resolve().parent.parent
+LONGEST_BODY = 1_048_576
+MOST_RECIPIENTS = 100
+MOST_COMMENTS = 1_000
+MOST_FOOTNOTES = 100
+MOST_MARKS = 2_000
+
+
+def hollerith(data):
+    return str(len(data)).encode() + b"H" + data
+
+
+def create(body, items):
+    """The arguments of create-text: a body, and items as pairs of a tag and a number."""
+    listed = b" ".join(b"%d %d" % item for item in items)
+    return b"86 " + hollerith(body) + b" %d { " % len(items) + listed + b" } 0 { }"
+
+
+class Case:
+    """Calls of a person that is logged in, each with its wanted answer, all after the reference."""
+
+    def __init__(self, name):
+        self.name, self.calls, self.wanted = name, [], []
+
+    def call(self, line, answer):
+        self.calls.append(line)
+        self.wanted.append(answer)
+
+    def good(self, line, result=b""):
+        self.call(line, (b"=", result))
+
+    def refused(self, line, code, status):
+        self.call(line, (b"%", b"%d %d" % (code, status)))
+
+    def stream(self):
+        lines = [b"A5Hceder\n", b"1 62 5 0H 0\n"]
+        lines += [b"%d %s\n" % (place + 2, line) for place, line in enumerate(self.calls)]
+        return b"".join(lines)
+
+    def answers(self):
+        lines = [b"LysKOM\n", b"=1\n"]
+        for place, (mark, result) in enumerate(self.wanted):
+            lines.append(mark + b"%d" % (place + 2) + (b" " + result if result else b"") + b"\n")
+        return lines
+
+
+def bodies():
+    case = Case("bodies of texts")
+    longest = b"a" * (LONGEST_BODY - 1) + b"\n"
+    odd = b"\n\n{ } 3 { 1\n%2 4 0\n=2 1\n"
+    case.good(create(b"", []), b"1")
+    case.good(create(longest, []), b"2")
+    case.refused(create(longest + b"b", []), 5, LONGEST_BODY)
+    case.good(create(odd, []), b"3")
+    case.good(b"25 1 0 100", b"0H")
+    case.refused(b"25 1 1 100", 19, 1)
+    case.good(b"25 2 %d %d" % (LONGEST_BODY - 2, LONGEST_BODY + 5), b"2Ha\n")
+    case.good(b"25 2 %d 0" % LONGEST_BODY, b"0H")
+    case.refused(b"25 2 %d 0" % (LONGEST_BODY + 1), 19, LONGEST_BODY + 1)
+    case.good(b"25 3 0 4294967295", hollerith(odd))
+    case.good(b"115", b"4")
+    return case
+
+
+def recipients():
+    case = Case("recipients of a text")
+    for number in range(6, 6 + MOST_RECIPIENTS + 1):
+        case.good(b"88 " + hollerith(b"Conference %d" % number) + b" 00000000 0 { }", b"%d" % number)
+    most = [(0, number) for number in range(6, 6 + MOST_RECIPIENTS)]
+    one_more = 6 + MOST_RECIPIENTS
+    case.refused(create(b"x", most + [(15, one_more)]), 33, 0)
+    case.good(create(b"x", most), b"1")
+    case.refused(b"30 1 %d 0" % one_more, 33, 1)
+    case.good(b"31 1 6")
+    case.good(b"30 1 %d 0" % one_more)
+    case.refused(b"30 1 6 0", 33, 1)
+    case.good(b"103 %d 1 255" % one_more, b"1 2 0 1 1 1 { 1 }")
+    case.good(b"103 6 1 255", b"1 2 0 0 0 *")
+    case.good(b"29 1")
+    case.good(b"103 %d 1 255" % one_more, b"1 2 0 0 0 *")
+    return case
+
+
+def links(name, tag, most, code, add):
+    """So many links, by the tag that names a parent and by the call that adds one."""
+    case = Case(name)
+    for number in range(1, most + 2):
+        case.good(create(b"x", []), b"%d" % number)
+    parents = [(tag, number) for number in range(1, most + 1)]
+    case.refused(create(b"y", parents + [(tag, most + 1)]), code, 0)
+    case.good(create(b"y", parents), b"%d" % (most + 2))
+    case.refused(b"%d %d %d" % (add, most + 2, most + 1), code, most + 2)
+    last = most + 2
+    for child in range(last + 1, last + most):
+        case.good(create(b"z", [(tag, 1)]), b"%d" % child)
+    full = last + most
+    case.refused(create(b"z", [(tag, 1)]), code, 1)
+    case.good(create(b"z", []), b"%d" % full)
+    case.refused(b"%d %d 1" % (add, full), code, 1)
+    return case
+
+
+def marks():
+    case = Case("marks of a person")
+    for number in range(1, MOST_MARKS + 2):
+        case.good(create(b"x", []), b"%d" % number)
+    for number in range(1, MOST_MARKS + 1):
+        case.good(b"72 %d 7" % number)
+    case.refused(b"72 %d 7" % (MOST_MARKS + 1), 36, 0)
+    case.good(b"72 1 8")
+    case.good(b"73 2")
+    case.good(b"72 %d 9" % (MOST_MARKS + 1))
+    kept = [(1, 8)] + [(number, 7) for number in range(3, MOST_MARKS + 1)] + [(MOST_MARKS + 1, 9)]
+    case.good(b"23", b"%d { " % len(kept) + b" ".join(b"%d %d" % mark for mark in kept) + b" }")
+    return case
+
+
+def ring():
+    case = Case("links of a text with itself and in a ring")
+    for number in (1, 2, 3):
+        case.good(create(b"x", []), b"%d" % number)
+    case.refused(b"32 1 1", 12, 1)
+    case.refused(b"37 1 1", 12, 1)
+    for child, parent in ((1, 2), (2, 3), (3, 1)):
+        case.good(b"32 %d %d" % (child, parent))
+        case.good(b"37 %d %d" % (child, parent))
+    case.refused(b"32 2 3", 28, 2)
+    case.refused(b"37 2 3", 29, 2)
+    case.good(b"29 2")
+    case.refused(b"33 1 2", 14, 2)
+    case.good(b"33 3 1")
+    case.refused(b"33 3 1", 31, 3)
+    case.good(b"38 3 1")
+    return case
+
+
+def cases():
+    yield bodies()
+    yield recipients()
+    yield links("comments in and out of a text", 2, MOST_COMMENTS, 34, 32)
+    yield links("footnotes in and out of a text", 4, MOST_FOOTNOTES, 35, 37)
+    yield marks()
+    yield ring()
+
+
+def main(words):
+    program = pathlib.Path(words[0]) if words else ROOT / "crates" / "komd" / "out" / "komd"
+    failed = calls = 0
+    for case in cases():
+        done = subprocess.run([program.resolve(), "once"], input=case.stream(), capture_output=True, timeout=600)
+        rest = done.stdout
+        calls += len(case.calls)
+        for place, line in enumerate(case.answers()):
+            if not rest.startswith(line):
+                failed += 1
+                asked = case.calls[place - 2][:60] if place > 1 else b"the beginning"
+                print(f"{case.name}: {asked!r} is answered {rest[:60]!r}, not {line[:60]!r}")
+                break
+            rest = rest[len(line):]
+        else:
+            if rest or done.returncode or done.stderr:
+                failed += 1
+                print(f"{case.name}: after the answers {rest[:60]!r}, status {done.returncode}, {done.stderr[:60]!r}")
+    print(f"{calls} calls at the limits of texts, {failed} cases are answered otherwise")
+    return 1 if failed else 0
+
+
+if __name__ == "__main__":
+    sys.exit(main(sys.argv[1:]))
