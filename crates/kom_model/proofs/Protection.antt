@@ -1,9 +1,9 @@
 -- Effects leave every secret conference read-protected.
-use Rattle.std.proofs.Common.{◌≡◌, ℕ, ◌==◌, Bool, true, false, cond, ◌&&◌, List, [], ◌∷◌, nat_lt, refl, sym}
+use Rattle.std.proofs.Common.{◌≡◌, ℕ, ◌==◌, Bool, true, false, cond, ◌&&◌, not, List, [], ◌∷◌, nat_lt, refl, sym}
 use Rattle.std.proofs.Common.{true≢false}
 use Rattle.std.specs.Prelude.{IsTrue, Option, Some, None}
 use Rattle.std.specs.List.{AllByRecursion}
-use Rattle.row_table.specs.Tables.{with_row, changed_row}
+use Rattle.row_table.specs.Tables.{with_row, without_row, changed_row}
 use Rattle.kom_types.specs.declared.conferences.ConferenceRow.{ConferenceRow}
 use Rattle.kom_types.specs.declared.effects.ConfField.{ConfField}
 use Rattle.kom_types.specs.declared.effects.ConfField.TheVariants as field
@@ -46,6 +46,16 @@ guarded-with row guarded (first ∷ rows) all =
           ]
     ]
 
+guarded-without : (number : ℕ) (rows : List ConferenceRow) → AllByRecursion IsGuarded rows →
+    AllByRecursion IsGuarded (without_row number_of_conference number rows)
+guarded-without number [] all = tt
+guarded-without number (row ∷ rows) all =
+    elim (row.number == number) as (λ b. AllByRecursion IsGuarded
+    (cond (not b) (row ∷ without_row number_of_conference number rows) (without_row number_of_conference number rows))) [
+      | true ↦ guarded-without number rows all.1
+      | false ↦ (all.0, guarded-without number rows all.1)
+    ]
+
 and-first : (first second : Bool) → (first && second) ≡ true → first ≡ true
 and-first true second both = refl
 and-first false second both = both
@@ -78,6 +88,7 @@ protected-made : (what : Effect) (db : Db) → fits what db ≡ true → IsProte
 unfolding fits made
 protected-made (effect.ConfAdded number name kind at creator supervisor) db fit protected =
     guarded-with _ (and-second _ (is_secret_protected kind) fit) db.conferences protected
+protected-made (effect.ConfGone number) db fit protected = guarded-without number db.conferences protected
 protected-made (effect.ConfNamed number name) db fit protected =
     guarded-changed number (with_name name) (λ row guarded. guarded) db.conferences protected
 protected-made (effect.ConfField number what) db fit protected =

@@ -60,6 +60,12 @@ person_of db number = row_of number_of_person number db.persons
 unfoldable pub membership_of : Db → ℕ → ℕ → Option MembershipRow
 membership_of db person conference = Memberships.membership_of person conference db.memberships
 
+-- the memberships in a conference, and those of the person whose letterbox it is, in the order of
+-- joining
+unfoldable pub memberships_at : Db → ℕ → List MembershipRow
+memberships_at db number =
+    filter (λ row. row.person == number || row.conference == number) db.memberships
+
 -- what of a conference the rights of persons hang on
 unfoldable pub conference_head_of : Db → ℕ → Option ConferenceHead
 conference_head_of db number = option_map head_of (conference_of db number)
@@ -154,6 +160,12 @@ created_by db person = Texts.created_by person db.texts
 -- person
 unfoldable pub next_created_of : Db → ℕ → ℕ
 next_created_of db number = elim (person_of db number) [ None ↦ 1 | Some row ↦ row.next_created ]
+
+-- the least number among the texts that a person made that still has a text: the next one if none
+-- has
+unfoldable pub first_created_of : Db → ℕ → ℕ
+first_created_of db person =
+    elim (created_by db person) [ [] ↦ next_created_of db person | pair ∷ pairs ↦ pair.local ]
 
 -- a person's mark on a text; the marks of a person, by rising text; and the marks on a text, in the
 -- order of setting

@@ -41,8 +41,23 @@ definition_of asked (call.ChangeWhatIAmDoing doing) = Sessions.change_what_i_am_
 definition_of asked (call.SetPrivBits person privileges) =
     Persons.set_priv_bits asked person privileges
 definition_of asked (call.SetPasswd change) = Persons.set_passwd asked change
+definition_of asked (call.DeleteConf conference) = Conferences.delete_conf asked conference
 definition_of asked (call.SubMember conference person) =
     Memberships.sub_member asked conference person
+definition_of asked (call.SetPresentation conference text) =
+    Conferences.set_presentation asked conference text
+definition_of asked (call.SetEtcMotd conference text) =
+    Conferences.set_etc_motd asked conference text
+definition_of asked (call.SetSupervisor conference supervisor) =
+    Conferences.set_supervisor asked conference supervisor
+definition_of asked (call.SetPermittedSubmitters conference submitters) =
+    Conferences.set_permitted_submitters asked conference submitters
+definition_of asked (call.SetSuperConf conference super_conference) =
+    Conferences.set_super_conf asked conference super_conference
+definition_of asked (call.SetConfType conference kind) =
+    Conferences.set_conf_type asked conference kind
+definition_of asked (call.SetGarbNice conference days) =
+    Conferences.set_garb_nice asked conference days
 definition_of asked call.GetMarks = Texts.get_marks asked
 definition_of asked (call.GetText text start end) = Texts.get_text asked text start end
 definition_of asked (call.MarkAsRead conference locals) =
@@ -59,8 +74,10 @@ definition_of asked (call.SetUnread conference count) =
 definition_of asked (call.Enable level) = Sessions.enable asked level
 definition_of asked (call.AddFootnote text parent) = Texts.add_footnote asked text parent
 definition_of asked (call.SubFootnote text parent) = Texts.sub_footnote asked text parent
+definition_of asked (call.GetPersonStat person) = Persons.get_person_stat asked person
 definition_of asked (call.GetUnreadConfs person) = Memberships.get_unread_confs asked person
 definition_of asked call.WhoAmI = Sessions.who_am_i asked
+definition_of asked (call.SetUserArea person text) = Persons.set_user_area asked person text
 definition_of asked (call.FindNextTextNo start) = Texts.find_next_text_no asked start
 definition_of asked (call.FindPreviousTextNo start) = Texts.find_previous_text_no asked start
 definition_of asked (call.Login person password invisible) =
@@ -84,8 +101,12 @@ definition_of asked (call.CreateText text) = NewTexts.create_text asked text
 definition_of asked (call.CreateAnonymousText text) = NewTexts.create_anonymous_text asked text
 definition_of asked (call.CreateConf conference) = Conferences.create_conf asked conference
 definition_of asked (call.CreatePerson person) = Persons.create_person asked person
+definition_of asked (call.GetTextStat text) = Texts.get_text_stat asked text
+definition_of asked (call.GetConfStat conference) = Conferences.get_conf_stat asked conference
 definition_of asked call.GetInfo = Server.get_info
 definition_of asked call.QueryPredefinedAuxItems = AuxItems.query_predefined_aux_items
+definition_of asked (call.SetExpire conference days) =
+    Conferences.set_expire asked conference days
 definition_of asked (call.AddMember conference person priority place kind) =
     Memberships.add_member asked conference person priority place kind
 definition_of asked (call.GetMembers conference first count) =
@@ -96,6 +117,8 @@ definition_of asked (call.LocalToGlobal conference first count) =
     Texts.local_to_global asked conference first count
 definition_of asked (call.MapCreatedTexts person first count) =
     Texts.map_created_texts asked person first count
+definition_of asked (call.SetKeepCommented conference days) =
+    Conferences.set_keep_commented asked conference days
 definition_of asked (call.SetPersFlags person flags) = Persons.set_pers_flags asked person flags
 definition_of asked (call.QueryReadTexts person conference want_ranges most) =
     Memberships.query_read_texts asked person conference want_ranges most

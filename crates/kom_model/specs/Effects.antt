@@ -1,7 +1,7 @@
 -- What can change the stored rows: a closed list of effects, each a row that is added, set or
 -- removed. That the state changes so is this server's own choice.
 use Rattle.std.specs.Prelude.{ℕ, ◌+◌, Bool, true, false, ◌==◌, ◌||◌, ◌&&◌, not, nat_le, nat_lt}
-use Rattle.std.specs.Prelude.{List, [], ◌∷◌, ◌++◌, length, Some, None, is_some, is_none}
+use Rattle.std.specs.Prelude.{List, [], ◌∷◌, ◌++◌, length, map, Some, None, is_some, is_none}
 use Rattle.std.specs.Prelude.{if◌then◌else◌, IsTrue}
 use Rattle.std.specs.List.{AllByRecursion, list_any}
 use Rattle.row_table.specs.Tables.{with_row, without_row, changed_row}
@@ -31,7 +31,8 @@ use Rattle.read_ranges.specs.Changed.{rise_after}
 use Rattle.read_ranges.specs.Merged.{merged}
 use Rattle.read_ranges.specs.Reads.{with_reader, without_reader, with_read, read_at}
 use Rattle.kom_model.specs.Db.{Db, conference_of, person_of, membership_of, memberships_of}
-use Rattle.kom_model.specs.Db.{conferences_of, text_of, recipient_of, recipients_of, link_of}
+use Rattle.kom_model.specs.Db.{members_of, locals_of, conferences_of, text_of, recipient_of}
+use Rattle.kom_model.specs.Db.{recipients_of, link_of}
 use Rattle.kom_model.specs.Db.{links_from, links_into, mark_of, marks_of, marks_on}
 use Rattle.kom_model.specs.Db.{next_local_of, next_created_of}
 
@@ -132,6 +133,16 @@ abbrev pub may_draw : Db → ℕ → ℕ → Bool
 may_draw db conference local =
     nat_le (next_local_of db conference) local && nat_le local last_drawn
 
+-- nothing is left that hangs on a conference; and on a person
+abbrev pub is_bare_conference : Db → ℕ → Bool
+is_bare_conference db number =
+    length (locals_of db number) == 0 && length (members_of db number) == 0
+    && is_none (person_of db number)
+
+abbrev pub is_bare_person : Db → ℕ → Bool
+is_bare_person db number =
+    length (memberships_of db number) == 0 && length (marks_of db number) == 0
+
 -- the tags of a recipient, of one of a copy, and of one that is shown to few
 abbrev pub is_recipient_tag : ℕ → Bool
 is_recipient_tag tag = tag == 0 || tag == 1 || tag == 15
@@ -170,18 +181,19 @@ may_create db person local text = elim (text_of db text) [
 ]
 
 -- Whether an effect fits: what it changes is there, what it adds is not, numbers were never used,
--- and the limits hold. Removals of conferences and persons, and aux-items, are not built yet: they do
--- not fit.
+-- and the limits hold. Aux-items are not built yet: they do not fit.
 unfoldable pub fits : Effect → Db → Bool
 fits (effect.ConfAdded number name kind at creator supervisor) db =
     may_add_conference db number name kind
-fits (effect.ConfGone number) db = false
+fits (effect.ConfGone number) db =
+    is_some (conference_of db number) && is_bare_conference db number
 fits (effect.ConfNamed number name) db =
     is_some (conference_of db number) && may_name db number name
 fits (effect.ConfField number what) db = may_set_field db number what
 fits (effect.PersonAdded number privileges flags last_login) db =
     has_letterbox db number && is_none (person_of db number)
-fits (effect.PersonGone number) db = false
+fits (effect.PersonGone number) db =
+    is_some (person_of db number) && is_bare_person db number
 fits (effect.PersonField number what) db = is_some (person_of db number)
 fits (effect.Password number hash) db = is_some (person_of db number)
 fits (effect.LoggedIn number at user) db =
@@ -233,6 +245,10 @@ abbrev pub with_changed_text : ℕ → (TextRow → TextRow) → Db → Db
 with_changed_text number change db =
     record db { texts = changed_row number_of_text number change db.texts }
 
+-- a text that this person made has no number among those that its author made any more
+abbrev pub without_number : ℕ → TextRow → TextRow
+without_number person row = if row.author == person then with_created_local 0 row else row
+
 -- the membership that an effect sets; a new one counts as read when it was added
 abbrev pub member_row : ℕ → ℕ → ℕ → ℕ → ℕ → ℕ → ℕ → MembershipRow
 member_row person conference position priority added_by added_at kind = record {
@@ -250,14 +266,18 @@ member_row person conference position priority added_by added_at kind = record {
 unfoldable pub made : Effect → Db → Db
 made (effect.ConfAdded number name kind at creator supervisor) db =
     with_conference (fresh_conference number name kind at creator supervisor) db
-made (effect.ConfGone number) db = db
+made (effect.ConfGone number) db =
+    record db { conferences = without_row number_of_conference number db.conferences }
 made (effect.ConfNamed number name) db = with_changed_conference number (with_name name) db
 made (effect.ConfField number what) db =
     with_changed_conference number (Conferences.with_field what) db
 made (effect.PersonAdded number privileges flags last_login) db = record db {
   persons = with_row number_of_person (fresh_person number privileges flags last_login) db.persons;
 }
-made (effect.PersonGone number) db = db
+made (effect.PersonGone number) db = record db {
+  persons = without_row number_of_person number db.persons;
+  texts = map (without_number number) db.texts;
+}
 made (effect.PersonField number what) db = with_changed_person number (Persons.with_field what) db
 made (effect.Password number hash) db = with_changed_person number (with_hash hash) db
 made (effect.LoggedIn number at user) db = with_changed_person number (logged_in at user) db

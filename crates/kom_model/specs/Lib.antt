@@ -1,5 +1,6 @@
 pub mod Db
 pub mod Rights
+pub mod Shown
 pub mod Effects
 pub mod Initial
 pub mod State
@@ -17,3 +18,4 @@ pub mod DbRows
 pub mod CallRows
 pub mod TextRows
 pub mod MemberRows
+pub mod ShownRows

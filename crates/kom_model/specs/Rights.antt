@@ -2,13 +2,11 @@
 -- "Security".)
 use Rattle.std.specs.Prelude.{ℕ, Bool, false, ◌==◌, ◌||◌, ◌&&◌, not, Some, None, is_some}
 use Rattle.std.specs.List.{list_any}
-use Rattle.kom_types.specs.declared.texts.Recipient.{Recipient}
-use Rattle.kom_types.specs.Bits.{is_on}
 use Rattle.kom_types.specs.tables.Conferences.{is_read_protected, is_secret_conference}
 use Rattle.kom_types.specs.tables.Memberships.{is_invitation}
 use Rattle.kom_model.specs.declared.viewers.Viewer.{Viewer}
 use Rattle.kom_model.specs.Db.{Db, conference_head_of, membership_kind_of, text_author_of}
-use Rattle.kom_model.specs.Db.{person_flags_of, recipients_of}
+use Rattle.kom_model.specs.Db.{recipients_of}
 
 -- the person has a membership in the conference
 abbrev pub is_member : Db → ℕ → ℕ → Bool
@@ -89,36 +87,3 @@ may_submit db viewer conference = elim (conference_head_of db conference) [
   | Some head ↦ viewer.strong || is_submitter db viewer.person head.submitters
       || stands_for db viewer.person head.supervisor
 ]
-
--- a recipient is shown to who sees the conference; one that is shown to few, only to who also is the
--- author, or added it, or reads the conference
-abbrev pub shows_recipient : Db → Viewer → ℕ → Recipient → Bool
-shows_recipient db viewer author row = sees db viewer row.conference
-    && (not (row.tag == 15) || is_author viewer.person author || is_author viewer.person row.sender
-    || reads_conference db viewer row.conference)
-
--- the bits of a membership's type that say that the person takes no messages of new texts, and that
--- the membership is shown to few
-abbrev pub is_passive : ℕ → Bool
-is_passive kind = is_on 64 kind
-
-abbrev pub is_secret_membership : ℕ → Bool
-is_secret_membership kind = is_on 32 kind
-
--- A membership of this type is shown to who sees the conference; a secret one only to who also is
--- the person, or supervises the person or the conference.
-unfoldable pub shows_membership : Db → Viewer → ℕ → ℕ → ℕ → Bool
-shows_membership db viewer person conference kind = sees db viewer conference
-    && (not (is_secret_membership kind) || viewer.strong || viewer.person == person
-    || supervises db viewer.person person || supervises db viewer.person conference)
-
--- a person keeps to itself what it has read
-abbrev pub is_reserved : Db → ℕ → Bool
-is_reserved db person =
-    elim (person_flags_of db person) [ None ↦ false | Some flags ↦ is_on 128 flags ]
-
--- what a person has read is shown to all, or, if it keeps that to itself, to it and to who
--- supervises it
-abbrev pub shows_reads : Db → Viewer → ℕ → Bool
-shows_reads db viewer person = not (is_reserved db person) || viewer.strong
-    || viewer.person == person || supervises db viewer.person person

@@ -302,7 +302,7 @@ pub record Rows : Type 0 where
       ≡ unguarded (answer (reply.Numbers (5 ∷ 15 ∷ [])))
   pub time_of_the_entry :
       decision_of (asked_in met 951782400 1 7) call.GetTime ≡ answer (reply.Time 951782400)
-  pub not_made_yet : (asked : Asked) → definition_of asked (call.DeleteConf 6) ≡ refused 2 0
-  pub firm_not_made : (asked : Asked) → is_firm asked (call.DeleteConf 6) ≡ true
+  pub not_made_yet : (asked : Asked) → definition_of asked call.SyncKom ≡ refused 2 0
+  pub firm_not_made : (asked : Asked) → is_firm asked call.SyncKom ≡ true
   pub not_firm : (asked : Asked) → is_firm asked (call.AcceptAsync []) ≡ false
   pub short_enough : limited 7 (answer (reply.Number 1)) ≡ answer (reply.Number 1)

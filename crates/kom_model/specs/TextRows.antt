@@ -21,7 +21,8 @@ use Rattle.kom_model.specs.DbRows.{makes, makes_person, joins, person, nobody, s
 use Rattle.kom_model.specs.Effects.{fits, apply_all, all_fit, last_drawn, longest_body}
 use Rattle.kom_model.specs.Effects.{most_recipients, most_links, most_marks}
 use Rattle.kom_model.specs.Initial.{initial}
-use Rattle.kom_model.specs.Rights.{reads, may_submit, shows_recipient}
+use Rattle.kom_model.specs.Rights.{reads, may_submit}
+use Rattle.kom_model.specs.Shown.{shows_recipient}
 use Rattle.kom_model.specs.calls.Call.{Asked, answer, done}
 use Rattle.kom_model.specs.calls.Guards.{Guard, refusal}
 use Rattle.kom_model.specs.calls.NewTexts.{create_text, create_anonymous_text}
@@ -341,7 +342,7 @@ pub record TextRows : Type 0 where
       ≡ None ∷ refusal 36 0 ∷ []
   pub marked_at_the_limit : (Texts.mark_text (with_marks 2000) 4 0).early ≡ None
   -- texts that are told and deleted
-  pub text_told : Texts.get_text bo 1 0 4294967295
+  pub shown_stat : Texts.get_text bo 1 0 4294967295
       ≡ record {
         early = None;
         rest = record {

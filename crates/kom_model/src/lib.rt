@@ -10,6 +10,8 @@ mod viewers;
 
 pub use call_errors::{CallError, Refused};
 pub use laws::drains_give_all;
-pub use rows::{worked_calls, worked_histories, worked_memberships, worked_rights, worked_texts};
+pub use rows::{
+    worked_calls, worked_histories, worked_memberships, worked_rights, worked_shown, worked_texts,
+};
 pub use stored::Rows;
 pub use viewers::Viewer;

@@ -2,6 +2,7 @@ ghost use Rattle.kom_model.specs.CallRows.{CallRows};
 ghost use Rattle.kom_model.specs.DbRows.{DbRows};
 ghost use Rattle.kom_model.specs.MemberRows.{MemberRows};
 ghost use Rattle.kom_model.specs.Rows.{Rows};
+ghost use Rattle.kom_model.specs.ShownRows.{ShownRows};
 ghost use Rattle.kom_model.specs.TextRows.{TextRows};
 
 /// A law alone: the definitions give the states, the refusals and the outputs of small histories
@@ -31,4 +32,10 @@ pub fn worked_texts()
 /// worked out by hand.
 pub fn worked_memberships()
     ensures { MemberRows }
+{}
+
+/// A law alone: the definitions of what is told of persons, conferences and texts, and of the calls
+/// that set or delete them, give what was worked out by hand.
+pub fn worked_shown()
+    ensures { ShownRows }
 {}

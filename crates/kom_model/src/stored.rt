@@ -1,8 +1,9 @@
-ghost use Rattle.std.specs.Prelude.{◌≡◌, length, slice_get};
+ghost use Rattle.std.specs.Prelude.{◌≡◌, length, slice_get, option_copied};
 ghost use Rattle.kom_model.specs.Db.{Db, conference_head_of, membership_kind_of, text_author_of};
-ghost use Rattle.kom_model.specs.Db.{person_flags_of, recipients_of};
+ghost use Rattle.kom_model.specs.Db.{person_flags_of, recipients_of, text_of, links_from};
+ghost use Rattle.kom_model.specs.Db.{links_into, marks_on};
 
-use kom_types::{ConferenceHead, Recipient};
+use kom_types::{ConferenceHead, Link, Recipient, TextRow};
 
 /// How the rights of persons read the stored rows. `None` comes exactly if there is no such row.
 pub trait Rows {
@@ -31,4 +32,29 @@ pub trait Rows {
     /// The recipient of a text at a place among its recipients, in the order of adding.
     fn recipient(&self, text: u32, place: usize) -> Option<Recipient>
         ensures { result ≡ slice_get (recipients_of (db self.now) text) place };
+
+    /// The text of a number.
+    fn text(&self, number: u32) -> Option<&TextRow>
+        ensures { option_copied result ≡ text_of (db self.now) number };
+
+    /// To how many texts a text is a comment, or a footnote.
+    fn count_from(&self, text: u32, footnote: bool) -> usize
+        ensures { result ≡ length (links_from (db self.now) text footnote) };
+
+    /// The link at a place among those of a text to others, in the order of adding.
+    fn link_from(&self, text: u32, footnote: bool, place: usize) -> Option<Link>
+        ensures { result ≡ slice_get (links_from (db self.now) text footnote) place };
+
+    /// How many comments, or footnotes, a text has.
+    fn count_into(&self, text: u32, footnote: bool) -> usize
+        ensures { result ≡ length (links_into (db self.now) text footnote) };
+
+    /// The link at a place among those of the comments, or the footnotes, to a text, in the order
+    /// of adding.
+    fn link_into(&self, text: u32, footnote: bool, place: usize) -> Option<Link>
+        ensures { result ≡ slice_get (links_into (db self.now) text footnote) place };
+
+    /// How many marks there are on a text.
+    fn mark_count(&self, text: u32) -> usize
+        ensures { result ≡ length (marks_on (db self.now) text) };
 }

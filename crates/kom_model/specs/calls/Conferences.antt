@@ -1,37 +1,130 @@
 -- The calls about conferences. (Protocol A, "Protocol Requests".)
-use Rattle.std.specs.Prelude.{ℕ, ◌-◌, Bool, false, ◌||◌, ◌&&◌, not, nat_lt, bit_and}
-use Rattle.std.specs.Prelude.{List, [], ◌∷◌, map, filter, find, reverse, Option, Some, None}
+use Rattle.std.specs.Prelude.{ℕ, ◌-◌, Bool, false, ◌==◌, ◌||◌, ◌&&◌, not, nat_lt, bit_and}
+use Rattle.std.specs.Prelude.{List, [], ◌∷◌, ◌++◌, map, filter, find, reverse, Option, Some, None}
 use Rattle.std.specs.Prelude.{if◌then◌else◌}
-use Rattle.std.specs.List.{range_with_len}
+use Rattle.std.specs.List.{range_with_len, filter_map}
+use Rattle.kom_types.specs.Bits.{alike}
 use Rattle.kom_types.specs.declared.conferences.ConferenceName.{ConferenceName}
 use Rattle.kom_types.specs.declared.conferences.ConferenceRow.{ConferenceRow}
 use Rattle.kom_types.specs.declared.conferences.NewConference.{NewConference}
+use Rattle.kom_types.specs.declared.effects.ConfField.{ConfField}
+use Rattle.kom_types.specs.declared.effects.ConfField.TheVariants as field
 use Rattle.kom_types.specs.declared.effects.Counter.TheVariants as counter
+use Rattle.kom_types.specs.declared.effects.Effect.{Effect}
 use Rattle.kom_types.specs.declared.effects.Effect.TheVariants as effect
 use Rattle.kom_types.specs.declared.replies.Reply.{Reply}
 use Rattle.kom_types.specs.declared.replies.Reply.TheVariants as reply
+use Rattle.kom_types.specs.declared.seats.Seat.{Seat}
+use Rattle.kom_types.specs.declared.session_changes.SessionChange.{SessionChange}
+use Rattle.kom_types.specs.declared.session_changes.SessionChange.TheVariants as change
 use Rattle.kom_types.specs.Names.{fold, finds}
-use Rattle.kom_types.specs.tables.Conferences.{is_letterbox}
+use Rattle.kom_types.specs.tables.Conferences.{is_letterbox, is_secret_conference}
 use Rattle.kom_types.specs.tables.Persons.{may_create_conferences}
 use Rattle.kom_model.specs.declared.viewers.Viewer.{Viewer}
 use Rattle.kom_model.specs.Db.{Db, conference_of, person_of, conferences_of, next_conference_of}
-use Rattle.kom_model.specs.Db.{next_local_of}
+use Rattle.kom_model.specs.Db.{next_local_of, locals_of, marks_of, memberships_at}
 use Rattle.kom_model.specs.Rights.{sees}
+use Rattle.kom_model.specs.Shown.{conference_told}
 use Rattle.kom_model.specs.Effects.{longest_name}
 use Rattle.kom_model.specs.calls.Call.{Asked, Definition, answer, done, unguarded}
 use Rattle.kom_model.specs.calls.Guards.{Guard, guarded, refusal, unless, caller}
 use Rattle.kom_model.specs.calls.Guards.{login_guard, conference_guard, own_guard, size_guard}
 use Rattle.kom_model.specs.calls.Guards.{name_guard, free_guard, type_guard, drawn_guard}
-use Rattle.kom_model.specs.calls.Guards.{items_guard, with_items}
-use Rattle.kom_model.specs.calls.Sessions.{counts}
+use Rattle.kom_model.specs.calls.Guards.{items_guard, with_items, text_or_none_guard}
+use Rattle.kom_model.specs.calls.Guards.{conference_or_none_guard}
+use Rattle.kom_model.specs.calls.Sessions.{counts, all_left}
+
+-- the guards of every call by which a conference is changed, or goes
+abbrev pub owner_guards : Asked → ℕ → List Guard
+owner_guards asked number =
+    login_guard (caller asked) ∷ conference_guard asked.db (caller asked) number
+    ∷ own_guard asked.db (caller asked) number ∷ []
 
 -- call 3, change-name
 abbrev pub change_name : Asked → ℕ → List ℕ → Definition
 change_name asked number name = guarded
-    (login_guard (caller asked) ∷ conference_guard asked.db (caller asked) number
-    ∷ own_guard asked.db (caller asked) number ∷ name_guard name
-    ∷ free_guard asked.db number name ∷ [])
+    (owner_guards asked number ++ name_guard name ∷ free_guard asked.db number name ∷ [])
     (done (effect.ConfNamed number name ∷ []) [])
+
+-- a field of a conference is set
+abbrev pub set_field : Asked → ℕ → List Guard → ConfField → Definition
+set_field asked number guards what =
+    guarded (owner_guards asked number ++ guards) (done (effect.ConfField number what ∷ []) [])
+
+-- call 16, set-presentation, and call 17, set-etc-motd: a text, or 0
+abbrev pub set_presentation : Asked → ℕ → ℕ → Definition
+set_presentation asked number text = set_field asked number
+    (text_or_none_guard asked.db (caller asked) text ∷ []) (field.Presentation text)
+
+abbrev pub set_etc_motd : Asked → ℕ → ℕ → Definition
+set_etc_motd asked number text = set_field asked number
+    (text_or_none_guard asked.db (caller asked) text ∷ []) (field.Motd text)
+
+-- call 18, set-supervisor; call 19, set-permitted-submitters; and call 20, set-super-conf: a
+-- conference, or 0
+abbrev pub set_supervisor : Asked → ℕ → ℕ → Definition
+set_supervisor asked number other = set_field asked number
+    (conference_or_none_guard asked.db (caller asked) other ∷ []) (field.Supervisor other)
+
+abbrev pub set_permitted_submitters : Asked → ℕ → ℕ → Definition
+set_permitted_submitters asked number other = set_field asked number
+    (conference_or_none_guard asked.db (caller asked) other ∷ [])
+    (field.PermittedSubmitters other)
+
+abbrev pub set_super_conf : Asked → ℕ → ℕ → Definition
+set_super_conf asked number other = set_field asked number
+    (conference_or_none_guard asked.db (caller asked) other ∷ []) (field.SuperConference other)
+
+-- a conference may get this type: a letterbox stays one and is not secret, and no other becomes one
+abbrev pub may_become : Db → ℕ → ℕ → Bool
+may_become db number kind = elim (conference_of db number) [
+  | None ↦ false
+  | Some row ↦ alike (is_letterbox kind) (is_letterbox row.kind)
+      && not (is_letterbox kind && is_secret_conference kind)
+]
+
+-- call 21, set-conf-type
+abbrev pub set_conf_type : Asked → ℕ → ℕ → Definition
+set_conf_type asked number kind = set_field asked number
+    (unless (may_become asked.db number kind) 23 number ∷ type_guard kind ∷ []) (field.Kind kind)
+
+-- call 22, set-garb-nice; call 97, set-expire; and call 105, set-keep-commented: days
+abbrev pub set_garb_nice : Asked → ℕ → ℕ → Definition
+set_garb_nice asked number days = set_field asked number [] (field.Nice days)
+
+abbrev pub set_expire : Asked → ℕ → ℕ → Definition
+set_expire asked number days = set_field asked number [] (field.Expire days)
+
+abbrev pub set_keep_commented : Asked → ℕ → ℕ → Definition
+set_keep_commented asked number days = set_field asked number [] (field.KeepCommented days)
+
+-- the person goes whose letterbox goes
+abbrev pub gone_person : Db → ℕ → List Effect
+gone_person db number =
+    elim (person_of db number) [ None ↦ [] | Some row ↦ effect.PersonGone number ∷ [] ]
+
+-- what hangs on a conference goes before it, and a letterbox takes its person along, whose sessions
+-- are logged out first
+abbrev pub gone_conference : Asked → ℕ → List Effect
+gone_conference asked number =
+    all_left asked number
+    ++ map (λ pair. effect.RecipientGone pair.text number) (locals_of asked.db number)
+    ++ map (λ row. effect.MarkGone number row.text) (marks_of asked.db number)
+    ++ map (λ row. effect.MemberGone row.person row.conference) (memberships_at asked.db number)
+    ++ gone_person asked.db number ++ effect.ConfGone number ∷ []
+
+-- a session of the person whose letterbox goes is logged out; another that was in the conference is
+-- in none then
+abbrev pub left_by_deletion : ℕ → Seat → Option SessionChange
+left_by_deletion number seat =
+    if seat.person == number then Some (change.Person seat.number 0 false)
+    else if seat.working == number then Some (change.Working seat.number 0) else None
+
+-- call 11, delete-conf
+abbrev pub delete_conf : Asked → ℕ → Definition
+delete_conf asked number = guarded
+    (owner_guards asked number)
+    (done (gone_conference asked number) (filter_map (left_by_deletion number) asked.seats))
 
 -- a person that may make conferences, or the session is strong
 abbrev pub may_make_conferences : Db → ℕ → Bool
@@ -99,6 +192,18 @@ get_uconf_stat asked number = guarded
 -- call 85, get-collate-table: what each byte counts as
 abbrev pub get_collate_table : Definition
 get_collate_table = unguarded (answer (reply.Text (map fold (range_with_len 0 256))))
+
+-- call 91, get-conf-stat
+abbrev pub conference_reply : Db → Viewer → ℕ → Reply
+conference_reply db caller number = elim (conference_of db number) [
+  | None ↦ reply.Refused 9 number
+  | Some row ↦ reply.Conference (conference_told db caller row)
+]
+
+abbrev pub get_conf_stat : Asked → ℕ → Definition
+get_conf_stat asked number = guarded
+    (login_guard (caller asked) ∷ conference_guard asked.db (caller asked) number ∷ [])
+    (answer (conference_reply asked.db (caller asked) number))
 
 -- call 114, first-unused-conf-no
 abbrev pub first_unused_conf_no : Asked → Definition

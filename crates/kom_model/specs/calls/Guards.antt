@@ -73,6 +73,14 @@ abbrev pub text_guard : Db → Viewer → ℕ → Guard
 text_guard db caller number =
     if number == 0 then refusal 15 0 else unless (reads db caller number) 14 number
 
+-- the same of one that a call may name, or 0 for none
+abbrev pub conference_or_none_guard : Db → Viewer → ℕ → Guard
+conference_or_none_guard db caller number =
+    if number == 0 then None else conference_guard db caller number
+
+abbrev pub text_or_none_guard : Db → Viewer → ℕ → Guard
+text_or_none_guard db caller number = if number == 0 then None else text_guard db caller number
+
 -- the texts of the conference are shown to the caller; and the caller may send some to it
 abbrev pub reads_guard : Db → Viewer → ℕ → Guard
 reads_guard db caller conference = unless (reads_conference db caller conference) 11 conference

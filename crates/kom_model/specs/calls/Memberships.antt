@@ -24,8 +24,10 @@ use Rattle.kom_model.specs.declared.viewers.Viewer.{Viewer}
 use Rattle.kom_model.specs.Db.{Db, conference_of, membership_of, membership_kind_of}
 use Rattle.kom_model.specs.Db.{memberships_of, members_of, read_of, next_local_of, first_local_of}
 use Rattle.kom_model.specs.Effects.{most_memberships}
-use Rattle.kom_model.specs.Rights.{is_member, supervises, reads_conference, is_passive}
-use Rattle.kom_model.specs.Rights.{is_secret_membership, shows_membership, is_reserved, shows_reads}
+use Rattle.kom_model.specs.Rights.{is_member, supervises, reads_conference}
+use Rattle.kom_model.specs.Shown.{is_passive, is_secret_membership, shows_membership}
+use Rattle.kom_model.specs.Shown.{is_reserved, members_shown, memberships_shown, ranges_shown}
+use Rattle.kom_model.specs.Shown.{time_shown}
 use Rattle.kom_model.specs.calls.Call.{Asked, Definition, answer, done}
 use Rattle.kom_model.specs.calls.Guards.{Guard, guarded, unless, caller, login_guard}
 use Rattle.kom_model.specs.calls.Guards.{conference_guard, person_guard, own_guard}
@@ -285,12 +287,10 @@ place_guard first rows = unless (first == 0 || nat_lt first (length rows)) 19 fi
 
 -- the members of a conference, and the memberships of a person, that are shown to the caller
 abbrev pub shown_members : Asked → ℕ → List MembershipRow
-shown_members asked conference =
-    filter (λ row. shows_membership asked.db (caller asked) row.person conference row.kind)
-    (members_of asked.db conference)
+shown_members asked conference = members_shown asked.db (caller asked) conference
 
 abbrev pub shown_memberships : Asked → ℕ → List MembershipRow
-shown_memberships asked person = filter (is_shown asked) (memberships_of asked.db person)
+shown_memberships asked person = memberships_shown asked.db (caller asked) person
 
 -- call 101, get-members
 abbrev pub get_members : Asked → ℕ → ℕ → ℕ → Definition
@@ -307,15 +307,12 @@ abbrev pub told : Bool → List ReadRange → RangesShown
 told want_ranges ranges =
     if want_ranges then shown.All ranges else shown.Count (length ranges)
 
--- what the caller is told that a person has read, and when that was set: nothing, and 0, if the
--- person keeps it from the caller
+-- what the caller is told that a person has read, and when that was set
 abbrev pub ranges_told : Asked → MembershipRow → List ReadRange
-ranges_told asked row = if shows_reads asked.db (caller asked) row.person
-    then read_of asked.db row.person row.conference else []
+ranges_told asked row = ranges_shown asked.db (caller asked) row
 
 abbrev pub time_told : Asked → MembershipRow → ℕ
-time_told asked row =
-    if shows_reads asked.db (caller asked) row.person then row.last_time_read else 0
+time_told asked row = time_shown asked.db (caller asked) row
 
 -- a membership as it is told, at this place among those that are shown
 abbrev pub membership_told : Asked → Bool → ℕ → ℕ → MembershipRow → Membership

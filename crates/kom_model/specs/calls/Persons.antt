@@ -7,12 +7,15 @@ use Rattle.kom_types.specs.declared.effects.Effect.TheVariants as effect
 use Rattle.kom_types.specs.declared.effects.PersonField.TheVariants as field
 use Rattle.kom_types.specs.declared.persons.NewPerson.{NewPerson}
 use Rattle.kom_types.specs.declared.persons.PasswordChange.{PasswordChange}
+use Rattle.kom_types.specs.declared.replies.Reply.{Reply}
 use Rattle.kom_types.specs.declared.replies.Reply.TheVariants as reply
 use Rattle.kom_types.specs.tables.Persons.{password_hash, may_create_persons}
 use Rattle.kom_model.specs.declared.viewers.Viewer.{Viewer}
 use Rattle.kom_model.specs.Db.{Db, person_of, next_conference_of}
-use Rattle.kom_model.specs.calls.Call.{Asked, Definition, done}
+use Rattle.kom_model.specs.Shown.{person_told}
+use Rattle.kom_model.specs.calls.Call.{Asked, Definition, answer, done}
 use Rattle.kom_model.specs.calls.Guards.{Guard, guarded, unless, caller, login_guard}
+use Rattle.kom_model.specs.calls.Guards.{text_or_none_guard}
 use Rattle.kom_model.specs.calls.Guards.{person_guard, strong_guard, own_guard, size_guard}
 use Rattle.kom_model.specs.calls.Guards.{name_guard, free_guard, drawn_guard, password_guard}
 use Rattle.kom_model.specs.calls.Guards.{items_guard, with_items}
@@ -43,6 +46,26 @@ set_pers_flags asked person flags = guarded
     (login_guard (caller asked) ∷ person_guard asked.db person
     ∷ own_guard asked.db (caller asked) person ∷ [])
     (done (effect.PersonField person (field.Flags flags) ∷ []) [])
+
+-- call 57, set-user-area: a text, or 0
+abbrev pub set_user_area : Asked → ℕ → ℕ → Definition
+set_user_area asked person text = guarded
+    (login_guard (caller asked) ∷ person_guard asked.db person
+    ∷ own_guard asked.db (caller asked) person
+    ∷ text_or_none_guard asked.db (caller asked) text ∷ [])
+    (done (effect.PersonField person (field.UserArea text) ∷ []) [])
+
+-- call 49, get-person-stat
+abbrev pub person_reply : Db → Viewer → ℕ → Reply
+person_reply db caller number = elim (person_of db number) [
+  | None ↦ reply.Refused 10 number
+  | Some row ↦ reply.Person (person_told db caller row)
+]
+
+abbrev pub get_person_stat : Asked → ℕ → Definition
+get_person_stat asked person = guarded
+    (login_guard (caller asked) ∷ person_guard asked.db person ∷ [])
+    (answer (person_reply asked.db (caller asked) person))
 
 -- nobody is logged in, or a person that may make persons, or the session is strong
 abbrev pub may_make_persons : Db → ℕ → Bool

@@ -1,6 +1,7 @@
 -- The calls about sessions. (Protocol A, "Protocol Requests".)
 use Rattle.std.specs.Prelude.{ℕ, ◌-◌, ◌/◌, ◌%◌, ◌^◌, Bool, false, ◌==◌, not, List, [], ◌∷◌, ◌++◌}
 use Rattle.std.specs.Prelude.{Option, Some, None, find, filter, fold, bit_or, if◌then◌else◌}
+use Rattle.std.specs.List.{flat_map}
 use Rattle.kom_types.specs.declared.effects.Counter.{Counter}
 use Rattle.kom_types.specs.declared.effects.Counter.TheVariants as counter
 use Rattle.kom_types.specs.declared.effects.Effect.{Effect}
@@ -109,6 +110,11 @@ abbrev pub seat_left : Asked → Seat → List Effect
 seat_left asked seat =
     if seat.person == 0 then []
     else counts seat.person counter.TimePresent (asked.moment - seat.login)
+
+-- the same of each session of a person
+abbrev pub all_left : Asked → ℕ → List Effect
+all_left asked person =
+    flat_map (seat_left asked) (filter (λ seat. seat.person == person) asked.seats)
 
 abbrev pub leaving_effects : Asked → List Effect
 leaving_effects asked = elim (seat_of asked) [ None ↦ [] | Some seat ↦ seat_left asked seat ]

@@ -6,6 +6,7 @@ use Rattle.kom_types.specs.declared.effects.ConfField.TheVariants as field
 use Rattle.kom_types.specs.declared.effects.Counter.TheVariants as counter
 use Rattle.kom_types.specs.declared.effects.Effect.{Effect}
 use Rattle.kom_types.specs.declared.effects.Effect.TheVariants as effect
+use Rattle.kom_types.specs.declared.replies.Reply.{Reply}
 use Rattle.kom_types.specs.declared.replies.Reply.TheVariants as reply
 use Rattle.kom_types.specs.declared.texts.Mapping.{Mapping}
 use Rattle.kom_types.specs.declared.texts.Recipient.{Recipient}
@@ -19,7 +20,8 @@ use Rattle.kom_model.specs.Db.{link_of, links_from, links_into, links_of, locals
 use Rattle.kom_model.specs.Db.{next_local_of, next_created_of, mark_of, marks_of, marks_on}
 use Rattle.kom_model.specs.Effects.{last_drawn, is_recipient_tag, most_recipients, most_links}
 use Rattle.kom_model.specs.Effects.{most_marks}
-use Rattle.kom_model.specs.Rights.{supervises, reads, is_author, shows_recipient}
+use Rattle.kom_model.specs.Rights.{supervises, reads, is_author}
+use Rattle.kom_model.specs.Shown.{shows_recipient, shown_stat}
 use Rattle.kom_model.specs.calls.Call.{Asked, Definition, answer, done, unguarded}
 use Rattle.kom_model.specs.calls.Guards.{Guard, guarded, refusal, unless, caller, login_guard}
 use Rattle.kom_model.specs.calls.Guards.{conference_guard, person_guard, text_guard, reads_guard}
@@ -54,6 +56,18 @@ get_text asked text start end = guarded
       effects = effect.Counted (caller asked).person counter.TextFetches 1 ∷ [];
       changes = [];
     })
+
+-- call 90, get-text-stat
+abbrev pub text_reply : Db → Viewer → ℕ → Reply
+text_reply db caller number = elim (text_of db number) [
+  | None ↦ reply.Refused 14 number
+  | Some row ↦ reply.TextStat (shown_stat db caller row)
+]
+
+abbrev pub get_text_stat : Asked → ℕ → Definition
+get_text_stat asked text = guarded
+    (login_guard (caller asked) ∷ text_guard asked.db (caller asked) text ∷ [])
+    (answer (text_reply asked.db (caller asked) text))
 
 -- what hangs on a text goes before it: links, recipients, marks
 abbrev pub gone_text : Db → ℕ → List Effect

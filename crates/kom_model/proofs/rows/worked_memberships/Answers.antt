@@ -5,7 +5,8 @@ use Rattle.kom_model.specs.Db.{conference_of, person_of, membership_of, membersh
 use Rattle.kom_model.specs.Db.{conference_head_of, membership_kind_of, read_of, text_of, next_text_of}
 use Rattle.kom_model.specs.Db.{next_local_of, recipient_of, recipients_of, locals_of, first_local_of}
 use Rattle.kom_model.specs.Effects.{fits, made}
-use Rattle.kom_model.specs.Rights.{supervises, sees, reads_conference, shows_membership}
+use Rattle.kom_model.specs.Rights.{supervises, sees, reads_conference}
+use Rattle.kom_model.specs.Shown.{shows_membership}
 use Rattle.kom_model.proofs.rows.worked_memberships.Goals as goal
 
 pub returns : goal.returns
