@@ -1,0 +1,5 @@
+pub mod Rows
+pub mod Accessors
+pub mod Rights
+pub mod Shown
+pub mod Told

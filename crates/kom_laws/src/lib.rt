@@ -1,0 +1,7 @@
+//! Laws over all histories: what the rights hide from a group of persons changes nothing that it
+//! may see or do.
+#![tactic(auto)]
+
+mod laws;
+
+pub use laws::rights_stand_erased;
