@@ -1,6 +1,7 @@
 pub mod Finding
 pub mod JoinedRows
 pub mod Joining
+pub mod Keys
 pub mod Leaving
 pub mod LeftRows
 pub mod Order

@@ -84,3 +84,7 @@ kept_at key entries = lookup (same_key key) entries
 -- the turn in which the person of a key joined its conference
 abbrev pub turn_of : Key → List Entry → Option ℕ
 turn_of key entries = option_map (λ kept. kept.turn) (kept_at key entries)
+
+-- a key with the turn in which its person joined its conference
+abbrev pub timed_at : List Entry → Key → Option (ℕ × Key)
+timed_at entries key = option_map (λ kept. (kept.turn, key)) (kept_at key entries)

@@ -12,6 +12,8 @@ ghost use Rattle.read_ranges.specs.Numbers.{ranges_of};
 ghost use Rattle.read_ranges.specs.Reads.{read_of, with_reader, without_reader};
 ghost use Rattle.read_ranges.specs.Reads.{with_read, read_at};
 
+mod keys;
+
 use crate::kept::Kept;
 use indexmap::IndexMap;
 use kom_types::{Member, MembershipRow, Memory, Moment, ReadRange};

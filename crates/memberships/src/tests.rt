@@ -215,6 +215,21 @@ fn members_are_in_the_order_of_joining(rt: HostRuntime) -> Result<(), Fail> {
 }
 
 #[test]
+fn keys_of_a_number_are_in_the_order_of_joining(rt: HostRuntime) -> Result<(), Fail> {
+    let mut table = Memberships::new(rt.alloc());
+    fill(&mut table)?;
+    table.set(row(7, 5, 0, 50))?;
+    table.set(row(5, 5, 0, 60))?;
+    let keys = table.keys_at(5)?;
+    assert_eq!(rt;
+        keys.as_slice(),
+        [(5, 1), (5, 2), (5, 3), (7, 5), (5, 5)].as_slice()
+    );
+    assert_eq!(rt; table.keys_at(4)?.len(), 0);
+    Ok(())
+}
+
+#[test]
 fn room_is_reserved(rt: HostRuntime) -> Result<(), Fail> {
     let mut table = Memberships::new(rt.alloc());
     table.reserve(5, 1, 100)?;

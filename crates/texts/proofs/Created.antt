@@ -1,6 +1,6 @@
 -- The numbers of the texts that a person made, as texts are added, taken out and given their numbers.
-use Rattle.std.proofs.Common.{◌≡◌, ℕ, ◌<◌, ◌++◌, Bool, true, false, cond, not, eqb, ltb, List, [], ◌∷◌, map, filter}
-use Rattle.std.proofs.Common.{Some, None, refl, sym, ap, subst, ◌∙◌, inl, inr, arith}
+use Rattle.std.proofs.Common.{◌≡◌, ℕ, ◌<◌, ◌++◌, Bool, true, false, cond, not, ◌&&◌, eqb, ltb, List, [], ◌∷◌, map}
+use Rattle.std.proofs.Common.{filter, Some, None, refl, sym, ap, subst, ◌∙◌, inl, inr, arith}
 use Rattle.std.proofs.lemmas.Bool.{cases_Bool, cases_eq, and_from, and_right, eq-eqb, eqb-true, ne_eqb, lt-ltb}
 use Rattle.kom_types.specs.declared.texts.LocalText.{LocalText}
 use Rattle.kom_types.specs.declared.texts.TextRow.{TextRow}
@@ -16,7 +16,7 @@ use Rattle.texts.proofs.Locals.{without_above}
 use Rattle.texts.proofs.Rising.{put_all, put_all-above, all-by_local, all-filter, all_of-rising_locals}
 use Rattle.texts.proofs.Rising.{filter-rising_locals}
 
-abbrev pairs_by : ℕ → List TextRow → List LocalText
+abbrev pub pairs_by : ℕ → List TextRow → List LocalText
 pairs_by person rows = map created_pair (filter (is_created_by person) rows)
 
 -- ---- a text is added, with no number yet
@@ -50,7 +50,7 @@ created_by-added person number author at body rows absent =
 
 -- ---- a text is given its number
 
-absent_above : (number : ℕ) (rows : List TextRow) → table.AllAbove number_of_text number rows →
+pub absent_above : (number : ℕ) (rows : List TextRow) → table.AllAbove number_of_text number rows →
     row_of number_of_text number rows ≡ None
 absent_above number [] above = refl
 absent_above number (row ∷ rows) above =
@@ -148,7 +148,7 @@ filter_above number (row ∷ rows) above =
     rw other (filter_above number rows above.1)
 
 -- one row has the number
-filter_number : (number : ℕ) (rows : List TextRow) (row : TextRow) →
+pub filter_number : (number : ℕ) (rows : List TextRow) (row : TextRow) →
     row_of number_of_text number rows ≡ Some row → IsByNumber number_of_text rows →
     filter (λ row. eqb row.number number) rows ≡ row ∷ []
 filter_number number [] row found rising = cc
@@ -240,3 +240,25 @@ created_by-left_other person number rows row found rising not_its =
 pub without_row-absent : (number : ℕ) (rows : List TextRow) → row_of number_of_text number rows ≡ None →
     without_row number_of_text number rows ≡ rows
 without_row-absent number rows none = all_stay (λ row. eqb row.number number) rows none
+
+-- ---- the number of a text is taken away
+
+-- a text without a number is as little among those that a person made as one that is gone
+filter-forgotten : (person number : ℕ) (rows : List TextRow) →
+    filter (is_created_by person) (changed_row number_of_text number (with_created_local 0) rows)
+    ≡ filter (is_created_by person) (without_row number_of_text number rows)
+filter-forgotten person number [] = refl
+filter-forgotten person number (row ∷ rows) =
+    let rest = filter-forgotten person number rows in
+    elim (cases_Bool (eqb row.number number)) [
+      | inl here ↦
+          let none : (eqb row.author person && ltb 0 0) ≡ false = and_right (eqb row.author person) false refl in
+          rw (here, none) rest
+      | inr other ↦ rw other (ap (λ l. cond (is_created_by person row) (row ∷ l) l) rest)
+    ]
+
+pub created_by-forgotten : (person number : ℕ) (rows : List TextRow) →
+    created_by person (changed_row number_of_text number (with_created_local 0) rows)
+    ≡ created_by person (without_row number_of_text number rows)
+created_by-forgotten person number rows =
+    ap (λ l. rising_locals (map created_pair l)) (filter-forgotten person number rows)

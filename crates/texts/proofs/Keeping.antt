@@ -15,7 +15,7 @@ use Rattle.local_maps.proofs.Parts.{rising-filter}
 use Rattle.misc_links.specs.Received.{AreOnce}
 use Rattle.texts.specs.Keeping.{IsKept, IsUnnumbered}
 use Rattle.texts.proofs.Created.{created_by-added, created_by-numbered, created_by-numbered_other, created_by-left}
-use Rattle.texts.proofs.Created.{created_by-left_other}
+use Rattle.texts.proofs.Created.{created_by-left_other, created_by-forgotten}
 use Rattle.texts.proofs.Locals.{locals_of-push, locals_of-push_other, locals_of-without, locals_of-without_other}
 
 above-push : (local : ℕ) (pairs : List LocalText) (last : LocalText) → AllAbove local pairs → local < last.local →
@@ -108,6 +108,18 @@ module _ (texts : List TextRow) (recipients : List Recipient) (locals created : 
           (none_changed created (λ p. created_by p texts) _ created_kept
           (λ p. created_by-left_other p number texts row found kept.by_number
           (and_right _ _ (le-ltb 0 row.created_local unnumbered))))
+
+      pub kept-forgotten_row : (new : Owned) → 0 < row.created_local →
+          pairs_of new row.author ≡ without row.created_local (pairs_of created row.author) →
+          HasOnlyChanged created new row.author →
+          IsKept (changed_row number_of_text number (with_created_local 0) texts) recipients locals new
+      kept-forgotten_row new numbered left others =
+          let gone = kept-left new numbered left others in
+          as_kept _ recipients locals new
+          (IsByNumber-changed_row number_of_text (with_created_local 0) (λ row. refl) number texts kept.by_number)
+          locals_kept
+          (none_changed new (λ p. created_by p (without_row number_of_text number texts)) _
+          (λ p. (gone.by_author p, gone.authors_rise p)) (λ p. created_by-forgotten p number texts))
 
       pub kept-numbered : (new : Owned) (person local : ℕ) → row.author ≡ person → row.created_local ≡ 0 → 0 < local →
           AllBelow local (created_by person texts) →

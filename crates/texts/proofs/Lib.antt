@@ -1,5 +1,6 @@
 pub mod Created
 pub mod Filters
+pub mod Forgetting
 pub mod Keeping
 pub mod Locals
 pub mod Rising

@@ -164,6 +164,31 @@ impl Texts {
         self.locals.down(conference, next, ceiling, count)
     }
 
+    /// How many texts a conference has, in constant time.
+    pub fn local_count(&self, conference: u32) -> usize
+        ensures { result ≡ length (locals_of conference self.now.rows.recipients) }
+    {
+        self.locals.len_of(conference)
+    }
+
+    /// The texts of a conference from a local number on, rising; none if none are kept.
+    pub fn locals_from(&self, conference: u32, first: u32) -> Option<PairsFrom<'_>>
+        ensures pairs { IsFrom result first (locals_of conference self.now.rows.recipients) }
+        ensures rising { IsRising (locals_of conference self.now.rows.recipients) }
+        ensures fits { AllBelow (2 ^ 32) (locals_of conference self.now.rows.recipients) }
+    {
+        let map = self.locals.map_of(conference)?;
+        Some(map.pairs_from(first))
+    }
+
+    /// The least number among the texts that a person made that still has a text.
+    pub fn first_created(&self, person: u32) -> Option<u32>
+        ensures { result ≡ least_of (created_by person self.now.rows.texts) }
+    {
+        let map = self.created.map_of(person)?;
+        map.first()
+    }
+
     /// The texts that a person made from a number among them on, rising; none if none are kept.
     pub fn created_from(&self, person: u32, first: u32) -> Option<PairsFrom<'_>>
         ensures pairs { IsFrom result first (created_by person self.now.rows.texts) }

@@ -255,6 +255,51 @@ fn texts_are_found_by_the_numbers_of_their_author(rt: HostRuntime) -> Result<(),
     Ok(())
 }
 
+// Whether the texts of the 4th person are there without numbers once these are forgotten, and not
+// before.
+fn are_forgotten(texts: &mut Texts, alloc: Global) -> Result<bool, Memory> {
+    add_three(texts, alloc)?;
+    texts.forget_created(5);
+    let first = texts.first_created(4);
+    texts.forget_created(4);
+    Ok(first == Some(1) && texts.first_created(4).is_none() && is_unnumbered(texts, 4, 8))
+}
+
+#[test]
+fn numbers_of_a_person_are_forgotten(rt: HostRuntime) -> Result<(), Fail> {
+    let mut texts = Texts::new(rt.alloc());
+    assert!(rt; matches!(are_forgotten(&mut texts, rt.alloc()), Ok(true)));
+    Ok(())
+}
+
+// The local number and the text of the 3rd conference from a number on, or two zeros where there is
+// none.
+fn local_after(texts: &Texts, first: u32) -> (u32, u32) {
+    match texts.locals_from(3, first) {
+        Some(mut pairs) => first_of(pairs.next()),
+        None => (0, 0),
+    }
+}
+
+// Whether text 7 is the one of the 3rd conference once it has its recipient.
+fn is_only_one(texts: &mut Texts) -> Result<bool, Memory>
+    requires { texts.old.rows.recipients ≡ [] }
+{
+    add_recipient(texts, recipient())?;
+    Ok(
+        texts.local_count(3) == 1
+            && local_after(texts, 2) == (5, 7)
+            && local_after(texts, 6) == (0, 0),
+    )
+}
+
+#[test]
+fn texts_of_a_conference_are_counted_and_told(rt: HostRuntime) -> Result<(), Fail> {
+    let mut texts = Texts::new(rt.alloc());
+    assert!(rt; matches!(is_only_one(&mut texts), Ok(true)));
+    Ok(())
+}
+
 // Text 8 becomes a comment to 7, if it is none.
 fn comment(texts: &mut Texts) -> Result<(), Memory> {
     let given = Link {

@@ -1,10 +1,11 @@
-ghost use Rattle.std.specs.Prelude.{◌≡◌, ◌≤◌, ◌<◌, [], ◌∷◌, ◌++◌, None, OnOk, length};
+ghost use Rattle.std.specs.Prelude.{◌≡◌, ◌≤◌, ◌<◌, ◌==◌, [], ◌∷◌, ◌++◌, Some, None, OnOk, length};
+ghost use Rattle.std.specs.Prelude.{map, if◌then◌else◌};
 ghost use Rattle.row_table.specs.Tables.{row_of, with_row, without_row, changed_row};
 ghost use Rattle.kom_types.specs.tables.Texts.{number_of_text, fresh_text, with_created_local};
 ghost use Rattle.kom_types.specs.tables.Texts.{recipient_of, without_recipient, link_of};
 ghost use Rattle.kom_types.specs.tables.Texts.{without_link, with_mark, without_mark, locals_of};
 ghost use Rattle.kom_types.specs.tables.Texts.{created_by};
-ghost use Rattle.local_maps.specs.Pairs.{AllBelow};
+ghost use Rattle.local_maps.specs.Pairs.{AllBelow, least_of};
 ghost use Rattle.texts.specs.Keeping.{IsUnnumbered};
 ghost use Rattle.texts.specs.Needs.{HasRoom, KeepsRoom, UsesRoom, room_for, text_needs};
 ghost use Rattle.texts.specs.Needs.{recipient_needs, link_needs, mark_needs, created_needs};
@@ -205,6 +206,36 @@ impl Texts {
     {
         self.created.append(person, local, text).unwrap();
         self.texts.set_created_local(text, local);
+    }
+
+    /// Takes away the number that each text of a person has among those that the person made. It
+    /// takes no memory, and the time grows with the number of these texts, times a logarithm.
+    pub fn forget_created(&mut self, person: u32)
+        ensures rows { self.new.rows ≡ record self.old.rows {
+          texts = map (λ row. if row.author == person then with_created_local 0 row else row)
+              self.old.rows.texts;
+        } }
+        ensures room { KeepsRoom self.old.room self.new.room }
+    {
+        while let Some(local) = self.first_created(person) {
+            self.forget_number(person, local);
+        }
+    }
+
+    /// Takes the least number away among those of the texts that a person made.
+    fn forget_number(&mut self, person: u32, local: u32)
+        requires { least_of (created_by person self.old.rows.texts) ≡ Some local }
+        ensures rows { self.new.rows ≡ record self.old.rows { texts = self.new.rows.texts } }
+        ensures rest { map (λ row. if row.author == person then with_created_local 0 row else row)
+            self.new.rows.texts
+            ≡ map (λ row. if row.author == person then with_created_local 0 row else row)
+            self.old.rows.texts }
+        ensures fewer { length (created_by person self.new.rows.texts)
+            < length (created_by person self.old.rows.texts) }
+        ensures room { KeepsRoom self.old.room self.new.room }
+    {
+        let text = self.created.remove(person, local).unwrap();
+        self.texts.set_created_local(text, 0);
     }
 
     /// Makes room for so many more rows that need this.
