@@ -1,10 +1,10 @@
 -- The numbers of the conferences stay below the one that the next gets.
 use Rattle.std.proofs.Common.{◌≡◌, ℕ, ◌+◌, ◌<◌, ◌≤◌, List, arith}
-use Rattle.row_table.specs.Tables.{with_row, changed_row}
+use Rattle.row_table.specs.Tables.{with_row, without_row, changed_row}
 use Rattle.kom_types.specs.declared.conferences.ConferenceRow.{ConferenceRow}
 use Rattle.kom_types.specs.tables.Conferences.{number_of_conference}
 use Rattle.kom_state.specs.Keeping.{AreBelow}
-use Rattle.kom_state.proofs.TableRows.{all_weaker, all_with_row, all_changed_row}
+use Rattle.kom_state.proofs.TableRows.{all_weaker, all_with_row, all_without_row, all_changed_row}
 
 -- a conference is added whose number is not below the one that the next was to get
 pub below-with_row : (next : ℕ) (row : ConferenceRow) (rows : List ConferenceRow) → next ≤ row.number →
@@ -23,3 +23,9 @@ below-changed_row next number change keeps rows below =
     let IsBelow : ConferenceRow → Type 0 = λ one. one.number < next in
     all_changed_row number_of_conference IsBelow IsBelow number change
     (λ one _ less. omega (arith, keeps one, less)) (λ _ less. less) rows below
+
+-- a conference is taken away
+pub below-without_row : (next number : ℕ) (rows : List ConferenceRow) → AreBelow next rows →
+    AreBelow next (without_row number_of_conference number rows)
+below-without_row next number rows below =
+    all_without_row number_of_conference (λ one. one.number < next) number rows below

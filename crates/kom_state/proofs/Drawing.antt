@@ -1,5 +1,6 @@
 -- What is kept of the numbers that are drawn stays so as rows are added, changed and taken away.
-use Rattle.std.proofs.Common.{◌≡◌, ℕ, ◌+◌, ◌<◌, ◌≤◌, ◌⊎◌, true, false, eqb, ltb, List, [], ◌∷◌, ◌++◌, Some, None}
+use Rattle.std.proofs.Common.{◌≡◌, ℕ, ◌+◌, ◌<◌, ◌≤◌, ◌⊎◌, Bool, true, false, cond, eqb, ltb, List, [], ◌∷◌, ◌++◌}
+use Rattle.std.proofs.Common.{Some, None, map}
 use Rattle.std.proofs.Common.{not, is_some, refl, sym, ap, subst, ◌∙◌, inl, inr, true≢false, arith}
 use Rattle.std.specs.List.{AllByRecursion}
 use Rattle.std.proofs.lemmas.Bool.{cases_eq, eqb-true, and_parts}
@@ -23,12 +24,13 @@ use Rattle.kom_types.specs.tables.Persons as Persons
 use Rattle.kom_types.specs.tables.Persons.{number_of_person, counted, with_created_drawn}
 use Rattle.kom_types.specs.tables.Texts.{number_of_text, fresh_text, with_created_local, created_by}
 use Rattle.kom_types.specs.tables.Texts.{locals_of, is_recipient, without_recipient}
+use Rattle.kom_model.specs.Effects.{without_number}
 use Rattle.local_maps.specs.Pairs.{AllBelow}
 use Rattle.texts.specs.Stored.{TextRows}
 use Rattle.kom_state.specs.Drawing.{AreDrawn, next_local, next_created}
 use Rattle.kom_state.proofs.TableRows.{all_weaker, all_both, all_kept, all_more, all_with_row, all_without_row}
 use Rattle.kom_state.proofs.TableRows.{all_changed_row, only_row, next_of-kept, next_of-other, next_of-drawn}
-use Rattle.kom_state.proofs.TableRows.{next_of-fresh}
+use Rattle.kom_state.proofs.TableRows.{next_of-fresh, next_of-gone, next_of-left, all_mapped, IsByNumber-mapped}
 use Rattle.kom_state.proofs.LocalNumbers.{below_from, IsLocalBelow, locals_each, locals_below, IsCreatedBelow}
 use Rattle.kom_state.proofs.LocalNumbers.{created_each, created_below}
 
@@ -121,6 +123,99 @@ module _ (conferences : List ConferenceRow) (persons : List PersonRow) (texts : 
   AreDrawn-person_added row new one absent is =
       rw is (AreDrawn-persons (with_row number_of_person row persons)
       (λ other. next_of-fresh number_of_person created_next other row persons one absent))
+
+  -- ---- a conference, or a person, is taken away
+  pub AreDrawn-conference_gone : (gone : ℕ) (new : List ConferenceRow) → locals_of gone texts.recipients ≡ [] →
+      new ≡ without_row number_of_conference gone conferences → AreDrawn new persons texts next
+  AreDrawn-conference_gone gone new empty is = rw is (record {
+    locals = λ number. by number (cases_eq gone number);
+    created = drawn.created;
+    from_one = drawn.from_one;
+    by_number = drawn.by_number;
+    below = drawn.below;
+  })
+    where
+      by : (number : ℕ) → (gone ≡ number) ⊎ (gone ≡ number → ⊥) →
+          AllBelow (next_local number (without_row number_of_conference gone conferences))
+          (locals_of number texts.recipients)
+      by number (inl same) =
+          subst (AllBelow (next_local number (without_row number_of_conference gone conferences)))
+          (sym empty ∙ ap (λ n. locals_of n texts.recipients) same) tt
+      by number (inr apart) =
+          subst (λ n. AllBelow n (locals_of number texts.recipients))
+          (sym (next_of-left number_of_conference local_next number gone conferences apart)) (drawn.locals number)
+
+  -- a text without its number is below any bound
+  still_below : (gone other bound : ℕ) (row : TextRow) → IsCreatedBelow other bound row →
+      IsCreatedBelow other bound (without_number gone row)
+  still_below gone other bound row is = by (eqb row.author gone)
+    where
+      by : (b : Bool) → IsCreatedBelow other bound (cond b (with_created_local 0 row) row)
+      by true passes =
+          let none : false ≡ true = (and_parts (eqb row.author other) (ltb 0 0) passes).1 in
+          absurd (true≢false (sym none))
+      by false passes = is passes
+
+  -- the texts of the one that is gone have no numbers
+  none_numbered : (gone bound : ℕ) (row : TextRow) → IsCreatedBelow gone bound (without_number gone row)
+  none_numbered gone bound row = by (eqb row.author gone) refl
+    where
+      by : (b : Bool) → eqb row.author gone ≡ b →
+          IsCreatedBelow gone bound (cond b (with_created_local 0 row) row)
+      by true its passes =
+          let none : false ≡ true = (and_parts (eqb row.author gone) (ltb 0 0) passes).1 in
+          absurd (true≢false (sym none))
+      by false another passes =
+          absurd (true≢false (sym (and_parts (eqb row.author gone) (ltb 0 row.created_local) passes).0 ∙ another))
+
+  same_number : (gone : ℕ) (row : TextRow) → (without_number gone row).number ≡ row.number
+  same_number gone row = by (eqb row.author gone)
+    where
+      by : (b : Bool) → (cond b (with_created_local 0 row) row).number ≡ row.number
+      by true = refl
+      by false = refl
+
+  pub AreDrawn-person_gone : (gone : ℕ) (new : List PersonRow) (new_texts : TextRows) →
+      new ≡ without_row number_of_person gone persons →
+      new_texts ≡ record texts { texts = map (without_number gone) texts.texts } →
+      AreDrawn conferences new new_texts next
+  AreDrawn-person_gone gone new new_texts is texts_are = rw (is, texts_are) (record {
+    locals = drawn.locals;
+    created = λ number. created_now number (cases_eq gone number);
+    from_one = λ number. from_one_now number (cases_eq gone number);
+    by_number =
+        IsByNumber-mapped number_of_text (without_number gone) (same_number gone) texts.texts drawn.by_number;
+    below = all_mapped (λ (one : TextRow). one.number < next) (λ one. one.number < next) (without_number gone)
+        (λ one less. omega (arith, less, same_number gone one)) texts.texts drawn.below;
+  })
+    where
+      left : List PersonRow
+      left = without_row number_of_person gone persons
+
+      created_now : (number : ℕ) → (gone ≡ number) ⊎ (gone ≡ number → ⊥) →
+          AllBelow (next_created number left) (created_by number (map (without_number gone) texts.texts))
+      created_now number (inl same) =
+          subst (λ n. AllBelow (next_created n left) (created_by n (map (without_number gone) texts.texts))) same
+          (created_below gone (next_created gone left) (map (without_number gone) texts.texts)
+          (all_mapped (IsCreatedBelow gone (next_created gone persons)) (IsCreatedBelow gone (next_created gone left))
+          (without_number gone) (λ row _. none_numbered gone (next_created gone left) row) texts.texts
+          (created_each gone _ _ (drawn.created gone))))
+      created_now number (inr apart) =
+          subst (λ n. AllBelow n (created_by number (map (without_number gone) texts.texts)))
+          (sym (next_of-left number_of_person created_next number gone persons apart))
+          (created_below number (next_created number persons) (map (without_number gone) texts.texts)
+          (all_mapped (IsCreatedBelow number (next_created number persons))
+          (IsCreatedBelow number (next_created number persons)) (without_number gone)
+          (still_below gone number (next_created number persons)) texts.texts
+          (created_each number _ _ (drawn.created number))))
+
+      from_one_now : (number : ℕ) → (gone ≡ number) ⊎ (gone ≡ number → ⊥) → 0 < next_created number left
+      from_one_now number (inl same) =
+          subst (λ n. 0 < next_created n left) same
+          (subst (λ n. 0 < n) (sym (next_of-gone number_of_person created_next gone persons)) (omega arith))
+      from_one_now number (inr apart) =
+          subst (λ n. 0 < n) (sym (next_of-left number_of_person created_next number gone persons apart))
+          (drawn.from_one number)
 
   -- ---- texts
   unnumbered : (person bound number author at : ℕ) (body : List ℕ) →

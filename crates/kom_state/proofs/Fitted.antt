@@ -1,11 +1,12 @@
 -- What it says of the rows that an effect fits.
-use Rattle.std.proofs.Common.{◌≡◌, ℕ, ◌≤◌, ◌&&◌, true, false, List, length, Option, Some, None, is_some, refl, sym}
-use Rattle.std.proofs.Common.{true≢false}
+use Rattle.std.proofs.Common.{◌≡◌, ℕ, ◌≤◌, ◌&&◌, true, false, List, [], ◌∷◌, length, Option, Some, None, is_some, refl}
+use Rattle.std.proofs.Common.{sym, true≢false, arith}
 use Rattle.std.specs.Prelude.{is_none}
 use Rattle.std.proofs.lemmas.Bool.{and_parts, leb-true, eqb-true}
 use Rattle.row_table.specs.Tables.{row_of}
 use Rattle.kom_types.specs.declared.effects.Effect.TheVariants as effect
 use Rattle.kom_types.specs.declared.texts.Link.{Link}
+use Rattle.kom_types.specs.declared.texts.LocalText.{LocalText}
 use Rattle.kom_types.specs.declared.texts.Recipient.{Recipient}
 use Rattle.kom_types.specs.declared.texts.TextRow.{TextRow}
 use Rattle.kom_types.specs.tables.Conferences.{number_of_conference}
@@ -13,7 +14,7 @@ use Rattle.kom_types.specs.tables.Persons.{number_of_person}
 use Rattle.kom_types.specs.tables.Texts as Texts
 use Rattle.kom_types.specs.tables.Texts.{number_of_text}
 use Rattle.kom_model.specs.Db.{Db, conference_of, person_of, text_of, recipient_of, link_of, next_local_of}
-use Rattle.kom_model.specs.Db.{next_created_of}
+use Rattle.kom_model.specs.Db.{next_created_of, locals_of}
 use Rattle.kom_model.specs.Effects.{fits, may_number}
 use Rattle.kom_state.specs.Drawing.{next_local, next_created}
 
@@ -33,6 +34,17 @@ pub joined-absent : (db : Db) (number privileges flags last_login : ℕ) →
     row_of number_of_person number db.persons ≡ None
 unfolding fits person_of
 joined-absent db number privileges flags last_login fits' = none_from _ (and_parts _ _ fits').1
+
+-- a conference that may go has no texts
+pub gone-empty : (db : Db) (number : ℕ) → fits (effect.ConfGone number) db ≡ true →
+    Texts.locals_of number db.recipients ≡ []
+unfolding fits locals_of
+gone-empty db number fits' =
+    none_left _ (eqb-true _ _ (and_parts _ _ (and_parts _ _ (and_parts _ _ fits').1).0).0)
+  where
+    none_left : (pairs : List LocalText) → length pairs ≡ 0 → pairs ≡ []
+    none_left [] none = refl
+    none_left (pair ∷ pairs) none = absurd (omega (arith, none))
 
 pub record TextFits (db : Db) (number : ℕ) (body : List ℕ) : Type 0 where
   pub from : db.next_text ≤ number

@@ -1,9 +1,9 @@
--- What is kept of the conferences and their names stays so when a conference is added or changed.
+-- What is kept of the conferences and their names stays so when a conference is added, changed or taken away.
 use Rattle.std.proofs.Common.{◌≡◌, ℕ, ◌+◌, ◌≤◌, true, false, List, [], None, is_some, refl, sym, ap, ◌∙◌, arith}
 use Rattle.std.specs.List.{list_any}
 use Rattle.std.proofs.lemmas.Bool.{and_parts, not-true, leb-true}
-use Rattle.row_table.specs.Tables.{row_of, with_row, changed_row}
-use Rattle.row_table.proofs.Rows.{IsByNumber-with_row, IsByNumber-changed_row}
+use Rattle.row_table.specs.Tables.{row_of, with_row, without_row, changed_row}
+use Rattle.row_table.proofs.Rows.{IsByNumber-with_row, IsByNumber-without_row, IsByNumber-changed_row}
 use Rattle.kom_types.specs.declared.conferences.ConferenceRow.{ConferenceRow}
 use Rattle.kom_types.specs.declared.effects.Effect.TheVariants as effect
 use Rattle.kom_types.specs.tables.Conferences as Conferences
@@ -12,8 +12,8 @@ use Rattle.kom_model.specs.Db.{Db, conference_of, conferences_of}
 use Rattle.kom_model.specs.Effects.{fits, may_name}
 use Rattle.name_lookup.specs.NamedRows.{Named, with_name, without_name, taken}
 use Rattle.kom_state.specs.Keeping.{name_row, IsKept}
-use Rattle.kom_state.proofs.Below.{below-with_row, below-changed_row}
-use Rattle.kom_state.proofs.Names.{is_other, names-with_row, names-kept, names-renamed, taken-free}
+use Rattle.kom_state.proofs.Below.{below-with_row, below-without_row, below-changed_row}
+use Rattle.kom_state.proofs.Names.{is_other, names-with_row, names-without_row, names-kept, names-renamed, taken-free}
 
 may_name-free : (db : Db) (number : ℕ) (name : List ℕ) → may_name db number name ≡ true →
     list_any (is_other number name) db.conferences ≡ false
@@ -75,6 +75,16 @@ module _ (rows : List ConferenceRow) (names : List Named) (next : ℕ) (kept : I
         (λ row. ap (λ (one : Named). one.number) (keeps row)) number rows kept.by_number;
     below = below-changed_row next number change (λ row. ap (λ (one : Named). one.number) (keeps row)) rows kept.below;
     same_names = kept.same_names ∙ sym (names-kept number change rows keeps);
+    within = kept.within;
+  })
+
+  pub IsKept-gone : (number : ℕ) (new : List ConferenceRow) (new_names : List Named) →
+      new ≡ without_row number_of_conference number rows → new_names ≡ without_name number names →
+      IsKept new new_names next
+  IsKept-gone number new new_names is names_are = rw (is, names_are) (record {
+    by_number = IsByNumber-without_row number_of_conference number rows kept.by_number;
+    below = below-without_row next number rows kept.below;
+    same_names = ap (without_name number) kept.same_names ∙ sym (names-without_row number rows);
     within = kept.within;
   })
 

@@ -7,7 +7,7 @@ use Rattle.kom_types.specs.tables.Conferences.{number_of_conference, fresh_confe
 use Rattle.kom_types.specs.tables.Memberships.{with_membership}
 use Rattle.kom_types.specs.tables.Persons.{number_of_person, fresh_person}
 use Rattle.std.proofs.lemmas.Bool.{eq-eqb, cases_eq, ne_eqb}
-use Rattle.row_table.specs.Tables.{Tabled, with_row, changed_row}
+use Rattle.row_table.specs.Tables.{Tabled, with_row, without_row, changed_row}
 use Rattle.kom_types.specs.declared.conferences.ConferenceRow.{ConferenceRow}
 use Rattle.kom_types.specs.declared.effects.Effect.{Effect}
 use Rattle.kom_types.specs.declared.memberships.MembershipRow.{MembershipRow}
@@ -93,6 +93,27 @@ IsMade-added number name kind at creator supervisor old new persons memberships 
       of_person = λ number. omega arith;
       of_conference = λ number. omega arith;
       name = λ none. absurd (none-some name (sym none));
+      texts = λ need. omega arith;
+    })
+
+-- a conference is taken away, with its name
+pub IsMade-conference_gone : (number : ℕ) (old new : Tabled ConferenceRow) (persons : Tabled PersonRow)
+    (memberships : Table) (names new_names : Lookup) (texts : Texts) (next next_text : ℕ) →
+    new.rows ≡ without_row number_of_conference number old.rows → old.spare ≤ new.spare →
+    new_names.ready ≡ names.ready →
+    IsMade (effect.ConfGone number) (stored old persons memberships names texts next next_text)
+    (stored new persons memberships new_names texts next next_text)
+unfolding made
+IsMade-conference_gone number old new persons memberships names new_names texts next next_text rows spare ready =
+    IsMade-using _ _ _
+    (ap (λ rows. (stored (record new { rows = rows }) persons memberships new_names texts next next_text).db) rows)
+    (record {
+      conferences = omega arith;
+      persons = omega arith;
+      memberships = omega arith;
+      of_person = λ number. omega arith;
+      of_conference = λ number. omega arith;
+      name = λ _. ready;
       texts = λ need. omega arith;
     })
 

@@ -8,7 +8,7 @@ use Rattle.std.proofs.lemmas.Bool.{false_from_ne_true}
 use Rattle.std.proofs.lemmas.Bool.Decides.{nat_tests}
 use Rattle.std.proofs.lemmas.Option.{none-some, same_Some}
 use Rattle.std.proofs.lemmas.Slice.Eq.{bytes_eq-Decides}
-use Rattle.row_table.specs.Tables.{row_of, with_row, changed_row, AllAbove, IsByNumber}
+use Rattle.row_table.specs.Tables.{row_of, with_row, without_row, changed_row, AllAbove, IsByNumber}
 use Rattle.kom_types.specs.declared.conferences.ConferenceRow.{ConferenceRow}
 use Rattle.kom_types.specs.declared.effects.ConfField.{ConfField}
 use Rattle.kom_types.specs.declared.effects.ConfField.TheVariants as field
@@ -34,6 +34,20 @@ names-with_row row (first ∷ rows) =
     by true below rest = refl
     by false true rest = refl
     by false false rest = ap (λ names. name_row first ∷ names) rest
+
+pub names-without_row : (number : ℕ) (rows : List ConferenceRow) →
+    map name_row (without_row number_of_conference number rows) ≡ without_name number (map name_row rows)
+names-without_row number [] = refl
+names-without_row number (row ∷ rows) = by (eqb row.number number) (names-without_row number rows)
+  where
+    by : (gone : Bool) →
+        map name_row (without_row number_of_conference number rows) ≡ without_name number (map name_row rows) →
+        map name_row (cond (not gone) (row ∷ without_row number_of_conference number rows)
+        (without_row number_of_conference number rows))
+        ≡ cond (not gone) (name_row row ∷ without_name number (map name_row rows))
+        (without_name number (map name_row rows))
+    by true rest = rest
+    by false rest = ap (λ names. name_row row ∷ names) rest
 
 pub names-kept : (number : ℕ) (change : ConferenceRow → ConferenceRow) (rows : List ConferenceRow) →
     ((row : ConferenceRow) → name_row (change row) ≡ name_row row) →

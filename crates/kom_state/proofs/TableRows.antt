@@ -1,12 +1,12 @@
 -- What holds of all rows of a table, and the numbers that rows draw next.
 use Rattle.std.proofs.Common.{◌≡◌, ℕ, ◌<◌, ◌⊎◌, Bool, true, cond, not, eqb, ltb, List, [], ◌∷◌, ◌++◌}
-use Rattle.std.proofs.Common.{filter, Option, Some, None, is_some, option_map, refl, sym, ap, ◌∙◌, inl, inr, arith}
+use Rattle.std.proofs.Common.{map, filter, Option, Some, None, is_some, option_map, refl, sym, ap, ◌∙◌, inl, inr, arith}
 use Rattle.std.proofs.Common.{true≢false}
 use Rattle.std.specs.List.{AllByRecursion}
 use Rattle.std.proofs.lemmas.Bool.{cond_both, cases_eq, eq-eqb, ne_eqb, eqb-true}
 use Rattle.std.proofs.lemmas.Option.{same_Some}
 use Rattle.row_table.specs.Tables.{row_of, with_row, without_row, changed_row, AllAbove, IsByNumber}
-use Rattle.row_table.proofs.Rows.{row_of-with_row, row_of-changed_row}
+use Rattle.row_table.proofs.Rows.{row_of-with_row, row_of-without_row, row_of-changed_row}
 
 -- ---- what holds of all
 pub all_weaker : {X : Type 0} (P Q : X → Type 0) → ((x : X) → P x → Q x) → (xs : List X) → AllByRecursion P xs →
@@ -31,7 +31,22 @@ pub all_more : {X : Type 0} (P : X → Type 0) (xs : List X) (last : X) → AllB
 all_more P [] last all here = (here, tt)
 all_more P (x ∷ xs) last all here = (all.0, all_more P xs last all.1 here)
 
+pub all_mapped : {X Y : Type 0} (P : X → Type 0) (Q : Y → Type 0) (f : X → Y) → ((x : X) → P x → Q (f x)) →
+    (xs : List X) → AllByRecursion P xs → AllByRecursion Q (map f xs)
+all_mapped P Q f each [] all = tt
+all_mapped P Q f each (x ∷ xs) all = (each x all.0, all_mapped P Q f each xs all.1)
+
 module _ {R : Type 0} (number_of : R → ℕ) where
+  -- all rows are changed, and keep their numbers
+  pub IsByNumber-mapped : (change : R → R) → ((row : R) → number_of (change row) ≡ number_of row) →
+      (rows : List R) → IsByNumber number_of rows → IsByNumber number_of (map change rows)
+  IsByNumber-mapped change keeps [] rising = tt
+  IsByNumber-mapped change keeps (row ∷ rows) rising = (
+    all_mapped (λ one. number_of row < number_of one) (λ one. number_of (change row) < number_of one) change
+        (λ one less. omega (arith, less, keeps row, keeps one)) rows rising.0,
+    IsByNumber-mapped change keeps rows rising.1,
+  )
+
   pub all_with_row : (P : R → Type 0) (row : R) (rows : List R) → P row → AllByRecursion P rows →
       AllByRecursion P (with_row number_of row rows)
   all_with_row P row [] here all = (here, tt)
@@ -119,6 +134,16 @@ module _ {R : Type 0} (number_of : R → ℕ) where
       next_of-drawn number new rows is there =
           ap next_in (row_of-changed_row number_of change keeps number number rows)
           ∙ rw (eq-eqb number number refl) (drawn_in new is (row_of number_of number rows) there)
+
+    -- a row is taken away
+    pub next_of-gone : (number : ℕ) (rows : List R) → next_of number (without_row number_of number rows) ≡ 1
+    next_of-gone number rows =
+        ap next_in (row_of-without_row number_of number number rows) ∙ rw (eq-eqb number number refl) refl
+
+    pub next_of-left : (number gone : ℕ) (rows : List R) → (gone ≡ number → ⊥) →
+        next_of number (without_row number_of gone rows) ≡ next_of number rows
+    next_of-left number gone rows apart =
+        ap next_in (row_of-without_row number_of number gone rows) ∙ rw (ne_eqb gone number apart) refl
 
     pub next_of-fresh : (number : ℕ) (row : R) (rows : List R) → next row ≡ 1 →
         row_of number_of (number_of row) rows ≡ None →

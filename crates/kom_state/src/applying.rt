@@ -54,6 +54,7 @@ impl State {
                 creator,
                 supervisor,
             } => self.add_conference(number, name, kind, at, creator, supervisor),
+            Effect::ConfGone { number } => self.remove_conference(number),
             Effect::ConfNamed { number, name } => self.rename_conference(number, name),
             Effect::ConfField { number, field } => self.set_conference_field(number, field),
             Effect::MemberSet {
@@ -81,6 +82,7 @@ impl State {
                 at,
                 ranges,
             } => self.set_read(person, conference, at, ranges),
+            Effect::PersonGone { number } => self.remove_person(number),
             Effect::PersonAdded { .. }
             | Effect::PersonField { .. }
             | Effect::Password { .. }
@@ -134,6 +136,14 @@ impl State {
         self.next_conference = number + 1;
     }
 
+    fn remove_conference(&mut self, number: u32)
+        requires { IsPossible (Effect.ConfGone number) self.old }
+        ensures { IsMade (Effect.ConfGone number) self.old self.new }
+    {
+        self.names.remove(number);
+        self.conferences.remove(number);
+    }
+
     fn rename_conference(&mut self, number: u32, name: Bytes)
         requires { IsPossible (Effect.ConfNamed number name) self.old }
         ensures { IsMade (Effect.ConfNamed number name) self.old self.new }
@@ -155,6 +165,14 @@ impl State {
     {
         let row = fresh_person(self.alloc, number, privileges, flags, last_login);
         self.persons.put(row).unwrap();
+    }
+
+    /// Takes a person out, with the numbers of the texts that it made.
+    fn remove_person(&mut self, number: u32)
+        ensures { IsMade (Effect.PersonGone number) self.old self.new }
+    {
+        self.persons.remove(number);
+        self.texts.forget_created(number);
     }
 
     fn set_person_field(&mut self, number: u32, field: PersonField)

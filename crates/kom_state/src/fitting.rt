@@ -2,6 +2,7 @@ ghost use Rattle.std.specs.Prelude.{◌≡◌, is_some};
 ghost use Rattle.kom_model.specs.Db.{conference_of, person_of};
 ghost use Rattle.kom_model.specs.Effects.{fits, is_free, may_name, may_add_conference};
 ghost use Rattle.kom_model.specs.Effects.{may_set, may_set_field, has_letterbox, may_join};
+ghost use Rattle.kom_model.specs.Effects.{is_bare_conference, is_bare_person};
 ghost use Rattle.kom_types.specs.tables.Conferences.{is_secret_protected, is_letterbox};
 
 mod text_effects;
@@ -43,12 +44,18 @@ impl State {
                 kind,
                 ..
             } => self.may_add_conference(*number, name.as_slice(), *kind),
+            Effect::ConfGone { number } => {
+                self.has_conference(*number) && self.is_bare_conference(*number)
+            }
             Effect::ConfNamed { number, name } => {
                 self.has_conference(*number) && self.may_name(*number, name.as_slice())
             }
             Effect::ConfField { number, field } => self.may_set_field(*number, *field),
             Effect::PersonAdded { number, .. } => {
                 self.has_letterbox(*number) && !self.has_person(*number)
+            }
+            Effect::PersonGone { number } => {
+                self.has_person(*number) && self.is_bare_person(*number)
             }
             Effect::PersonField { number, .. } => self.has_person(*number),
             Effect::Password { number, .. } => self.has_person(*number),
@@ -133,6 +140,20 @@ impl State {
             && !self.has_conference(number)
             && self.may_name(number, name)
             && is_secret_protected(kind)
+    }
+
+    /// Whether nothing is left that hangs on a conference.
+    fn is_bare_conference(&self, number: u32) -> bool
+        ensures { result ≡ is_bare_conference self.now.db number }
+    {
+        self.local_count(number) == 0 && self.member_count(number) == 0 && !self.has_person(number)
+    }
+
+    /// Whether nothing is left that hangs on a person.
+    fn is_bare_person(&self, number: u32) -> bool
+        ensures { result ≡ is_bare_person self.now.db number }
+    {
+        self.membership_count(number) == 0 && self.mark_count_of(number) == 0
     }
 
     fn may_set_field(&self, number: u32, field: ConfField) -> bool

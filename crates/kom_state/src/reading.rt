@@ -5,7 +5,7 @@ ghost use Rattle.kom_types.specs.Names.{finds};
 ghost use Rattle.kom_model.specs.Db.{conference_of, person_of, membership_of};
 ghost use Rattle.kom_model.specs.Db.{memberships_of, members_of, conferences_of};
 ghost use Rattle.kom_types.specs.tables.Conferences.{number_of_conference};
-ghost use Rattle.kom_model.specs.Db.{read_of};
+ghost use Rattle.kom_model.specs.Db.{read_of, memberships_at};
 ghost use Rattle.kom_model.specs.calls.Memberships.{member_of};
 ghost use Rattle.read_ranges.specs.Numbers.{ranges_of};
 ghost use Rattle.kom_state.specs.Keeping.{AreBelow};
@@ -72,6 +72,17 @@ impl State {
         ensures { result ≡ slice_get (memberships_of self.now.db person) place }
     {
         self.memberships.nth_of_person(person, place)
+    }
+
+    /// The person and the conference of each membership in the conference of a number, or of the
+    /// person of that number, in the order of joining. The time grows with their number, times its
+    /// logarithm.
+    #[tactic(auto, unfolding(kom_model::specs::Db::memberships_at))]
+    pub fn membership_keys_at(&self, number: u32) -> Result<Vec<(u32, u32)>, Memory>
+        ensures { IfOk result (λ keys. keys.items
+            ≡ map (λ row. (row.person, row.conference)) (memberships_at self.now.db number)) }
+    {
+        self.memberships.keys_at(number)
     }
 
     /// How many members a conference has, in constant time.

@@ -1,6 +1,6 @@
 use crate::state::State;
 use kom_model::Rows;
-use kom_types::{ConferenceHead, Recipient};
+use kom_types::{ConferenceHead, Link, Recipient, TextRow};
 
 impl Rows for State {
     ghost db = { λ state. state.db };
@@ -38,5 +38,29 @@ impl Rows for State {
 
     fn recipient(&self, text: u32, place: usize) -> Option<Recipient> {
         self.nth_recipient(text, place).copied()
+    }
+
+    fn text(&self, number: u32) -> Option<&TextRow> {
+        State::text(self, number)
+    }
+
+    fn count_from(&self, text: u32, footnote: bool) -> usize {
+        State::count_from(self, text, footnote)
+    }
+
+    fn link_from(&self, text: u32, footnote: bool, place: usize) -> Option<Link> {
+        self.nth_from(text, footnote, place).copied()
+    }
+
+    fn count_into(&self, text: u32, footnote: bool) -> usize {
+        State::count_into(self, text, footnote)
+    }
+
+    fn link_into(&self, text: u32, footnote: bool, place: usize) -> Option<Link> {
+        self.nth_into(text, footnote, place).copied()
+    }
+
+    fn mark_count(&self, text: u32) -> usize {
+        self.mark_count_on(text)
     }
 }

@@ -1,3 +1,4 @@
+mod deletions;
 mod member_effects;
 mod text_effects;
 

@@ -6,7 +6,7 @@ ghost use Rattle.kom_types.specs.tables.Texts.{shown_mark, number_of_text};
 ghost use Rattle.kom_model.specs.Db.{text_of, texts_of, next_text_of, recipient_of, recipients_of};
 ghost use Rattle.kom_model.specs.Db.{link_of, links_from, links_into, links_of, locals_of, created_by};
 ghost use Rattle.kom_model.specs.Db.{next_local_of, next_created_of, mark_of, marks_of, marks_on};
-ghost use Rattle.kom_model.specs.Db.{first_local_of};
+ghost use Rattle.kom_model.specs.Db.{first_local_of, first_created_of};
 ghost use Rattle.local_maps.specs.Pairs.{AllBelow, IsRising};
 ghost use Rattle.texts.specs.Keeping.{IsFrom};
 ghost use Rattle.kom_state.specs.Keeping.{AreTextsBelow};
@@ -201,6 +201,36 @@ impl State {
     {
         let next = self.next_local(conference);
         self.texts.locals_down(conference, next, ceiling, count)
+    }
+
+    /// How many texts a conference has, in constant time.
+    #[tactic(auto, unfolding(kom_model::specs::Db::locals_of))]
+    pub fn local_count(&self, conference: u32) -> usize
+        ensures { result ≡ length (locals_of self.now.db conference) }
+    {
+        self.texts.local_count(conference)
+    }
+
+    /// The texts of a conference from a local number on, rising; none if none are kept.
+    #[tactic(auto, unfolding(kom_model::specs::Db::locals_of))]
+    pub fn locals_from(&self, conference: u32, first: u32) -> Option<PairsFrom<'_>>
+        ensures pairs { IsFrom result first (locals_of self.now.db conference) }
+        ensures rising { IsRising (locals_of self.now.db conference) }
+        ensures fits { AllBelow (2 ^ 32) (locals_of self.now.db conference) }
+    {
+        self.texts.locals_from(conference, first)
+    }
+
+    /// The least number among the texts that a person made that still has a text, or the next one
+    /// if none has.
+    #[tactic(auto, unfolding(kom_model::specs::Db::first_created_of, kom_model::specs::Db::created_by))]
+    pub fn first_created(&self, person: u32) -> u32
+        ensures { result ≡ first_created_of self.now.db person }
+    {
+        match self.texts.first_created(person) {
+            Some(local) => local,
+            None => self.next_created(person),
+        }
     }
 
     /// The texts that a person made from a number among them on, rising; none if none are kept.

@@ -22,7 +22,7 @@ fn read(state: &mut State, conference: u32, end: u32) -> Result<bool, Memory> {
     make(state, effect)
 }
 
-fn leave(state: &mut State, conference: u32) -> Result<bool, Memory> {
+pub(super) fn leave(state: &mut State, conference: u32) -> Result<bool, Memory> {
     make(
         state,
         Effect::MemberGone {

@@ -6,7 +6,7 @@ use std::process::Abort;
 use std::test::Fail;
 
 // Adds a text by the administrator.
-fn write(state: &mut State, number: u32) -> Result<bool, Memory> {
+pub(super) fn write(state: &mut State, number: u32) -> Result<bool, Memory> {
     let body = Bytes::copy_of(state.alloc, b"Hello\n")?;
     let effect = Effect::TextAdded {
         number,
@@ -17,7 +17,12 @@ fn write(state: &mut State, number: u32) -> Result<bool, Memory> {
     make(state, effect)
 }
 
-fn send(state: &mut State, text: u32, conference: u32, local: u32) -> Result<bool, Memory> {
+pub(super) fn send(
+    state: &mut State,
+    text: u32,
+    conference: u32,
+    local: u32,
+) -> Result<bool, Memory> {
     let recipient = Recipient {
         text,
         conference,
@@ -40,7 +45,7 @@ fn comment(state: &mut State, child: u32, parent: u32) -> Result<bool, Memory> {
     make(state, Effect::LinkAdded(link))
 }
 
-fn number(state: &mut State, text: u32, local: u32) -> Result<bool, Memory> {
+pub(super) fn number(state: &mut State, text: u32, local: u32) -> Result<bool, Memory> {
     make(
         state,
         Effect::Created {
