@@ -1,3 +1,4 @@
 mod Authors
 mod Heads
+mod Pushing
 mod Recipients

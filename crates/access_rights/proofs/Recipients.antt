@@ -1,9 +1,8 @@
 -- Whether a recipient of a text is read, by the places of the recipients.
-use Rattle.std.proofs.Common.{◌≡◌, ℕ, ◌+◌, ◌≤◌, Bool, false, true, ◌||◌, List, Some, None, length, take, get_or}
-use Rattle.std.proofs.Common.{inl, inr, ap, ◌∙◌}
+use Rattle.std.proofs.Common.{◌≡◌, ℕ, ◌+◌, Bool, false, true, ◌||◌, List, Some, take, get_or, ap, ◌∙◌}
 use Rattle.std.specs.List.{list_any, slice_get}
 use Rattle.std.proofs.lemmas.List.Folds.{list_any_at, list_any_more}
-use Rattle.std.proofs.lemmas.Option.{get_or_from_slice_get, slice_get_within, slice_get_cases}
+use Rattle.std.proofs.lemmas.Option.{get_or_from_slice_get, slice_get_within}
 use Rattle.kom_types.specs.declared.texts.Recipient.{Recipient}
 use Rattle.kom_model.specs.declared.viewers.Viewer.{Viewer}
 use Rattle.kom_model.specs.Db.{Db, recipients_of}
@@ -35,11 +34,3 @@ unread_more db viewer text place row before is unread =
     (slice_get_within (recipients_of db text) place row is)
     ∙ ap (λ b. b || is_read db viewer (get_or (recipients_of db text) place row)) before
     ∙ told_at (is_read db viewer) (recipients_of db text) place row false is unread
-
--- there is a recipient at each place before their end
-pub absent_past : (db : Db) (text place : ℕ) → slice_get (recipients_of db text) place ≡ None →
-    length (recipients_of db text) ≤ place
-absent_past db text place is = elim (slice_get_cases (recipients_of db text) place).1 [
-  | inl (row, within, there, read) ↦ cc
-  | inr (past, none) ↦ past
-]

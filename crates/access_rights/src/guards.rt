@@ -59,6 +59,32 @@ pub fn text_guard<R: Rows>(rows: &R, caller: &Viewer, number: u32) -> Result<(),
     }
 }
 
+/// The conference is there and seen, or the number is 0, for none.
+pub fn conference_or_none_guard<R: Rows>(
+    rows: &R,
+    caller: &Viewer,
+    number: u32,
+) -> Result<(), Refused>
+    ensures { Guards (Guard.conference_or_none_guard (R.db rows.now) caller.now number) result }
+{
+    if number == 0 {
+        Ok(())
+    } else {
+        conference_guard(rows, caller, number)
+    }
+}
+
+/// The text is there and read, or the number is 0, for none.
+pub fn text_or_none_guard<R: Rows>(rows: &R, caller: &Viewer, number: u32) -> Result<(), Refused>
+    ensures { Guards (Guard.text_or_none_guard (R.db rows.now) caller.now number) result }
+{
+    if number == 0 {
+        Ok(())
+    } else {
+        text_guard(rows, caller, number)
+    }
+}
+
 /// The texts of the conference are shown to the caller.
 pub fn reads_guard<R: Rows>(rows: &R, caller: &Viewer, conference: u32) -> Result<(), Refused>
     ensures { Guards (Guard.reads_guard (R.db rows.now) caller.now conference) result }

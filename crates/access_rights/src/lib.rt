@@ -1,6 +1,6 @@
 //! The rights of persons over conferences and texts, over any stored rows, and the guards that
 //! calls share.
-//! No function takes memory.
+//! No function but `shown_stat` takes memory.
 #![tactic(auto)]
 
 mod guards;
@@ -8,12 +8,15 @@ mod memberships;
 mod rights;
 #[cfg(test)]
 mod tests;
+mod text_stat;
 mod texts;
 
 pub use guards::{
-    conference_guard, items_guard, login_guard, name_guard, own_guard, reads_guard, session_guard,
-    size_guard, strong_guard, submit_guard, text_guard, type_guard, unless,
+    conference_guard, conference_or_none_guard, items_guard, login_guard, name_guard, own_guard,
+    reads_guard, session_guard, size_guard, strong_guard, submit_guard, text_guard,
+    text_or_none_guard, type_guard, unless,
 };
 pub use memberships::{is_reserved, member_guard, row_guard, shows_membership, shows_reads};
-pub use rights::{reads_conference, sees, supervises};
+pub use rights::{reads_conference, sees, supervises, working_shown};
+pub use text_stat::{shown_stat, told_count};
 pub use texts::{is_author, may_submit, reads, shows_recipient};

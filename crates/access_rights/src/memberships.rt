@@ -1,6 +1,6 @@
 ghost use Rattle.std.specs.Prelude.{◌≡◌};
-ghost use Rattle.kom_model.specs.Rights as Rights;
-ghost use Rattle.kom_model.specs.Rights.{is_secret_membership};
+ghost use Rattle.kom_model.specs.Shown as Shown;
+ghost use Rattle.kom_model.specs.Shown.{is_secret_membership};
 ghost use Rattle.kom_model.specs.calls.Guards.{Guards};
 ghost use Rattle.kom_model.specs.calls.Memberships as Calls;
 
@@ -15,7 +15,7 @@ const SECRET: u8 = 32;
 const UNREAD_IS_SECRET: u8 = 128;
 
 /// Whether a membership of this type is shown to who looks. (Protocol A, "Security".)
-#[tactic(auto, unfolding(kom_model::specs::Rights::shows_membership))]
+#[tactic(auto, unfolding(kom_model::specs::Shown::shows_membership))]
 pub fn shows_membership<R: Rows>(
     rows: &R,
     viewer: &Viewer,
@@ -23,7 +23,7 @@ pub fn shows_membership<R: Rows>(
     conference: u32,
     kind: u8,
 ) -> bool
-    ensures { result ≡ Rights.shows_membership (R.db rows.now) viewer.now person conference kind }
+    ensures { result ≡ Shown.shows_membership (R.db rows.now) viewer.now person conference kind }
 {
     sees(rows, viewer, conference)
         && (!is_secret_membership(kind)
@@ -41,7 +41,7 @@ fn is_secret_membership(kind: u8) -> bool
 
 /// Whether a person keeps to itself what it has read.
 pub fn is_reserved<R: Rows>(rows: &R, person: u32) -> bool
-    ensures { result ≡ Rights.is_reserved (R.db rows.now) person }
+    ensures { result ≡ Shown.is_reserved (R.db rows.now) person }
 {
     match rows.flags(person) {
         None => false,
@@ -51,7 +51,7 @@ pub fn is_reserved<R: Rows>(rows: &R, person: u32) -> bool
 
 /// Whether what a person has read is told to who looks.
 pub fn shows_reads<R: Rows>(rows: &R, viewer: &Viewer, person: u32) -> bool
-    ensures { result ≡ Rights.shows_reads (R.db rows.now) viewer.now person }
+    ensures { result ≡ Shown.shows_reads (R.db rows.now) viewer.now person }
 {
     !is_reserved(rows, person)
         || viewer.strong

@@ -2,10 +2,12 @@ ghost use Rattle.std.specs.Prelude.{◌≡◌};
 ghost use Rattle.kom_model.specs.Rights as Rights;
 ghost use Rattle.kom_model.specs.Rights.{is_member, is_active_member, stands_for};
 ghost use Rattle.kom_model.specs.Rights.{belongs, is_let_in};
+ghost use Rattle.kom_model.specs.Shown.{working_shown};
 ghost use Rattle.kom_types.specs.tables.Conferences.{is_read_protected, is_secret_conference};
 ghost use Rattle.kom_types.specs.tables.Memberships.{is_invitation};
 
 use kom_model::{Rows, Viewer};
+use kom_types::Seat;
 
 /// The bits of a conference's type, and of a membership's.
 const READ_PROTECTED: u8 = 128;
@@ -48,6 +50,18 @@ pub fn reads_conference<R: Rows>(rows: &R, viewer: &Viewer, conference: u32) -> 
         Some(head) => {
             !is_read_protected(head.kind) || is_let_in(rows, viewer, conference, head.supervisor)
         }
+    }
+}
+
+/// The conference that a session is in, or 0 if that is not shown to who looks. (Protocol A,
+/// "Security".)
+pub fn working_shown<R: Rows>(rows: &R, viewer: &Viewer, seat: &Seat) -> u32
+    ensures { result ≡ working_shown (R.db rows.now) viewer.now seat.now }
+{
+    if sees(rows, viewer, seat.working) {
+        seat.working
+    } else {
+        0
     }
 }
 

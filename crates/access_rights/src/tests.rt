@@ -1,12 +1,13 @@
 mod memberships;
 mod small;
+mod text_stat;
 mod texts;
 
 use super::*;
 use kom_model::{Refused, Viewer};
 use kom_types::{AuxInput, AuxInputs, Bytes, Memory, Moment, SessionChange};
 use sessions::{SessionRow, Sessions};
-use small::{READ_PROTECTED, SECRET, Small, secret};
+use small::{READ_PROTECTED, SECRET, Small, secret, text_by};
 use std::alloc::Global;
 use std::process::Abort;
 use std::test::Fail;
@@ -73,14 +74,15 @@ fn looks() -> [Look; 5] {
 
 #[test]
 fn a_secret_conference_is_seen_by_its_own(rt: HostRuntime) -> Result<(), Fail> {
-    let small = secret();
+    let text = text_by(rt.alloc(), 9)?;
+    let small = secret(&text);
     for row in &looks() {
         check_look(&rt, &small, row)?;
     }
     Ok(())
 }
 
-fn check_look(rt: &impl Abort, small: &Small, row: &Look) -> Result<(), Fail> {
+fn check_look(rt: &impl Abort, small: &Small<'_>, row: &Look) -> Result<(), Fail> {
     let caller = Viewer {
         person: row.person,
         strong: row.strong,
@@ -120,7 +122,8 @@ fn a_conference_is_refused_by_its_number(rt: HostRuntime) -> Result<(), Fail> {
             status: 9,
         },
     ];
-    let small = secret();
+    let text = text_by(rt.alloc(), 9)?;
+    let small = secret(&text);
     let stranger = Viewer {
         person: 8,
         strong: false,
@@ -129,6 +132,8 @@ fn a_conference_is_refused_by_its_number(rt: HostRuntime) -> Result<(), Fail> {
         let came = conference_guard(&small, &stranger, row.number);
         check_guard(&rt, came, row.code, row.status)?;
     }
+    check_guard(&rt, conference_or_none_guard(&small, &stranger, 0), 0, 0)?;
+    check_guard(&rt, conference_or_none_guard(&small, &stranger, 7), 9, 7)?;
     check_guard(&rt, own_guard(&small, &stranger, 7), 12, 7)
 }
 
@@ -244,6 +249,36 @@ fn two(alloc: Global) -> Result<Sessions, Memory> {
     sessions.connect(SessionRow::new(alloc, 5, 1, &user, &host, Moment(9))?)?;
     sessions.change(SessionChange::Ended(2), Moment(9));
     Ok(sessions)
+}
+
+// Session 5, which is in a conference.
+fn session_in(alloc: Global, conference: u32) -> Result<Sessions, Memory> {
+    let user = Bytes::copy_of(alloc, b"ceder")?;
+    let host = Bytes::copy_of(alloc, b"gnu")?;
+    let mut sessions = Sessions::new(alloc);
+    sessions.connect(SessionRow::new(alloc, 5, 1, &user, &host, Moment(9))?)?;
+    sessions.change(SessionChange::Working(5, conference), Moment(9));
+    Ok(sessions)
+}
+
+#[test]
+fn the_conference_of_a_session_is_shown_to_few(rt: HostRuntime) -> Result<(), Fail> {
+    let text = text_by(rt.alloc(), 9)?;
+    let small = secret(&text);
+    let sessions = session_in(rt.alloc(), 7)?;
+    let shown = match sessions.seat(5) {
+        None => [7, 7],
+        Some(seat) => [6, 8].map(|person| {
+            let viewer = Viewer {
+                person,
+                strong: false,
+            };
+            working_shown(&small, &viewer, seat)
+        }),
+    };
+    assert_eq!(rt; shown, [7, 0]);
+    drop(sessions);
+    Ok(())
 }
 
 #[test]

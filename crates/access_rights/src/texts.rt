@@ -1,14 +1,15 @@
 ghost use Rattle.std.specs.Prelude.{◌≡◌, ◌||◌};
 ghost use Rattle.kom_model.specs.Rights as Rights;
 ghost use Rattle.kom_model.specs.Rights.{is_author, is_submitter, stands_for};
-ghost use Rattle.kom_model.specs.Rights.{reads_by_recipient, shows_recipient};
+ghost use Rattle.kom_model.specs.Rights.{reads_by_recipient};
+ghost use Rattle.kom_model.specs.Shown.{shows_recipient};
 
 use crate::rights::{is_active_member, reads_conference, sees, stands_for};
 use kom_model::{Rows, Viewer};
 use kom_types::Recipient;
 
 /// The tag of a recipient that is shown to few.
-const BLIND: u8 = 15;
+pub(crate) const BLIND: u8 = 15;
 
 /// Whether a text is shown to who looks: the time grows with its recipients. (Protocol A,
 /// "Security".)

@@ -1,5 +1,5 @@
 use super::check_guard;
-use super::small::{Small, secret};
+use super::small::{Small, secret, text_by};
 use crate::{member_guard, row_guard, shows_membership, shows_reads};
 use kom_model::Viewer;
 use std::process::Abort;
@@ -52,7 +52,7 @@ fn looks() -> [Look; 4] {
     ]
 }
 
-fn check_look(rt: &impl Abort, small: &Small, look: Look) -> Result<(), Fail> {
+fn check_look(rt: &impl Abort, small: &Small<'_>, look: Look) -> Result<(), Fail> {
     let viewer = Viewer {
         person: look.person,
         strong: look.strong,
@@ -68,11 +68,12 @@ fn check_look(rt: &impl Abort, small: &Small, look: Look) -> Result<(), Fail> {
 
 #[test]
 fn secret_memberships_are_shown_to_few(rt: HostRuntime) -> Result<(), Fail> {
+    let text = text_by(rt.alloc(), 9)?;
     let small = Small {
         kind: 0,
         member_kind: SECRET_MEMBERSHIP,
         flags: UNREAD_IS_SECRET,
-        ..secret()
+        ..secret(&text)
     };
     for look in looks() {
         check_look(&rt, &small, look)?;

@@ -1,5 +1,9 @@
+ghost use Rattle.std.specs.Prelude.{◌≡◌, ◌&&◌, ◌==◌};
+ghost use Rattle.kom_types.specs.Bits.{alike};
+
 use kom_model::Rows;
-use kom_types::{ConferenceHead, Moment, Recipient};
+use kom_types::{Bytes, ConferenceHead, Link, Memory, Moment, Recipient, TextRow};
+use std::alloc::Global;
 
 // The bits of a conference's type.
 pub const READ_PROTECTED: u8 = 128;
@@ -9,10 +13,13 @@ pub const SECRET: u8 = 32;
 // The number of the text.
 pub const TEXT: u32 = 3;
 
-// Rows with one conference, one member of it, who alone is a person, one text, and a recipient of
-// that text or of another.
+// The number of a conference that is open to all.
+pub const OPEN: u32 = 10;
+
+// Rows with one conference and an open one, one member of the first, who alone is a person, one
+// text, two recipients and four links, of that text or of others.
 #[derive(Clone, Copy)]
-pub struct Small {
+pub struct Small<'a> {
     pub number: u32,
     pub kind: u8,
     pub supervisor: u32,
@@ -20,29 +27,29 @@ pub struct Small {
     pub member: u32,
     pub member_kind: u8,
     pub flags: u8,
-    pub author: u32,
-    pub recipient: Recipient,
+    pub text: &'a TextRow,
+    pub recipients: [Recipient; 2],
+    pub links: [Link; 4],
 }
 
-impl Rows for Small {
+impl<'a> Rows for Small<'a> {
     ghost use Rattle.std.specs.Prelude.{[], ◌∷◌};
     ghost use Rattle.kom_types.specs.tables.Conferences.{fresh_conference};
     ghost use Rattle.kom_types.specs.tables.Persons.{fresh_person};
-    ghost use Rattle.kom_types.specs.tables.Texts.{fresh_text};
     ghost use Rattle.kom_model.specs.Effects.{member_row};
 
     ghost db = { λ small. record {
       conferences = record (fresh_conference small.number [] small.kind 0 0 small.supervisor) {
         submitters = small.submitters;
-      } ∷ [];
+      } ∷ fresh_conference 10 [] 0 0 0 0 ∷ [];
       persons = fresh_person small.member 0 small.flags 0 ∷ [];
       memberships = record (member_row small.member small.number 0 0 0 0 0) {
         kind = small.member_kind;
       } ∷ [];
       reads = [];
-      texts = fresh_text 3 small.author 0 [] ∷ [];
-      recipients = small.recipient ∷ [];
-      links = [];
+      texts = small.text.now ∷ [];
+      recipients = small.recipients;
+      links = small.links;
       marks = [];
       next_conference = small.number;
       next_text = 3;
@@ -55,6 +62,12 @@ impl Rows for Small {
                 kind: self.kind,
                 supervisor: self.supervisor,
                 submitters: self.submitters,
+            })
+        } else if number == OPEN {
+            Some(ConferenceHead {
+                kind: 0,
+                supervisor: 0,
+                submitters: 0,
             })
         } else {
             None
@@ -81,8 +94,8 @@ impl Rows for Small {
 
     #[tactic(auto, unfolding(kom_model::specs::Db::text_author_of, kom_model::specs::Db::text_of))]
     fn author(&self, text: u32) -> Option<u32> {
-        if text == TEXT {
-            Some(self.author)
+        if text == self.text.number {
+            Some(self.text.author)
         } else {
             None
         }
@@ -90,21 +103,120 @@ impl Rows for Small {
 
     #[tactic(auto, unfolding(kom_model::specs::Db::recipients_of))]
     fn recipient_count(&self, text: u32) -> usize {
-        if self.recipient.text == text { 1 } else { 0 }
+        self.recipients
+            .iter()
+            .filter(|row| row.text == text)
+            .count()
     }
 
     #[tactic(auto, unfolding(kom_model::specs::Db::recipients_of))]
     fn recipient(&self, text: u32, place: usize) -> Option<Recipient> {
-        if self.recipient.text == text && place == 0 {
-            Some(self.recipient)
+        self.recipients
+            .iter()
+            .filter(|row| row.text == text)
+            .nth(place)
+            .copied()
+    }
+
+    #[tactic(auto, unfolding(kom_model::specs::Db::text_of))]
+    fn text(&self, number: u32) -> Option<&TextRow> {
+        if number == self.text.number {
+            Some(self.text)
         } else {
             None
         }
     }
+
+    #[tactic(auto, unfolding(kom_model::specs::Db::links_from))]
+    fn count_from(&self, text: u32, footnote: bool) -> usize {
+        self.links
+            .iter()
+            .filter(|row| is_from(row, text, footnote))
+            .count()
+    }
+
+    #[tactic(auto, unfolding(kom_model::specs::Db::links_from))]
+    fn link_from(&self, text: u32, footnote: bool, place: usize) -> Option<Link> {
+        self.links
+            .iter()
+            .filter(|row| is_from(row, text, footnote))
+            .nth(place)
+            .copied()
+    }
+
+    #[tactic(auto, unfolding(kom_model::specs::Db::links_into))]
+    fn count_into(&self, text: u32, footnote: bool) -> usize {
+        self.links
+            .iter()
+            .filter(|row| is_into(row, text, footnote))
+            .count()
+    }
+
+    #[tactic(auto, unfolding(kom_model::specs::Db::links_into))]
+    fn link_into(&self, text: u32, footnote: bool, place: usize) -> Option<Link> {
+        self.links
+            .iter()
+            .filter(|row| is_into(row, text, footnote))
+            .nth(place)
+            .copied()
+    }
+
+    #[tactic(auto, unfolding(kom_model::specs::Db::marks_on))]
+    fn mark_count(&self, _text: u32) -> usize {
+        0
+    }
 }
 
-// Conference 7, read-protected and secret, with supervisor 5, member 6, and text 3 by person 9.
-pub fn secret() -> Small {
+fn is_from(row: &Link, text: u32, footnote: bool) -> bool
+    ensures { result ≡ (row.now.child == text && alike row.now.footnote footnote) }
+{
+    row.child == text && row.footnote == footnote
+}
+
+fn is_into(row: &Link, text: u32, footnote: bool) -> bool
+    ensures { result ≡ (row.now.parent == text && alike row.now.footnote footnote) }
+{
+    row.parent == text && row.footnote == footnote
+}
+
+// A text of one line.
+pub fn text_by(alloc: Global, author: u32) -> Result<TextRow, Memory> {
+    Ok(TextRow {
+        number: TEXT,
+        author,
+        created: Moment(9),
+        body: Bytes::copy_of(alloc, b"Hello\n")?,
+        lines: 1,
+        created_local: 1,
+    })
+}
+
+// A recipient of the text.
+pub fn recipient(conference: u32, tag: u8, sender: u32) -> Recipient {
+    Recipient {
+        text: TEXT,
+        conference,
+        tag,
+        local: 1,
+        sender,
+        at: Moment(9),
+    }
+}
+
+// The comment that a text is to another.
+pub fn comment(child: u32, parent: u32, sender: u32) -> Link {
+    Link {
+        child,
+        parent,
+        footnote: false,
+        sender,
+        at: Moment(9),
+    }
+}
+
+// Conference 7, read-protected and secret, with supervisor 5 and member 6, is the recipient of a
+// text.
+pub fn secret(text: &TextRow) -> Small<'_> {
     Small {
         number: 7,
         kind: READ_PROTECTED | SECRET,
@@ -113,14 +225,14 @@ pub fn secret() -> Small {
         member: 6,
         member_kind: 0,
         flags: 0,
-        author: 9,
-        recipient: Recipient {
-            text: TEXT,
-            conference: 7,
-            tag: 0,
-            local: 1,
-            sender: 0,
-            at: Moment(9),
-        },
+        text,
+        recipients: [
+            recipient(7, 0, 0),
+            Recipient {
+                text: 4,
+                ..recipient(OPEN, 0, 0)
+            },
+        ],
+        links: [comment(1, 2, 0); 4],
     }
 }

@@ -1,8 +1,8 @@
 use super::check_guard;
-use super::small::{READ_PROTECTED, Small, TEXT, secret};
-use crate::{may_submit, reads, shows_recipient, submit_guard, text_guard};
+use super::small::{READ_PROTECTED, Small, TEXT, recipient, secret, text_by};
+use crate::{may_submit, reads, shows_recipient, submit_guard, text_guard, text_or_none_guard};
 use kom_model::Viewer;
-use kom_types::Recipient;
+use kom_types::{Recipient, TextRow};
 use std::process::Abort;
 use std::test::Fail;
 
@@ -53,7 +53,7 @@ fn each(may: [bool; 5]) -> [Asked; 5] {
     ]
 }
 
-fn check_reads(rt: &impl Abort, small: &Small, may: [bool; 5]) -> Result<(), Fail> {
+fn check_reads(rt: &impl Abort, small: &Small<'_>, may: [bool; 5]) -> Result<(), Fail> {
     for row in &each(may) {
         assert_eq!(rt; reads(small, &viewer(row.person), TEXT), row.may);
     }
@@ -63,91 +63,91 @@ fn check_reads(rt: &impl Abort, small: &Small, may: [bool; 5]) -> Result<(), Fai
 
 #[test]
 fn a_text_is_read_by_its_author_and_readers(rt: HostRuntime) -> Result<(), Fail> {
-    check_reads(&rt, &secret(), [false, true, true, false, true])
+    let text = text_by(rt.alloc(), 9)?;
+    check_reads(&rt, &secret(&text), [false, true, true, false, true])
 }
 
 #[test]
 fn an_anonymous_text_is_read_by_readers(rt: HostRuntime) -> Result<(), Fail> {
-    let small = Small {
-        author: 0,
-        ..secret()
-    };
-    check_reads(&rt, &small, [false, true, true, false, false])
+    let text = text_by(rt.alloc(), 0)?;
+    check_reads(&rt, &secret(&text), [false, true, true, false, false])
 }
 
 #[test]
 fn a_text_without_a_recipient_is_read_by_its_author(rt: HostRuntime) -> Result<(), Fail> {
+    let text = text_by(rt.alloc(), 9)?;
+    let other = Recipient {
+        text: 4,
+        ..recipient(7, 0, 0)
+    };
     let small = Small {
-        recipient: Recipient {
-            text: 4,
-            ..secret().recipient
-        },
-        ..secret()
+        recipients: [other; 2],
+        ..secret(&text)
     };
     check_reads(&rt, &small, [false, false, false, false, true])
 }
 
 #[test]
 fn a_text_is_refused_by_its_number(rt: HostRuntime) -> Result<(), Fail> {
-    let small = secret();
+    let text = text_by(rt.alloc(), 9)?;
+    let small = secret(&text);
     check_guard(&rt, text_guard(&small, &viewer(6), 0), 15, 0)?;
     check_guard(&rt, text_guard(&small, &viewer(6), 4), 14, 4)?;
     check_guard(&rt, text_guard(&small, &viewer(8), TEXT), 14, TEXT)?;
-    check_guard(&rt, text_guard(&small, &viewer(6), TEXT), 0, 0)
+    check_guard(&rt, text_guard(&small, &viewer(6), TEXT), 0, 0)?;
+    check_guard(&rt, text_or_none_guard(&small, &viewer(6), 0), 0, 0)?;
+    check_guard(&rt, text_or_none_guard(&small, &viewer(8), TEXT), 14, TEXT)
 }
 
 fn check_shown(
     rt: &impl Abort,
-    small: &Small,
+    small: &Small<'_>,
     recipient: &Recipient,
     may: [bool; 5],
 ) -> Result<(), Fail> {
     for row in &each(may) {
-        let shown = shows_recipient(small, &viewer(row.person), small.author, recipient);
+        let shown = shows_recipient(small, &viewer(row.person), 9, recipient);
         assert_eq!(rt; shown, row.may);
     }
-    assert!(rt; shows_recipient(small, &strong(), small.author, recipient));
+    assert!(rt; shows_recipient(small, &strong(), 9, recipient));
     Ok(())
 }
 
 #[test]
 fn a_recipient_is_shown_to_who_sees_the_conference(rt: HostRuntime) -> Result<(), Fail> {
+    let text = text_by(rt.alloc(), 9)?;
+    let hidden = secret(&text);
     let shown = Small {
         kind: READ_PROTECTED,
-        ..secret()
+        ..secret(&text)
     };
-    check_shown(&rt, &shown, &shown.recipient, [true; 5])?;
-    let secret = secret();
-    check_shown(
-        &rt,
-        &secret,
-        &secret.recipient,
-        [false, true, true, false, false],
-    )
+    let seven = recipient(7, 0, 0);
+    check_shown(&rt, &shown, &seven, [true; 5])?;
+    check_shown(&rt, &hidden, &seven, [false, true, true, false, false])
 }
 
 #[test]
 fn a_blind_recipient_is_shown_to_few(rt: HostRuntime) -> Result<(), Fail> {
+    let text = text_by(rt.alloc(), 9)?;
     let small = Small {
         kind: READ_PROTECTED,
-        ..secret()
+        ..secret(&text)
     };
-    check_shown(&rt, &small, &blind(0), [false, true, true, false, true])?;
-    check_shown(&rt, &small, &blind(8), [false, true, true, true, true])
+    let blind = recipient(7, 15, 0);
+    check_shown(&rt, &small, &blind, [false, true, true, false, true])?;
+    let sent = recipient(7, 15, 8);
+    check_shown(&rt, &small, &sent, [false, true, true, true, true])
 }
 
-fn blind(sender: u32) -> Recipient {
-    Recipient {
-        tag: 15,
-        sender,
-        ..secret().recipient
-    }
-}
-
-fn check_submits(rt: &impl Abort, submitters: u32, may: [bool; 5]) -> Result<(), Fail> {
+fn check_submits(
+    rt: &impl Abort,
+    text: &TextRow,
+    submitters: u32,
+    may: [bool; 5],
+) -> Result<(), Fail> {
     let small = Small {
         submitters,
-        ..secret()
+        ..secret(text)
     };
     for row in &each(may) {
         assert_eq!(rt; may_submit(&small, &viewer(row.person), 7), row.may);
@@ -159,17 +159,19 @@ fn check_submits(rt: &impl Abort, submitters: u32, may: [bool; 5]) -> Result<(),
 // All, the stranger alone, the conference's members, and none: the supervisor always may.
 #[test]
 fn texts_are_taken_from_submitters(rt: HostRuntime) -> Result<(), Fail> {
-    check_submits(&rt, 0, [true; 5])?;
-    check_submits(&rt, 8, [false, true, false, true, false])?;
-    check_submits(&rt, 7, [false, true, true, false, false])?;
-    check_submits(&rt, 11, [false, true, false, false, false])
+    let text = text_by(rt.alloc(), 9)?;
+    check_submits(&rt, &text, 0, [true; 5])?;
+    check_submits(&rt, &text, 8, [false, true, false, true, false])?;
+    check_submits(&rt, &text, 7, [false, true, true, false, false])?;
+    check_submits(&rt, &text, 11, [false, true, false, false, false])
 }
 
 #[test]
 fn a_text_is_refused_by_a_conference(rt: HostRuntime) -> Result<(), Fail> {
+    let text = text_by(rt.alloc(), 9)?;
     let small = Small {
         submitters: 5,
-        ..secret()
+        ..secret(&text)
     };
     check_guard(&rt, submit_guard(&small, &viewer(6), 7), 11, 7)?;
     check_guard(&rt, submit_guard(&small, &viewer(5), 9), 11, 9)?;

@@ -1,5 +1,6 @@
 use Rattle.std.proofs.Common.{sym, ◌∙◌, arith}
-use Rattle.access_rights.proofs.Recipients.{read_at, unread_more, absent_past}
+use Rattle.access_rights.proofs.Pushing.{absent_past}
+use Rattle.access_rights.proofs.Recipients.{read_at, unread_more}
 use Rattle.access_rights.proofs.texts.reads_by_recipient.Goals as goal
 use Rattle.access_rights.proofs.texts.reads_by_recipient.Goals.{in-Some+else-reads_conference, in_default}
 
@@ -13,5 +14,5 @@ loop-place-preserved g c = elim c.match-recipient.branch [
       unread_more _ _ _ c.loop-place.place w.in-Some.row c.loop-place.invariant (sym w.in-Some.ensures)
       (sym w.if-reads_conference.ensures)
   | in_default w ↦ absurd
-      (omega (arith, absent_past _ _ c.loop-place.place (sym c.recipient.ensures ∙ w.in_default.is)))
+      (omega (arith, absent_past _ c.loop-place.place (sym c.recipient.ensures ∙ w.in_default.is)))
 ]
