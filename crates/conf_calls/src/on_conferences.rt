@@ -1,22 +1,18 @@
 ghost use Rattle.std.specs.Prelude.{◌≡◌, ◌∷◌, IfOk};
-ghost use Rattle.kom_types.specs.tables.Conferences.{is_letterbox};
 ghost use Rattle.kom_model.specs.Db.{next_conference_of};
 ghost use Rattle.kom_model.specs.calls.Call.{Meets};
 ghost use Rattle.kom_model.specs.calls.Conferences as Conferences;
 ghost use Rattle.kom_model.specs.calls.Guards.{Guards};
 ghost use Rattle.kom_model.specs.calls.Sessions.{counts};
 
-use access_rights::{
-    conference_guard, items_guard, login_guard, name_guard, own_guard, type_guard, unless,
-};
+use crate::kinds::is_letterbox;
+use crate::owning::owner_guards;
+use access_rights::{items_guard, login_guard, name_guard, type_guard, unless};
 use kom_model::{CallError, Refused, Viewer};
 use kom_state::{Asked, State};
 use kom_types::{
     Bytes, Counter, Decision, Effect, EffectList, Memory, NewConference, Reply, Sequence,
 };
-
-/// The bit of a conference's type that a letterbox has.
-const LETTERBOX: u8 = 16;
 
 /// The privilege to make conferences.
 const MAY_CREATE: u16 = 2048;
@@ -25,11 +21,8 @@ const MAY_CREATE: u16 = 2048;
 pub fn change_name(asked: &Asked<'_>, conference: u32, name: &Bytes) -> Result<Decision, CallError>
     ensures { Meets (Conferences.change_name asked.now conference name.now) result }
 {
-    let caller = asked.caller();
     let rows = asked.rows();
-    login_guard(&caller)?;
-    conference_guard(rows, &caller, conference)?;
-    own_guard(rows, &caller, conference)?;
+    owner_guards(rows, &asked.caller(), conference)?;
     name_guard(name.as_slice())?;
     rows.free_guard(conference, name.as_slice())?;
     let name = Bytes::copy_of(asked.allocator(), name.as_slice())?;
@@ -79,12 +72,6 @@ fn may_make_conferences(rows: &State, person: u32) -> bool
         None => false,
         Some(row) => row.privileges & MAY_CREATE != 0,
     }
-}
-
-fn is_letterbox(kind: u8) -> bool
-    ensures { result ≡ is_letterbox kind }
-{
-    kind & LETTERBOX != 0
 }
 
 /// The conference is added, and counted among those that the caller made.

@@ -5,7 +5,7 @@ mod leaving;
 mod on_persons;
 mod on_sessions;
 
-pub use on_persons::{create_person, set_passwd, set_pers_flags, set_priv_bits};
+pub use on_persons::{create_person, set_passwd, set_pers_flags, set_priv_bits, set_user_area};
 pub use on_sessions::{
     accept_async, change_conference, change_what_i_am_doing, enable, login, logout,
     set_client_version, user_active,

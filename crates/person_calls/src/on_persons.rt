@@ -5,7 +5,8 @@ ghost use Rattle.kom_model.specs.calls.Persons as Persons;
 
 use crate::leaving::count;
 use access_rights::{
-    items_guard, login_guard, name_guard, own_guard, size_guard, strong_guard, unless,
+    items_guard, login_guard, name_guard, own_guard, size_guard, strong_guard, text_or_none_guard,
+    unless,
 };
 use kom_model::{CallError, Refused, Viewer};
 use kom_state::{Asked, State};
@@ -156,5 +157,21 @@ pub fn set_pers_flags(asked: &Asked<'_>, person: u32, flags: u8) -> Result<Decis
     Ok(asked.with_effect(Effect::PersonField {
         number: person,
         field: PersonField::Flags(flags),
+    })?)
+}
+
+/// Call 57, set-user-area: a text, or 0.
+pub fn set_user_area(asked: &Asked<'_>, person: u32, text: u32) -> Result<Decision, CallError>
+    ensures { Meets (Persons.set_user_area asked.now person text) result }
+{
+    let caller = asked.caller();
+    let rows = asked.rows();
+    login_guard(&caller)?;
+    rows.person_guard(person)?;
+    own_guard(rows, &caller, person)?;
+    text_or_none_guard(rows, &caller, text)?;
+    Ok(asked.with_effect(Effect::PersonField {
+        number: person,
+        field: PersonField::UserArea(text),
     })?)
 }
