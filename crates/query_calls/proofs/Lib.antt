@@ -4,3 +4,4 @@ mod Memberships
 mod ReadTexts
 mod Seen
 mod Shown
+mod ToldCounts

@@ -1,15 +1,19 @@
 ghost use Rattle.std.specs.Prelude.{◌≡◌, ◌-◌, map, IfOk};
 ghost use Rattle.std.specs.List.{range_with_len};
 ghost use Rattle.kom_types.specs.Names.{fold};
+ghost use Rattle.kom_model.specs.Shown as Shown;
 ghost use Rattle.kom_model.specs.calls.Call.{Meets, MeetsFirmly};
 ghost use Rattle.kom_model.specs.calls.Conferences as Conferences;
 
 use crate::lookup::shown_names;
 use crate::nearest::{next_seen, previous_seen};
+use crate::told_counts::members_told;
 use access_rights::{conference_guard, login_guard, size_guard};
-use kom_model::{CallError, Refused};
+use kom_model::{CallError, Refused, Viewer};
 use kom_state::{Asked, State};
-use kom_types::{Boxed, Bytes, ConferenceRow, Decision, Memory, Reply, UConference};
+use kom_types::{
+    Boxed, Bytes, Conference, ConferenceRow, Decision, Memory, Reply, Sequence, UConference,
+};
 use name_lookup::fold_byte;
 use std::alloc::Global;
 
@@ -69,6 +73,67 @@ fn uconference(alloc: Global, row: &ConferenceRow) -> Result<UConference, Memory
         kind: row.kind,
         highest_local: row.next_local.saturating_sub(1),
         nice: row.nice,
+    })
+}
+
+/// Call 91, get-conf-stat. The time grows with the conference's members.
+pub fn get_conf_stat(asked: &Asked<'_>, number: u32) -> Result<Decision, CallError>
+    ensures { Meets (Conferences.get_conf_stat asked.now number) result }
+{
+    let caller = asked.caller();
+    let rows = asked.rows();
+    login_guard(&caller)?;
+    conference_guard(rows, &caller, number)?;
+    let reply = conference_reply(asked.allocator(), rows, &caller, number)?;
+    Ok(asked.answer(reply))
+}
+
+fn conference_reply(
+    alloc: Global,
+    rows: &State,
+    caller: &Viewer,
+    number: u32,
+) -> Result<Reply, Memory>
+    ensures { IfOk result (λ reply. reply
+        ≡ Conferences.conference_reply rows.now.db caller.now number) }
+{
+    match rows.conference(number) {
+        Some(row) => {
+            let told = conference_told(alloc, rows, caller, row)?;
+            Ok(Reply::Conference(Boxed::new(alloc, told)?))
+        }
+        None => Ok(Reply::Refused(9, number)),
+    }
+}
+
+/// A conference, as it is told to who looks.
+fn conference_told(
+    alloc: Global,
+    rows: &State,
+    viewer: &Viewer,
+    row: &ConferenceRow,
+) -> Result<Conference, Memory>
+    ensures { IfOk result (λ told. told ≡ Shown.conference_told rows.now.db viewer.now row.now) }
+{
+    let first_local = rows.first_local(row.number);
+    Ok(Conference {
+        name: Bytes::copy_of(alloc, row.name.as_slice())?,
+        kind: row.kind,
+        created: row.created,
+        last_written: row.last_written,
+        creator: row.creator,
+        presentation: row.presentation,
+        supervisor: row.supervisor,
+        submitters: row.submitters,
+        super_conference: row.super_conference,
+        motd: row.motd,
+        nice: row.nice,
+        keep_commented: row.keep_commented,
+        members: members_told(rows, viewer, row.number),
+        first_local,
+        texts: rows.next_local(row.number).saturating_sub(first_local),
+        expire: row.expire,
+        aux_items: Sequence::new(alloc),
     })
 }
 

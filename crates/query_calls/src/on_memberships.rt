@@ -4,8 +4,8 @@ ghost use Rattle.std.specs.Prelude.{[], length, map, filter, IfOk};
 ghost use Rattle.read_ranges.specs.Changed as Changed;
 ghost use Rattle.read_ranges.specs.Numbers.{ranges_of as ranges_in};
 ghost use Rattle.kom_model.specs.Db.{memberships_of, read_of};
-ghost use Rattle.kom_model.specs.Rights as Rights;
-ghost use Rattle.kom_model.specs.Rights.{is_passive, is_reserved as is_reserved_by};
+ghost use Rattle.kom_model.specs.Shown as Shown;
+ghost use Rattle.kom_model.specs.Shown.{is_passive, is_reserved as is_reserved_by};
 ghost use Rattle.kom_model.specs.Rights.{supervises as supervises_by};
 ghost use Rattle.kom_model.specs.calls.Call.{Meets};
 ghost use Rattle.kom_model.specs.calls.Guards.{caller as caller_of};
@@ -161,8 +161,8 @@ fn members_from(
 }
 
 /// Whether a member of a conference is shown to who looks.
-fn shows_member(rows: &State, viewer: &Viewer, conference: u32, member: &Member) -> bool
-    ensures { result ≡ Rights.shows_membership rows.now.db viewer.now member.now.person conference
+pub(crate) fn shows_member(rows: &State, viewer: &Viewer, conference: u32, member: &Member) -> bool
+    ensures { result ≡ Shown.shows_membership rows.now.db viewer.now member.now.person conference
         member.now.kind }
 {
     shows_membership(rows, viewer, member.person, conference, member.kind)

@@ -7,9 +7,9 @@ ghost use Rattle.kom_model.specs.calls.Texts as Texts;
 
 use crate::created::created_up;
 use crate::nearest_text::{next_read, previous_read};
-use access_rights::{conference_guard, login_guard, reads_guard, unless};
-use kom_model::{CallError, Refused};
-use kom_state::Asked;
+use access_rights::{conference_guard, login_guard, reads_guard, shown_stat, text_guard, unless};
+use kom_model::{CallError, Refused, Viewer};
+use kom_state::{Asked, State};
 use kom_types::{Boxed, Decision, Mapping, Memory, Reply};
 use std::alloc::Global;
 
@@ -25,6 +25,30 @@ pub fn get_marks(asked: &Asked<'_>) -> Result<Decision, CallError>
     let marks = asked.rows().marks_of(caller.person)?;
     let marks = Boxed::new(asked.allocator(), marks)?;
     Ok(asked.answer(Reply::Marks(marks)))
+}
+
+/// Call 90, get-text-stat. The time grows with all that the text is linked to.
+pub fn get_text_stat(asked: &Asked<'_>, text: u32) -> Result<Decision, CallError>
+    ensures { Meets (Texts.get_text_stat asked.now text) result }
+{
+    let caller = asked.caller();
+    let rows = asked.rows();
+    login_guard(&caller)?;
+    text_guard(rows, &caller, text)?;
+    let reply = text_reply(asked.allocator(), rows, &caller, text)?;
+    Ok(asked.answer(reply))
+}
+
+fn text_reply(alloc: Global, rows: &State, caller: &Viewer, text: u32) -> Result<Reply, Memory>
+    ensures { IfOk result (λ reply. reply ≡ Texts.text_reply rows.now.db caller.now text) }
+{
+    match rows.text(text) {
+        Some(row) => {
+            let stat = shown_stat(alloc, rows, caller, row)?;
+            Ok(Reply::TextStat(Boxed::new(alloc, stat)?))
+        }
+        None => Ok(Reply::Refused(14, text)),
+    }
 }
 
 /// Call 115, first-unused-text-no: the least number that the next text may get.

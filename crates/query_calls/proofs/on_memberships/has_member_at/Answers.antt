@@ -3,7 +3,7 @@ use Rattle.std.proofs.lemmas.Iterator.Consumers.{nth_from_yields_List, YieldsLis
 use Rattle.std.proofs.lemmas.Iterator.Consumers.{YieldsList-from_first}
 use Rattle.kom_types.specs.declared.memberships.Member.{Member}
 use Rattle.kom_model.specs.Db.{members_of}
-use Rattle.kom_model.specs.Rights.{shows_membership}
+use Rattle.kom_model.specs.Shown.{shows_membership}
 use Rattle.kom_model.specs.calls.Memberships.{member_of}
 use Rattle.query_calls.proofs.Memberships.{found_at, length-filter-map}
 use Rattle.query_calls.proofs.on_memberships.has_member_at.Goals as goal

@@ -5,7 +5,7 @@ use Rattle.std.proofs.lemmas.Iterator.Consumers.{YieldsList-at, YieldsList-from_
 use Rattle.std.proofs.lemmas.Result.{IfOk-at_ok}
 use Rattle.kom_types.specs.declared.memberships.Member.{Member}
 use Rattle.kom_model.specs.Db.{members_of}
-use Rattle.kom_model.specs.Rights.{shows_membership}
+use Rattle.kom_model.specs.Shown.{shows_membership}
 use Rattle.kom_model.specs.calls.Memberships.{member_of}
 use Rattle.query_calls.proofs.Memberships.{part-map}
 use Rattle.query_calls.proofs.on_memberships.members_from.Goals as goal
