@@ -1,7 +1,7 @@
 -- The effects of a call give one name at most.
 use Rattle.std.proofs.Common.{◌≡◌, ◌==◌, ℕ, ◌-◌, Bool, true, false, cond, List, [], ◌∷◌, ◌++◌, length, map, filter}
 use Rattle.std.proofs.Common.{Option, Some, None, refl, sym, subst}
-use Rattle.std.specs.List.{filter_map}
+use Rattle.std.specs.List.{filter_map, flat_map}
 use Rattle.std.proofs.lemmas.List.Elements.{filter_map-append}
 use Rattle.kom_types.specs.declared.acts.Act.{Act}
 use Rattle.kom_types.specs.declared.acts.Act.TheVariants as act
@@ -14,9 +14,11 @@ use Rattle.kom_types.specs.declared.effects.Counter.{Counter}
 use Rattle.kom_types.specs.declared.effects.Counter.TheVariants as counter
 use Rattle.kom_types.specs.declared.effects.Effect.{Effect}
 use Rattle.kom_types.specs.declared.effects.Effect.TheVariants as effect
+use Rattle.kom_types.specs.declared.memberships.MembershipRow.{MembershipRow}
 use Rattle.kom_types.specs.declared.persons.NewPerson.{NewPerson}
 use Rattle.kom_types.specs.declared.seats.Seat.{Seat}
 use Rattle.kom_types.specs.declared.texts.Link.{Link}
+use Rattle.kom_types.specs.declared.texts.LocalText.{LocalText}
 use Rattle.kom_types.specs.declared.texts.MarkRow.{MarkRow}
 use Rattle.kom_types.specs.declared.texts.MiscInput.{MiscInput}
 use Rattle.kom_types.specs.declared.texts.NewText.{NewText}
@@ -25,9 +27,10 @@ use Rattle.kom_types.specs.declared.texts.TextRow.{TextRow}
 use Rattle.kom_types.specs.tables.Texts.{lines_of}
 use Rattle.kom_state.specs.Room.{name_given, IsOrderly}
 use Rattle.kom_model.specs.State.{State}
-use Rattle.kom_model.specs.Db.{Db, membership_of, next_conference_of, next_text_of, links_of, recipients_of, marks_on}
+use Rattle.kom_model.specs.Db.{Db, person_of, membership_of, memberships_at, next_conference_of, next_text_of, links_of}
+use Rattle.kom_model.specs.Db.{recipients_of, locals_of, marks_of, marks_on}
 use Rattle.kom_model.specs.calls.Call.{Asked, seat_of}
-use Rattle.kom_model.specs.calls.Conferences.{nearest}
+use Rattle.kom_model.specs.calls.Conferences.{nearest, gone_person, gone_conference}
 use Rattle.kom_model.specs.calls.Guards.{Guard, with_items, items_guard, caller}
 use Rattle.read_ranges.specs.Changed.{all_marked, size_of}
 use Rattle.kom_model.specs.calls.Memberships.{mark_as_read, had_read, reads_now, member_effects, joins, is_near}
@@ -35,7 +38,7 @@ use Rattle.kom_model.specs.calls.Memberships.{set_member, type_effects}
 use Rattle.kom_model.specs.calls.NewTexts.{names_recipient, names_footnote, item_effect, item_written, author_effects}
 use Rattle.kom_model.specs.calls.NewTexts.{text_effects, new_text}
 use Rattle.kom_model.specs.calls.Persons.{person_effects}
-use Rattle.kom_model.specs.calls.Sessions.{counts, seat_left, leaving_effects}
+use Rattle.kom_model.specs.calls.Sessions.{counts, seat_left, all_left, leaving_effects}
 use Rattle.kom_model.specs.calls.Texts.{gone_text, new_recipient, nearest_text}
 use Rattle.kom_model.specs.Decide.{asked_in, definition_of, decision_of}
 use Rattle.kom_model.specs.After.{moment_of}
@@ -149,6 +152,45 @@ text-nameless asked anonymous text given =
     (elim anonymous as (λ b. IsNameless (cond b [] (author_effects asked text given.body)))
     [ true ↦ refl | false ↦ author-nameless asked text given.body ])
 
+-- ---- conferences that go
+left_each-nameless : (asked : Asked) (seats : List Seat) → IsNameless (flat_map (seat_left asked) seats)
+left_each-nameless asked [] = refl
+left_each-nameless asked (seat ∷ seats) = nameless-append (seat_left asked seat) (flat_map (seat_left asked) seats)
+    (left-nameless asked seat) (left_each-nameless asked seats)
+
+person_gone-nameless : (db : Db) (number : ℕ) → IsNameless (gone_person db number)
+person_gone-nameless db number = elim (person_of db number) as (λ found. IsNameless (elim found [
+  | None ↦ []
+  | Some row ↦ effect.PersonGone number ∷ []
+])) [ None ↦ refl | Some row ↦ refl ]
+
+abbrev gone_local : ℕ → LocalText → Effect
+gone_local number pair = effect.RecipientGone pair.text number
+
+abbrev gone_member : MembershipRow → Effect
+gone_member row = effect.MemberGone row.person row.conference
+
+abbrev gone_own_mark : ℕ → MarkRow → Effect
+gone_own_mark number row = effect.MarkGone number row.text
+
+deletion-nameless : (asked : Asked) (number : ℕ) → IsNameless (gone_conference asked number)
+deletion-nameless asked number =
+    let left = all_left asked number in
+    let locals = map (gone_local number) (locals_of asked.db number) in
+    let marks = map (gone_own_mark number) (marks_of asked.db number) in
+    let members = map gone_member (memberships_at asked.db number) in
+    let person = gone_person asked.db number in
+    nameless-append (left ++ locals ++ marks ++ members ++ person) (effect.ConfGone number ∷ [])
+    (nameless-append (left ++ locals ++ marks ++ members) person
+    (nameless-append (left ++ locals ++ marks) members
+    (nameless-append (left ++ locals) marks
+    (nameless-append left locals
+    (left_each-nameless asked (filter (λ seat. seat.person == number) asked.seats))
+    (nameless-map (gone_local number) (λ pair. refl) (locals_of asked.db number)))
+    (nameless-map (gone_own_mark number) (λ row. refl) (marks_of asked.db number)))
+    (nameless-map gone_member (λ row. refl) (memberships_at asked.db number)))
+    (person_gone-nameless asked.db number)) refl
+
 -- ---- memberships
 marks-orderly : (asked : Asked) (conference : ℕ) (locals : List ℕ) →
     IsOrderly (mark_as_read asked conference locals).rest.effects
@@ -194,6 +236,8 @@ rest-orderly asked (call.CreatePerson given) =
     with_items-orderly (items_guard given.aux_items) _ (person-orderly asked (next_conference_of asked.db) given)
 rest-orderly asked (call.ChangeName conference name) = refl
 rest-orderly asked (call.CreateConf given) = with_items-orderly (items_guard given.aux_items) _ refl
+rest-orderly asked (call.DeleteConf number) =
+    IsOrderly-nameless (gone_conference asked number) (deletion-nameless asked number)
 rest-orderly asked (call.DeleteText text) =
     IsOrderly-nameless (gone_text asked.db text) (gone-nameless asked.db text)
 rest-orderly asked (call.CreateText given) = new_text-orderly false asked given

@@ -26,36 +26,70 @@ IsCall (act.Drain session) = ⊥
 IsCall act.Flush = ⊥
 IsCall (act.Close session) = ⊥
 
--- the call may change something: it is none of those that only ask, and was not refused by the
--- reader
-abbrev pub MayChange : Call → Type 0
-MayChange call.GetTime = ⊥
-MayChange call.WhoAmI = ⊥
-MayChange call.FirstUnusedConfNo = ⊥
-MayChange (call.FindNextConfNo start) = ⊥
-MayChange (call.FindPreviousConfNo start) = ⊥
-MayChange call.FirstUnusedTextNo = ⊥
-MayChange (call.FindNextTextNo start) = ⊥
-MayChange (call.FindPreviousTextNo start) = ⊥
-MayChange call.GetMarks = ⊥
-MayChange (call.LocalToGlobal conference first count) = ⊥
-MayChange (call.LocalToGlobalReverse conference ceiling count) = ⊥
-MayChange (call.MapCreatedTexts author first count) = ⊥
-MayChange call.QueryAsync = ⊥
-MayChange (call.GetClientName session) = ⊥
-MayChange (call.GetClientVersion session) = ⊥
-MayChange call.GetVersionInfo = ⊥
-MayChange call.GetInfo = ⊥
-MayChange call.QueryPredefinedAuxItems = ⊥
-MayChange (call.LookupZName name persons conferences) = ⊥
-MayChange (call.GetUconfStat conference) = ⊥
-MayChange call.GetCollateTable = ⊥
-MayChange (call.GetUnreadConfs person) = ⊥
-MayChange (call.GetMembers conference first count) = ⊥
-MayChange (call.QueryReadTexts person conference want_ranges most) = ⊥
-MayChange (call.GetMembership person first count want_ranges most) = ⊥
-MayChange (call.Refused code status) = ⊥
-MayChange other = Unit {0}
+-- the call only asks
+abbrev pub Asks : Call → Type 0
+Asks call.GetTime = Unit {0}
+Asks call.WhoAmI = Unit {0}
+Asks call.FirstUnusedConfNo = Unit {0}
+Asks (call.FindNextConfNo start) = Unit {0}
+Asks (call.FindPreviousConfNo start) = Unit {0}
+Asks call.FirstUnusedTextNo = Unit {0}
+Asks (call.FindNextTextNo start) = Unit {0}
+Asks (call.FindPreviousTextNo start) = Unit {0}
+Asks call.GetMarks = Unit {0}
+Asks (call.LocalToGlobal conference first count) = Unit {0}
+Asks (call.LocalToGlobalReverse conference ceiling count) = Unit {0}
+Asks (call.MapCreatedTexts author first count) = Unit {0}
+Asks call.QueryAsync = Unit {0}
+Asks (call.GetClientName session) = Unit {0}
+Asks (call.GetClientVersion session) = Unit {0}
+Asks call.GetVersionInfo = Unit {0}
+Asks call.GetInfo = Unit {0}
+Asks call.QueryPredefinedAuxItems = Unit {0}
+Asks (call.LookupZName name persons conferences) = Unit {0}
+Asks (call.GetUconfStat conference) = Unit {0}
+Asks call.GetCollateTable = Unit {0}
+Asks (call.GetPersonStat person) = Unit {0}
+Asks (call.GetTextStat text) = Unit {0}
+Asks (call.GetConfStat conference) = Unit {0}
+Asks (call.GetUnreadConfs person) = Unit {0}
+Asks (call.GetMembers conference first count) = Unit {0}
+Asks (call.QueryReadTexts person conference want_ranges most) = Unit {0}
+Asks (call.GetMembership person first count want_ranges most) = Unit {0}
+Asks other = ⊥
+
+-- the call changes sessions or persons
+abbrev pub ChangesPerson : Call → Type 0
+ChangesPerson call.Logout = Unit {0}
+ChangesPerson (call.Login person password invisible) = Unit {0}
+ChangesPerson (call.ChangeConference conference) = Unit {0}
+ChangesPerson (call.ChangeWhatIAmDoing doing) = Unit {0}
+ChangesPerson (call.Enable level) = Unit {0}
+ChangesPerson (call.SetClientVersion version) = Unit {0}
+ChangesPerson (call.AcceptAsync numbers) = Unit {0}
+ChangesPerson call.UserActive = Unit {0}
+ChangesPerson (call.SetPrivBits person privileges) = Unit {0}
+ChangesPerson (call.SetPasswd change) = Unit {0}
+ChangesPerson (call.CreatePerson person) = Unit {0}
+ChangesPerson (call.SetPersFlags person flags) = Unit {0}
+ChangesPerson (call.SetUserArea person text) = Unit {0}
+ChangesPerson other = ⊥
+
+-- the call makes, changes or deletes a conference
+abbrev pub ChangesConference : Call → Type 0
+ChangesConference (call.ChangeName conference name) = Unit {0}
+ChangesConference (call.CreateConf conference) = Unit {0}
+ChangesConference (call.DeleteConf conference) = Unit {0}
+ChangesConference (call.SetPresentation conference text) = Unit {0}
+ChangesConference (call.SetEtcMotd conference text) = Unit {0}
+ChangesConference (call.SetSupervisor conference supervisor) = Unit {0}
+ChangesConference (call.SetPermittedSubmitters conference submitters) = Unit {0}
+ChangesConference (call.SetSuperConf conference super_conference) = Unit {0}
+ChangesConference (call.SetConfType conference kind) = Unit {0}
+ChangesConference (call.SetGarbNice conference days) = Unit {0}
+ChangesConference (call.SetExpire conference days) = Unit {0}
+ChangesConference (call.SetKeepCommented conference days) = Unit {0}
+ChangesConference other = ⊥
 
 -- the call changes a membership
 abbrev pub ChangesMember : Call → Type 0

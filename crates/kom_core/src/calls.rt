@@ -4,7 +4,8 @@ ghost use Rattle.kom_model.specs.declared.call_errors.CallError.TheVariants as e
 ghost use Rattle.kom_model.specs.Kinds.{firm_numbers, is_among};
 ghost use Rattle.kom_model.specs.Decide.{definition_of};
 ghost use Rattle.kom_model.specs.calls.Call.{Meets};
-ghost use Rattle.kom_core.specs.Deciding.{MayChange, ChangesMember, ChangesText, HadMemory};
+ghost use Rattle.kom_core.specs.Deciding.{Asks, ChangesPerson, ChangesConference};
+ghost use Rattle.kom_core.specs.Deciding.{ChangesMember, ChangesText, HadMemory};
 
 use kom_model::{CallError, Refused};
 use kom_state::Asked;
@@ -13,6 +14,98 @@ use kom_types::{Call, Decision};
 /// What a call comes to by its definition, but for the last guard. One that the server does not
 /// make yet is refused as unknown.
 pub(crate) fn make(asked: &Asked<'_>, call: &Call) -> Result<Decision, CallError>
+    ensures meets { Meets (definition_of asked.now call.now) result }
+    ensures firm { is_among firm_numbers (number_of_call call.now) ≡ true → HadMemory result }
+{
+    match call {
+        Call::GetTime
+        | Call::WhoAmI
+        | Call::FirstUnusedConfNo
+        | Call::FindNextConfNo { .. }
+        | Call::FindPreviousConfNo { .. }
+        | Call::FirstUnusedTextNo
+        | Call::FindNextTextNo { .. }
+        | Call::FindPreviousTextNo { .. }
+        | Call::QueryAsync
+        | Call::GetClientName { .. }
+        | Call::GetClientVersion { .. }
+        | Call::GetVersionInfo
+        | Call::GetInfo
+        | Call::QueryPredefinedAuxItems
+        | Call::LookupZName { .. }
+        | Call::GetUconfStat { .. }
+        | Call::GetCollateTable
+        | Call::GetPersonStat { .. }
+        | Call::GetTextStat { .. }
+        | Call::GetConfStat { .. }
+        | Call::GetUnreadConfs { .. }
+        | Call::GetMembers { .. }
+        | Call::QueryReadTexts { .. }
+        | Call::GetMembership { .. }
+        | Call::GetMarks
+        | Call::LocalToGlobal { .. }
+        | Call::LocalToGlobalReverse { .. }
+        | Call::MapCreatedTexts { .. } => make_query(asked, call),
+        Call::Logout
+        | Call::Login { .. }
+        | Call::ChangeConference { .. }
+        | Call::ChangeWhatIAmDoing { .. }
+        | Call::Enable { .. }
+        | Call::SetClientVersion(_)
+        | Call::AcceptAsync { .. }
+        | Call::UserActive
+        | Call::SetPrivBits { .. }
+        | Call::SetPasswd(_)
+        | Call::CreatePerson(_)
+        | Call::SetPersFlags { .. }
+        | Call::SetUserArea { .. } => make_person_change(asked, call),
+        Call::ChangeName { .. }
+        | Call::CreateConf(_)
+        | Call::DeleteConf { .. }
+        | Call::SetPresentation { .. }
+        | Call::SetEtcMotd { .. }
+        | Call::SetSupervisor { .. }
+        | Call::SetPermittedSubmitters { .. }
+        | Call::SetSuperConf { .. }
+        | Call::SetConfType { .. }
+        | Call::SetGarbNice { .. }
+        | Call::SetExpire { .. }
+        | Call::SetKeepCommented { .. } => make_conference_change(asked, call),
+        Call::SubMember { .. }
+        | Call::MarkAsRead { .. }
+        | Call::SetUnread { .. }
+        | Call::SetLastRead { .. }
+        | Call::AddMember { .. }
+        | Call::SetMembershipType { .. }
+        | Call::MarkAsUnread { .. }
+        | Call::SetReadRanges { .. } => make_member_change(asked, call),
+        Call::GetText { .. }
+        | Call::DeleteText { .. }
+        | Call::AddRecipient { .. }
+        | Call::SubRecipient { .. }
+        | Call::AddComment { .. }
+        | Call::SubComment { .. }
+        | Call::AddFootnote { .. }
+        | Call::SubFootnote { .. }
+        | Call::MarkText { .. }
+        | Call::UnmarkText { .. }
+        | Call::CreateText(_)
+        | Call::CreateAnonymousText(_) => make_text_change(asked, call),
+        Call::Refused(code, status) => refuse(*code, *status),
+        Call::SendMessage { .. }
+        | Call::Disconnect { .. }
+        | Call::WhoIsOnDynamic { .. }
+        | Call::GetStaticSessionInfo { .. }
+        | Call::SyncKom
+        | Call::ShutdownKom { .. }
+        | Call::ModifyTextInfo(_)
+        | Call::ModifyConfInfo(_) => refuse(2, 0),
+    }
+}
+
+/// The same of a call that only asks.
+fn make_query(asked: &Asked<'_>, call: &Call) -> Result<Decision, CallError>
+    requires { Asks call.now }
     ensures meets { Meets (definition_of asked.now call.now) result }
     ensures firm { is_among firm_numbers (number_of_call call.now) ≡ true → HadMemory result }
 {
@@ -42,6 +135,9 @@ pub(crate) fn make(asked: &Asked<'_>, call: &Call) -> Result<Decision, CallError
         } => query_calls::lookup_z_name(asked, name, *persons, *conferences),
         Call::GetUconfStat { conference } => query_calls::get_uconf_stat(asked, *conference),
         Call::GetCollateTable => query_calls::get_collate_table(asked),
+        Call::GetPersonStat { person } => query_calls::get_person_stat(asked, *person),
+        Call::GetTextStat { text } => query_calls::get_text_stat(asked, *text),
+        Call::GetConfStat { conference } => query_calls::get_conf_stat(asked, *conference),
         Call::GetUnreadConfs { person } => query_calls::get_unread_confs(asked, *person),
         Call::GetMembers {
             conference,
@@ -77,14 +173,13 @@ pub(crate) fn make(asked: &Asked<'_>, call: &Call) -> Result<Decision, CallError
             first,
             count,
         } => query_calls::map_created_texts(asked, *author, *first, *count),
-        Call::Refused(code, status) => refuse(*code, *status),
-        _ => make_change(asked, call),
+        _ => unreachable!(),
     }
 }
 
-/// The same of a call that changes something, or that the server does not make yet.
-fn make_change(asked: &Asked<'_>, call: &Call) -> Result<Decision, CallError>
-    requires { MayChange call.now }
+/// The same of a call that changes sessions or persons.
+fn make_person_change(asked: &Asked<'_>, call: &Call) -> Result<Decision, CallError>
+    requires { ChangesPerson call.now }
     ensures meets { Meets (definition_of asked.now call.now) result }
     ensures firm { is_among firm_numbers (number_of_call call.now) ≡ true → HadMemory result }
 {
@@ -111,31 +206,54 @@ fn make_change(asked: &Asked<'_>, call: &Call) -> Result<Decision, CallError>
         Call::SetPersFlags { person, flags } => {
             person_calls::set_pers_flags(asked, *person, *flags)
         }
+        Call::SetUserArea { person, text } => person_calls::set_user_area(asked, *person, *text),
+        _ => unreachable!(),
+    }
+}
+
+/// The same of a call that makes, changes or deletes a conference.
+fn make_conference_change(asked: &Asked<'_>, call: &Call) -> Result<Decision, CallError>
+    requires { ChangesConference call.now }
+    ensures meets { Meets (definition_of asked.now call.now) result }
+    ensures firm { is_among firm_numbers (number_of_call call.now) ≡ true → HadMemory result }
+{
+    match call {
         Call::ChangeName { conference, name } => {
             conf_calls::change_name(asked, *conference, name)
         }
         Call::CreateConf(given) => conf_calls::create_conf(asked, given.get()),
-        Call::SubMember { .. }
-        | Call::MarkAsRead { .. }
-        | Call::SetUnread { .. }
-        | Call::SetLastRead { .. }
-        | Call::AddMember { .. }
-        | Call::SetMembershipType { .. }
-        | Call::MarkAsUnread { .. }
-        | Call::SetReadRanges { .. } => make_member_change(asked, call),
-        Call::GetText { .. }
-        | Call::DeleteText { .. }
-        | Call::AddRecipient { .. }
-        | Call::SubRecipient { .. }
-        | Call::AddComment { .. }
-        | Call::SubComment { .. }
-        | Call::AddFootnote { .. }
-        | Call::SubFootnote { .. }
-        | Call::MarkText { .. }
-        | Call::UnmarkText { .. }
-        | Call::CreateText(_)
-        | Call::CreateAnonymousText(_) => make_text_change(asked, call),
-        _ => refuse(2, 0),
+        Call::DeleteConf { conference } => conf_calls::delete_conf(asked, *conference),
+        Call::SetPresentation { conference, text } => {
+            conf_calls::set_presentation(asked, *conference, *text)
+        }
+        Call::SetEtcMotd { conference, text } => {
+            conf_calls::set_etc_motd(asked, *conference, *text)
+        }
+        Call::SetSupervisor {
+            conference,
+            supervisor,
+        } => conf_calls::set_supervisor(asked, *conference, *supervisor),
+        Call::SetPermittedSubmitters {
+            conference,
+            submitters,
+        } => conf_calls::set_permitted_submitters(asked, *conference, *submitters),
+        Call::SetSuperConf {
+            conference,
+            super_conference,
+        } => conf_calls::set_super_conf(asked, *conference, *super_conference),
+        Call::SetConfType { conference, kind } => {
+            conf_calls::set_conf_type(asked, *conference, *kind)
+        }
+        Call::SetGarbNice { conference, nice } => {
+            conf_calls::set_garb_nice(asked, *conference, *nice)
+        }
+        Call::SetExpire { conference, expire } => {
+            conf_calls::set_expire(asked, *conference, *expire)
+        }
+        Call::SetKeepCommented { conference, days } => {
+            conf_calls::set_keep_commented(asked, *conference, *days)
+        }
+        _ => unreachable!(),
     }
 }
 
