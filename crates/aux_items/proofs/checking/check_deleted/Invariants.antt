@@ -1,0 +1,6 @@
+use Rattle.std.proofs.Common.{◌≡◌}
+use Rattle.aux_items.proofs.Refusals.{deletions_from}
+use Rattle.aux_items.proofs.checking.check_deleted.Given as goal
+
+abbrev pub invariant-loop-place : goal.invariant-loop-place
+invariant-loop-place l = deletions_from l.by l.rows l.deleted 0 ≡ deletions_from l.by l.rows l.deleted l.place

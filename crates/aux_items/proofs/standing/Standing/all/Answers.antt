@@ -1,0 +1,8 @@
+use Rattle.std.proofs.Common.{[], ◌∙◌}
+use Rattle.std.proofs.lemmas.List.{append-nil}
+use Rattle.kom_types.specs.AuxItems.{left_after}
+use Rattle.aux_items.proofs.Standings.{left-all}
+use Rattle.aux_items.proofs.standing.Standing.all.Goals as goal
+
+pub returns : goal.returns
+returns c = append-nil (left_after [] c.args.rows.now) ∙ left-all c.args.rows.now

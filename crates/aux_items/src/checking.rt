@@ -1,0 +1,145 @@
+//! Whether a change of the aux-items of an object passes.
+ghost use Rattle.std.specs.Prelude.{◌≡◌, ◌==◌, ◌&&◌, [], option_copied};
+ghost use Rattle.std.specs.List.{find};
+ghost use Rattle.kom_types.specs.AuxItems as Items;
+ghost use Rattle.aux_items.specs.Checking.{Checks};
+ghost use Rattle.aux_items.specs.Kinds.{kind_meant};
+
+use crate::kinds::{AuxKind, kind_of};
+use crate::standing::{Standing, is_among};
+use kom_types::{Adder, AuxInput, AuxRow, AuxRows, Object};
+
+/// The codes illegal-aux-item and aux-item-permission.
+const ILLEGAL_ITEM: u32 = 48;
+
+const ITEM_PERMISSION: u32 = 49;
+
+/// The flags deleted and those that are reserved, and the flag secret.
+const WRONG_FLAGS: u8 = 135;
+
+const SECRET: u8 = 32;
+
+/// How many bytes the contents of an item have at most.
+const LONGEST_CONTENT: usize = 16_384;
+
+/// The tags of read-confirm and creating-software.
+const READ_CONFIRM: u32 = 7;
+
+const CREATING_SOFTWARE: u32 = 15;
+
+/// Whether a change of the items of an object passes, or else the code of the first entry that is
+/// refused and its place in its list, counted from 0: deletions come first. Takes no memory.
+/// (Protocol A, "Auxiliary Information".)
+#[tactic(auto, unfolding(kom_types::specs::AuxItems::refused_change))]
+pub fn check_items(
+    on: Object,
+    by: &Adder,
+    rows: &AuxRows,
+    deleted: &[u32],
+    added: &[AuxInput],
+) -> Result<(), (u32, usize)>
+    ensures { Checks (Items.refused_change on by.now rows.now deleted.now added.now) result }
+{
+    check_deleted(by, rows.as_slice(), deleted)?;
+    check_added(on, by, rows.as_slice(), deleted, added)
+}
+
+fn check_deleted(by: &Adder, rows: &[AuxRow], deleted: &[u32]) -> Result<(), (u32, usize)>
+    ensures { Checks (Items.refused_deleted by.now rows.now [] 0 deleted.now) result }
+{
+    for place in 0..deleted.len() {
+        if let Some(code) = code_deleted(by, rows, &deleted[..place], deleted[place]) {
+            return Err((code, place));
+        }
+    }
+    Ok(())
+}
+
+/// The code with which the deletion of a number is refused after others.
+fn code_deleted(by: &Adder, rows: &[AuxRow], earlier: &[u32], number: u32) -> Option<u32>
+    ensures { result ≡ Items.code_deleted by.now rows.now earlier.now number }
+{
+    match find_shown(by, rows, number) {
+        None => Some(ILLEGAL_ITEM),
+        Some(item) => {
+            if is_among(earlier, number) {
+                Some(ILLEGAL_ITEM)
+            } else if stays(item.tag) || !(item.creator == by.person || by.owns) {
+                Some(ITEM_PERMISSION)
+            } else {
+                None
+            }
+        }
+    }
+}
+
+/// The item of a number, if it is shown to the person.
+fn find_shown<'a>(by: &Adder, rows: &'a [AuxRow], number: u32) -> Option<&'a AuxRow>
+    ensures { option_copied result
+        ≡ find (λ item. item.number == number && Items.is_shown by.now item) rows.now }
+{
+    rows.iter()
+        .find(|item| item.number == number && is_shown(by, item))
+}
+
+/// Whether an item is shown to the person.
+fn is_shown(by: &Adder, item: &AuxRow) -> bool
+    ensures { result ≡ Items.is_shown by.now item.now }
+{
+    item.flags & SECRET == 0 || item.creator == by.person || by.owns
+}
+
+/// Whether items of a tag may never be deleted.
+fn stays(tag: u32) -> bool
+    ensures { result ≡ Items.stays tag }
+{
+    tag == READ_CONFIRM || tag == CREATING_SOFTWARE
+}
+
+fn check_added(
+    on: Object,
+    by: &Adder,
+    rows: &[AuxRow],
+    deleted: &[u32],
+    added: &[AuxInput],
+) -> Result<(), (u32, usize)>
+    ensures { Checks
+        (Items.refused_added on by.now (Items.left_after deleted.now rows.now) 0 added.now)
+        result }
+{
+    for place in 0..added.len() {
+        let beside = Standing::of(rows, deleted, &added[..place], by.person);
+        if let Some(code) = code_added(on, by, &beside, &added[place]) {
+            return Err((code, place));
+        }
+    }
+    Ok(())
+}
+
+/// The code with which one more item is refused.
+fn code_added(on: Object, by: &Adder, beside: &Standing<'_>, given: &AuxInput) -> Option<u32>
+    ensures { result ≡ Items.code_added on by.now beside.now given.now }
+{
+    match kind_of(given.tag) {
+        None => Some(ILLEGAL_ITEM),
+        Some(known) => {
+            if !fits(on, by.person, beside, &known, given) {
+                Some(ILLEGAL_ITEM)
+            } else if known.adding.allows(on, by.owns) {
+                None
+            } else {
+                Some(ITEM_PERMISSION)
+            }
+        }
+    }
+}
+
+/// Whether an item of these contents may stand on an object, beside others.
+fn fits(on: Object, creator: u32, beside: &Standing<'_>, known: &AuxKind, given: &AuxInput) -> bool
+    ensures { result ≡ Items.fits on beside.now creator (kind_meant known.now) given.now }
+{
+    known.places.include(on)
+        && given.content.len() <= LONGEST_CONTENT
+        && given.flags & WRONG_FLAGS == 0
+        && beside.takes(known, creator)
+}

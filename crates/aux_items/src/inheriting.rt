@@ -1,0 +1,80 @@
+//! What a comment inherits.
+ghost use Rattle.std.specs.Prelude.{◌≡◌, ◌+◌, ◌-◌, ◌++◌, length, take, IfOk, OnOk, OnErr};
+ghost use Rattle.kom_types.specs.AuxItems as Items;
+
+use crate::kinds::kind_of;
+use crate::standing::Standing;
+use kom_types::{AuxRow, AuxRows, Bytes, Memory, Sequence};
+use std::alloc::Global;
+use std::mem;
+
+/// The flag inherit.
+const INHERIT: u8 = 64;
+
+/// Puts what a new text inherits from one that it comments after the items that it has: a copy of
+/// each, with its contents. (Protocol A, "Auxiliary Information".)
+pub fn inherit(alloc: Global, rows: &mut AuxRows, parent: &AuxRows) -> Result<(), Memory>
+    ensures ok { OnOk result (rows.new ≡ Items.inherited rows.old parent.now) }
+    ensures err { OnErr result (rows.new ≡ rows.old) }
+{
+    let mut items = mem::replace(rows, Sequence::new(alloc)).into_vec();
+    let own = items.len();
+    let outcome = inherit_all(alloc, &mut items, parent.as_slice());
+    if outcome.is_err() {
+        items.truncate(own);
+    }
+    *rows = Sequence::of(items);
+    outcome
+}
+
+/// Out of memory, some items may have been added.
+fn inherit_all(alloc: Global, items: &mut Vec<AuxRow>, parent: &[AuxRow]) -> Result<(), Memory>
+    ensures ok { OnOk result (items.new.items ≡ Items.inherited items.old.items parent.now) }
+    ensures own { take (length items.old.items) items.new.items ≡ items.old.items }
+{
+    for item in parent {
+        inherit_one(alloc, items, item)?;
+    }
+    Ok(())
+}
+
+fn inherit_one(alloc: Global, items: &mut Vec<AuxRow>, item: &AuxRow) -> Result<(), Memory>
+    ensures ok { OnOk result
+        (items.new.items ≡ Items.with_inherited items.old.items item.now) }
+    ensures err { OnErr result (items.new.items ≡ items.old.items) }
+{
+    match kind_of(item.tag) {
+        None => Ok(()),
+        Some(known) => {
+            let beside = Standing::all(items.as_slice());
+            if passes_on(item) && beside.takes(&known, item.creator) {
+                let number = items.len() as u32 + 1;
+                items.push(inherited_item(alloc, number, item)?)?;
+            }
+            Ok(())
+        }
+    }
+}
+
+/// Whether the comments of a text inherit an item.
+fn passes_on(item: &AuxRow) -> bool
+    ensures { result ≡ Items.passes_on item.now }
+{
+    item.flags & INHERIT != 0 && item.limit != 1
+}
+
+/// The item as it is inherited: it may be so once less, if there is a limit.
+fn inherited_item(alloc: Global, number: u32, item: &AuxRow) -> Result<AuxRow, Memory>
+    ensures { IfOk result (λ row. row
+        ≡ record item.now { number = number; limit = item.now.limit - 1 }) }
+{
+    Ok(AuxRow {
+        number,
+        tag: item.tag,
+        creator: item.creator,
+        at: item.at,
+        flags: item.flags,
+        limit: item.limit.saturating_sub(1),
+        content: Bytes::copy_of(alloc, item.content.as_slice())?,
+    })
+}
