@@ -32,6 +32,7 @@ def stream(size, call, times):
 def calls(size):
     """The calls that are measured, with how many times each is asked."""
     yield "get-text, of the middle", f"25 {size // 2} 0 99", MANY
+    yield "get-text-stat, of the middle", f"90 {size // 2}", MANY
     yield "find-next-text-no", f"60 {size // 2}", MANY
     yield "mark-text", f"72 {size // 2} 7", MANY
     yield "local-to-global, 100 from the middle", f"103 6 {size // 2} 100", MANY // 20
