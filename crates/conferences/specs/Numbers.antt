@@ -21,3 +21,7 @@ number-with_field (field.LastWritten at) row = refl
 -- with this next local number
 abbrev pub with_next_local : ℕ → ConferenceRow → ConferenceRow
 with_next_local next row = record row { next_local = next }
+
+-- with this next number of an aux-item
+abbrev pub with_next_item : ℕ → ConferenceRow → ConferenceRow
+with_next_item next row = record row { next_item = next }

@@ -65,3 +65,20 @@ impl Change<ByNumber> for SetNextLocal {
         row.next_local = self.0;
     }
 }
+
+/// The next aux-item of the conference gets this number.
+#[derive(Drop)]
+pub(crate) struct SetNextItem(pub(crate) u32);
+
+impl Change<ByNumber> for SetNextItem {
+    ghost use Rattle.std.specs.Prelude.{refl};
+    ghost use Rattle.conferences.specs.Numbers.{with_next_item};
+
+    ghost changed = { λ set. with_next_item set.0 };
+
+    ghost keeps_number = { λ set row. refl };
+
+    fn change(self, row: &mut ConferenceRow) {
+        row.next_item = self.0;
+    }
+}

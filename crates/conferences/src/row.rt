@@ -33,5 +33,6 @@ pub fn fresh_conference(
         keep_commented: FIRST_NICE,
         expire: 0,
         next_local: 1,
+        next_item: 1,
     }
 }

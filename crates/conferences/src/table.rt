@@ -2,9 +2,9 @@ ghost use Rattle.std.specs.Prelude.{◌≡◌, ◌+◌, ◌<◌, ◌≤◌, ◌�
 ghost use Rattle.std.specs.Prelude.{IsOk, IsTrue, OnOk, OnErr};
 ghost use Rattle.row_table.specs.Tables.{row_of, with_row, without_row, changed_row, IsByNumber};
 ghost use Rattle.kom_types.specs.tables.Conferences.{number_of_conference, with_field, with_name};
-ghost use Rattle.kom_types.specs.tables.Conferences.{with_local_drawn};
+ghost use Rattle.kom_types.specs.tables.Conferences.{with_local_drawn, with_item_drawn};
 
-use crate::changes::{Rename, SetField, SetNextLocal};
+use crate::changes::{Rename, SetField, SetNextItem, SetNextLocal};
 use crate::keyed::ByNumber;
 use kom_types::{Bytes, ConfField, ConferenceRow, Memory};
 use row_table::Table;
@@ -109,6 +109,16 @@ impl Conferences {
         ensures spare { self.old.spare ≤ self.new.spare }
     {
         self.rows.change(number, SetNextLocal(local + 1));
+    }
+
+    /// Notes that an aux-item of a conference has got this number: the next one gets a greater.
+    pub fn draw_item(&mut self, number: u32, item: u32)
+        requires { item < 4294967295 }
+        ensures rows { self.new.rows
+            ≡ changed_row number_of_conference number (with_item_drawn item) self.old.rows }
+        ensures spare { self.old.spare ≤ self.new.spare }
+    {
+        self.rows.change(number, SetNextItem(item + 1));
     }
 
     /// Gives a conference another name.

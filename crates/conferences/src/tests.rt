@@ -41,3 +41,14 @@ fn local_numbers_are_drawn(rt: HostRuntime) -> Result<(), Fail> {
     assert_eq!(rt; conferences.get(4).map(|row| row.next_local), Some(8));
     Ok(())
 }
+
+#[test]
+fn numbers_of_items_are_drawn(rt: HostRuntime) -> Result<(), Fail> {
+    let mut conferences = Conferences::new(rt.alloc());
+    let news = Bytes::copy_of(rt.alloc(), b"News")?;
+    conferences.put(fresh_conference(4, news, 8, Moment(9), 5, 5))?;
+    assert_eq!(rt; conferences.get(4).map(|row| row.next_item), Some(1));
+    conferences.draw_item(4, 7);
+    assert_eq!(rt; conferences.get(4).map(|row| row.next_item), Some(8));
+    Ok(())
+}

@@ -3,3 +3,4 @@ pub mod Conferences
 pub mod Persons
 pub mod Memberships
 pub mod Texts
+pub mod AuxItems

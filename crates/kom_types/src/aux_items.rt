@@ -21,6 +21,16 @@ pub struct AuxRow {
 /// Items by rising number.
 pub type AuxRows = Sequence<AuxRow>;
 
+/// An aux-item of an object, as the server keeps it: a row of the store.
+#[derive(Drop)]
+pub struct ItemRow {
+    /// Whether the object is a text; else it is a conference.
+    pub on_text: bool,
+    /// The number of the text or the conference.
+    pub object: u32,
+    pub item: AuxRow,
+}
+
 /// An aux-item that is to be added. (Protocol A, "Auxiliary Information".)
 #[derive(Drop)]
 pub struct AuxInput {

@@ -55,6 +55,8 @@ pub struct ConferenceRow {
     pub expire: u32,
     /// The number that its next text gets in it.
     pub next_local: u32,
+    /// The number that its next aux-item gets.
+    pub next_item: u32,
 }
 
 /// What of a conference the rights of persons hang on.

@@ -30,7 +30,7 @@ mod times;
 
 pub use acts::{Act, Entry, Record};
 pub use answers::{Answer, Refusal, Why};
-pub use aux_items::{Adder, AuxChange, AuxInput, AuxInputs, AuxRow, AuxRows, Object};
+pub use aux_items::{Adder, AuxChange, AuxInput, AuxInputs, AuxRow, AuxRows, ItemRow, Object};
 pub use boxed::Boxed;
 pub use byte_kind::{ByteKind, kind_of_byte};
 pub use calls::Call;

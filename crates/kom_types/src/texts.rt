@@ -67,6 +67,8 @@ pub struct TextRow {
     pub lines: u32,
     /// Its number among the texts that its author made, or 0 where it has none.
     pub created_local: u32,
+    /// The number that its next aux-item gets.
+    pub next_item: u32,
 }
 
 /// A recipient of a text: a row of the store. (Protocol A, "Misc-Info".)
@@ -136,7 +138,7 @@ pub struct Mapping {
 pub enum Block {
     /// Each local number that has a text, rising, with the text.
     Sparse(Sequence<LocalText>),
-    /// The texts of all local numbers from the first one on, 0 for one that has none.
+    /// The texts of all local numbers from the first one on: there is no gap.
     Dense { first: u32, texts: Numbers },
 }
 

@@ -5,6 +5,7 @@ use Rattle.std.proofs.lemmas.Bool.{cases_Bool, cases_eq, and_from, and_right, eq
 use Rattle.kom_types.specs.declared.texts.LocalText.{LocalText}
 use Rattle.kom_types.specs.declared.texts.TextRow.{TextRow}
 use Rattle.kom_types.specs.tables.Texts.{number_of_text, fresh_text, with_created_local, by_local, rising_locals}
+use Rattle.kom_types.specs.tables.Texts.{with_item_drawn}
 use Rattle.kom_types.specs.tables.Texts.{is_created_by, created_pair, created_by}
 use Rattle.row_table.specs.Tables.{row_of, with_row, without_row, changed_row, IsByNumber}
 use Rattle.row_table.specs.Tables as table
@@ -137,6 +138,28 @@ module _ (person local number : ℕ) (row : TextRow) (by : row.author ≡ person
       created_by other (changed_row number_of_text number (with_created_local local) rows) ≡ created_by other rows
   created_by-numbered_other other rows ne found rising =
       ap (λ l. rising_locals (map created_pair l)) (filter-numbered_other other rows ne found rising)
+
+-- ---- an aux-item of a text gets its number
+
+pairs_by-item : (person number item : ℕ) (rows : List TextRow) →
+    pairs_by person (changed_row number_of_text number (with_item_drawn item) rows) ≡ pairs_by person rows
+pairs_by-item person number item [] = refl
+pairs_by-item person number item (row ∷ rows) =
+    let rest = pairs_by-item person number item rows in
+    elim (cases_Bool (eqb row.number number)) [
+      | inl here ↦ elim (cases_Bool (is_created_by person row)) [
+        | inl its ↦ rw (here, its) (ap (λ l. created_pair row ∷ l) rest)
+        | inr other ↦ rw (here, other) rest
+      ]
+      | inr there ↦ elim (cases_Bool (is_created_by person row)) [
+        | inl its ↦ rw (there, its) (ap (λ l. created_pair row ∷ l) rest)
+        | inr other ↦ rw (there, other) rest
+      ]
+    ]
+
+pub created_by-item : (person number item : ℕ) (rows : List TextRow) →
+    created_by person (changed_row number_of_text number (with_item_drawn item) rows) ≡ created_by person rows
+created_by-item person number item rows = ap rising_locals (pairs_by-item person number item rows)
 
 -- ---- a text is taken out
 

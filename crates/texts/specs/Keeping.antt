@@ -29,3 +29,7 @@ IsUnnumbered author text rows = elim (row_of number_of_text text rows) [
 abbrev pub IsFrom : Option (List LocalText) → ℕ → List LocalText → Type 0
 IsFrom None first pairs = from_on first pairs ≡ []
 IsFrom (Some given) first pairs = given ≡ from_on first pairs
+
+-- a text with this next number of an aux-item
+abbrev pub with_next_item : ℕ → TextRow → TextRow
+with_next_item next row = record row { next_item = next }

@@ -16,6 +16,7 @@ pub fn fresh_text(number: u32, author: u32, created: Moment, body: Bytes) -> Tex
         body,
         lines,
         created_local: 0,
+        next_item: 1,
     }
 }
 

@@ -2,8 +2,9 @@ ghost use Rattle.std.specs.Prelude.{◌≡◌, ◌+◌, ◌<◌, ◌≤◌, ◌�
 ghost use Rattle.std.specs.Prelude.{IsOk, IsTrue, OnOk, OnErr};
 ghost use Rattle.row_table.specs.Tables.{row_of, with_row, without_row, changed_row, IsByNumber};
 ghost use Rattle.kom_types.specs.tables.Texts.{number_of_text, with_created_local};
+ghost use Rattle.kom_types.specs.tables.Texts.{with_item_drawn};
 
-use crate::changes::SetCreatedLocal;
+use crate::changes::{SetCreatedLocal, SetNextItem};
 use crate::keyed::ByNumber;
 use kom_types::{Memory, TextRow};
 use row_table::Table;
@@ -97,5 +98,16 @@ impl TextTable {
         ensures spare { self.old.spare ≤ self.new.spare }
     {
         self.rows.change(number, SetCreatedLocal(local));
+    }
+
+    /// Notes that an aux-item of a text has got this number: the next one gets a greater. Takes no
+    /// memory.
+    pub fn draw_item(&mut self, number: u32, item: u32)
+        requires { item < 4294967295 }
+        ensures rows { self.new.rows
+            ≡ changed_row number_of_text number (with_item_drawn item) self.old.rows }
+        ensures spare { self.old.spare ≤ self.new.spare }
+    {
+        self.rows.change(number, SetNextItem(item + 1));
     }
 }

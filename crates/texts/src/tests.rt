@@ -49,6 +49,17 @@ fn a_body_is_kept(rt: HostRuntime) -> Result<(), Fail> {
     Ok(())
 }
 
+#[test]
+fn numbers_of_items_are_drawn(rt: HostRuntime) -> Result<(), Fail> {
+    let mut texts = table::TextTable::new(rt.alloc());
+    let news = Bytes::copy_of(rt.alloc(), b"News")?;
+    texts.put(fresh_text(4, 5, Moment(9), news))?;
+    assert_eq!(rt; texts.get(4).map(|row| row.next_item), Some(1));
+    texts.draw_item(4, 7);
+    assert_eq!(rt; texts.get(4).map(|row| row.next_item), Some(8));
+    Ok(())
+}
+
 // A text of the 4th person, if the number is free.
 fn add_text(texts: &mut Texts, number: u32, alloc: Global) -> Result<(), Memory>
     ensures { OnOk result (texts.new.rows.recipients ≡ texts.old.rows.recipients) }

@@ -4,7 +4,7 @@ ghost use Rattle.row_table.specs.Tables.{row_of, with_row, without_row, changed_
 ghost use Rattle.kom_types.specs.tables.Texts.{number_of_text, fresh_text, with_created_local};
 ghost use Rattle.kom_types.specs.tables.Texts.{recipient_of, without_recipient, link_of};
 ghost use Rattle.kom_types.specs.tables.Texts.{without_link, with_mark, without_mark, locals_of};
-ghost use Rattle.kom_types.specs.tables.Texts.{created_by};
+ghost use Rattle.kom_types.specs.tables.Texts.{created_by, with_item_drawn};
 ghost use Rattle.local_maps.specs.Pairs.{AllBelow, least_of};
 ghost use Rattle.texts.specs.Keeping.{IsUnnumbered};
 ghost use Rattle.texts.specs.Needs.{HasRoom, KeepsRoom, UsesRoom, room_for, text_needs};
@@ -206,6 +206,18 @@ impl Texts {
     {
         self.created.append(person, local, text).unwrap();
         self.texts.set_created_local(text, local);
+    }
+
+    /// Notes that an aux-item of a text has got this number: the next one gets a greater. It takes
+    /// no memory.
+    pub fn draw_item(&mut self, number: u32, item: u32)
+        requires { item < 4294967295 }
+        ensures rows { self.new.rows ≡ record self.old.rows {
+          texts = changed_row number_of_text number (with_item_drawn item) self.old.rows.texts;
+        } }
+        ensures room { KeepsRoom self.old.room self.new.room }
+    {
+        self.texts.draw_item(number, item);
     }
 
     /// Takes away the number that each text of a person has among those that the person made. It

@@ -21,6 +21,10 @@ is_letterbox kind = is_on 16 kind
 abbrev pub allows_anonymous : ℕ → Bool
 allows_anonymous kind = is_on 8 kind
 
+-- it takes no secret memberships
+abbrev pub forbids_secret : ℕ → Bool
+forbids_secret kind = is_on 4 kind
+
 -- a secret conference is read-protected too
 abbrev pub is_secret_protected : ℕ → Bool
 is_secret_protected kind = not (is_secret_conference kind) || is_read_protected kind
@@ -55,6 +59,7 @@ fresh_conference number name kind at creator supervisor = record {
   keep_commented = first_nice;
   expire = 0;
   next_local = 1;
+  next_item = 1;
 }
 
 -- with one field set
@@ -77,3 +82,7 @@ with_name name row = record row { name = name }
 -- with a local number drawn, and so all before it
 abbrev pub with_local_drawn : ℕ → ConferenceRow → ConferenceRow
 with_local_drawn local row = record row { next_local = local + 1 }
+
+-- with the number of an aux-item drawn, and so all before it
+abbrev pub with_item_drawn : ℕ → ConferenceRow → ConferenceRow
+with_item_drawn number row = record row { next_item = number + 1 }

@@ -4,11 +4,29 @@ use Rattle.std.specs.Prelude.{ℕ, ◌+◌, ◌-◌, Bool, ◌==◌, ◌&&◌, n
 use Rattle.std.specs.Prelude.{List, [], ◌∷◌, ◌++◌, length, map, filter, find, fold}
 use Rattle.std.specs.Prelude.{Option, Some, None, if◌then◌else◌}
 use Rattle.kom_types.specs.Bits.{is_on}
+use Rattle.kom_types.specs.declared.memberships.Member.{Member}
 use Rattle.kom_types.specs.declared.memberships.MembershipRow.{MembershipRow}
 
 -- the bit of a membership's type that says that the person was invited and has not joined yet
 abbrev pub is_invitation : ℕ → Bool
 is_invitation kind = is_on 128 kind
+
+-- the bits that say that the person takes no messages of new texts, and that the membership is shown
+-- to few
+abbrev pub is_passive : ℕ → Bool
+is_passive kind = is_on 64 kind
+
+abbrev pub is_secret_membership : ℕ → Bool
+is_secret_membership kind = is_on 32 kind
+
+-- what is told of a member
+abbrev pub member_of : MembershipRow → Member
+member_of row = record {
+  person = row.person;
+  added_by = row.added_by;
+  added_at = row.added_at;
+  kind = row.kind;
+}
 
 -- whether this is the membership of a person in a conference
 abbrev pub is_membership : ℕ → ℕ → MembershipRow → Bool

@@ -1,6 +1,6 @@
 -- Texts, and what they are linked to: rows in the order of adding. (Protocol A, "Texts" and
 -- "Misc-Info".)
-use Rattle.std.specs.Prelude.{ℕ, Bool, ◌==◌, ◌&&◌, not, nat_lt, count_by}
+use Rattle.std.specs.Prelude.{ℕ, ◌+◌, Bool, ◌==◌, ◌&&◌, not, nat_lt, count_by}
 use Rattle.std.specs.Prelude.{List, [], ◌∷◌, ◌++◌, map, filter, find, fold, Option, is_some}
 use Rattle.std.specs.Prelude.{if◌then◌else◌}
 use Rattle.kom_types.specs.Bits.{alike}
@@ -28,11 +28,16 @@ fresh_text number author at body = record {
   body = body;
   lines = lines_of body;
   created_local = 0;
+  next_item = 1;
 }
 
 -- with a number among the texts that its author made
 abbrev pub with_created_local : ℕ → TextRow → TextRow
 with_created_local local row = record row { created_local = local }
+
+-- with the number of an aux-item drawn, and so all before it
+abbrev pub with_item_drawn : ℕ → TextRow → TextRow
+with_item_drawn number row = record row { next_item = number + 1 }
 
 -- whether this is what makes a conference a recipient of a text
 abbrev pub is_recipient : ℕ → ℕ → Recipient → Bool
