@@ -9,7 +9,7 @@ use Rattle.kom_types.specs.declared.effects.ConfField.{ConfField}
 use Rattle.kom_types.specs.declared.effects.ConfField.TheVariants as field
 use Rattle.kom_types.specs.declared.effects.Effect.{Effect}
 use Rattle.kom_types.specs.declared.effects.Effect.TheVariants as effect
-use Rattle.kom_types.specs.tables.Conferences.{number_of_conference, is_secret_protected, with_field, with_name, with_local_drawn}
+use Rattle.kom_types.specs.tables.Conferences.{number_of_conference, is_secret_protected, with_field, with_name, with_local_drawn, with_item_drawn}
 use Rattle.kom_model.specs.Db.{Db, conference_of}
 use Rattle.kom_model.specs.Effects.{IsProtected, fits, made, apply, apply_all, may_set}
 
@@ -95,6 +95,9 @@ protected-made (effect.ConfField number what) db fit protected =
     guarded-changed number (with_field what) (guarded-found what (conference_of db number) fit) db.conferences protected
 protected-made (effect.RecipientAdded given) db fit protected =
     guarded-changed given.conference (with_local_drawn given.local) (λ row guarded. guarded) db.conferences protected
+protected-made (effect.AuxAdded true object item) db fit protected = protected
+protected-made (effect.AuxAdded false object item) db fit protected =
+    guarded-changed object (with_item_drawn item.number) (λ row guarded. guarded) db.conferences protected
 protected-made other db fit protected = protected
 
 IsProtected-apply : (what : Effect) (db : Db) → IsProtected db → IsProtected (apply what db)

@@ -1,6 +1,8 @@
 -- The stored rows, and how definitions read them.
-use Rattle.std.specs.Prelude.{ℕ, Bool, ◌==◌, ◌||◌, List, [], ◌∷◌, filter, Option, Some, None, option_map}
+use Rattle.std.specs.Prelude.{ℕ, Bool, true, false, ◌==◌, ◌||◌, List, [], ◌∷◌, filter, Option, Some, None, option_map}
 use Rattle.row_table.specs.Tables.{row_of}
+use Rattle.kom_types.specs.declared.aux_items.AuxRow.{AuxRow}
+use Rattle.kom_types.specs.declared.aux_items.ItemRow.{ItemRow}
 use Rattle.kom_types.specs.declared.conferences.ConferenceHead.{ConferenceHead}
 use Rattle.kom_types.specs.declared.conferences.ConferenceRow.{ConferenceRow}
 use Rattle.kom_types.specs.declared.memberships.MembershipRow.{MembershipRow}
@@ -11,6 +13,7 @@ use Rattle.kom_types.specs.declared.texts.LocalText.{LocalText}
 use Rattle.kom_types.specs.declared.texts.MarkRow.{MarkRow}
 use Rattle.kom_types.specs.declared.texts.Recipient.{Recipient}
 use Rattle.kom_types.specs.declared.texts.TextRow.{TextRow}
+use Rattle.kom_types.specs.tables.AuxItems as AuxItems
 use Rattle.kom_types.specs.tables.Conferences.{head_of, number_of_conference}
 use Rattle.kom_types.specs.tables.Memberships as Memberships
 use Rattle.kom_types.specs.tables.Persons.{number_of_person}
@@ -20,7 +23,7 @@ use Rattle.read_ranges.specs.Reads as Reads
 use Rattle.read_ranges.specs.Reads.{ReadRow}
 
 -- Conferences, persons and texts by rising number; memberships, and what was read in each, in the
--- order of joining; recipients, links and marks in the order of adding; and the numbers that the next
+-- order of joining; recipients, links, marks and aux-items in the order of adding; and the numbers that the next
 -- conference and the next text get. A person's number is that of its letterbox.
 pub record Db : Type 0 where
   pub conferences : List ConferenceRow
@@ -31,6 +34,7 @@ pub record Db : Type 0 where
   pub recipients : List Recipient
   pub links : List Link
   pub marks : List MarkRow
+  pub items : List ItemRow
   pub next_conference : ℕ
   pub next_text : ℕ
 
@@ -44,6 +48,7 @@ empty_db = record {
   recipients = [];
   links = [];
   marks = [];
+  items = [];
   next_conference = 1;
   next_text = 1;
 }
@@ -177,3 +182,13 @@ marks_of db person = Texts.marks_of person db.marks
 
 unfoldable pub marks_on : Db → ℕ → List MarkRow
 marks_on db text = Texts.marks_on text db.marks
+
+-- the aux-items of a text, or a conference, in the order of adding; and the number that the next one
+-- gets: 1 if there is no such object
+unfoldable pub items_of : Db → Bool → ℕ → List AuxRow
+items_of db on_text object = AuxItems.items_of on_text object db.items
+
+unfoldable pub next_item_of : Db → Bool → ℕ → ℕ
+next_item_of db true object = elim (text_of db object) [ None ↦ 1 | Some row ↦ row.next_item ]
+next_item_of db false object =
+    elim (conference_of db object) [ None ↦ 1 | Some row ↦ row.next_item ]

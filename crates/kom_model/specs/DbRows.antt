@@ -208,6 +208,7 @@ pub record DbRows : Type 0 where
         keep_commented = 77;
         expire = 0;
         next_local = 1;
+        next_item = 1;
       })
   pub conference_with_all_set : conference_of (with_effects sets_all) 1
       ≡ Some (record {
@@ -226,6 +227,7 @@ pub record DbRows : Type 0 where
         keep_commented = 27;
         expire = 28;
         next_local = 1;
+        next_item = 1;
       })
   pub person_as_made : person_of rows 5
       ≡ Some (record {

@@ -5,6 +5,8 @@ use Rattle.std.specs.Prelude.{List, [], ◌∷◌, ◌++◌, length, map, Some, 
 use Rattle.std.specs.Prelude.{if◌then◌else◌, IsTrue}
 use Rattle.std.specs.List.{AllByRecursion, list_any}
 use Rattle.row_table.specs.Tables.{with_row, without_row, changed_row}
+use Rattle.kom_types.specs.AuxItems.{kind_of, most_items, longest_content}
+use Rattle.kom_types.specs.declared.aux_items.AuxRow.{AuxRow}
 use Rattle.kom_types.specs.declared.conferences.ConferenceRow.{ConferenceRow}
 use Rattle.kom_types.specs.declared.effects.ConfField.{ConfField}
 use Rattle.kom_types.specs.declared.effects.ConfField.TheVariants as field
@@ -17,6 +19,7 @@ use Rattle.kom_types.specs.declared.texts.Recipient.{Recipient}
 use Rattle.kom_types.specs.declared.texts.TextRow.{TextRow}
 use Rattle.kom_types.specs.Bits.{alike}
 use Rattle.kom_types.specs.Names.{clash}
+use Rattle.kom_types.specs.tables.AuxItems.{without_item}
 use Rattle.kom_types.specs.tables.Conferences as Conferences
 use Rattle.kom_types.specs.tables.Conferences.{number_of_conference, is_secret_protected}
 use Rattle.kom_types.specs.tables.Conferences.{is_letterbox, fresh_conference, with_name}
@@ -25,6 +28,7 @@ use Rattle.kom_types.specs.tables.Memberships.{with_membership, without_membersh
 use Rattle.kom_types.specs.tables.Persons as Persons
 use Rattle.kom_types.specs.tables.Persons.{number_of_person, fresh_person, counted, logged_in}
 use Rattle.kom_types.specs.tables.Persons.{with_hash, with_created_drawn}
+use Rattle.kom_types.specs.tables.Texts as Texts
 use Rattle.kom_types.specs.tables.Texts.{number_of_text, fresh_text, without_recipient}
 use Rattle.kom_types.specs.tables.Texts.{without_link, with_mark, without_mark, with_created_local}
 use Rattle.read_ranges.specs.Changed.{rise_after}
@@ -34,7 +38,7 @@ use Rattle.kom_model.specs.Db.{Db, conference_of, person_of, membership_of, memb
 use Rattle.kom_model.specs.Db.{members_of, locals_of, conferences_of, text_of, recipient_of}
 use Rattle.kom_model.specs.Db.{recipients_of, link_of}
 use Rattle.kom_model.specs.Db.{links_from, links_into, mark_of, marks_of, marks_on}
-use Rattle.kom_model.specs.Db.{next_local_of, next_created_of}
+use Rattle.kom_model.specs.Db.{next_local_of, next_created_of, items_of, next_item_of}
 
 -- the limits of this server: conferences that are ever made, bytes of a name and of a user name,
 -- memberships of a person; texts, and local numbers, that are ever drawn; bytes of a text;
@@ -127,6 +131,7 @@ is_bare db text =
     length (recipients_of db text) == 0 && length (links_from db text false) == 0
     && length (links_from db text true) == 0 && length (links_into db text false) == 0
     && length (links_into db text true) == 0 && length (marks_on db text) == 0
+    && length (items_of db true text) == 0
 
 -- the number is the next one of the conference, or a later one
 abbrev pub may_draw : Db → ℕ → ℕ → Bool
@@ -137,7 +142,7 @@ may_draw db conference local =
 abbrev pub is_bare_conference : Db → ℕ → Bool
 is_bare_conference db number =
     length (locals_of db number) == 0 && length (members_of db number) == 0
-    && is_none (person_of db number)
+    && length (items_of db false number) == 0 && is_none (person_of db number)
 
 abbrev pub is_bare_person : Db → ℕ → Bool
 is_bare_person db number =
@@ -180,8 +185,25 @@ may_create db person local text = elim (text_of db text) [
   | Some row ↦ is_some (person_of db person) && may_number db person local row
 ]
 
+-- the text, or the conference, is there
+abbrev pub has_object : Db → Bool → ℕ → Bool
+has_object db true object = is_some (text_of db object)
+has_object db false object = is_some (conference_of db object)
+
+-- an object may have this item more: its number was never used, and the server knows its tag
+abbrev pub may_add_item : Db → Bool → ℕ → AuxRow → Bool
+may_add_item db on_text object item =
+    has_object db on_text object && nat_le (next_item_of db on_text object) item.number
+    && nat_le item.number last_drawn && is_some (kind_of item.tag)
+    && nat_lt (length (items_of db on_text object)) most_items
+    && nat_le (length item.content) longest_content
+
+abbrev pub has_item : Db → Bool → ℕ → ℕ → Bool
+has_item db on_text object number =
+    list_any (λ item. item.number == number) (items_of db on_text object)
+
 -- Whether an effect fits: what it changes is there, what it adds is not, numbers were never used,
--- and the limits hold. Aux-items are not built yet: they do not fit.
+-- and the limits hold.
 unfoldable pub fits : Effect → Db → Bool
 fits (effect.ConfAdded number name kind at creator supervisor) db =
     may_add_conference db number name kind
@@ -214,8 +236,8 @@ fits (effect.ReadSet person conference at ranges) db =
 fits (effect.MarkSet person text kind) db =
     is_some (person_of db person) && is_some (text_of db text) && may_mark db person text
 fits (effect.MarkGone person text) db = is_some (mark_of db person text)
-fits (effect.AuxAdded on_text object item) db = false
-fits (effect.AuxGone on_text object number) db = false
+fits (effect.AuxAdded on_text object item) db = may_add_item db on_text object item
+fits (effect.AuxGone on_text object number) db = has_item db on_text object number
 fits (effect.Created person local text) db = may_create db person local text
 
 -- with a conference that is made, and its number used
@@ -261,6 +283,18 @@ member_row person conference position priority added_by added_at kind = record {
   last_time_read = added_at;
   kind = kind;
 }
+
+-- with the number of an item of an object drawn; and with the item
+abbrev pub with_item_drawn : Bool → ℕ → ℕ → Db → Db
+with_item_drawn true object number db =
+    with_changed_text object (Texts.with_item_drawn number) db
+with_item_drawn false object number db =
+    with_changed_conference object (Conferences.with_item_drawn number) db
+
+abbrev pub with_item : Bool → ℕ → AuxRow → Db → Db
+with_item on_text object item db = with_item_drawn on_text object item.number (record db {
+  items = db.items ++ record { on_text = on_text; object = object; item = item } ∷ [];
+})
 
 -- What an effect that fits makes of the rows.
 unfoldable pub made : Effect → Db → Db
@@ -312,8 +346,9 @@ made (effect.MarkSet person text kind) db = record db {
 }
 made (effect.MarkGone person text) db =
     record db { marks = without_mark person text db.marks }
-made (effect.AuxAdded on_text object item) db = db
-made (effect.AuxGone on_text object number) db = db
+made (effect.AuxAdded on_text object item) db = with_item on_text object item db
+made (effect.AuxGone on_text object number) db =
+    record db { items = without_item on_text object number db.items }
 made (effect.Created person local text) db =
     with_changed_person person (with_created_drawn local)
     (with_changed_text text (with_created_local local) db)

@@ -19,3 +19,4 @@ pub mod CallRows
 pub mod TextRows
 pub mod MemberRows
 pub mod ShownRows
+pub mod ItemRows

@@ -4,7 +4,10 @@ use Rattle.std.specs.Prelude.{ℕ, ◌-◌, Bool, true, false, ◌==◌, ◌||�
 use Rattle.std.specs.Prelude.{List, [], ◌∷◌, ◌++◌, length, map, filter, Some, None}
 use Rattle.std.specs.Prelude.{if◌then◌else◌}
 use Rattle.std.specs.List.{flat_map}
+use Rattle.kom_types.specs.AuxItems.{is_shown}
 use Rattle.kom_types.specs.Bits.{is_on}
+use Rattle.kom_types.specs.declared.aux_items.Adder.{Adder}
+use Rattle.kom_types.specs.declared.aux_items.AuxRow.{AuxRow}
 use Rattle.kom_types.specs.declared.conferences.Conference.{Conference}
 use Rattle.kom_types.specs.declared.conferences.ConferenceRow.{ConferenceRow}
 use Rattle.kom_types.specs.declared.memberships.MembershipRow.{MembershipRow}
@@ -18,11 +21,12 @@ use Rattle.kom_types.specs.declared.texts.MiscInfo.TheVariants as misc
 use Rattle.kom_types.specs.declared.texts.Recipient.{Recipient}
 use Rattle.kom_types.specs.declared.texts.TextRow.{TextRow}
 use Rattle.kom_types.specs.declared.texts.TextStat.{TextStat}
+use Rattle.kom_types.specs.tables.Memberships.{is_secret_membership}
 use Rattle.kom_types.specs.tables.Persons.{last_count}
 use Rattle.kom_model.specs.declared.viewers.Viewer.{Viewer}
 use Rattle.kom_model.specs.Db.{Db, person_flags_of, recipients_of, links_from, links_into}
 use Rattle.kom_model.specs.Db.{marks_of, marks_on, members_of, memberships_of, read_of}
-use Rattle.kom_model.specs.Db.{first_local_of, next_local_of, first_created_of, next_created_of}
+use Rattle.kom_model.specs.Db.{text_author_of, items_of, first_local_of, next_local_of, first_created_of, next_created_of}
 use Rattle.kom_model.specs.Rights.{sees, reads_conference, supervises, is_author}
 
 -- a recipient is shown to who sees the conference; one that is shown to few, only to who also is the
@@ -31,14 +35,6 @@ abbrev pub shows_recipient : Db → Viewer → ℕ → Recipient → Bool
 shows_recipient db viewer author row = sees db viewer row.conference
     && (not (row.tag == 15) || is_author viewer.person author || is_author viewer.person row.sender
     || reads_conference db viewer row.conference)
-
--- the bits of a membership's type that say that the person takes no messages of new texts, and that
--- the membership is shown to few
-abbrev pub is_passive : ℕ → Bool
-is_passive kind = is_on 64 kind
-
-abbrev pub is_secret_membership : ℕ → Bool
-is_secret_membership kind = is_on 32 kind
 
 -- A membership of this type is shown to who sees the conference; a secret one only to who also is
 -- the person, or supervises the person or the conference.
@@ -87,6 +83,37 @@ abbrev pub own_count : Viewer → ℕ → ℕ → ℕ
 own_count viewer person count =
     if viewer.strong || viewer.person == person then count else 0
 
+-- who looks at the items of a text, and of a conference: who made a text owns it, and so do all who
+-- supervise that person; of a conference those who supervise it; and a strong session owns all
+abbrev pub text_adder : Db → Viewer → ℕ → Adder
+text_adder db viewer text = record {
+  person = viewer.person;
+  owns = elim (text_author_of db text) [
+    | None ↦ viewer.strong
+    | Some author ↦ is_author viewer.person author || supervises db viewer.person author
+        || viewer.strong
+  ];
+}
+
+abbrev pub conference_adder : Db → Viewer → ℕ → Adder
+conference_adder db viewer conference = record {
+  person = viewer.person;
+  owns = supervises db viewer.person conference || viewer.strong;
+}
+
+-- who added an item is told to that person and to who owns the object, if it is to be hidden
+abbrev pub hides_creator : ℕ → Bool
+hides_creator flags = is_on 16 flags
+
+abbrev pub item_told : Adder → AuxRow → AuxRow
+item_told adder item =
+    if hides_creator item.flags && not (item.creator == adder.person || adder.owns)
+    then record item { creator = 0 } else item
+
+-- the items that are shown, as they are told
+abbrev pub items_shown : Adder → List AuxRow → List AuxRow
+items_shown adder items = map (item_told adder) (filter (is_shown adder) items)
+
 -- A person, as it is told to who looks. (Protocol A, "Persons".)
 abbrev pub person_told : Db → Viewer → PersonRow → Person
 person_told db viewer row = record {
@@ -109,7 +136,7 @@ person_told db viewer row = record {
   conferences = told_count (length (memberships_shown db viewer row.number));
 }
 
--- A conference, as it is told to who looks; no aux-items are kept yet. (Protocol A, "Conferences".)
+-- A conference, as it is told to who looks. (Protocol A, "Conferences".)
 abbrev pub conference_told : Db → Viewer → ConferenceRow → Conference
 conference_told db viewer row = record {
   name = row.name;
@@ -128,7 +155,8 @@ conference_told db viewer row = record {
   first_local = first_local_of db row.number;
   texts = next_local_of db row.number - first_local_of db row.number;
   expire = row.expire;
-  aux_items = [];
+  aux_items =
+      items_shown (conference_adder db viewer row.number) (items_of db false row.number);
 }
 
 -- who added a recipient, or a link, later, and when: nothing, if the text was made with it
@@ -168,7 +196,7 @@ misc_infos db viewer row =
     ++ flat_map from_infos (links_from db row.number true)
     ++ map into_info (links_into db row.number true)
 
--- A text, as it is told to who reads it; no aux-items are kept yet. (Protocol A, "Texts".)
+-- A text, as it is told to who reads it. (Protocol A, "Texts".)
 abbrev pub shown_stat : Db → Viewer → TextRow → TextStat
 shown_stat db viewer row = record {
   created = row.created;
@@ -177,7 +205,7 @@ shown_stat db viewer row = record {
   chars = told_count (length row.body);
   marks = told_count (length (marks_on db row.number));
   misc_infos = misc_infos db viewer row;
-  aux_items = [];
+  aux_items = items_shown (text_adder db viewer row.number) (items_of db true row.number);
 }
 
 -- the conference that a session is in, as it is told to who looks: 0 if that is not seen

@@ -247,6 +247,7 @@ open_row = record {
   keep_commented = 77;
   expire = 0;
   next_local = 6;
+  next_item = 1;
 }
 
 -- the conference 9 as it is told: how many members are shown, the first local number that has a
@@ -644,6 +645,7 @@ pub record ShownRows : Type 0 where
         body = [];
         lines = 0;
         created_local = 0;
+        next_item = 1;
       })
   pub created_are_gone : created_by (with_effects gone_bo) 6 ≡ []
   pub next_created_is_gone : next_created_of (with_effects gone_bo) 6 ≡ 1

@@ -11,7 +11,8 @@ mod viewers;
 pub use call_errors::{CallError, Refused};
 pub use laws::drains_give_all;
 pub use rows::{
-    worked_calls, worked_histories, worked_memberships, worked_rights, worked_shown, worked_texts,
+    worked_calls, worked_histories, worked_items, worked_memberships, worked_rights, worked_shown,
+    worked_texts,
 };
 pub use stored::Rows;
 pub use viewers::Viewer;

@@ -1,5 +1,6 @@
 ghost use Rattle.kom_model.specs.CallRows.{CallRows};
 ghost use Rattle.kom_model.specs.DbRows.{DbRows};
+ghost use Rattle.kom_model.specs.ItemRows.{ItemRows};
 ghost use Rattle.kom_model.specs.MemberRows.{MemberRows};
 ghost use Rattle.kom_model.specs.Rows.{Rows};
 ghost use Rattle.kom_model.specs.ShownRows.{ShownRows};
@@ -38,4 +39,10 @@ pub fn worked_memberships()
 /// that set or delete them, give what was worked out by hand.
 pub fn worked_shown()
     ensures { ShownRows }
+{}
+
+/// A law alone: the definitions of what becomes of aux-items, of what is told of them, and of the
+/// calls over them, give what was worked out by hand.
+pub fn worked_items()
+    ensures { ItemRows }
 {}

@@ -1,9 +1,9 @@
 ghost use Rattle.std.specs.Prelude.{◌≡◌, length, slice_get, option_copied};
 ghost use Rattle.kom_model.specs.Db.{Db, conference_head_of, membership_kind_of, text_author_of};
 ghost use Rattle.kom_model.specs.Db.{person_flags_of, recipients_of, text_of, links_from};
-ghost use Rattle.kom_model.specs.Db.{links_into, marks_on};
+ghost use Rattle.kom_model.specs.Db.{links_into, items_of, marks_on};
 
-use kom_types::{ConferenceHead, Link, Recipient, TextRow};
+use kom_types::{AuxRow, ConferenceHead, Link, Recipient, TextRow};
 
 /// How the rights of persons read the stored rows. `None` comes exactly if there is no such row.
 pub trait Rows {
@@ -53,6 +53,14 @@ pub trait Rows {
     /// of adding.
     fn link_into(&self, text: u32, footnote: bool, place: usize) -> Option<Link>
         ensures { result ≡ slice_get (links_into (db self.now) text footnote) place };
+
+    /// How many aux-items a text, or a conference, has.
+    fn item_count(&self, on_text: bool, object: u32) -> usize
+        ensures { result ≡ length (items_of (db self.now) on_text object) };
+
+    /// The aux-item at a place among those of a text, or a conference, in the order of adding.
+    fn item(&self, on_text: bool, object: u32, place: usize) -> Option<&AuxRow>
+        ensures { option_copied result ≡ slice_get (items_of (db self.now) on_text object) place };
 
     /// How many marks there are on a text.
     fn mark_count(&self, text: u32) -> usize

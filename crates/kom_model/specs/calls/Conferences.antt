@@ -3,7 +3,9 @@ use Rattle.std.specs.Prelude.{ℕ, ◌-◌, Bool, false, ◌==◌, ◌||◌, ◌
 use Rattle.std.specs.Prelude.{List, [], ◌∷◌, ◌++◌, map, filter, find, reverse, Option, Some, None}
 use Rattle.std.specs.Prelude.{if◌then◌else◌}
 use Rattle.std.specs.List.{range_with_len, filter_map}
+use Rattle.kom_types.specs.AuxItems.{items_from}
 use Rattle.kom_types.specs.Bits.{alike}
+use Rattle.kom_types.specs.declared.aux_items.Object.TheVariants as object
 use Rattle.kom_types.specs.declared.conferences.ConferenceName.{ConferenceName}
 use Rattle.kom_types.specs.declared.conferences.ConferenceRow.{ConferenceRow}
 use Rattle.kom_types.specs.declared.conferences.NewConference.{NewConference}
@@ -22,15 +24,16 @@ use Rattle.kom_types.specs.tables.Conferences.{is_letterbox, is_secret_conferenc
 use Rattle.kom_types.specs.tables.Persons.{may_create_conferences}
 use Rattle.kom_model.specs.declared.viewers.Viewer.{Viewer}
 use Rattle.kom_model.specs.Db.{Db, conference_of, person_of, conferences_of, next_conference_of}
-use Rattle.kom_model.specs.Db.{next_local_of, locals_of, marks_of, memberships_at}
+use Rattle.kom_model.specs.Db.{next_local_of, locals_of, marks_of, memberships_at, items_of}
 use Rattle.kom_model.specs.Rights.{sees}
 use Rattle.kom_model.specs.Shown.{conference_told}
 use Rattle.kom_model.specs.Effects.{longest_name}
+use Rattle.kom_model.specs.calls.AuxItems.{items_added}
 use Rattle.kom_model.specs.calls.Call.{Asked, Definition, answer, done, unguarded}
 use Rattle.kom_model.specs.calls.Guards.{Guard, guarded, refusal, unless, caller}
 use Rattle.kom_model.specs.calls.Guards.{login_guard, conference_guard, own_guard, size_guard}
 use Rattle.kom_model.specs.calls.Guards.{name_guard, free_guard, type_guard, drawn_guard}
-use Rattle.kom_model.specs.calls.Guards.{items_guard, with_items, text_or_none_guard}
+use Rattle.kom_model.specs.calls.Guards.{new_items_guard, with_items, text_or_none_guard}
 use Rattle.kom_model.specs.calls.Guards.{conference_or_none_guard}
 use Rattle.kom_model.specs.calls.Sessions.{counts, all_left}
 
@@ -111,6 +114,7 @@ gone_conference asked number =
     ++ map (λ pair. effect.RecipientGone pair.text number) (locals_of asked.db number)
     ++ map (λ row. effect.MarkGone number row.text) (marks_of asked.db number)
     ++ map (λ row. effect.MemberGone row.person row.conference) (memberships_at asked.db number)
+    ++ map (λ item. effect.AuxGone false number item.number) (items_of asked.db false number)
     ++ gone_person asked.db number ++ effect.ConfGone number ∷ []
 
 -- a session of the person whose letterbox goes is logged out; another that was in the conference is
@@ -146,11 +150,12 @@ create_conf asked given =
     (login_guard (caller asked) ∷ create_conf_guard asked.db (caller asked)
     ∷ name_guard given.name ∷ unless (not (is_letterbox given.kind)) 23 0
     ∷ type_guard given.kind ∷ free_guard asked.db 0 given.name ∷ drawn_guard asked.db ∷ [])
-    (with_items (items_guard given.aux_items) (record {
+    (with_items (new_items_guard object.Conference by given.aux_items) (record {
       reply = reply.Number number;
       effects =
           effect.ConfAdded number given.name given.kind asked.moment by by
-          ∷ counts by counter.CreatedConferences 1;
+          ∷ items_added false number (items_from 1 by asked.moment given.aux_items)
+          ++ counts by counter.CreatedConferences 1;
       changes = [];
     }))
 

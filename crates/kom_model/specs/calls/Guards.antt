@@ -1,9 +1,13 @@
 -- The guards that calls share: what each refuses, or none. Which code and status each gives is this
 -- server's choice. (Protocol A, "Error Codes".)
-use Rattle.std.specs.Prelude.{◌≡◌, ℕ, Bool, false, ◌==◌, ◌||◌, ◌&&◌, not, nat_le, bytes_eq}
+use Rattle.std.specs.Prelude.{◌≡◌, ℕ, Bool, true, false, ◌==◌, ◌||◌, ◌&&◌, not, min, nat_le, bytes_eq}
 use Rattle.std.specs.Prelude.{List, [], ◌∷◌, length, find, Option, Some, None, is_some}
 use Rattle.std.specs.Prelude.{if◌then◌else◌, Result, Ok, Err}
+use Rattle.kom_types.specs.AuxItems.{refused_change}
+use Rattle.kom_types.specs.declared.aux_items.Adder.{Adder}
 use Rattle.kom_types.specs.declared.aux_items.AuxInput.{AuxInput}
+use Rattle.kom_types.specs.declared.aux_items.AuxRow.{AuxRow}
+use Rattle.kom_types.specs.declared.aux_items.Object.{Object}
 use Rattle.kom_types.specs.declared.conferences.ConferenceRow.{ConferenceRow}
 use Rattle.kom_types.specs.declared.decisions.Decision.{Decision}
 use Rattle.kom_types.specs.declared.seats.Seat.{Seat}
@@ -151,10 +155,19 @@ abbrev pub password_guard : Db → Viewer → ℕ → List ℕ → Guard
 password_guard db caller person password =
     unless (agrees db person password || caller.strong) 4 person
 
--- no aux-items can be given yet
-abbrev pub items_guard : List AuxInput → Guard
-items_guard [] = None
-items_guard (item ∷ items) = refusal 48 0
+-- A change of the aux-items of an object passes, or is refused for the first entry that may not be:
+-- its place in its list is the status, which stops at 4294967295.
+abbrev pub items_guard : Object → Adder → List AuxRow → List ℕ → List AuxInput → Guard
+items_guard on adder items deleted added =
+    elim (refused_change on adder items deleted added) [
+      | None ↦ None
+      | Some refused ↦ refusal refused.code (min refused.index 4294967295)
+    ]
+
+-- the same of the items that an object is made with: who makes it owns it
+abbrev pub new_items_guard : Object → ℕ → List AuxInput → Guard
+new_items_guard on maker added =
+    items_guard on (record { person = maker; owns = true }) [] [] added
 
 -- what a call comes to that adds aux-items
 abbrev pub with_items : Guard → Decision → Decision

@@ -25,7 +25,8 @@ use Rattle.kom_model.specs.Db.{Db, conference_of, membership_of, membership_kind
 use Rattle.kom_model.specs.Db.{memberships_of, members_of, read_of, next_local_of, first_local_of}
 use Rattle.kom_model.specs.Effects.{most_memberships}
 use Rattle.kom_model.specs.Rights.{is_member, supervises, reads_conference}
-use Rattle.kom_model.specs.Shown.{is_passive, is_secret_membership, shows_membership}
+use Rattle.kom_model.specs.Shown.{shows_membership}
+use Rattle.kom_types.specs.tables.Memberships.{is_passive, is_secret_membership, member_of}
 use Rattle.kom_model.specs.Shown.{is_reserved, members_shown, memberships_shown, ranges_shown}
 use Rattle.kom_model.specs.Shown.{time_shown}
 use Rattle.kom_model.specs.calls.Call.{Asked, Definition, answer, done}
@@ -268,15 +269,6 @@ get_unread_confs asked person = guarded
     (answer (reply.Numbers (map (λ row. row.conference) (filter
     (λ row. is_shown asked row && not (is_passive row.kind) && is_unread asked.db row)
     (memberships_of asked.db person)))))
-
--- what is told of a member
-abbrev pub member_of : MembershipRow → Member
-member_of row = record {
-  person = row.person;
-  added_by = row.added_by;
-  added_at = row.added_at;
-  kind = row.kind;
-}
 
 -- a part of a list from a place on; the place is in it, or 0
 abbrev pub part : {A : Type 0} → ℕ → ℕ → List A → List A

@@ -1,8 +1,11 @@
 -- The calls that make texts. (Protocol A, "Protocol Requests".)
 use Rattle.std.specs.Prelude.{ℕ, Bool, true, false, ◌==◌, ◌||◌, ◌&&◌, not, nat_le, nat_lt, min}
-use Rattle.std.specs.Prelude.{List, [], ◌∷◌, ◌++◌, length, map, filter, count_by, Some, None}
+use Rattle.std.specs.Prelude.{List, [], ◌∷◌, ◌++◌, length, map, filter, fold, count_by, Some, None}
 use Rattle.std.specs.Prelude.{if◌then◌else◌}
 use Rattle.std.specs.List.{list_any, list_all}
+use Rattle.kom_types.specs.AuxItems.{items_from, inherited}
+use Rattle.kom_types.specs.declared.aux_items.AuxRow.{AuxRow}
+use Rattle.kom_types.specs.declared.aux_items.Object.TheVariants as object
 use Rattle.kom_types.specs.declared.effects.Counter.TheVariants as counter
 use Rattle.kom_types.specs.declared.effects.Effect.{Effect}
 use Rattle.kom_types.specs.declared.effects.Effect.TheVariants as effect
@@ -13,13 +16,14 @@ use Rattle.kom_types.specs.tables.Conferences.{allows_anonymous}
 use Rattle.kom_types.specs.tables.Texts.{lines_of}
 use Rattle.kom_model.specs.declared.viewers.Viewer.{Viewer}
 use Rattle.kom_model.specs.Db.{Db, conference_head_of, next_text_of, next_local_of}
-use Rattle.kom_model.specs.Db.{next_created_of}
+use Rattle.kom_model.specs.Db.{next_created_of, items_of}
 use Rattle.kom_model.specs.Effects.{last_drawn, longest_body, is_recipient_tag, most_recipients}
 use Rattle.kom_model.specs.Effects.{most_links}
+use Rattle.kom_model.specs.calls.AuxItems.{items_added}
 use Rattle.kom_model.specs.calls.Call.{Asked, Definition}
 use Rattle.kom_model.specs.calls.Guards.{Guard, guarded, refusal, first_refusal, unless, caller}
 use Rattle.kom_model.specs.calls.Guards.{login_guard, conference_guard, text_guard, submit_guard}
-use Rattle.kom_model.specs.calls.Guards.{size_guard, items_guard, with_items}
+use Rattle.kom_model.specs.calls.Guards.{size_guard, new_items_guard, with_items}
 use Rattle.kom_model.specs.calls.Sessions.{counts}
 use Rattle.kom_model.specs.calls.Texts.{is_own, new_recipient, written, into_guard}
 
@@ -139,11 +143,23 @@ author_effects asked text body = let person = (caller asked).person in
     ∷ counts person counter.CreatedLines (lines_of body)
     ++ counts person counter.CreatedBytes (length body)
 
+-- the items of a text that is made: those that are given, and those that it inherits from each text
+-- that it comments, in the order in which these are named
+abbrev pub inherited_from : Db → List AuxRow → List MiscInput → List AuxRow
+inherited_from db items named =
+    fold (λ items item. inherited items (items_of db true item.value)) items named
+
+abbrev pub new_items : Asked → NewText → List AuxRow
+new_items asked given = inherited_from asked.db
+    (items_from 1 (caller asked).person asked.moment given.aux_items)
+    (filter names_comment given.misc_inputs)
+
 -- a text is made, with all that is named
 abbrev pub text_effects : Asked → Bool → ℕ → NewText → List Effect
 text_effects asked anonymous text given =
     effect.TextAdded text (if anonymous then 0 else (caller asked).person) asked.moment given.body
     ∷ map (item_effect asked text) given.misc_inputs
+    ++ items_added true text (new_items asked given)
     ++ map (item_written asked) (filter names_recipient given.misc_inputs)
     ++ (if anonymous then [] else author_effects asked text given.body)
 
@@ -153,7 +169,7 @@ new_text anonymous asked given = let number = next_text_of asked.db in guarded
     (login_guard (caller asked) ∷ size_guard given.body longest_body
     ∷ first_refusal (item_guards asked anonymous [] given.misc_inputs)
     ∷ unless (has_numbers asked.db (caller asked).person anonymous given.misc_inputs) 45 0 ∷ [])
-    (with_items (items_guard given.aux_items) (record {
+    (with_items (new_items_guard object.Text (caller asked).person given.aux_items) (record {
       reply = reply.Number number;
       effects = text_effects asked anonymous number given;
       changes = [];

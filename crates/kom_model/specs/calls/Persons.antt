@@ -1,6 +1,8 @@
 -- The calls about persons. (Protocol A, "Protocol Requests".)
-use Rattle.std.specs.Prelude.{ℕ, Bool, ◌==◌, ◌||◌, List, [], ◌∷◌, Some, None}
+use Rattle.std.specs.Prelude.{ℕ, Bool, false, ◌==◌, ◌||◌, List, [], ◌∷◌, ◌++◌, Some, None}
 use Rattle.std.specs.Prelude.{if◌then◌else◌}
+use Rattle.kom_types.specs.AuxItems.{items_from}
+use Rattle.kom_types.specs.declared.aux_items.Object.TheVariants as object
 use Rattle.kom_types.specs.declared.effects.Counter.TheVariants as counter
 use Rattle.kom_types.specs.declared.effects.Effect.{Effect}
 use Rattle.kom_types.specs.declared.effects.Effect.TheVariants as effect
@@ -13,12 +15,13 @@ use Rattle.kom_types.specs.tables.Persons.{password_hash, may_create_persons}
 use Rattle.kom_model.specs.declared.viewers.Viewer.{Viewer}
 use Rattle.kom_model.specs.Db.{Db, person_of, next_conference_of}
 use Rattle.kom_model.specs.Shown.{person_told}
+use Rattle.kom_model.specs.calls.AuxItems.{items_added}
 use Rattle.kom_model.specs.calls.Call.{Asked, Definition, answer, done}
 use Rattle.kom_model.specs.calls.Guards.{Guard, guarded, unless, caller, login_guard}
 use Rattle.kom_model.specs.calls.Guards.{text_or_none_guard}
 use Rattle.kom_model.specs.calls.Guards.{person_guard, strong_guard, own_guard, size_guard}
 use Rattle.kom_model.specs.calls.Guards.{name_guard, free_guard, drawn_guard, password_guard}
-use Rattle.kom_model.specs.calls.Guards.{items_guard, with_items}
+use Rattle.kom_model.specs.calls.Guards.{new_items_guard, with_items}
 use Rattle.kom_model.specs.calls.Sessions.{counts}
 
 -- how many bytes a password has at most
@@ -99,7 +102,8 @@ person_effects asked person given = let by = maker (caller asked).person person 
     ∷ effect.PersonAdded person first_privileges given.flags asked.moment
     ∷ effect.Password person (password_hash person given.password)
     ∷ effect.MemberSet person person 0 highest_priority by asked.moment 0
-    ∷ (if (caller asked).person == 0 then []
+    ∷ items_added false person (items_from 1 by asked.moment given.aux_items)
+    ++ (if (caller asked).person == 0 then []
     else counts (caller asked).person counter.CreatedPersons 1)
 
 -- call 89, create-person: nobody is logged in by it
@@ -110,7 +114,9 @@ create_person asked given =
     (create_person_guard asked.db (caller asked) ∷ name_guard given.name
     ∷ size_guard given.password longest_password ∷ free_guard asked.db 0 given.name
     ∷ drawn_guard asked.db ∷ [])
-    (with_items (items_guard given.aux_items) (record {
+    (with_items
+    (new_items_guard object.Letterbox (maker (caller asked).person number) given.aux_items)
+    (record {
       reply = reply.Number number;
       effects = person_effects asked number given;
       changes = [];

@@ -15,7 +15,7 @@ use Rattle.kom_types.specs.Mappings.{mapping_up, mapping_down}
 use Rattle.kom_types.specs.tables.Texts.{shown_mark}
 use Rattle.kom_model.specs.declared.viewers.Viewer.{Viewer}
 use Rattle.kom_model.specs.Db.{Db, text_of, texts_of, text_author_of, next_text_of}
-use Rattle.kom_model.specs.Db.{recipient_of, recipients_of}
+use Rattle.kom_model.specs.Db.{recipient_of, recipients_of, items_of}
 use Rattle.kom_model.specs.Db.{link_of, links_from, links_into, links_of, locals_of, created_by}
 use Rattle.kom_model.specs.Db.{next_local_of, next_created_of, mark_of, marks_of, marks_on}
 use Rattle.kom_model.specs.Effects.{last_drawn, is_recipient_tag, most_recipients, most_links}
@@ -75,6 +75,7 @@ gone_text db text =
     map (λ link. effect.LinkGone link.child link.parent link.footnote) (links_of db text)
     ++ map (λ row. effect.RecipientGone row.text row.conference) (recipients_of db text)
     ++ map (λ row. effect.MarkGone row.person row.text) (marks_on db text)
+    ++ map (λ item. effect.AuxGone true text item.number) (items_of db true text)
     ++ effect.TextGone text ∷ []
 
 -- call 29, delete-text

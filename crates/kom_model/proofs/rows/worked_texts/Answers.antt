@@ -1,6 +1,8 @@
 -- Each row is computed.
 use Rattle.std.proofs.Common.{refl}
 use Rattle.kom_types.specs.Mappings.{mapping_up, mapping_down}
+use Rattle.kom_types.specs.AuxItems.{refused_change, inherited}
+use Rattle.kom_model.specs.Db.{items_of, next_item_of}
 use Rattle.kom_model.specs.Db.{conference_of, person_of, membership_of, memberships_of, conferences_of}
 use Rattle.kom_model.specs.Db.{conference_head_of, membership_kind_of, text_of, text_author_of, texts_of}
 use Rattle.kom_model.specs.Db.{next_text_of, next_local_of, next_created_of, recipient_of, recipients_of}
@@ -11,7 +13,8 @@ use Rattle.kom_model.specs.Rights.{supervises, sees, reads_conference, reads, ma
 use Rattle.kom_model.proofs.rows.worked_texts.Goals as goal
 
 pub returns : goal.returns
-unfolding mapping_up mapping_down conference_of person_of membership_of memberships_of conferences_of
+unfolding items_of next_item_of refused_change inherited
+    mapping_up mapping_down conference_of person_of membership_of memberships_of conferences_of
     conference_head_of membership_kind_of text_of text_author_of texts_of next_text_of next_local_of
     next_created_of recipient_of recipients_of link_of links_from links_into links_of locals_of created_by mark_of
     marks_of marks_on fits made initial supervises sees reads_conference reads may_submit
