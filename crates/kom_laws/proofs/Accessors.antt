@@ -1,10 +1,12 @@
 -- What is read of the stored rows without what is hidden from a group, where it is not hidden.
 use Rattle.std.proofs.Common.{◌≡◌, ℕ, Bool, true, false, ◌==◌, ◌&&◌, List, [], ◌∷◌, Option, Some, None}
-use Rattle.std.proofs.Common.{refl, sym, ap, ap₂, ◌∙◌, subst, eqb-true, cond, nat_lt, inl, inr}
+use Rattle.std.proofs.Common.{refl, sym, ap, ap₂, ◌∙◌, subst, eqb-true, cond, not, nat_lt, inl, inr, true≢false}
 use Rattle.std.specs.Prelude.{map}
 use Rattle.std.specs.List.{filter, fold}
 use Rattle.std.proofs.lemmas.Bool.{cases_Bool, cond-false, and_parts, and_left, and_right, not_from_false}
 use Rattle.kom_types.specs.Bits.{alike}
+use Rattle.kom_types.specs.declared.aux_items.AuxRow.{AuxRow}
+use Rattle.kom_types.specs.declared.aux_items.ItemRow.{ItemRow}
 use Rattle.kom_types.specs.declared.conferences.ConferenceRow.{ConferenceRow}
 use Rattle.kom_types.specs.declared.conferences.ConferenceHead.{ConferenceHead}
 use Rattle.kom_types.specs.declared.memberships.MembershipRow.{MembershipRow}
@@ -14,6 +16,7 @@ use Rattle.kom_types.specs.declared.texts.Link.{Link}
 use Rattle.kom_types.specs.declared.texts.LocalText.{LocalText}
 use Rattle.kom_types.specs.declared.texts.Recipient.{Recipient}
 use Rattle.kom_types.specs.declared.texts.TextRow.{TextRow}
+use Rattle.kom_types.specs.tables.AuxItems.{is_item_of}
 use Rattle.kom_types.specs.tables.Conferences.{head_of}
 use Rattle.kom_types.specs.tables.Memberships.{is_membership, by_position}
 use Rattle.kom_types.specs.tables.Texts.{is_created_by, created_pair, rising_locals}
@@ -21,17 +24,17 @@ use Rattle.read_ranges.specs.Reads.{ReadRow, is_read_of}
 use Rattle.kom_model.specs.Db.{Db, conference_of, person_of, membership_of, text_of, conference_head_of}
 use Rattle.kom_model.specs.Db.{membership_kind_of, person_flags_of, text_author_of, memberships_of}
 use Rattle.kom_model.specs.Db.{next_local_of, recipients_of, locals_of, first_local_of, links_from, links_into}
-use Rattle.kom_model.specs.Db.{created_by, next_created_of, first_created_of, read_of}
+use Rattle.kom_model.specs.Db.{created_by, next_created_of, first_created_of, read_of, items_of}
 use Rattle.kom_model.specs.Kinds.{is_among}
 use Rattle.kom_laws.specs.Groups.{Group, is_unseen, is_unread}
 use Rattle.kom_laws.specs.Erasing.{erased_db, erased_conference, erased_person, erased_membership}
-use Rattle.kom_laws.specs.Erasing.{erased_read, erased_text, keeps_recipient, keeps_link}
+use Rattle.kom_laws.specs.Erasing.{erased_read, erased_text, keeps_recipient, keeps_link, keeps_item}
 use Rattle.kom_laws.proofs.Rows.{same-changed, told-changed, map-changed, filter-changed}
 use Rattle.kom_laws.proofs.Rows.{filter-thinned, fold-changed}
 
 -- what is told of a row that erasing leaves as it is
 pub same-conference : {Y : Type 0} (tell : ConferenceRow → Y) (group : Group) (db : Db) (row : ConferenceRow) →
-    tell (record row { presentation = 0; motd = 0; last_written = 0; next_local = 1 }) ≡ tell row →
+    tell (record row { presentation = 0; motd = 0; last_written = 0; next_local = 1; next_item = 1 }) ≡ tell row →
     tell (erased_conference group db row) ≡ tell row
 same-conference tell group db row same = same-changed tell (is_unseen group db row.number) _ row same
 
@@ -53,7 +56,7 @@ pub same-read : {Y : Type 0} (tell : ReadRow → Y) (group : Group) (db : Db) (r
 same-read tell group db row same = same-changed tell (is_unseen group db row.conference) _ row same
 
 pub same-text : {Y : Type 0} (tell : TextRow → Y) (group : Group) (db : Db) (row : TextRow) →
-    tell (record row { body = []; lines = 0 }) ≡ tell row → tell (erased_text group db row) ≡ tell row
+    tell (record row { body = []; lines = 0; next_item = 1 }) ≡ tell row → tell (erased_text group db row) ≡ tell row
 same-text tell group db row same = same-changed tell (is_unread group db row.number) _ row same
 
 -- a row of this number is as little hidden as the number
@@ -228,3 +231,33 @@ links_into-read group db text footnote read =
     let test : Link → Bool = λ row. row.parent == text && alike row.footnote footnote in
     filter-thinned test (keeps_link group db) (λ row here. not_from_false _ (and_right _ _
     (not-hidden (is_unread group db) row.parent text (and_parts _ _ here).0 read))) db.links
+
+-- a row stays that is of a text that is not hidden, or of a conference that is not
+kept-on_text : (on_text unread unseen : Bool) → alike on_text true ≡ true → unread ≡ false →
+    cond on_text (not unread) (not unseen) ≡ true
+kept-on_text true unread unseen here read = not_from_false unread read
+kept-on_text false unread unseen here read = absurd (true≢false (sym here))
+
+kept-on_conference : (on_text unread unseen : Bool) → alike on_text false ≡ true → unseen ≡ false →
+    cond on_text (not unread) (not unseen) ≡ true
+kept-on_conference true unread unseen here seen = absurd (true≢false (sym here))
+kept-on_conference false unread unseen here seen = not_from_false unseen seen
+
+-- the aux-items of a text that is read, and of a conference that is seen
+pub items-read : (group : Group) (db : Db) (text : ℕ) → is_unread group db text ≡ false →
+    items_of (erased_db group db) true text ≡ items_of db true text
+unfolding items_of
+items-read group db text read =
+    let item : ItemRow → AuxRow = λ row. row.item in
+    ap (λ rows. map item rows) (filter-thinned (is_item_of true text) (keeps_item group db)
+    (λ row here. let parts = and_parts _ _ here in kept-on_text row.on_text _ _ parts.0
+    (not-hidden (is_unread group db) row.object text parts.1 read)) db.items)
+
+pub items-seen : (group : Group) (db : Db) (conference : ℕ) → is_unseen group db conference ≡ false →
+    items_of (erased_db group db) false conference ≡ items_of db false conference
+unfolding items_of
+items-seen group db conference seen =
+    let item : ItemRow → AuxRow = λ row. row.item in
+    ap (λ rows. map item rows) (filter-thinned (is_item_of false conference) (keeps_item group db)
+    (λ row here. let parts = and_parts _ _ here in kept-on_conference row.on_text _ _ parts.0
+    (not-hidden (is_unseen group db) row.object conference parts.1 seen)) db.items)

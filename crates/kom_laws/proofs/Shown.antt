@@ -10,18 +10,21 @@ use Rattle.kom_types.specs.declared.conferences.ConferenceRow.{ConferenceRow}
 use Rattle.kom_types.specs.declared.memberships.MembershipRow.{MembershipRow}
 use Rattle.kom_types.specs.declared.memberships.ReadRange.{ReadRange}
 use Rattle.kom_types.specs.declared.texts.Recipient.{Recipient}
+use Rattle.kom_types.specs.tables.Memberships.{is_secret_membership}
 use Rattle.kom_model.specs.declared.viewers.Viewer.{Viewer}
 use Rattle.kom_model.specs.Db.{Db, conference_of, members_of, memberships_of, first_local_of, next_local_of}
+use Rattle.kom_model.specs.Db.{items_of}
 use Rattle.kom_model.specs.Rights.{supervises, sees, is_author}
-use Rattle.kom_model.specs.Shown.{shows_recipient, shows_membership, is_secret_membership, is_reserved}
+use Rattle.kom_model.specs.Shown.{shows_recipient, shows_membership, is_reserved}
 use Rattle.kom_model.specs.Shown.{shows_reads, members_shown, memberships_shown, ranges_shown, told_count}
-use Rattle.kom_model.specs.Shown.{conference_told}
+use Rattle.kom_model.specs.Shown.{conference_told, conference_adder, items_shown}
 use Rattle.kom_laws.specs.Groups.{Group, IsOfGroup, is_unseen}
 use Rattle.kom_laws.specs.Erasing.{erased_db, erased_conference, erased_membership}
 use Rattle.kom_laws.specs.Laws.{IsShownSame}
 use Rattle.kom_laws.proofs.Rows.{told, told-changed, filter-unchanged, filter-kept}
 use Rattle.kom_laws.proofs.Accessors.{same-conference, same-membership, conference-seen, not-hidden}
 use Rattle.kom_laws.proofs.Accessors.{flags-erased, memberships-erased, ranges-seen, next_local-seen, first_local-seen}
+use Rattle.kom_laws.proofs.Accessors.{items-seen}
 use Rattle.kom_laws.proofs.Rights.{supervises-erased, sees-erased, reads_conference-erased, seen-by}
 
 pub recipient-erased : (group : Group) (db : Db) (viewer : Viewer) (author : ℕ) (row : Recipient) →
@@ -97,6 +100,14 @@ ranges_shown-erased group db viewer row of_group is =
     (reads_shown-erased group db viewer row.person)
     (ranges-seen group db row.person row.conference (seen-by group db viewer row.conference of_group is))
 
+-- who looks owns the same conferences
+owns-erased : (group : Group) (db : Db) (viewer : Viewer) (conference : ℕ) →
+    conference_adder (erased_db group db) viewer conference ≡ conference_adder db viewer conference
+owns-erased group db viewer conference =
+    let supervised : supervises (erased_db group db) viewer.person conference ≡ supervises db viewer.person conference =
+    supervises-erased group db viewer.person conference in
+    λ i. record { person = viewer.person; owns = supervised i || viewer.strong }
+
 -- what is told of a conference that is seen
 told-seen : (group : Group) (db : Db) (viewer : Viewer) (row : ConferenceRow) → IsOfGroup group viewer →
     is_unseen group db row.number ≡ false →
@@ -108,10 +119,15 @@ told-seen group db viewer row of_group seen =
     first_local-seen group db row.number seen in
     let next : next_local_of (erased_db group db) row.number ≡ next_local_of db row.number =
     next_local-seen group db row.number seen in
+    let adder : conference_adder (erased_db group db) viewer row.number ≡ conference_adder db viewer row.number =
+    owns-erased group db viewer row.number in
+    let items : items_of (erased_db group db) false row.number ≡ items_of db false row.number =
+    items-seen group db row.number seen in
     λ i. record (conference_told db viewer row) {
       members = told_count (length (members i));
       first_local = first i;
       texts = next i - first i;
+      aux_items = items_shown (adder i) (items i);
     }
 
 conference-erased : (group : Group) (db : Db) (viewer : Viewer) (number : ℕ) → IsOfGroup group viewer →

@@ -1,6 +1,6 @@
 -- What a person of a group is told is the same in the state without what is hidden from the group.
 use mathlib.Core.Path.{fun_ext}
-use Rattle.std.proofs.Common.{◌≡◌, ℕ, ◌-◌, Bool, true, false, ◌==◌, List, ◌++◌, length}
+use Rattle.std.proofs.Common.{◌≡◌, ℕ, ◌-◌, Bool, true, false, ◌==◌, List, ◌++◌, length, Option, ◌||◌}
 use Rattle.std.proofs.Common.{Some, None, refl, ap, ap₂, ◌∙◌, subst, inl, inr, eqb-true}
 use Rattle.std.specs.Prelude.{map, option_map}
 use Rattle.std.specs.List.{filter, flat_map}
@@ -10,18 +10,19 @@ use Rattle.kom_types.specs.declared.texts.Recipient.{Recipient}
 use Rattle.kom_types.specs.declared.texts.TextRow.{TextRow}
 use Rattle.kom_model.specs.declared.viewers.Viewer.{Viewer}
 use Rattle.kom_model.specs.Db.{Db, person_of, text_of, first_created_of, next_created_of, marks_of, marks_on}
-use Rattle.kom_model.specs.Db.{links_from, links_into}
+use Rattle.kom_model.specs.Db.{links_from, links_into, items_of}
 use Rattle.kom_model.specs.Kinds.{is_among}
-use Rattle.kom_model.specs.Rights.{reads}
+use Rattle.kom_model.specs.Rights.{reads, is_author}
 use Rattle.kom_model.specs.Shown.{memberships_shown, told_count, own_count, person_told, recipients_shown}
-use Rattle.kom_model.specs.Shown.{recipient_infos, from_infos, into_info, shown_stat}
+use Rattle.kom_model.specs.Shown.{recipient_infos, from_infos, into_info, shown_stat, text_adder, items_shown}
 use Rattle.kom_laws.specs.Groups.{Group, IsInGroup, IsOfGroup, is_unread}
 use Rattle.kom_laws.specs.Erasing.{erased_db, erased_person, erased_text}
 use Rattle.kom_laws.specs.Laws.{IsToldSame}
-use Rattle.kom_laws.proofs.Rows.{told-changed}
+use Rattle.kom_laws.proofs.Rows.{told, told-changed}
 use Rattle.kom_laws.proofs.Accessors.{same-person, same-text, text-read, not-hidden, recipients-read}
 use Rattle.kom_laws.proofs.Accessors.{links_from-read, links_into-read, next_created-erased, first_created-erased}
-use Rattle.kom_laws.proofs.Rights.{read-by}
+use Rattle.kom_laws.proofs.Accessors.{author-erased, items-read}
+use Rattle.kom_laws.proofs.Rights.{read-by, supervises-erased}
 use Rattle.kom_laws.proofs.Shown.{recipient-erased, memberships_shown-erased}
 
 -- a person of a group is one of those to whom the same is shown
@@ -88,6 +89,15 @@ recipients-told group db viewer author text read =
     ap₂ (λ (shows : Recipient → Bool) (rows : List Recipient). filter shows rows)
     (fun_ext (recipient-erased group db viewer author)) (recipients-read group db text read)
 
+-- who looks owns the same texts
+owns-told : (group : Group) (db : Db) (viewer : Viewer) (text : ℕ) →
+    text_adder (erased_db group db) viewer text ≡ text_adder db viewer text
+owns-told group db viewer text =
+    let owned = ap₂ (λ (owns : ℕ → Bool) (found : Option ℕ). told viewer.strong owns found)
+    (fun_ext (λ author. ap (λ supervised. is_author viewer.person author || supervised || viewer.strong)
+    (supervises-erased group db viewer.person author))) (author-erased group db text) in
+    λ i. record { person = viewer.person; owns = owned i }
+
 stat-told : (group : Group) (db : Db) (viewer : Viewer) (row : TextRow) → is_unread group db row.number ≡ false →
     shown_stat (erased_db group db) viewer row ≡ shown_stat db viewer row
 unfolding marks_on
@@ -101,10 +111,15 @@ stat-told group db viewer row read =
     let into : (footnote : Bool) → links_into (erased_db group db) row.number footnote
     ≡ links_into db row.number footnote =
     λ footnote. links_into-read group db row.number footnote read in
+    let adder : text_adder (erased_db group db) viewer row.number ≡ text_adder db viewer row.number =
+    owns-told group db viewer row.number in
+    let items : items_of (erased_db group db) true row.number ≡ items_of db true row.number =
+    items-read group db row.number read in
     λ i. record (shown_stat db viewer row) {
       misc_infos = flat_map recipient_infos (recipients i)
           ++ flat_map from_infos (from false i) ++ map into_info (into false i)
           ++ flat_map from_infos (from true i) ++ map into_info (into true i);
+      aux_items = items_shown (adder i) (items i);
     }
 
 text-erased : (group : Group) (db : Db) (viewer : Viewer) (number : ℕ) → IsInGroup group viewer →

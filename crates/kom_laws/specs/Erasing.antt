@@ -1,6 +1,7 @@
 -- The state without what is hidden from a group. It need not be one that a history leads to: the
 -- next local number of a hidden conference is 1, while rows of texts that are read stay.
-use Rattle.std.specs.Prelude.{ℕ, Bool, false, ◌&&◌, not, List, [], map, filter, if◌then◌else◌}
+use Rattle.std.specs.Prelude.{Bool, false, ◌&&◌, not, [], map, filter, if◌then◌else◌}
+use Rattle.kom_types.specs.declared.aux_items.ItemRow.{ItemRow}
 use Rattle.kom_types.specs.declared.conferences.ConferenceRow.{ConferenceRow}
 use Rattle.kom_types.specs.declared.memberships.MembershipRow.{MembershipRow}
 use Rattle.kom_types.specs.declared.persons.PersonRow.{PersonRow}
@@ -17,12 +18,13 @@ use Rattle.kom_laws.specs.Groups.{Group, is_unseen, is_unread}
 -- of a conference that is not seen: what is written in it, and when, and how many texts there are
 abbrev pub erased_conference : Group → Db → ConferenceRow → ConferenceRow
 erased_conference group db row = if is_unseen group db row.number then
-    record row { presentation = 0; motd = 0; last_written = 0; next_local = 1 } else row
+    record row { presentation = 0; motd = 0; last_written = 0; next_local = 1; next_item = 1 }
+    else row
 
--- of a text that is not read: its body
+-- of a text that is not read: its body, and how many aux-items it had
 abbrev pub erased_text : Group → Db → TextRow → TextRow
 erased_text group db row =
-    if is_unread group db row.number then record row { body = []; lines = 0 } else row
+    if is_unread group db row.number then record row { body = []; lines = 0; next_item = 1 } else row
 
 -- a recipient stays of a text that is read, and where the conference is seen
 abbrev pub keeps_recipient : Group → Db → Recipient → Bool
@@ -32,6 +34,11 @@ keeps_recipient group db row =
 -- a link stays if one of the two texts is read
 abbrev pub keeps_link : Group → Db → Link → Bool
 keeps_link group db row = not (is_unread group db row.child && is_unread group db row.parent)
+
+-- an aux-item stays of a text that is read, and of a conference that is seen
+abbrev pub keeps_item : Group → Db → ItemRow → Bool
+keeps_item group db row = if row.on_text then not (is_unread group db row.object) else
+    not (is_unseen group db row.object)
 
 -- of a membership in a conference that is not seen: what was read, and when
 abbrev pub erased_membership : Group → Db → MembershipRow → MembershipRow
@@ -57,6 +64,7 @@ erased_db group db = record db {
   texts = map (erased_text group db) db.texts;
   recipients = filter (keeps_recipient group db) db.recipients;
   links = filter (keeps_link group db) db.links;
+  items = filter (keeps_item group db) db.items;
 }
 
 -- of a session outside the group: what waits for it, and whether too much did
