@@ -62,12 +62,3 @@ pub record IsReadOf (rows : List MembershipRow) (reads : List ReadRow) : Type 0 
   pub same : map {B = Key} (λ read. (read.person, read.conference)) reads
       ≡ map (λ row. (row.person, row.conference)) rows
   pub ranges : All (λ read. AreRanges read.ranges) reads
-
--- the member that a person is by a membership
-abbrev pub member_of : MembershipRow → Member
-member_of row = record {
-  person = row.person;
-  added_by = row.added_by;
-  added_at = row.added_at;
-  kind = row.kind;
-}

@@ -1,6 +1,6 @@
 ghost use Rattle.std.specs.Prelude.{◌≡◌, ℕ};
 ghost use Rattle.memberships.specs.Entries.{kept_of, kept_with_read, shown};
-ghost use Rattle.memberships.specs.Table.{member_of};
+ghost use Rattle.kom_types.specs.tables.Memberships.{member_of};
 
 use kom_types::{Member, MembershipRow, Moment};
 use read_ranges::Ranges;

@@ -5,7 +5,8 @@ ghost use Rattle.kom_types.specs.tables.Memberships.{membership_of, members_of, 
 ghost use Rattle.kom_types.specs.tables.Memberships.{count_of, with_membership, without_membership};
 ghost use Rattle.memberships.specs.Table.{room_of_person, room_of_conference};
 ghost use Rattle.memberships.specs.Table.{HasRoom, KeepsRoom, UsesRoom, IsOrderly};
-ghost use Rattle.memberships.specs.Table.{IsReadOf, member_of};
+ghost use Rattle.memberships.specs.Table.{IsReadOf};
+ghost use Rattle.kom_types.specs.tables.Memberships.{member_of};
 ghost use Rattle.read_ranges.specs.ListFault.{IsFaultless};
 ghost use Rattle.read_ranges.specs.Merged.{merged};
 ghost use Rattle.read_ranges.specs.Numbers.{ranges_of};
@@ -120,7 +121,8 @@ impl Memberships {
 
     /// How many conferences a person is in, in constant time.
     pub fn count_of_person(&self, person: u32) -> usize
-        ensures { result ≡ count_of person self.now.rows }
+        ensures count { result ≡ count_of person self.now.rows }
+        ensures orderly { IsOrderly self.now.rows }
     {
         self.conferences.list(person).len()
     }

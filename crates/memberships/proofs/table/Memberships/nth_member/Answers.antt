@@ -2,7 +2,7 @@ use Rattle.std.proofs.Common.{Some, is_some, option_copied, option_map, sym, ap,
 use Rattle.std.proofs.lemmas.Bool.{false≢true}
 use Rattle.row_slots.specs.Lists.{list_of}
 use Rattle.memberships.specs.Entries.{place_of}
-use Rattle.memberships.specs.Table.{member_of}
+use Rattle.kom_types.specs.tables.Memberships.{member_of}
 use Rattle.memberships.proofs.Finding.{none_of, element_of, conference_none, conference_kept, member_found}
 use Rattle.memberships.proofs.table.Memberships.nth_member.Goals as goal
 
