@@ -1,9 +1,11 @@
 -- The items of a new text, while it inherits others.
-use Rattle.std.proofs.Common.{◌≡◌, ℕ, ◌+◌, ◌-◌, ◌≤◌, ◌<◌, ◌&&◌, Bool, true}
+use Rattle.std.proofs.Common.{◌≡◌, ℕ, ◌+◌, ◌-◌, ◌≤◌, ◌&&◌, Bool, true}
 use Rattle.std.proofs.Common.{false, List, [], ◌∷◌, ◌++◌, length, take, drop}
-use Rattle.std.proofs.Common.{get_or, Option, Some, None, if◌then◌else◌, sym, ap, ◌∙◌, arith}
-use Rattle.std.proofs.lemmas.List.{drop_more, drop_all, length-take, take-append-le}
+use Rattle.std.proofs.Common.{Option, Some, None, if◌then◌else◌, ap, ◌∙◌, arith}
+use Rattle.std.specs.List.{slice_get}
+use Rattle.std.proofs.lemmas.List.{drop_all, length-take, take-append-le}
 use Rattle.kom_types.specs.declared.aux_items.AuxRow.{AuxRow}
+use Rattle.aux_items.proofs.Scanning.{left_at}
 use Rattle.kom_types.specs.AuxItems.{AuxKind, inherited, kind_of, may_stand, passes_on, with_inherited}
 
 -- the items begin with those that the text was given
@@ -42,12 +44,10 @@ module _ (own items : List AuxRow) (begins : Begins own items) where
   begins-more item = any-kind item (kind_of item.tag)
 
 -- one more of the parent's items is inherited
-pub inherited-more : (items parent : List AuxRow) (place : ℕ) (item : AuxRow) → place < length parent →
-    item ≡ get_or parent place item →
+pub inherited-more : (items parent : List AuxRow) (place : ℕ) (item : AuxRow) → slice_get parent place ≡ Some item →
     inherited items (drop place parent) ≡ inherited (with_inherited items item) (drop (place + 1) parent)
 unfolding inherited
-inherited-more items parent place item inside is =
-    ap (inherited items) (drop_more parent place item inside ∙ ap (λ one. one ∷ drop (place + 1) parent) (sym is))
+inherited-more items parent place item here = ap (inherited items) (left_at parent place item here)
 
 pub inherited-all : (items parent : List AuxRow) (place : ℕ) → length parent ≤ place →
     inherited items (drop place parent) ≡ items

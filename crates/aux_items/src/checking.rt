@@ -6,8 +6,9 @@ ghost use Rattle.aux_items.specs.Checking.{Checks};
 ghost use Rattle.aux_items.specs.Kinds.{kind_meant};
 
 use crate::kinds::{AuxKind, kind_of};
+use crate::list::ItemList;
 use crate::standing::{Standing, is_among};
-use kom_types::{Adder, AuxInput, AuxRow, AuxRows, Object};
+use kom_types::{Adder, AuxInput, AuxRow, Object};
 
 /// The codes illegal-aux-item and aux-item-permission.
 const ILLEGAL_ITEM: u32 = 48;
@@ -31,21 +32,23 @@ const CREATING_SOFTWARE: u32 = 15;
 /// refused and its place in its list, counted from 0: deletions come first. Takes no memory.
 /// (Protocol A, "Auxiliary Information".)
 #[tactic(auto, unfolding(kom_types::specs::AuxItems::refused_change))]
-pub fn check_items(
+pub fn check_items<R: ItemList>(
     on: Object,
     by: &Adder,
-    rows: &AuxRows,
+    rows: &R,
     deleted: &[u32],
     added: &[AuxInput],
 ) -> Result<(), (u32, usize)>
-    ensures { Checks (Items.refused_change on by.now rows.now deleted.now added.now) result }
+    ensures { Checks
+        (Items.refused_change on by.now (R.items rows.now) deleted.now added.now)
+        result }
 {
-    check_deleted(by, rows.as_slice(), deleted)?;
-    check_added(on, by, rows.as_slice(), deleted, added)
+    check_deleted(by, rows, deleted)?;
+    check_added(on, by, rows, deleted, added)
 }
 
-fn check_deleted(by: &Adder, rows: &[AuxRow], deleted: &[u32]) -> Result<(), (u32, usize)>
-    ensures { Checks (Items.refused_deleted by.now rows.now [] 0 deleted.now) result }
+fn check_deleted<R: ItemList>(by: &Adder, rows: &R, deleted: &[u32]) -> Result<(), (u32, usize)>
+    ensures { Checks (Items.refused_deleted by.now (R.items rows.now) [] 0 deleted.now) result }
 {
     for place in 0..deleted.len() {
         if let Some(code) = code_deleted(by, rows, &deleted[..place], deleted[place]) {
@@ -56,8 +59,8 @@ fn check_deleted(by: &Adder, rows: &[AuxRow], deleted: &[u32]) -> Result<(), (u3
 }
 
 /// The code with which the deletion of a number is refused after others.
-fn code_deleted(by: &Adder, rows: &[AuxRow], earlier: &[u32], number: u32) -> Option<u32>
-    ensures { result ≡ Items.code_deleted by.now rows.now earlier.now number }
+fn code_deleted<R: ItemList>(by: &Adder, rows: &R, earlier: &[u32], number: u32) -> Option<u32>
+    ensures { result ≡ Items.code_deleted by.now (R.items rows.now) earlier.now number }
 {
     match find_shown(by, rows, number) {
         None => Some(ILLEGAL_ITEM),
@@ -74,12 +77,25 @@ fn code_deleted(by: &Adder, rows: &[AuxRow], earlier: &[u32], number: u32) -> Op
 }
 
 /// The item of a number, if it is shown to the person.
-fn find_shown<'a>(by: &Adder, rows: &'a [AuxRow], number: u32) -> Option<&'a AuxRow>
+fn find_shown<'a, R: ItemList>(by: &Adder, rows: &'a R, number: u32) -> Option<&'a AuxRow>
     ensures { option_copied result
-        ≡ find (λ item. item.number == number && Items.is_shown by.now item) rows.now }
+        ≡ find (λ item. item.number == number && Items.is_shown by.now item) (R.items rows.now) }
 {
-    rows.iter()
-        .find(|item| item.number == number && is_shown(by, item))
+    for place in 0..rows.count() {
+        if let Some(item) = rows.item(place) {
+            if is_shown_at(by, item, number) {
+                return Some(item);
+            }
+        }
+    }
+    None
+}
+
+/// Whether an item has this number, and is shown to the person.
+fn is_shown_at(by: &Adder, item: &AuxRow, number: u32) -> bool
+    ensures { result ≡ (item.now.number == number && Items.is_shown by.now item.now) }
+{
+    item.number == number && is_shown(by, item)
 }
 
 /// Whether an item is shown to the person.
@@ -96,15 +112,16 @@ fn stays(tag: u32) -> bool
     tag == READ_CONFIRM || tag == CREATING_SOFTWARE
 }
 
-fn check_added(
+fn check_added<R: ItemList>(
     on: Object,
     by: &Adder,
-    rows: &[AuxRow],
+    rows: &R,
     deleted: &[u32],
     added: &[AuxInput],
 ) -> Result<(), (u32, usize)>
     ensures { Checks
-        (Items.refused_added on by.now (Items.left_after deleted.now rows.now) 0 added.now)
+        (Items.refused_added on by.now (Items.left_after deleted.now (R.items rows.now)) 0
+        added.now)
         result }
 {
     for place in 0..added.len() {
@@ -117,7 +134,12 @@ fn check_added(
 }
 
 /// The code with which one more item is refused.
-fn code_added(on: Object, by: &Adder, beside: &Standing<'_>, given: &AuxInput) -> Option<u32>
+fn code_added<R: ItemList>(
+    on: Object,
+    by: &Adder,
+    beside: &Standing<'_, R>,
+    given: &AuxInput,
+) -> Option<u32>
     ensures { result ≡ Items.code_added on by.now beside.now given.now }
 {
     match kind_of(given.tag) {
@@ -135,7 +157,13 @@ fn code_added(on: Object, by: &Adder, beside: &Standing<'_>, given: &AuxInput) -
 }
 
 /// Whether an item of these contents may stand on an object, beside others.
-fn fits(on: Object, creator: u32, beside: &Standing<'_>, known: &AuxKind, given: &AuxInput) -> bool
+fn fits<R: ItemList>(
+    on: Object,
+    creator: u32,
+    beside: &Standing<'_, R>,
+    known: &AuxKind,
+    given: &AuxInput,
+) -> bool
     ensures { result ≡ Items.fits on beside.now creator (kind_meant known.now) given.now }
 {
     known.places.include(on)

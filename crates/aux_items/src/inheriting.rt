@@ -3,6 +3,7 @@ ghost use Rattle.std.specs.Prelude.{◌≡◌, ◌+◌, ◌-◌, ◌++◌, lengt
 ghost use Rattle.kom_types.specs.AuxItems as Items;
 
 use crate::kinds::kind_of;
+use crate::list::ItemList;
 use crate::standing::Standing;
 use kom_types::{AuxRow, AuxRows, Bytes, Memory, Sequence};
 use std::alloc::Global;
@@ -13,43 +14,51 @@ const INHERIT: u8 = 64;
 
 /// Puts what a new text inherits from one that it comments after the items that it has: a copy of
 /// each, with its contents. (Protocol A, "Auxiliary Information".)
-pub fn inherit(alloc: Global, rows: &mut AuxRows, parent: &AuxRows) -> Result<(), Memory>
-    ensures ok { OnOk result (rows.new ≡ Items.inherited rows.old parent.now) }
+pub fn inherit<R: ItemList>(alloc: Global, rows: &mut AuxRows, parent: &R) -> Result<(), Memory>
+    ensures ok { OnOk result (rows.new ≡ Items.inherited rows.old (R.items parent.now)) }
     ensures err { OnErr result (rows.new ≡ rows.old) }
 {
-    let mut items = mem::replace(rows, Sequence::new(alloc)).into_vec();
-    let own = items.len();
-    let outcome = inherit_all(alloc, &mut items, parent.as_slice());
+    let own = rows.len();
+    let outcome = inherit_all(alloc, rows, parent);
     if outcome.is_err() {
-        items.truncate(own);
+        keep_first(alloc, rows, own);
     }
-    *rows = Sequence::of(items);
     outcome
 }
 
-/// Out of memory, some items may have been added.
-fn inherit_all(alloc: Global, items: &mut Vec<AuxRow>, parent: &[AuxRow]) -> Result<(), Memory>
-    ensures ok { OnOk result (items.new.items ≡ Items.inherited items.old.items parent.now) }
-    ensures own { take (length items.old.items) items.new.items ≡ items.old.items }
+/// Keeps so many items, the first.
+fn keep_first(alloc: Global, rows: &mut AuxRows, count: usize)
+    ensures { rows.new ≡ take count rows.old }
 {
-    for item in parent {
-        inherit_one(alloc, items, item)?;
+    let mut items = mem::replace(rows, Sequence::new(alloc)).into_vec();
+    items.truncate(count);
+    *rows = Sequence::of(items);
+}
+
+/// Out of memory, some items may have been added.
+fn inherit_all<R: ItemList>(alloc: Global, rows: &mut AuxRows, parent: &R) -> Result<(), Memory>
+    ensures ok { OnOk result (rows.new ≡ Items.inherited rows.old (R.items parent.now)) }
+    ensures own { take (length rows.old) rows.new ≡ rows.old }
+{
+    for place in 0..parent.count() {
+        if let Some(item) = parent.item(place) {
+            inherit_one(alloc, rows, item)?;
+        }
     }
     Ok(())
 }
 
-fn inherit_one(alloc: Global, items: &mut Vec<AuxRow>, item: &AuxRow) -> Result<(), Memory>
-    ensures ok { OnOk result
-        (items.new.items ≡ Items.with_inherited items.old.items item.now) }
-    ensures err { OnErr result (items.new.items ≡ items.old.items) }
+fn inherit_one(alloc: Global, rows: &mut AuxRows, item: &AuxRow) -> Result<(), Memory>
+    ensures ok { OnOk result (rows.new ≡ Items.with_inherited rows.old item.now) }
+    ensures err { OnErr result (rows.new ≡ rows.old) }
 {
     match kind_of(item.tag) {
         None => Ok(()),
         Some(known) => {
-            let beside = Standing::all(items.as_slice());
+            let beside = Standing::all(rows);
             if passes_on(item) && beside.takes(&known, item.creator) {
-                let number = items.len() as u32 + 1;
-                items.push(inherited_item(alloc, number, item)?)?;
+                let number = rows.len() as u32 + 1;
+                rows.push(inherited_item(alloc, number, item)?)?;
             }
             Ok(())
         }

@@ -1,5 +1,5 @@
 //! The aux-items that this server knows.
-ghost use Rattle.std.specs.Prelude.{◌≡◌, Some, option_map};
+ghost use Rattle.std.specs.Prelude.{◌≡◌, Some, option_map, is_some};
 ghost use Rattle.kom_types.specs.AuxItems as Items;
 ghost use Rattle.aux_items.specs.Kinds.{places_meant, adding_meant, kind_meant};
 
@@ -41,6 +41,13 @@ pub(crate) struct AuxKind {
     pub places: Places,
     pub adding: Adding,
     pub count: Count,
+}
+
+/// Whether the server knows a tag.
+pub fn is_known(tag: u32) -> bool
+    ensures { result ≡ is_some (Items.kind_of tag) }
+{
+    kind_of(tag).is_some()
 }
 
 /// What the server knows of a tag: content-type, fast-reply, cross-reference, no-comments,

@@ -1,10 +1,12 @@
 //! The items that stand on an object when one more is added.
 ghost use Rattle.std.specs.Prelude.{◌≡◌, ◌<◌, ◌≤◌, ◌++◌, ◌==◌, ◌&&◌, not, length, map, IsTrue};
+ghost use Rattle.std.specs.Prelude.{nat_lt};
 ghost use Rattle.std.specs.List.{list_any};
 ghost use Rattle.kom_types.specs.AuxItems as Items;
 ghost use Rattle.aux_items.specs.Kinds.{count_meant, kind_meant};
 
 use crate::kinds::{AuxKind, Count};
+use crate::list::ItemList;
 use kom_types::{AuxInput, AuxRow};
 use std::marker::Model;
 
@@ -13,28 +15,28 @@ const MOST_ITEMS: usize = 100;
 
 /// Items that are left of an object's, and then those that a person adds. They are not copied.
 #[derive(Drop)]
-pub(crate) struct Standing<'a> {
-    rows: &'a [AuxRow],
+pub(crate) struct Standing<'a, R: ItemList> {
+    rows: &'a R,
     deleted: &'a [u32],
     added: &'a [AuxInput],
     person: u32,
 }
 
-impl<'a> Model for Standing<'a> {
+impl<'a, R: ItemList> Model for Standing<'a, R> {
     ghost use Rattle.std.specs.Prelude.{List, ◌++◌, map};
     ghost use Rattle.kom_types.specs.declared.aux_items.AuxRow.{AuxRow};
     ghost use Rattle.kom_types.specs.AuxItems.{left_after, item_of};
 
     ghost Value = { List AuxRow };
 
-    ghost view = { λ s. left_after s.deleted.now s.rows.now
+    ghost view = { λ s. left_after s.deleted.now (R.items s.rows.now)
         ++ map (item_of 0 s.person 0) s.added.now };
 }
 
-impl<'a> Standing<'a> {
+impl<'a, R: ItemList> Standing<'a, R> {
     /// All that an object has.
-    pub(crate) fn all(rows: &'a [AuxRow]) -> Standing<'a>
-        ensures { result ≡ rows.now }
+    pub(crate) fn all(rows: &'a R) -> Standing<'a, R>
+        ensures { result ≡ R.items rows.now }
     {
         Standing {
             rows,
@@ -46,12 +48,12 @@ impl<'a> Standing<'a> {
 
     /// What is left of an object's items, and what a person added.
     pub(crate) fn of(
-        rows: &'a [AuxRow],
+        rows: &'a R,
         deleted: &'a [u32],
         added: &'a [AuxInput],
         person: u32,
-    ) -> Standing<'a>
-        ensures { result ≡ Items.left_after deleted.now rows.now
+    ) -> Standing<'a, R>
+        ensures { result ≡ Items.left_after deleted.now (R.items rows.now)
             ++ map (Items.item_of 0 person 0) added.now }
     {
         Standing {
@@ -67,7 +69,7 @@ impl<'a> Standing<'a> {
         ensures value { result ≡ Items.may_stand (kind_meant known.now) self.now creator }
         ensures room { IsTrue result → length self.now < 100 }
     {
-        self.len() < MOST_ITEMS && self.leaves_room(known.count, known.tag, creator)
+        self.is_short() && self.leaves_room(known.count, known.tag, creator)
     }
 
     fn leaves_room(&self, count: Count, tag: u32, creator: u32) -> bool
@@ -80,10 +82,11 @@ impl<'a> Standing<'a> {
         }
     }
 
-    fn len(&self) -> usize
-        ensures { result ≡ length self.now }
+    /// Whether there are fewer items than an object may have.
+    fn is_short(&self) -> bool
+        ensures { result ≡ nat_lt (length self.now) 100 }
     {
-        count_left(self.rows, self.deleted) + self.added.len()
+        count_left(self.rows, self.deleted).saturating_add(self.added.len()) < MOST_ITEMS
     }
 
     fn has(&self, tag: u32) -> bool
@@ -100,30 +103,64 @@ impl<'a> Standing<'a> {
     }
 }
 
-fn count_left(rows: &[AuxRow], deleted: &[u32]) -> usize
-    ensures count { result ≡ length (Items.left_after deleted.now rows.now) }
-    ensures bound { result ≤ length rows.now }
+fn count_left<R: ItemList>(rows: &R, deleted: &[u32]) -> usize
+    ensures count { result ≡ length (Items.left_after deleted.now (R.items rows.now)) }
+    ensures bound { result ≤ length (R.items rows.now) }
 {
-    rows.iter()
-        .filter(|item| !is_among(deleted, item.number))
-        .count()
+    let mut count = 0;
+    for place in 0..rows.count() {
+        if let Some(item) = rows.item(place) {
+            if !is_among(deleted, item.number) {
+                count += 1;
+            }
+        }
+    }
+    count
 }
 
-fn has_left(rows: &[AuxRow], deleted: &[u32], tag: u32) -> bool
+fn has_left<R: ItemList>(rows: &R, deleted: &[u32], tag: u32) -> bool
     ensures { result ≡ list_any
-        (λ item. item.tag == tag && not (Items.is_among deleted.now item.number)) rows.now }
+        (λ item. item.tag == tag && not (Items.is_among deleted.now item.number))
+        (R.items rows.now) }
 {
-    rows.iter()
-        .any(|item| item.tag == tag && !is_among(deleted, item.number))
+    for place in 0..rows.count() {
+        if let Some(item) = rows.item(place) {
+            if is_left(item, deleted, tag) {
+                return true;
+            }
+        }
+    }
+    false
 }
 
-fn has_left_by(rows: &[AuxRow], deleted: &[u32], tag: u32, creator: u32) -> bool
+fn has_left_by<R: ItemList>(rows: &R, deleted: &[u32], tag: u32, creator: u32) -> bool
     ensures { result ≡ list_any (λ item. (item.tag == tag && item.creator == creator)
-        && not (Items.is_among deleted.now item.number)) rows.now }
+        && not (Items.is_among deleted.now item.number)) (R.items rows.now) }
 {
-    rows.iter().any(|item| item.tag == tag
-        && item.creator == creator
-        && !is_among(deleted, item.number))
+    for place in 0..rows.count() {
+        if let Some(item) = rows.item(place) {
+            if is_left_by(item, deleted, tag, creator) {
+                return true;
+            }
+        }
+    }
+    false
+}
+
+/// Whether an item has this tag, and is not deleted.
+fn is_left(item: &AuxRow, deleted: &[u32], tag: u32) -> bool
+    ensures { result
+        ≡ (item.now.tag == tag && not (Items.is_among deleted.now item.now.number)) }
+{
+    item.tag == tag && !is_among(deleted, item.number)
+}
+
+/// Whether an item has this tag and this creator, and is not deleted.
+fn is_left_by(item: &AuxRow, deleted: &[u32], tag: u32, creator: u32) -> bool
+    ensures { result ≡ ((item.now.tag == tag && item.now.creator == creator)
+        && not (Items.is_among deleted.now item.now.number)) }
+{
+    item.tag == tag && item.creator == creator && !is_among(deleted, item.number)
 }
 
 fn has_added(added: &[AuxInput], tag: u32) -> bool

@@ -1,6 +1,6 @@
-use crate::{check_items, inherit};
+use crate::{Items, check_items, inherit};
 use kom_types::{
-    Adder, AuxInput, AuxInputs, AuxRow, AuxRows, Bytes, Memory, Moment, Object, Sequence,
+    Adder, AuxInput, AuxInputs, AuxRow, AuxRows, Bytes, ItemRow, Memory, Moment, Object, Sequence,
 };
 use std::alloc::Global;
 use std::test::Fail;
@@ -197,5 +197,103 @@ fn items_are_inherited(rt: HostRuntime) -> Result<(), Fail> {
         &rows(rt.alloc(), &[(2, 64, 0), (2, 64, 0)])?,
     )?;
     assert_eq!(rt; items.len(), 100);
+    Ok(())
+}
+
+// Adds an item if its object has none of its number.
+fn put(items: &mut Items, row: ItemRow) -> Result<(), Memory> {
+    items.reserve(row.on_text, row.object, 1)?;
+    if !items.has(row.on_text, row.object, row.item.number) {
+        items.add(row);
+    }
+    Ok(())
+}
+
+// Text 1 has the items 1 and 2, and conference 1 has the item 1: they were added in turn.
+fn fill(items: &mut Items, alloc: Global) -> Result<(), Memory> {
+    for (on_text, number, tag) in [(true, 1, 1), (false, 1, 10), (true, 2, 2)] {
+        let item = row(alloc, number, tag, 5, 0, 0)?;
+        put(
+            items,
+            ItemRow {
+                on_text,
+                object: 1,
+                item,
+            },
+        )?;
+    }
+    Ok(())
+}
+
+// The tag of the item at a place among those of text 1, or conference 1, or 0 where there is none.
+fn tag_at(items: &Items, on_text: bool, place: usize) -> u32 {
+    match items.nth_of(on_text, 1, place) {
+        Some(item) => item.tag,
+        None => 0,
+    }
+}
+
+fn tags(items: &Items, on_text: bool) -> [u32; 3] {
+    [
+        tag_at(items, on_text, 0),
+        tag_at(items, on_text, 1),
+        tag_at(items, on_text, 2),
+    ]
+}
+
+#[test]
+fn items_stand_in_the_order_of_adding(rt: HostRuntime) -> Result<(), Fail> {
+    let mut items = Items::new(rt.alloc());
+    fill(&mut items, rt.alloc())?;
+    assert_eq!(rt; tags(&items, true), [1, 2, 0]);
+    assert_eq!(rt; tags(&items, false), [10, 0, 0]);
+    assert_eq!(rt; items.count_of(true, 1), 2);
+    assert_eq!(rt; items.count_of(true, 2), 0);
+    Ok(())
+}
+
+#[test]
+fn an_item_is_taken_out_by_its_number(rt: HostRuntime) -> Result<(), Fail> {
+    let mut items = Items::new(rt.alloc());
+    fill(&mut items, rt.alloc())?;
+    assert!(rt; items.has(true, 1, 2));
+    assert!(rt; items.remove(true, 1, 1));
+    assert!(rt; !items.remove(true, 1, 1));
+    assert_eq!(rt; tags(&items, true), [2, 0, 0]);
+    assert_eq!(rt; tags(&items, false), [10, 0, 0]);
+    Ok(())
+}
+
+#[test]
+fn changes_of_items_in_a_table_are_checked(rt: HostRuntime) -> Result<(), Fail> {
+    let mut items = Items::new(rt.alloc());
+    fill(&mut items, rt.alloc())?;
+    let added = inputs(rt.alloc(), &[(1, 0, 0)])?;
+    let of_text = items.of(true, 1);
+    let twice = check_items(Object::Text, &AUTHOR, &of_text, &[], added.as_slice());
+    assert_eq!(rt; twice, Err((48, 0)));
+    let instead = check_items(Object::Text, &AUTHOR, &of_text, &[1], added.as_slice());
+    assert_eq!(rt; instead, Ok(()));
+    Ok(())
+}
+
+#[test]
+fn items_in_a_table_are_inherited(rt: HostRuntime) -> Result<(), Fail> {
+    let mut items = Items::new(rt.alloc());
+    let item = row(rt.alloc(), 1, 2, 6, 64, 5)?;
+    put(
+        &mut items,
+        ItemRow {
+            on_text: true,
+            object: 1,
+            item,
+        },
+    )?;
+    let mut own = rows(rt.alloc(), &[(6, 0, 0)])?;
+    inherit(rt.alloc(), &mut own, &items.of(true, 1))?;
+    assert_eq!(rt;
+        told(rt.alloc(), &own)?.as_slice(),
+        [(1, 6, 0, 3), (2, 2, 4, 3)].as_slice()
+    );
     Ok(())
 }

@@ -3,8 +3,9 @@ use Rattle.kom_types.specs.AuxItems.{inherited}
 use Rattle.aux_items.proofs.Inheritance.{Begins}
 use Rattle.aux_items.proofs.inheriting.inherit_all.Given as goal
 
-abbrev pub invariant-loop-item : goal.invariant-loop-item
-invariant-loop-item l = record {
-  value : inherited l.fn.items.items l.parent ≡ inherited l.items.items (drop l.item-index l.parent);
-  own : Begins l.fn.items.items l.items.items;
+abbrev pub invariant-loop-place : goal.invariant-loop-place
+invariant-loop-place g l = record {
+  value : inherited l.fn.rows (g.R.ItemList.items l.parent)
+      ≡ inherited l.rows (drop l.place (g.R.ItemList.items l.parent));
+  own : Begins l.fn.rows l.rows;
 }

@@ -5,4 +5,6 @@ use Rattle.aux_items.proofs.Standings.{left-all}
 use Rattle.aux_items.proofs.standing.Standing.all.Goals as goal
 
 pub returns : goal.returns
-returns c = append-nil (left_after [] c.args.rows.now) ∙ left-all c.args.rows.now
+returns g c =
+    let items = g.R.ItemList.items c.args.rows.now in
+    append-nil (left_after [] items) ∙ left-all items
