@@ -58,3 +58,11 @@ pub pushed_kept : {X Y : Type 0} (test : X → Bool) (make : X → List Y) (old 
     now ≡ old ++ flat_map make (filter test xs)
 pushed_kept test make old xs place now past is =
     pushed_all (if_kept test make) old xs place now past is ∙ ap (λ l. old ++ l) (sym (flat_map-filter test make xs))
+
+-- one each of those alone that pass a test
+pub pushed_kept_single : {X Y : Type 0} (test : X → Bool) (make : X → Y) (old : List Y) (xs : List X) (place : ℕ) →
+    (now : List Y) → length xs ≤ place → now ≡ pushed_to (if_kept test (λ x. make x ∷ [])) old xs place →
+    now ≡ old ++ map make (filter test xs)
+pushed_kept_single test make old xs place now past is =
+    pushed_kept test (λ x. make x ∷ []) old xs place now past is
+    ∙ ap (λ l. old ++ l) (flat_map_single make (filter test xs))

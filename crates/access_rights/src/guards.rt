@@ -5,7 +5,6 @@ ghost use Rattle.kom_model.specs.calls.Guards.{Guards};
 use crate::rights::{reads_conference, sees, supervises};
 use crate::texts::{may_submit, reads};
 use kom_model::{Refused, Rows, Viewer};
-use kom_types::AuxInputs;
 use sessions::Sessions;
 
 /// The bits of a conference's type.
@@ -151,11 +150,4 @@ pub fn type_guard(kind: u8) -> Result<(), Refused>
     ensures { Guards (Guard.type_guard kind) result }
 {
     unless(kind & SECRET == 0 || kind & READ_PROTECTED != 0, 22, 0)
-}
-
-/// No aux-items can be given yet.
-pub fn items_guard(items: &AuxInputs) -> Result<(), Refused>
-    ensures { Guards (Guard.items_guard items.now) result }
-{
-    unless(items.is_empty(), 48, 0)
 }

@@ -1,9 +1,10 @@
 //! The rights of persons over conferences and texts, over any stored rows, and the guards that
 //! calls share.
-//! No function but `shown_stat` takes memory.
+//! No function but `items_shown` and `shown_stat` takes memory.
 #![tactic(auto)]
 
 mod guards;
+mod items;
 mod memberships;
 mod rights;
 #[cfg(test)]
@@ -12,10 +13,11 @@ mod text_stat;
 mod texts;
 
 pub use guards::{
-    conference_guard, conference_or_none_guard, items_guard, login_guard, name_guard, own_guard,
-    reads_guard, session_guard, size_guard, strong_guard, submit_guard, text_guard,
-    text_or_none_guard, type_guard, unless,
+    conference_guard, conference_or_none_guard, login_guard, name_guard, own_guard, reads_guard,
+    session_guard, size_guard, strong_guard, submit_guard, text_guard, text_or_none_guard,
+    type_guard, unless,
 };
+pub use items::{ItemsOf, conference_adder, items_guard, items_shown, new_items_guard, text_adder};
 pub use memberships::{is_reserved, member_guard, row_guard, shows_membership, shows_reads};
 pub use rights::{reads_conference, sees, supervises, working_shown};
 pub use text_stat::{shown_stat, told_count};

@@ -1,6 +1,6 @@
 ghost use Rattle.std.specs.Prelude.{◌≡◌};
 ghost use Rattle.kom_model.specs.Shown as Shown;
-ghost use Rattle.kom_model.specs.Shown.{is_secret_membership};
+ghost use Rattle.kom_types.specs.tables.Memberships.{is_secret_membership};
 ghost use Rattle.kom_model.specs.calls.Guards.{Guards};
 ghost use Rattle.kom_model.specs.calls.Memberships as Calls;
 

@@ -1,3 +1,4 @@
+mod items;
 mod memberships;
 mod small;
 mod text_stat;
@@ -5,7 +6,7 @@ mod texts;
 
 use super::*;
 use kom_model::{Refused, Viewer};
-use kom_types::{AuxInput, AuxInputs, Bytes, Memory, Moment, SessionChange};
+use kom_types::{Bytes, Memory, Moment, SessionChange};
 use sessions::{SessionRow, Sessions};
 use small::{READ_PROTECTED, SECRET, Small, secret, text_by};
 use std::alloc::Global;
@@ -225,19 +226,6 @@ fn a_secret_conference_is_read_protected(rt: HostRuntime) -> Result<(), Fail> {
         check_guard(&rt, type_guard(row.kind), row.code, 0)?;
     }
     Ok(())
-}
-
-#[test]
-fn no_items_are_given(rt: HostRuntime) -> Result<(), Fail> {
-    let mut items: AuxInputs = AuxInputs::new(rt.alloc());
-    check_guard(&rt, items_guard(&items), 0, 0)?;
-    items.push(AuxInput {
-        tag: 1,
-        flags: 0,
-        inherit_limit: 0,
-        content: Bytes::new(rt.alloc()),
-    })?;
-    check_guard(&rt, items_guard(&items), 48, 0)
 }
 
 // Session 2, which a call has ended, and session 5.

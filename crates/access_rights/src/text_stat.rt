@@ -6,6 +6,7 @@ ghost use Rattle.kom_model.specs.Shown as Shown;
 ghost use Rattle.kom_model.specs.Shown.{shows_recipient, recipients_shown, recipient_infos};
 ghost use Rattle.kom_model.specs.Shown.{recipient_info, from_infos, into_info, sent_infos};
 
+use crate::items::{items_shown, text_adder};
 use crate::texts::{BLIND, shows_recipient};
 use kom_model::{Rows, Viewer};
 use kom_types::{
@@ -26,6 +27,7 @@ pub fn shown_stat<R: Rows>(
 ) -> Result<TextStat, Memory>
     ensures { IfOk result (λ stat. stat ≡ Shown.shown_stat (R.db rows.now) viewer.now row.now) }
 {
+    let by = text_adder(rows, viewer, row.number);
     let lines = row.lines;
     Ok(TextStat {
         created: row.created,
@@ -34,7 +36,7 @@ pub fn shown_stat<R: Rows>(
         chars: told_count(row.body.len()),
         marks: told_count(rows.mark_count(row.number)),
         misc_infos: misc_infos(alloc, rows, viewer, row)?,
-        aux_items: Sequence::new(alloc),
+        aux_items: items_shown(alloc, rows, true, row.number, &by)?,
     })
 }
 

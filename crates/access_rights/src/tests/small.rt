@@ -1,8 +1,9 @@
 ghost use Rattle.std.specs.Prelude.{◌≡◌, ◌&&◌, ◌==◌};
 ghost use Rattle.kom_types.specs.Bits.{alike};
+ghost use Rattle.kom_types.specs.tables.AuxItems.{is_item_of};
 
 use kom_model::Rows;
-use kom_types::{Bytes, ConferenceHead, Link, Memory, Moment, Recipient, TextRow};
+use kom_types::{AuxRow, Bytes, ConferenceHead, ItemRow, Link, Memory, Moment, Recipient, TextRow};
 use std::alloc::Global;
 
 // The bits of a conference's type.
@@ -17,7 +18,7 @@ pub const TEXT: u32 = 3;
 pub const OPEN: u32 = 10;
 
 // Rows with one conference and an open one, one member of the first, who alone is a person, one
-// text, two recipients and four links, of that text or of others.
+// text, two recipients, four links and some items, of that text or of others.
 #[derive(Clone, Copy)]
 pub struct Small<'a> {
     pub number: u32,
@@ -30,6 +31,7 @@ pub struct Small<'a> {
     pub text: &'a TextRow,
     pub recipients: [Recipient; 2],
     pub links: [Link; 4],
+    pub items: &'a [ItemRow],
 }
 
 impl<'a> Rows for Small<'a> {
@@ -51,6 +53,7 @@ impl<'a> Rows for Small<'a> {
       recipients = small.recipients;
       links = small.links;
       marks = [];
+      items = small.items.now;
       next_conference = small.number;
       next_text = 3;
     } };
@@ -161,6 +164,24 @@ impl<'a> Rows for Small<'a> {
             .copied()
     }
 
+    #[tactic(auto, unfolding(kom_model::specs::Db::items_of))]
+    fn item_count(&self, on_text: bool, object: u32) -> usize {
+        self.items
+            .iter()
+            .filter(|row| is_item_of(row, on_text, object))
+            .count()
+    }
+
+    #[tactic(auto, unfolding(kom_model::specs::Db::items_of))]
+    fn item(&self, on_text: bool, object: u32, place: usize) -> Option<&AuxRow> {
+        let row = self
+            .items
+            .iter()
+            .filter(|row| is_item_of(row, on_text, object))
+            .nth(place)?;
+        Some(&row.item)
+    }
+
     #[tactic(auto, unfolding(kom_model::specs::Db::marks_on))]
     fn mark_count(&self, _text: u32) -> usize {
         0
@@ -179,6 +200,12 @@ fn is_into(row: &Link, text: u32, footnote: bool) -> bool
     row.parent == text && row.footnote == footnote
 }
 
+fn is_item_of(row: &ItemRow, on_text: bool, object: u32) -> bool
+    ensures { result ≡ is_item_of on_text object row.now }
+{
+    row.on_text == on_text && row.object == object
+}
+
 // A text of one line.
 pub fn text_by(alloc: Global, author: u32) -> Result<TextRow, Memory> {
     Ok(TextRow {
@@ -188,6 +215,7 @@ pub fn text_by(alloc: Global, author: u32) -> Result<TextRow, Memory> {
         body: Bytes::copy_of(alloc, b"Hello\n")?,
         lines: 1,
         created_local: 1,
+        next_item: 1,
     })
 }
 
@@ -234,5 +262,6 @@ pub fn secret(text: &TextRow) -> Small<'_> {
             },
         ],
         links: [comment(1, 2, 0); 4],
+        items: &[],
     }
 }
