@@ -22,10 +22,12 @@ use Rattle.kom_types.specs.tables.Conferences as Conferences
 use Rattle.kom_types.specs.tables.Conferences.{number_of_conference, with_local_drawn}
 use Rattle.kom_types.specs.tables.Persons as Persons
 use Rattle.kom_types.specs.tables.Persons.{number_of_person, counted, with_created_drawn}
+use Rattle.kom_types.specs.tables.Texts as Texts
 use Rattle.kom_types.specs.tables.Texts.{number_of_text, fresh_text, with_created_local, created_by}
 use Rattle.kom_types.specs.tables.Texts.{locals_of, is_recipient, without_recipient}
 use Rattle.kom_model.specs.Effects.{without_number}
 use Rattle.local_maps.specs.Pairs.{AllBelow}
+use Rattle.texts.proofs.Created.{created_by-item}
 use Rattle.texts.specs.Stored.{TextRows}
 use Rattle.kom_state.specs.Drawing.{AreDrawn, next_local, next_created}
 use Rattle.kom_state.proofs.TableRows.{all_weaker, all_both, all_kept, all_more, all_with_row, all_without_row}
@@ -249,6 +251,21 @@ module _ (conferences : List ConferenceRow) (persons : List PersonRow) (texts : 
     from_one = drawn.from_one;
     by_number = IsByNumber-without_row number_of_text number texts.texts drawn.by_number;
     below = all_without_row number_of_text (λ (one : TextRow). one.number < next) number texts.texts drawn.below;
+  })
+
+  -- the number of an aux-item of a text is drawn
+  pub AreDrawn-item : (number item : ℕ) (new : TextRows) →
+      new ≡ record texts { texts = changed_row number_of_text number (Texts.with_item_drawn item) texts.texts } →
+      AreDrawn conferences persons new next
+  AreDrawn-item number item new is = rw is (record {
+    locals = drawn.locals;
+    created = λ person. subst (AllBelow (next_created person persons))
+        (sym (created_by-item person number item texts.texts)) (drawn.created person);
+    from_one = drawn.from_one;
+    by_number = IsByNumber-changed_row number_of_text (Texts.with_item_drawn item) (λ _. refl) number texts.texts
+        drawn.by_number;
+    below = all_changed_row number_of_text (λ (one : TextRow). one.number < next) (λ one. one.number < next) number
+        (Texts.with_item_drawn item) (λ _ _ is. is) (λ _ is. is) texts.texts drawn.below;
   })
 
   -- links and marks are changed alone

@@ -6,15 +6,16 @@ use Rattle.std.proofs.lemmas.Bool.{and_parts, leb-true, eqb-true}
 use Rattle.row_table.specs.Tables.{row_of}
 use Rattle.kom_types.specs.declared.effects.Effect.TheVariants as effect
 use Rattle.kom_types.specs.declared.texts.Link.{Link}
-use Rattle.kom_types.specs.declared.texts.LocalText.{LocalText}
 use Rattle.kom_types.specs.declared.texts.Recipient.{Recipient}
 use Rattle.kom_types.specs.declared.texts.TextRow.{TextRow}
+use Rattle.kom_types.specs.tables.AuxItems as Items
 use Rattle.kom_types.specs.tables.Conferences.{number_of_conference}
+use Rattle.kom_types.specs.tables.Memberships as Memberships
 use Rattle.kom_types.specs.tables.Persons.{number_of_person}
 use Rattle.kom_types.specs.tables.Texts as Texts
 use Rattle.kom_types.specs.tables.Texts.{number_of_text}
 use Rattle.kom_model.specs.Db.{Db, conference_of, person_of, text_of, recipient_of, link_of, next_local_of}
-use Rattle.kom_model.specs.Db.{next_created_of, locals_of}
+use Rattle.kom_model.specs.Db.{next_created_of, locals_of, members_of, items_of}
 use Rattle.kom_model.specs.Effects.{fits, may_number}
 use Rattle.kom_state.specs.Drawing.{next_local, next_created}
 
@@ -35,16 +36,46 @@ pub joined-absent : (db : Db) (number privileges flags last_login : ℕ) →
 unfolding fits person_of
 joined-absent db number privileges flags last_login fits' = none_from _ (and_parts _ _ fits').1
 
--- a conference that may go has no texts
+none_left : {X : Type 0} (xs : List X) → length xs ≡ 0 → xs ≡ []
+none_left [] none = refl
+none_left (x ∷ xs) none = absurd (omega (arith, none))
+
+-- a conference that may go has no texts, no members and no aux-items
 pub gone-empty : (db : Db) (number : ℕ) → fits (effect.ConfGone number) db ≡ true →
     Texts.locals_of number db.recipients ≡ []
 unfolding fits locals_of
 gone-empty db number fits' =
-    none_left _ (eqb-true _ _ (and_parts _ _ (and_parts _ _ (and_parts _ _ fits').1).0).0)
-  where
-    none_left : (pairs : List LocalText) → length pairs ≡ 0 → pairs ≡ []
-    none_left [] none = refl
-    none_left (pair ∷ pairs) none = absurd (omega (arith, none))
+    let bare = (and_parts _ _ (and_parts _ _ fits').1).0 in let kept = (and_parts _ _ bare).0 in
+    none_left _ (eqb-true _ _ (and_parts _ _ kept).0)
+
+pub gone-memberless : (db : Db) (number : ℕ) → fits (effect.ConfGone number) db ≡ true →
+    Memberships.members_of number db.memberships ≡ []
+unfolding fits members_of
+gone-memberless db number fits' =
+    let bare = (and_parts _ _ (and_parts _ _ fits').1).0 in let kept = (and_parts _ _ bare).0 in
+    none_left _ (eqb-true _ _ (and_parts _ _ kept).1)
+
+pub gone-itemless : (db : Db) (number : ℕ) → fits (effect.ConfGone number) db ≡ true →
+    Items.items_of false number db.items ≡ []
+unfolding fits items_of
+gone-itemless db number fits' =
+    let bare = (and_parts _ _ (and_parts _ _ fits').1).0 in
+    none_left _ (eqb-true _ _ (and_parts _ _ bare).1)
+
+-- a text that may go has no aux-items
+pub text_gone-itemless : (db : Db) (number : ℕ) → fits (effect.TextGone number) db ≡ true →
+    Items.items_of true number db.items ≡ []
+unfolding fits items_of
+text_gone-itemless db number fits' =
+    let bare = (and_parts _ _ fits').1 in none_left _ (eqb-true _ _ (and_parts _ _ bare).1)
+
+-- a membership is of a conference that is there
+pub member-fits : (db : Db) (person conference position priority added_by added_at kind : ℕ) →
+    fits (effect.MemberSet person conference position priority added_by added_at kind) db ≡ true →
+    is_some (row_of number_of_conference conference db.conferences) ≡ true
+unfolding fits conference_of
+member-fits db person conference position priority added_by added_at kind fits' =
+    (and_parts _ _ (and_parts _ _ fits').0).1
 
 pub record TextFits (db : Db) (number : ℕ) (body : List ℕ) : Type 0 where
   pub from : db.next_text ≤ number

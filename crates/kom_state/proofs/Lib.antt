@@ -14,3 +14,9 @@ pub mod Needed
 pub mod Fitted
 pub mod Walking
 pub mod Pushing
+pub mod Held
+pub mod Placed
+pub mod Numbering
+pub mod FittedItems
+pub mod ItemRooms
+pub mod NewItems

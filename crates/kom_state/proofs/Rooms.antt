@@ -48,7 +48,7 @@ IsReservedFor-none table count what none = record {
   of_conference = λ number does. absurd (true≢false (sym (rw (none, sets_in_conference) at does)));
 }
 
-enough : (p : Effect → Bool) (room count : ℕ) (effects : List Effect) →
+pub enough : (p : Effect → Bool) (room count : ℕ) (effects : List Effect) →
     All (λ what. p what ≡ true → count ≤ room) effects → count_by p effects ≤ count → count_by p effects ≤ room
 enough p room count [] each within = omega arith
 enough p room count (what ∷ effects) each within =
@@ -63,7 +63,7 @@ enough p room count (what ∷ effects) each within =
         let later : count_by p effects ≤ room = rest (omega (arith, count_by-cons p what effects, none)) in
         omega (arith, count_by-cons p what effects, none)
 
-fewer : (p q : Effect → Bool) → ((what : Effect) → p what ≡ true → q what ≡ true) → (effects : List Effect) →
+pub fewer : (p q : Effect → Bool) → ((what : Effect) → p what ≡ true → q what ≡ true) → (effects : List Effect) →
     count_by p effects ≤ count_by q effects
 fewer p q stronger [] = omega arith
 fewer p q stronger (what ∷ effects) = by (fewer p q stronger effects) (cases_Bool (p what))

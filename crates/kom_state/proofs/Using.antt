@@ -4,10 +4,12 @@ use Rattle.std.specs.List.{cons_option}
 use Rattle.std.proofs.Common.{count_by}
 use Rattle.std.proofs.lemmas.List.Sums.{sum_by-cons}
 use Rattle.kom_types.specs.declared.effects.Effect.{Effect}
+use Rattle.aux_items.specs.Items.{room_on}
 use Rattle.row_slots.specs.Lists.{room_in}
 use Rattle.texts.specs.Needs.{UsesRoom as UsesTextRoom}
 use Rattle.kom_state.specs.Room.{Room, adds_conference, adds_person, sets_membership, sets_for_person}
 use Rattle.kom_state.specs.Room.{sets_in_conference, name_given, IsReady, HasRoom, needs_of, all_needs}
+use Rattle.kom_state.specs.Room.{adds_item, adds_item_to}
 use Rattle.kom_state.proofs.Needed.{count_of-append}
 
 -- what room falls, and that the name stays ready where none is given
@@ -21,6 +23,9 @@ pub record Uses (what : Effect) (old new : Room) : Type 0 where
       ≤ room_in new.of_conference number + cond (sets_in_conference number what) 1 0
   pub name : name_given what ≡ None → new.name ≡ old.name
   pub texts : UsesTextRoom old.texts new.texts (needs_of what)
+  pub items : old.items.spare ≤ new.items.spare + cond (adds_item what) 1 0
+  pub of_objects : (kind : Bool) (other : ℕ) → room_on old.items kind other
+      ≤ room_on new.items kind other + cond (adds_item_to kind other what) 1 0
 
 ready_after : (given : Option (List ℕ)) (names : List (List ℕ)) (old new : Option (List ℕ)) →
     (given ≡ None → new ≡ old) → IsReady old (cons_option given names) → IsReady new names
@@ -57,6 +62,15 @@ HasRoom-after what old new uses rest has = record {
     uses.texts need,
     count_of-append need (needs_of what) (all_needs rest),
   );
+  items = record {
+    spare = omega (arith, has.items.spare, uses.items, count_by-cons adds_item what rest);
+    of_objects = λ kind other. omega (
+      arith,
+      has.items.of_objects kind other,
+      uses.of_objects kind other,
+      count_by-cons (adds_item_to kind other) what rest,
+    );
+  };
 }
 
 ready_first : (given : Option (List ℕ)) (names : List (List ℕ)) (ready : Option (List ℕ)) →
@@ -91,4 +105,18 @@ HasRoom-first what room rest has = record {
     count_of-append need (needs_of what) (all_needs rest),
     count_of-append need (needs_of what) (all_needs []),
   );
+  items = record {
+    spare = omega (
+      arith,
+      has.items.spare,
+      count_by-cons adds_item what rest,
+      count_by-cons adds_item what [],
+    );
+    of_objects = λ kind other. omega (
+      arith,
+      has.items.of_objects kind other,
+      count_by-cons (adds_item_to kind other) what rest,
+      count_by-cons (adds_item_to kind other) what [],
+    );
+  };
 }

@@ -1,8 +1,10 @@
 -- How the stored rows are kept: in tables, beside the names of the conferences.
-use Rattle.std.specs.Prelude.{◌≡◌, ℕ, ◌<◌, ◌≤◌, List, map}
+use Rattle.std.specs.Prelude.{◌≡◌, ℕ, ◌<◌, ◌≤◌, List, map, IsTrue, is_some}
 use Rattle.std.specs.List.{AllByRecursion}
-use Rattle.row_table.specs.Tables.{Tabled, IsByNumber}
+use Rattle.row_table.specs.Tables.{Tabled, IsByNumber, row_of}
+use Rattle.aux_items.specs.Items.{Attached}
 use Rattle.kom_types.specs.declared.conferences.ConferenceRow.{ConferenceRow}
+use Rattle.kom_types.specs.declared.memberships.MembershipRow.{MembershipRow}
 use Rattle.kom_types.specs.declared.persons.PersonRow.{PersonRow}
 use Rattle.kom_types.specs.declared.texts.TextRow.{TextRow}
 use Rattle.kom_types.specs.tables.Conferences.{number_of_conference}
@@ -12,9 +14,9 @@ use Rattle.texts.specs.Stored.{Stored as Texts}
 use Rattle.kom_state.specs.Room.{Stored}
 
 -- what the tables are as stored rows
-abbrev pub stored : Tabled ConferenceRow → Tabled PersonRow → Table → Lookup → Texts → ℕ → ℕ
-    → Stored
-stored conferences persons memberships names texts next_conference next_text = record {
+abbrev pub stored : Tabled ConferenceRow → Tabled PersonRow → Table → Lookup → Texts → Attached
+    → ℕ → ℕ → Stored
+stored conferences persons memberships names texts items next_conference next_text = record {
   db = record {
     conferences = conferences.rows;
     persons = persons.rows;
@@ -24,6 +26,7 @@ stored conferences persons memberships names texts next_conference next_text = r
     recipients = texts.rows.recipients;
     links = texts.rows.links;
     marks = texts.rows.marks;
+    items = items.rows;
     next_conference = next_conference;
     next_text = next_text;
   };
@@ -35,6 +38,7 @@ stored conferences persons memberships names texts next_conference next_text = r
     of_conference = memberships.conference_rooms;
     name = names.ready;
     texts = texts.room;
+    items = items;
   };
 }
 
@@ -57,3 +61,8 @@ pub record IsKept (conferences : List ConferenceRow) (names : List Named) (next 
   pub below : AreBelow next conferences
   pub same_names : names ≡ map name_row conferences
   pub within : next ≤ 65536
+
+-- the conference of each membership is there
+abbrev pub AreHeld : List ConferenceRow → List MembershipRow → Type 0
+AreHeld conferences memberships = AllByRecursion
+    (λ row. IsTrue (is_some (row_of number_of_conference row.conference conferences))) memberships

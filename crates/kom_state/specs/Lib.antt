@@ -1,3 +1,4 @@
 pub mod Drawing
 pub mod Keeping
+pub mod Placed
 pub mod Room

@@ -12,12 +12,14 @@ use Rattle.texts.specs.Needs.{HasRoom as HasTextRoom, text_needs, recipient_need
 use Rattle.texts.specs.Needs.{mark_needs, created_needs}
 use Rattle.texts.specs.Stored.{Room as TextRoom}
 use Rattle.texts.specs.declared.needs.Need.{Need}
+use Rattle.aux_items.specs.Items.{Attached, room_on}
+use Rattle.aux_items.specs.Objects.{is_same}
 use Rattle.kom_model.specs.Db.{Db}
 use Rattle.kom_model.specs.Effects.{fits, made}
 
 -- How many more rows fit without memory: conferences, persons and memberships; memberships of each
--- person and in each conference, as `room_in` reads them; the name that can be given; and texts
--- with all that hangs on them.
+-- person and in each conference, as `room_in` reads them; the name that can be given; texts with all
+-- that hangs on them; and aux-items.
 pub record Room : Type 0 where
   pub conferences : ℕ
   pub persons : ℕ
@@ -26,6 +28,7 @@ pub record Room : Type 0 where
   pub of_conference : List (ℕ × ℕ)
   pub name : Option (List ℕ)
   pub texts : TextRoom
+  pub items : Attached
 
 -- the stored rows, and for how many more there is room
 pub record Stored : Type 0 where
@@ -56,6 +59,25 @@ sets_for_person number what = elim (key_set what) [ None ↦ false | Some key �
 
 abbrev pub sets_in_conference : ℕ → Effect → Bool
 sets_in_conference number what = elim (key_set what) [ None ↦ false | Some key ↦ key.1 == number ]
+
+-- the text, or the conference, that an effect adds an aux-item to
+abbrev pub item_key : Effect → Option (Bool × ℕ)
+item_key (effect.AuxAdded on_text object item) = Some (on_text, object)
+item_key other = None
+
+-- whether it adds an aux-item, and one to this text, or this conference
+abbrev pub adds_item : Effect → Bool
+adds_item what = is_some (item_key what)
+
+abbrev pub adds_item_to : Bool → ℕ → Effect → Bool
+adds_item_to on_text object what =
+    elim (item_key what) [ None ↦ false | Some key ↦ is_same key.0 key.1 on_text object ]
+
+-- room in the table of aux-items for those that effects add
+pub record HasItemRoom (table : Attached) (effects : List Effect) : Type 0 where
+  pub spare : count_by adds_item effects ≤ table.spare
+  pub of_objects : (on_text : Bool) (object : ℕ)
+      → count_by (adds_item_to on_text object) effects ≤ room_on table on_text object
 
 -- whether it adds or changes the row of a person
 abbrev pub is_of_person : Effect → Bool
@@ -116,6 +138,7 @@ pub record HasRoom (room : Room) (effects : List Effect) : Type 0 where
       → count_by (sets_in_conference number) effects ≤ room_in room.of_conference number
   pub name : IsReady room.name (filter_map name_given effects)
   pub texts : HasTextRoom room.texts (all_needs effects)
+  pub items : HasItemRoom room.items effects
 
 -- room in a table for the memberships that effects set
 pub record HasMemberRoom (table : Table) (effects : List Effect) : Type 0 where

@@ -3,6 +3,7 @@ ghost use Rattle.kom_types.specs.declared.effects.Effect.{Effect as Change};
 ghost use Rattle.kom_model.specs.Effects.{fits, made, apply, apply_all};
 ghost use Rattle.kom_state.specs.Room.{HasRoom, IsPossible, IsMade, is_of_person, set_of};
 
+mod item_effects;
 mod text_effects;
 
 use crate::state::State;
@@ -83,6 +84,16 @@ impl State {
                 ranges,
             } => self.set_read(person, conference, at, ranges),
             Effect::PersonGone { number } => self.remove_person(number),
+            Effect::AuxAdded {
+                on_text,
+                object,
+                item,
+            } => self.add_item(on_text, object, item),
+            Effect::AuxGone {
+                on_text,
+                object,
+                number,
+            } => self.remove_item(on_text, object, number),
             Effect::PersonAdded { .. }
             | Effect::PersonField { .. }
             | Effect::Password { .. }

@@ -5,6 +5,7 @@ ghost use Rattle.kom_model.specs.Effects.{may_set, may_set_field, has_letterbox,
 ghost use Rattle.kom_model.specs.Effects.{is_bare_conference, is_bare_person};
 ghost use Rattle.kom_types.specs.tables.Conferences.{is_secret_protected, is_letterbox};
 
+mod item_effects;
 mod text_effects;
 
 use crate::state::State;
@@ -100,7 +101,16 @@ impl State {
                 local,
                 text,
             } => self.may_create(*person, *local, *text),
-            _ => false,
+            Effect::AuxAdded {
+                on_text,
+                object,
+                item,
+            } => self.may_add_item(*on_text, *object, item),
+            Effect::AuxGone {
+                on_text,
+                object,
+                number,
+            } => self.has_item(*on_text, *object, *number),
         }
     }
 
@@ -146,7 +156,10 @@ impl State {
     fn is_bare_conference(&self, number: u32) -> bool
         ensures { result ≡ is_bare_conference self.now.db number }
     {
-        self.local_count(number) == 0 && self.member_count(number) == 0 && !self.has_person(number)
+        self.local_count(number) == 0
+            && self.member_count(number) == 0
+            && self.item_count(false, number) == 0
+            && !self.has_person(number)
     }
 
     /// Whether nothing is left that hangs on a person.

@@ -1,9 +1,13 @@
-ghost use Rattle.std.specs.Prelude.{◌≡◌};
+ghost use Rattle.std.specs.Prelude.{◌≡◌, ◌+◌, ◌≤◌, length, OnOk};
+ghost use Rattle.kom_model.specs.Db.{next_item_of};
+ghost use Rattle.kom_model.specs.Effects.{last_drawn};
+ghost use Rattle.kom_model.specs.calls.AuxItems as AuxItems;
 ghost use Rattle.kom_model.specs.calls.Guards as Guard;
 ghost use Rattle.kom_model.specs.calls.Guards.{Guards};
 
 use crate::state::State;
 use kom_model::{Refused, Viewer};
+use kom_types::AuxChange;
 
 /// The privileges wheel and admin.
 const MIGHT: u16 = 49_152;
@@ -59,6 +63,21 @@ impl State {
         ensures { Guards (Guard.drawn_guard self.now.db) result }
     {
         if self.next_conference <= LAST_CONFERENCE {
+            Ok(())
+        } else {
+            refuse(45, 0)
+        }
+    }
+
+    /// A number is left for each aux-item that a change adds.
+    pub fn numbers_guard(&self, on_text: bool, change: &AuxChange) -> Result<(), Refused>
+        ensures refused { Guards
+            (AuxItems.numbers_guard self.now.db on_text change.now) result }
+        ensures left { OnOk result (next_item_of self.now.db on_text change.now.object
+            + length change.now.add ≤ last_drawn + 1) }
+    {
+        let left = u32::MAX - self.next_item(on_text, change.object);
+        if change.add.len() <= left as usize {
             Ok(())
         } else {
             refuse(45, 0)

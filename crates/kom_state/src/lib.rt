@@ -6,6 +6,7 @@ mod applying;
 mod asked;
 mod fitting;
 mod guards;
+mod item_changes;
 mod opening;
 mod reading;
 mod reserving;
@@ -17,6 +18,7 @@ mod walks;
 
 pub use asked::{Asked, push_count};
 pub use fitting::{is_recipient_tag, most_links};
+pub use item_changes::{item_effects, new_items, push_items, push_items_gone};
 pub use opening::initial_effects;
 pub use state::State;
 pub use walks::{MemberWalk, MembershipWalk};

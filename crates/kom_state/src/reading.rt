@@ -6,10 +6,12 @@ ghost use Rattle.kom_model.specs.Db.{conference_of, person_of, membership_of};
 ghost use Rattle.kom_model.specs.Db.{memberships_of, members_of, conferences_of};
 ghost use Rattle.kom_types.specs.tables.Conferences.{number_of_conference};
 ghost use Rattle.kom_model.specs.Db.{read_of, memberships_at};
-ghost use Rattle.kom_model.specs.calls.Memberships.{member_of};
+ghost use Rattle.kom_types.specs.tables.Memberships.{member_of};
 ghost use Rattle.read_ranges.specs.Numbers.{ranges_of};
 ghost use Rattle.kom_state.specs.Keeping.{AreBelow};
+ghost use Rattle.kom_state.specs.Placed.{AreThere, AreInPlace};
 
+mod item_rows;
 mod text_rows;
 
 use crate::state::State;
@@ -61,7 +63,9 @@ impl State {
 
     /// How many memberships a person has, in constant time.
     pub fn membership_count(&self, person: u32) -> usize
-        ensures { result ≡ length (memberships_of self.now.db person) }
+        ensures count { result ≡ length (memberships_of self.now.db person) }
+        ensures there { AreThere self.now.db person }
+        ensures in_place { AreInPlace self.now.db person }
     {
         self.memberships.count_of_person(person)
     }

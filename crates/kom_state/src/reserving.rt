@@ -6,6 +6,9 @@ ghost use Rattle.kom_state.specs.Room.{HasRoom, IsOrderly, IsReady, HasMemberRoo
 ghost use Rattle.kom_state.specs.Room.{adds_conference, adds_person, key_set};
 ghost use Rattle.kom_state.specs.Room.{sets_membership, name_given};
 
+mod items;
+
+use crate::reserving::items::reserve_items;
 use crate::state::State;
 use kom_types::{Effect, Memory};
 use memberships::Memberships;
@@ -29,6 +32,7 @@ impl State {
         self.persons.reserve(persons)?;
         reserve_memberships(&mut self.memberships, effects)?;
         reserve_texts(&mut self.texts, effects, self.alloc)?;
+        reserve_items(&mut self.items, effects)?;
         reserve_name(&mut self.names, effects)
     }
 }

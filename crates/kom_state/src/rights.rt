@@ -1,6 +1,6 @@
 use crate::state::State;
 use kom_model::Rows;
-use kom_types::{ConferenceHead, Link, Recipient, TextRow};
+use kom_types::{AuxRow, ConferenceHead, Link, Recipient, TextRow};
 
 impl Rows for State {
     ghost db = { λ state. state.db };
@@ -58,6 +58,14 @@ impl Rows for State {
 
     fn link_into(&self, text: u32, footnote: bool, place: usize) -> Option<Link> {
         self.nth_into(text, footnote, place).copied()
+    }
+
+    fn item_count(&self, on_text: bool, object: u32) -> usize {
+        State::item_count(self, on_text, object)
+    }
+
+    fn item(&self, on_text: bool, object: u32, place: usize) -> Option<&AuxRow> {
+        self.nth_item(on_text, object, place)
     }
 
     fn mark_count(&self, text: u32) -> usize {

@@ -1,6 +1,7 @@
 ghost use Rattle.std.specs.Prelude.{◌≡◌};
 ghost use Rattle.kom_model.specs.Db.{empty_db};
 
+use aux_items::Items;
 use conferences::Conferences;
 use memberships::Memberships;
 use name_lookup::Names;
@@ -17,6 +18,7 @@ pub struct State {
     // The names of the conferences, by which they are found.
     pub(crate) names: Names,
     pub(crate) texts: Texts,
+    pub(crate) items: Items,
     pub(crate) next_conference: u32,
     pub(crate) next_text: u32,
     pub(crate) alloc: Global,
@@ -31,27 +33,31 @@ impl Drop for State {
             memberships,
             names,
             texts,
+            items,
             next_conference: _,
             next_text: _,
             alloc: _,
         } = self;
         drop((conferences, persons, memberships));
-        drop((names, texts));
+        drop((names, texts, items));
     }
 }
 
 impl Model for State {
     ghost use Rattle.kom_state.specs.Room.{Stored};
     ghost use Rattle.kom_state.specs.Keeping.{stored, IsKept};
-    ghost use Rattle.kom_state.specs.Drawing.{AreDrawn};
+    ghost use Rattle.kom_state.specs.Drawing.{AreDrawn, AreNumbered};
+    ghost use Rattle.kom_state.specs.Keeping.{AreHeld};
 
     ghost Value = { Stored };
 
     ghost view = { λ s. stored s.conferences s.persons s.memberships s.names s.texts
-        s.next_conference s.next_text };
+        s.items s.next_conference s.next_text };
 
     ghost invariant = { λ s. IsKept s.conferences.rows s.names.names s.next_conference
-        × AreDrawn s.conferences.rows s.persons.rows s.texts.rows s.next_text };
+        × AreDrawn s.conferences.rows s.persons.rows s.texts.rows s.next_text
+        × AreNumbered s.conferences.rows s.texts.rows.texts s.items.rows
+        × AreHeld s.conferences.rows s.memberships.rows };
 }
 
 impl State {
@@ -65,6 +71,7 @@ impl State {
             memberships: Memberships::new(alloc),
             names: Names::new(alloc),
             texts: Texts::new(alloc),
+            items: Items::new(alloc),
             next_conference: 1,
             next_text: 1,
             alloc,

@@ -1,4 +1,5 @@
 mod deletions;
+mod item_effects;
 mod member_effects;
 mod text_effects;
 

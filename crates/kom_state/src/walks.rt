@@ -1,7 +1,7 @@
 //! The memberships of a person, and the members of a conference, one after the other.
-ghost use Rattle.std.specs.Prelude.{◌≡◌, map};
+ghost use Rattle.std.specs.Prelude.{◌≡◌, drop, map};
 ghost use Rattle.kom_model.specs.Db.{memberships_of, members_of};
-ghost use Rattle.kom_model.specs.calls.Memberships.{member_of};
+ghost use Rattle.kom_types.specs.tables.Memberships.{member_of};
 
 use crate::state::State;
 use kom_types::{Member, MembershipRow};
@@ -56,7 +56,7 @@ impl<'a> Model for MemberWalk<'a> {
     ghost use Rattle.std.specs.Prelude.{List, drop, map};
     ghost use Rattle.kom_types.specs.declared.memberships.Member.{Member};
     ghost use Rattle.kom_model.specs.Db.{members_of};
-    ghost use Rattle.kom_model.specs.calls.Memberships.{member_of};
+    ghost use Rattle.kom_types.specs.tables.Memberships.{member_of};
 
     ghost Value = { List Member };
 
@@ -95,6 +95,17 @@ impl State {
         }
     }
 
+    /// The memberships of a person from a place on, by their places.
+    pub fn memberships_from(&self, person: u32, place: usize) -> MembershipWalk<'_>
+        ensures { result ≡ drop place (memberships_of self.now.db person) }
+    {
+        MembershipWalk {
+            rows: self,
+            person,
+            place,
+        }
+    }
+
     /// The members of a conference, in the order of joining.
     pub fn members(&self, conference: u32) -> MemberWalk<'_>
         ensures { result ≡ map member_of (members_of self.now.db conference) }
@@ -103,6 +114,17 @@ impl State {
             rows: self,
             conference,
             place: 0,
+        }
+    }
+
+    /// The members of a conference from a place on, in the order of joining.
+    pub fn members_from(&self, conference: u32, place: usize) -> MemberWalk<'_>
+        ensures { result ≡ map member_of (drop place (members_of self.now.db conference)) }
+    {
+        MemberWalk {
+            rows: self,
+            conference,
+            place,
         }
     }
 }

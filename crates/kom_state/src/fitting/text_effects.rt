@@ -8,8 +8,9 @@ ghost use Rattle.kom_model.specs.Effects.{may_number, may_create};
 use crate::state::State;
 use kom_types::{Link, Recipient, TextRow};
 
-/// The greatest number that a text gets, in all and in a conference or among those of its author.
-const LAST_DRAWN: u32 = 4_294_967_294;
+/// The greatest number that a text gets, in all and in a conference or among those of its author,
+/// and that an aux-item gets among those of a text or a conference.
+pub(crate) const LAST_DRAWN: u32 = 4_294_967_294;
 
 /// How many bytes a text has at most.
 const LONGEST_BODY: usize = 1_048_576;
@@ -49,6 +50,7 @@ impl State {
             && self.count_into(text, false) == 0
             && self.count_into(text, true) == 0
             && self.mark_count_on(text) == 0
+            && self.item_count(true, text) == 0
     }
 
     fn may_draw(&self, conference: u32, local: u32) -> bool

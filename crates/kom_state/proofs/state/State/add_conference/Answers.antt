@@ -4,6 +4,8 @@ use Rattle.kom_state.proofs.Kept.{IsKept-added, added-parts, taken-kept}
 use Rattle.kom_state.proofs.Making.{IsMade-added}
 use Rattle.kom_state.proofs.Drawing.{AreDrawn-conference_added}
 use Rattle.kom_state.proofs.Fitted.{added-absent}
+use Rattle.kom_state.proofs.Held.{AreHeld-conference_added}
+use Rattle.kom_state.proofs.Numbering.{AreNumbered-conference_added}
 use Rattle.kom_state.proofs.state.State.add_conference.Goals as goal
 
 pub put-requires : goal.put-requires
@@ -24,6 +26,8 @@ invariant_of-self c =
       IsKept-added _ _ _ c.self.invariant.0 _ _ _ parts.1 parts.2 rows
           (rw (c.unwrap.ensures, c.as_slice.ensures, c.fresh_conference-row.ensures) at c.put.ensures.ok),
       AreDrawn-conference_added _ _ _ _ c.self.invariant.1 _ _ refl (added-absent _ _ _ _ _ _ _ fits) rows,
+      AreNumbered-conference_added _ _ _ c.self.invariant.2 _ _ refl (added-absent _ _ _ _ _ _ _ fits) rows,
+      AreHeld-conference_added _ _ c.self.invariant.3 _ _ rows,
     )
 
 pub returns : goal.returns

@@ -10,6 +10,8 @@ invariant_of-self c = (
   AreDrawn-person_added _ _ _ _ c.self.invariant.1 _ _ refl
       (joined-absent _ _ _ _ _ (rw (← c.self.view_is) at c.requires.fits))
       (rw (c.unwrap.ensures, c.fresh_person-row.ensures) at c.put.ensures.ok),
+  c.self.invariant.2,
+  c.self.invariant.3,
 )
 
 pub returns : goal.returns

@@ -1,4 +1,4 @@
-use Rattle.std.proofs.Common.{refl, arith}
+use Rattle.std.proofs.Common.{refl, arith, ap}
 use Rattle.kom_types.specs.tables.Conferences.{with_local_drawn}
 use Rattle.kom_types.specs.declared.effects.Effect.TheVariants as effect
 use Rattle.kom_model.specs.Effects.{made}
@@ -7,6 +7,8 @@ use Rattle.kom_state.proofs.Fitted.{recipient-fits}
 use Rattle.kom_state.proofs.Kept.{IsKept-changed}
 use Rattle.kom_state.proofs.LocalNumbers.{below_from}
 use Rattle.kom_state.proofs.Making.{IsMade-texts}
+use Rattle.kom_state.proofs.Held.{AreHeld-conference_changed}
+use Rattle.kom_state.proofs.Numbering.{AreNumbered-recipient}
 use Rattle.kom_state.proofs.state.State.add_recipient.Goals as goal
 
 pub draw_local-requires : goal.draw_local-requires
@@ -27,6 +29,11 @@ invariant_of-self c =
           (λ _. refl) c.draw_local.ensures.rows,
       AreDrawn-recipient _ _ _ _ c.self.invariant.1 c.args.given _ _ parts.there parts.from
           c.draw_local.ensures.rows c.add_recipient.ensures.rows,
+      AreNumbered-recipient _ _ _ c.self.invariant.2 c.args.given.conference (with_local_drawn c.args.given.local) _
+          (λ _. refl) (λ _. refl) c.draw_local.ensures.rows
+          _ (ap (λ rows. rows.texts) c.add_recipient.ensures.rows),
+      AreHeld-conference_changed _ _ c.self.invariant.3 c.args.given.conference (with_local_drawn c.args.given.local) _
+          (λ _. refl) c.draw_local.ensures.rows,
     )
 
 pub returns : goal.returns

@@ -12,6 +12,8 @@ invariant_of-self c = (
   AreDrawn-person _ _ _ _ c.self.invariant.1 c.args.number (counted c.args.counter c.args.by) _
       (number-counted c.args.counter c.args.by) (next-counted c.args.counter c.args.by)
       c.count.ensures.rows,
+  c.self.invariant.2,
+  c.self.invariant.3,
 )
 
 pub returns : goal.returns

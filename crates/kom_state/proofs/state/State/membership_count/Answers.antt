@@ -1,9 +1,23 @@
-use Rattle.std.proofs.Common.{sym, ap, ◌∙◌}
+use Rattle.std.proofs.Common.{sym, subst, ap, ◌∙◌}
 use Rattle.kom_types.specs.tables.Memberships.{count_of}
+use Rattle.kom_model.specs.Db.{Db}
+use Rattle.memberships.specs.Table.{IsOrderly}
+use Rattle.kom_state.specs.Keeping.{AreHeld}
 use Rattle.kom_state.proofs.Members.{length-memberships_of}
+use Rattle.kom_state.proofs.Placed.{are_there, are_in_place}
 use Rattle.kom_state.proofs.state.State.membership_count.Goals as goal
 
-pub returns : goal.returns
-returns c =
-    c.count_of_person.ensures ∙ ap (λ s. count_of c.args.person s.db.memberships) c.self.view_is
+pub returns-clause-count : goal.returns-clause-count
+returns-clause-count c =
+    c.count_of_person.ensures.count ∙ ap (λ s. count_of c.args.person s.db.memberships) c.self.view_is
     ∙ sym (length-memberships_of c.args.self.now.db c.args.person)
+
+pub returns-clause-there : goal.returns-clause-there
+returns-clause-there c =
+    are_there c.args.self.now.db c.args.person
+    (subst (λ (db : Db). AreHeld db.conferences db.memberships) (ap (λ s. s.db) c.self.view_is) c.self.invariant.3)
+
+pub returns-clause-in_place : goal.returns-clause-in_place
+returns-clause-in_place c =
+    are_in_place c.args.self.now.db c.args.person
+    (subst (λ (db : Db). IsOrderly db.memberships) (ap (λ s. s.db) c.self.view_is) c.count_of_person.ensures.orderly)

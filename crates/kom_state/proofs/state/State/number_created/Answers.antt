@@ -1,10 +1,12 @@
-use Rattle.std.proofs.Common.{refl, arith}
+use Rattle.std.proofs.Common.{refl, arith, ap}
 use Rattle.kom_types.specs.declared.effects.Effect.TheVariants as effect
 use Rattle.kom_model.specs.Effects.{made}
 use Rattle.kom_state.proofs.Drawing.{AreDrawn-created}
 use Rattle.kom_state.proofs.Fitted.{created-fits}
 use Rattle.kom_state.proofs.LocalNumbers.{below_from}
 use Rattle.kom_state.proofs.Making.{IsMade-texts}
+use Rattle.kom_state.proofs.Numbering.{AreNumbered-text_changed}
+use Rattle.kom_types.specs.tables.Texts.{with_created_local}
 use Rattle.kom_state.proofs.state.State.number_created.Goals as goal
 
 pub draw_created-requires : goal.draw_created-requires
@@ -31,6 +33,9 @@ invariant_of-self c =
       c.self.invariant.0,
       AreDrawn-created _ _ _ _ c.self.invariant.1 c.args.person c.args.local c.args.text parts.row parts.found
           parts.author parts.there parts.from _ _ c.draw_created.ensures.rows c.number_created.ensures.rows,
+      AreNumbered-text_changed _ _ _ c.self.invariant.2 c.args.text (with_created_local c.args.local) _ (λ _. refl) (λ _. refl)
+          (ap (λ rows. rows.texts) c.number_created.ensures.rows),
+      c.self.invariant.3,
     )
 
 pub returns : goal.returns

@@ -4,7 +4,16 @@ use Rattle.kom_types.specs.tables.Memberships.{without_membership}
 use Rattle.kom_model.specs.Effects.{made}
 use Rattle.read_ranges.specs.Reads.{without_reader}
 use Rattle.kom_state.proofs.Making.{IsMade-members}
+use Rattle.kom_state.proofs.Held.{AreHeld-gone}
 use Rattle.kom_state.proofs.state.State.remove_membership.Goals as goal
+
+pub invariant_of-self : goal.invariant_of-self
+invariant_of-self c = (
+  c.self.invariant.0,
+  c.self.invariant.1,
+  c.self.invariant.2,
+  AreHeld-gone _ _ c.self.invariant.3 c.args.person c.args.conference _ c.remove.ensures.rows,
+)
 
 pub returns : goal.returns
 unfolding made

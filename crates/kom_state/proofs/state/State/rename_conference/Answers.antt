@@ -5,6 +5,8 @@ use Rattle.kom_model.specs.Effects.{made}
 use Rattle.kom_state.proofs.Kept.{IsKept-renamed, renamed-parts, taken-kept}
 use Rattle.kom_state.proofs.Making.{IsMade-conference}
 use Rattle.kom_state.proofs.Drawing.{AreDrawn-conference}
+use Rattle.kom_state.proofs.Held.{AreHeld-conference_changed}
+use Rattle.kom_state.proofs.Numbering.{AreNumbered-conference_changed}
 use Rattle.kom_state.proofs.state.State.rename_conference.Goals as goal
 
 pub put-requires : goal.put-requires
@@ -19,6 +21,9 @@ invariant_of-self c =
           (rw (c.unwrap.ensures, c.as_slice.ensures) at c.put.ensures.ok),
       AreDrawn-conference _ _ _ _ c.self.invariant.1 c.args.number (with_name c.args.name) _ (λ _. refl) (λ _. refl)
           c.rename.ensures.rows,
+      AreNumbered-conference_changed _ _ _ c.self.invariant.2 c.args.number (with_name c.args.name) _ (λ _. refl) (λ _. refl)
+          c.rename.ensures.rows,
+      AreHeld-conference_changed _ _ c.self.invariant.3 c.args.number (with_name c.args.name) _ (λ _. refl) c.rename.ensures.rows,
     )
 
 pub returns : goal.returns

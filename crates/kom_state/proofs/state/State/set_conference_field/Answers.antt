@@ -6,6 +6,8 @@ use Rattle.kom_state.proofs.Kept.{IsKept-changed}
 use Rattle.kom_state.proofs.Making.{IsMade-conference}
 use Rattle.conferences.specs.Numbers.{number-with_field}
 use Rattle.kom_state.proofs.Drawing.{AreDrawn-conference, next-with_field}
+use Rattle.kom_state.proofs.Held.{AreHeld-conference_changed}
+use Rattle.kom_state.proofs.Numbering.{AreNumbered-conference_changed, next_item-with_field}
 use Rattle.kom_state.proofs.state.State.set_conference_field.Goals as goal
 
 pub invariant_of-self : goal.invariant_of-self
@@ -14,6 +16,9 @@ invariant_of-self c = (
       c.set_field.ensures.rows,
   AreDrawn-conference _ _ _ _ c.self.invariant.1 c.args.number (with_field c.args.field) _
       (number-with_field c.args.field) (next-with_field c.args.field) c.set_field.ensures.rows,
+  AreNumbered-conference_changed _ _ _ c.self.invariant.2 c.args.number (with_field c.args.field) _ (next_item-with_field c.args.field)
+      (number-with_field c.args.field) c.set_field.ensures.rows,
+  AreHeld-conference_changed _ _ c.self.invariant.3 c.args.number (with_field c.args.field) _ (number-with_field c.args.field) c.set_field.ensures.rows,
 )
 
 pub returns : goal.returns

@@ -1,5 +1,17 @@
 use Rattle.kom_state.proofs.Making.{IsMade-set, room_to_set}
+use Rattle.kom_state.proofs.Fitted.{member-fits}
+use Rattle.kom_state.proofs.Held.{AreHeld-set}
 use Rattle.kom_state.proofs.state.State.set_membership.Goals as goal
+
+pub invariant_of-self : goal.invariant_of-self
+invariant_of-self c = (
+  c.self.invariant.0,
+  c.self.invariant.1,
+  c.self.invariant.2,
+  AreHeld-set _ _ c.self.invariant.3 c.args.row _
+      (member-fits _ _ _ _ _ _ _ _ (rw (← c.self.view_is) at c.requires.possible.fits))
+      (rw c.unwrap.ensures at c.set.ensures.ok),
+)
 
 pub unwrap-requires : goal.unwrap-requires
 unwrap-requires c =

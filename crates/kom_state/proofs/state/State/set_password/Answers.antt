@@ -10,6 +10,8 @@ invariant_of-self c = (
   c.self.invariant.0,
   AreDrawn-person _ _ _ _ c.self.invariant.1 c.args.number (with_hash c.args.hash) _ (λ _. refl) (λ _. refl)
       c.set_hash.ensures.rows,
+  c.self.invariant.2,
+  c.self.invariant.3,
 )
 
 pub returns : goal.returns

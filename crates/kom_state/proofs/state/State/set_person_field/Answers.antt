@@ -12,6 +12,8 @@ invariant_of-self c = (
   AreDrawn-person _ _ _ _ c.self.invariant.1 c.args.number (with_field c.args.field) _
       (number-with_field c.args.field) (next-with_person_field c.args.field)
       c.set_field.ensures.rows,
+  c.self.invariant.2,
+  c.self.invariant.3,
 )
 
 pub returns : goal.returns

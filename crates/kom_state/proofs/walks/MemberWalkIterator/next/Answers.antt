@@ -1,6 +1,6 @@
 use Rattle.std.proofs.Common.{sym, ◌∙◌}
 use Rattle.kom_model.specs.Db.{members_of}
-use Rattle.kom_model.specs.calls.Memberships.{member_of}
+use Rattle.kom_types.specs.tables.Memberships.{member_of}
 use Rattle.kom_state.proofs.Walking.{mapped_goes}
 use Rattle.kom_state.proofs.walks.MemberWalkIterator.next.Goals as goal
 

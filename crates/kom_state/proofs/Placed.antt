@@ -1,0 +1,52 @@
+-- The memberships of a person, by their places, are those that have the person.
+use Rattle.std.proofs.Common.{◌≡◌, ℕ, true, eqb, ltb, List, [], ◌∷◌, map, filter, is_some, sym, ap, ◌∙◌}
+use Rattle.std.specs.List.{AllByRecursion, fold, range_with_len}
+use Rattle.std.proofs.lemmas.Bool.{cond_both}
+use Rattle.row_table.specs.Tables.{row_of}
+use Rattle.kom_types.specs.declared.memberships.MembershipRow.{MembershipRow}
+use Rattle.kom_types.specs.tables.Conferences.{number_of_conference}
+use Rattle.kom_types.specs.tables.Memberships as Memberships
+use Rattle.kom_types.specs.tables.Memberships.{by_position}
+use Rattle.kom_model.specs.Db.{Db, conference_of, memberships_of}
+use Rattle.memberships.specs.Table.{IsOrderly}
+use Rattle.kom_state.specs.Keeping.{AreHeld}
+use Rattle.kom_state.specs.Placed.{AreThere, AreInPlace}
+use Rattle.kom_state.proofs.Members.{length-memberships_of}
+use Rattle.kom_state.proofs.TableRows.{all_kept}
+
+module _ (P : MembershipRow → Type 0) where
+  all_by_position : (row : MembershipRow) (rows : List MembershipRow) → P row → AllByRecursion P rows →
+      AllByRecursion P (by_position row rows)
+  all_by_position row [] here all = (here, tt)
+  all_by_position row (first ∷ rows) here all =
+      cond_both (ltb row.position first.position) (row ∷ first ∷ rows) (first ∷ by_position row rows)
+      (AllByRecursion P) (λ _. (here, all)) (λ _. (all.0, all_by_position row rows here all.1))
+
+  all_placed : (sorted rows : List MembershipRow) → AllByRecursion P sorted → AllByRecursion P rows →
+      AllByRecursion P (fold (λ sorted row. by_position row sorted) sorted rows)
+  all_placed sorted [] all all' = all
+  all_placed sorted (row ∷ rows) all all' =
+      all_placed (by_position row sorted) rows (all_by_position row sorted all'.0 all) all'.1
+
+  -- what holds of all that have the person
+  pub all_own : (person : ℕ) (rows : List MembershipRow) →
+      AllByRecursion P (filter (λ row. eqb row.person person) rows) →
+      AllByRecursion P (Memberships.memberships_of person rows)
+  all_own person rows all = all_placed [] (filter (λ row. eqb row.person person) rows) tt all
+
+-- ---- what is known of them
+pub are_there : (db : Db) (person : ℕ) → AreHeld db.conferences db.memberships → AreThere db person
+unfolding conference_of memberships_of
+are_there db person held =
+    let P : MembershipRow → Type 0 =
+    λ row. is_some (row_of number_of_conference row.conference db.conferences) ≡ true in
+    all_own P person db.memberships (all_kept P (λ row. eqb row.person person) db.memberships held)
+
+counted : (db : Db) (person : ℕ) → IsOrderly db.memberships →
+    map (λ row. row.position) (memberships_of db person) ≡ range_with_len 0 (Memberships.count_of person db.memberships)
+unfolding memberships_of
+counted db person orderly = orderly.counted person
+
+pub are_in_place : (db : Db) (person : ℕ) → IsOrderly db.memberships → AreInPlace db person
+are_in_place db person orderly =
+    counted db person orderly ∙ ap (range_with_len 0) (sym (length-memberships_of db person))

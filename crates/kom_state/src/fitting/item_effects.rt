@@ -1,0 +1,44 @@
+//! Whether the effects on aux-items fit.
+ghost use Rattle.std.specs.Prelude.{◌≡◌};
+ghost use Rattle.kom_model.specs.Effects.{has_object, may_add_item, has_item};
+
+use crate::fitting::text_effects::LAST_DRAWN;
+use crate::state::State;
+use aux_items::is_known;
+use kom_types::AuxRow;
+
+/// How many aux-items a text, or a conference, has at most, and how many bytes the contents of one.
+const MOST_ITEMS: usize = 100;
+
+const LONGEST_CONTENT: usize = 16_384;
+
+impl State {
+    /// Whether the text, or the conference, is there.
+    fn has_object(&self, on_text: bool, object: u32) -> bool
+        ensures { result ≡ has_object self.now.db on_text object }
+    {
+        if on_text {
+            self.has_text(object)
+        } else {
+            self.has_conference(object)
+        }
+    }
+
+    pub(crate) fn may_add_item(&self, on_text: bool, object: u32, item: &AuxRow) -> bool
+        ensures { result ≡ may_add_item self.now.db on_text object item.now }
+    {
+        self.has_object(on_text, object)
+            && self.next_item(on_text, object) <= item.number
+            && item.number <= LAST_DRAWN
+            && is_known(item.tag)
+            && self.item_count(on_text, object) < MOST_ITEMS
+            && item.content.len() <= LONGEST_CONTENT
+    }
+
+    /// Whether a text, or a conference, has an aux-item of a number. The time grows with its items.
+    pub(crate) fn has_item(&self, on_text: bool, object: u32, number: u32) -> bool
+        ensures { result ≡ has_item self.now.db on_text object number }
+    {
+        self.items.has(on_text, object, number)
+    }
+}
