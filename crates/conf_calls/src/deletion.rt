@@ -8,13 +8,13 @@ ghost use Rattle.kom_model.specs.calls.Sessions.{all_left, seat_left};
 
 use crate::owning::owner_guards;
 use kom_model::CallError;
-use kom_state::{Asked, State, push_count};
+use kom_state::{Asked, State, push_count, push_items_gone};
 use kom_types::{
     ChangeList, Counter, Decision, Effect, EffectList, Memory, Reply, Seat, Sequence, SessionChange,
 };
 
-/// Call 11, delete-conf. The time grows with the texts and the members of the conference, with the
-/// marks and the memberships of its person, and with the sessions.
+/// Call 11, delete-conf. The time grows with the texts, the members and the aux-items of the
+/// conference, with the marks and the memberships of its person, and with the sessions.
 pub fn delete_conf(asked: &Asked<'_>, conference: u32) -> Result<Decision, CallError>
     ensures { Meets (Calls.delete_conf asked.now conference) result }
 {
@@ -36,6 +36,7 @@ fn gone_conference(asked: &Asked<'_>, number: u32) -> Result<EffectList, Memory>
     push_recipients(&mut effects, rows, number)?;
     push_marks(&mut effects, rows, number)?;
     push_memberships(&mut effects, rows, number)?;
+    push_items_gone(&mut effects, rows, false, number)?;
     push_person(&mut effects, rows, number)?;
     effects.push(Effect::ConfGone { number })?;
     Ok(effects)

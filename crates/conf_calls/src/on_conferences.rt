@@ -1,5 +1,7 @@
-ghost use Rattle.std.specs.Prelude.{◌≡◌, ◌∷◌, IfOk};
+ghost use Rattle.std.specs.Prelude.{◌≡◌, ◌≤◌, false, ◌∷◌, ◌++◌, length, IfOk};
+ghost use Rattle.kom_types.specs.AuxItems.{items_from, most_items};
 ghost use Rattle.kom_model.specs.Db.{next_conference_of};
+ghost use Rattle.kom_model.specs.calls.AuxItems.{items_added};
 ghost use Rattle.kom_model.specs.calls.Call.{Meets};
 ghost use Rattle.kom_model.specs.calls.Conferences as Conferences;
 ghost use Rattle.kom_model.specs.calls.Guards.{Guards};
@@ -7,11 +9,11 @@ ghost use Rattle.kom_model.specs.calls.Sessions.{counts};
 
 use crate::kinds::is_letterbox;
 use crate::owning::owner_guards;
-use access_rights::{items_guard, login_guard, name_guard, type_guard, unless};
+use access_rights::{login_guard, name_guard, new_items_guard, type_guard, unless};
 use kom_model::{CallError, Refused, Viewer};
-use kom_state::{Asked, State};
+use kom_state::{Asked, State, new_items, push_items};
 use kom_types::{
-    Bytes, Counter, Decision, Effect, EffectList, Memory, NewConference, Reply, Sequence,
+    Bytes, Counter, Decision, Effect, EffectList, Memory, NewConference, Object, Reply, Sequence,
 };
 
 /// The privilege to make conferences.
@@ -46,7 +48,7 @@ pub fn create_conf(asked: &Asked<'_>, given: &NewConference) -> Result<Decision,
     type_guard(given.kind)?;
     rows.free_guard(0, given.name.as_slice())?;
     rows.drawn_guard()?;
-    items_guard(&given.aux_items)?;
+    new_items_guard(Object::Conference, caller.person, &given.aux_items)?;
     Ok(Decision {
         reply: Reply::Number(rows.next_conference()),
         effects: made_effects(asked, &caller, given)?,
@@ -74,27 +76,33 @@ fn may_make_conferences(rows: &State, person: u32) -> bool
     }
 }
 
-/// The conference is added, and counted among those that the caller made.
+/// The conference is added with its aux-items, and counted among those that the caller made.
 #[tactic(auto, unfolding(kom_model::specs::Db::next_conference_of))]
 fn made_effects(
     asked: &Asked<'_>,
     caller: &Viewer,
     given: &NewConference,
 ) -> Result<EffectList, Memory>
-    ensures { let by = caller.now.person in IfOk result (λ effects. effects
-        ≡ Effect.ConfAdded (next_conference_of asked.now.db) given.now.name given.now.kind
-        asked.now.moment by by ∷ counts by Counter.CreatedConferences 1) }
+    requires { length given.now.aux_items ≤ most_items }
+    ensures { let by = caller.now.person in let number = next_conference_of asked.now.db in
+        IfOk result (λ effects. effects ≡ Effect.ConfAdded number given.now.name given.now.kind
+        asked.now.moment by by ∷ items_added false number
+        (items_from 1 by asked.now.moment given.now.aux_items)
+        ++ counts by Counter.CreatedConferences 1) }
 {
     let alloc = asked.allocator();
+    let number = asked.rows().next_conference();
     let mut effects = Sequence::new(alloc);
     effects.push(Effect::ConfAdded {
-        number: asked.rows().next_conference(),
+        number,
         name: Bytes::copy_of(alloc, given.name.as_slice())?,
         kind: given.kind,
         at: asked.moment(),
         creator: caller.person,
         supervisor: caller.person,
     })?;
+    let items = new_items(asked, 1, caller.person, given.aux_items.as_slice())?;
+    push_items(&mut effects, false, number, items)?;
     effects.push(Effect::Counted {
         number: caller.person,
         counter: Counter::CreatedConferences,

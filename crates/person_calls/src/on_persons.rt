@@ -1,18 +1,19 @@
-ghost use Rattle.std.specs.Prelude.{◌≡◌, IfOk};
+ghost use Rattle.std.specs.Prelude.{◌≡◌, ◌≤◌, length, IfOk};
+ghost use Rattle.kom_types.specs.AuxItems.{most_items};
 ghost use Rattle.kom_model.specs.calls.Call.{Meets};
 ghost use Rattle.kom_model.specs.calls.Guards.{Guards};
 ghost use Rattle.kom_model.specs.calls.Persons as Persons;
 
 use crate::leaving::count;
 use access_rights::{
-    items_guard, login_guard, name_guard, own_guard, size_guard, strong_guard, text_or_none_guard,
-    unless,
+    login_guard, name_guard, new_items_guard, own_guard, size_guard, strong_guard,
+    text_or_none_guard, unless,
 };
 use kom_model::{CallError, Refused, Viewer};
-use kom_state::{Asked, State};
+use kom_state::{Asked, State, new_items, push_items};
 use kom_types::{
-    Bytes, Counter, Decision, Effect, EffectList, Memory, NewPerson, PasswordChange, PersonField,
-    Reply, Sequence,
+    Bytes, Counter, Decision, Effect, EffectList, Memory, NewPerson, Object, PasswordChange,
+    PersonField, Reply, Sequence,
 };
 
 /// How many bytes a password has at most.
@@ -68,8 +69,9 @@ pub fn create_person(asked: &Asked<'_>, given: &NewPerson) -> Result<Decision, C
     size_guard(given.password.as_slice(), LONGEST_PASSWORD)?;
     rows.free_guard(0, given.name.as_slice())?;
     rows.drawn_guard()?;
-    items_guard(&given.aux_items)?;
     let number = rows.next_conference();
+    let by = maker(asked.caller().person, number);
+    new_items_guard(Object::Letterbox, by, &given.aux_items)?;
     Ok(Decision {
         reply: Reply::Number(number),
         effects: person_effects(asked, number, given)?,
@@ -98,8 +100,9 @@ fn may_make_persons(rows: &State, person: u32) -> bool
     }
 }
 
-/// A person of this number is made, with a letterbox in which it is a member.
+/// A person of this number is made, with a letterbox in which it is a member, and its aux-items.
 fn person_effects(asked: &Asked<'_>, person: u32, given: &NewPerson) -> Result<EffectList, Memory>
+    requires { length given.now.aux_items ≤ most_items }
     ensures { IfOk result (λ effects. effects
         ≡ Persons.person_effects asked.now person given.now) }
 {
@@ -133,6 +136,8 @@ fn person_effects(asked: &Asked<'_>, person: u32, given: &NewPerson) -> Result<E
         added_at: asked.moment(),
         kind: 0,
     })?;
+    let items = new_items(asked, 1, by, given.aux_items.as_slice())?;
+    push_items(&mut effects, false, person, items)?;
     if caller != 0 {
         count(&mut effects, caller, Counter::CreatedPersons, 1)?;
     }

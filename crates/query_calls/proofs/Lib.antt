@@ -1,3 +1,4 @@
+mod AllShown
 mod AlongNumbers
 mod Bits
 mod Memberships

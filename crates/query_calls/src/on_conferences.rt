@@ -8,12 +8,10 @@ ghost use Rattle.kom_model.specs.calls.Conferences as Conferences;
 use crate::lookup::shown_names;
 use crate::nearest::{next_seen, previous_seen};
 use crate::told_counts::members_told;
-use access_rights::{conference_guard, login_guard, size_guard};
+use access_rights::{conference_adder, conference_guard, items_shown, login_guard, size_guard};
 use kom_model::{CallError, Refused, Viewer};
 use kom_state::{Asked, State};
-use kom_types::{
-    Boxed, Bytes, Conference, ConferenceRow, Decision, Memory, Reply, Sequence, UConference,
-};
+use kom_types::{Boxed, Bytes, Conference, ConferenceRow, Decision, Memory, Reply, UConference};
 use name_lookup::fold_byte;
 use std::alloc::Global;
 
@@ -76,7 +74,7 @@ fn uconference(alloc: Global, row: &ConferenceRow) -> Result<UConference, Memory
     })
 }
 
-/// Call 91, get-conf-stat. The time grows with the conference's members.
+/// Call 91, get-conf-stat. The time grows with the conference's members and aux-items.
 pub fn get_conf_stat(asked: &Asked<'_>, number: u32) -> Result<Decision, CallError>
     ensures { Meets (Conferences.get_conf_stat asked.now number) result }
 {
@@ -116,6 +114,7 @@ fn conference_told(
     ensures { IfOk result (λ told. told ≡ Shown.conference_told rows.now.db viewer.now row.now) }
 {
     let first_local = rows.first_local(row.number);
+    let by = conference_adder(rows, viewer, row.number);
     Ok(Conference {
         name: Bytes::copy_of(alloc, row.name.as_slice())?,
         kind: row.kind,
@@ -133,7 +132,7 @@ fn conference_told(
         first_local,
         texts: rows.next_local(row.number).saturating_sub(first_local),
         expire: row.expire,
-        aux_items: Sequence::new(alloc),
+        aux_items: items_shown(alloc, rows, false, row.number, &by)?,
     })
 }
 

@@ -1,15 +1,17 @@
 //! The calls that tell memberships, and what was read in them.
-ghost use Rattle.std.specs.Prelude.{◌≡◌, ◌||◌, ◌&&◌, ◌<◌, ◌^◌, not, nat_lt, if◌then◌else◌};
+ghost use Rattle.std.specs.Prelude.{◌≡◌, ℕ, ◌||◌, ◌&&◌, ◌<◌, ◌^◌, not, nat_lt, if◌then◌else◌};
 ghost use Rattle.std.specs.Prelude.{[], length, map, filter, IfOk};
 ghost use Rattle.read_ranges.specs.Changed as Changed;
 ghost use Rattle.read_ranges.specs.Numbers.{ranges_of as ranges_in};
-ghost use Rattle.kom_model.specs.Db.{memberships_of, read_of};
+ghost use Rattle.kom_model.specs.Db.{Db, memberships_of, members_of, read_of};
 ghost use Rattle.kom_model.specs.Shown as Shown;
-ghost use Rattle.kom_model.specs.Shown.{is_passive, is_reserved as is_reserved_by};
+ghost use Rattle.kom_model.specs.Shown.{is_reserved as is_reserved_by};
+ghost use Rattle.kom_types.specs.tables.Memberships.{is_passive, member_of};
 ghost use Rattle.kom_model.specs.Rights.{supervises as supervises_by};
 ghost use Rattle.kom_model.specs.calls.Call.{Meets};
 ghost use Rattle.kom_model.specs.calls.Guards.{caller as caller_of};
 ghost use Rattle.kom_model.specs.calls.Memberships as Calls;
+ghost use Rattle.query_calls.specs.Walks.{sees_all, LeadsTo};
 
 use access_rights::{
     conference_guard, is_reserved, login_guard, row_guard, shows_membership, shows_reads,
@@ -104,7 +106,7 @@ fn has_unread(read: &Ranges, first: u32, last: u32) -> bool
 }
 
 /// Call 101, get-members: those that are shown to the caller, in the order of joining. The time
-/// grows with the places asked for.
+/// grows with how many are asked for, and, unless the session is strong, with the places before.
 pub fn get_members(
     asked: &Asked<'_>,
     conference: u32,
@@ -132,10 +134,21 @@ fn has_member_at(asked: &Asked<'_>, caller: &Viewer, conference: u32, place: u32
     ensures { result ≡ nat_lt place (length (Calls.shown_members asked.now conference)) }
 {
     let rows = asked.rows();
+    let begin = member_begin(caller, place);
     let mut shown = rows
-        .members(conference)
+        .members_from(conference, begin)
         .filter(|member| shows_member(rows, caller, conference, member));
-    shown.nth(place as usize).is_some()
+    shown.nth(place as usize - begin).is_some()
+}
+
+/// Where a walk over the members of a conference begins that is to come to a place among those that
+/// are shown to the caller: at that place in a strong session, else at the first.
+fn member_begin(caller: &Viewer, place: u32) -> usize
+    ensures { (db : Db) (conference : ℕ) → LeadsTo
+        (λ row. Shown.shows_membership db caller.now row.person conference row.kind)
+        (members_of db conference) place result }
+{
+    if caller.strong { place as usize } else { 0 }
 }
 
 /// The members at some places among those that are shown to the caller.
@@ -147,14 +160,15 @@ fn members_from(
     count: u32,
 ) -> Result<Members, Memory>
     requires { caller.now ≡ caller_of asked.now }
-    ensures { IfOk result (λ members. members ≡ map Calls.member_of
+    ensures { IfOk result (λ members. members ≡ map member_of
         (Calls.part first count (Calls.shown_members asked.now conference))) }
 {
     let rows = asked.rows();
+    let begin = member_begin(caller, first);
     let members = rows
-        .members(conference)
+        .members_from(conference, begin)
         .filter(|member| shows_member(rows, caller, conference, member))
-        .skip(first as usize)
+        .skip(first as usize - begin)
         .take(count as usize)
         .collect(asked.allocator())?;
     Ok(Sequence::of(members))
@@ -168,7 +182,9 @@ pub(crate) fn shows_member(rows: &State, viewer: &Viewer, conference: u32, membe
     shows_membership(rows, viewer, member.person, conference, member.kind)
 }
 
-/// Call 107, query-read-texts.
+/// Call 107, query-read-texts. The time grows with the ranges that are told; with the person's
+/// memberships by little, since the list of their conferences is searched, unless some may be hidden
+/// from the caller: then it looks at each.
 pub fn query_read_texts(
     asked: &Asked<'_>,
     person: u32,
@@ -197,8 +213,29 @@ pub fn query_read_texts(
     Ok(asked.answer(Reply::Membership(told)))
 }
 
-/// The place of a membership among those of its person that are shown to the caller.
+/// The place of a membership among those of its person that are shown to the caller. Where all are
+/// shown it is found in constant time; else the time grows with the person's memberships.
 fn place_of(asked: &Asked<'_>, row: &MembershipRow) -> usize
+    ensures { result ≡ Calls.place_of asked.now row.now }
+{
+    if sees_all(asked, row.person) {
+        let count = asked.rows().membership_count(row.person);
+        count.min(row.position as usize)
+    } else {
+        count_before(asked, row)
+    }
+}
+
+/// Whether all memberships of a person are shown to the caller.
+fn sees_all(asked: &Asked<'_>, person: u32) -> bool
+    ensures { result ≡ sees_all (caller_of asked.now) person }
+{
+    let caller = asked.caller();
+    caller.strong || caller.person == person
+}
+
+/// How many memberships of a person are shown to the caller before this one.
+fn count_before(asked: &Asked<'_>, row: &MembershipRow) -> usize
     ensures { result ≡ Calls.place_of asked.now row.now }
 {
     let rows = asked.rows();
@@ -297,7 +334,7 @@ fn at_most(most: u32, ranges: &[ReadRange]) -> &[ReadRange]
 }
 
 /// Call 108, get-membership: those that are shown to the caller, by their places. The time grows
-/// with the places asked for.
+/// with how many are asked for, and, unless all are shown to the caller, with the places before.
 pub fn get_membership(
     asked: &Asked<'_>,
     person: u32,
@@ -326,11 +363,25 @@ pub fn get_membership(
 fn has_membership_at(asked: &Asked<'_>, person: u32, place: u32) -> bool
     ensures { result ≡ nat_lt place (length (Calls.shown_memberships asked.now person)) }
 {
+    let begin = walk_begin(asked, person, place);
     let mut shown = asked
         .rows()
-        .memberships(person)
+        .memberships_from(person, begin)
         .filter(|row| is_shown(asked, row));
-    shown.nth(place as usize).is_some()
+    shown.nth(place as usize - begin).is_some()
+}
+
+/// Where a walk over the memberships of a person begins that is to come to a place among those that
+/// are shown to the caller: at that place if all are shown, else at the first.
+fn walk_begin(asked: &Asked<'_>, person: u32, place: u32) -> usize
+    ensures { LeadsTo (Calls.is_shown asked.now) (memberships_of asked.now.db person) place result }
+{
+    if sees_all(asked, person) {
+        let count = asked.rows().membership_count(person);
+        count.min(place as usize)
+    } else {
+        0
+    }
 }
 
 /// The memberships at some places among those that are shown to the caller.
@@ -345,12 +396,13 @@ fn memberships_from(
     ensures { IfOk result (λ told. told ≡ Calls.all_told asked.now want_ranges most first
         (Calls.part first count (Calls.shown_memberships asked.now person))) }
 {
+    let begin = walk_begin(asked, person, first);
     let mut told = Sequence::new(asked.allocator());
     let shown = asked
         .rows()
-        .memberships(person)
+        .memberships_from(person, begin)
         .filter(|row| is_shown(asked, row))
-        .skip(first as usize)
+        .skip(first as usize - begin)
         .take(count as usize);
     for row in shown {
         let place = first as usize + told.len();

@@ -3,11 +3,11 @@ ghost use Rattle.std.specs.Prelude.{◌≡◌, ◌++◌, map, IfOk};
 ghost use Rattle.kom_model.specs.Db.{links_of, recipients_of, marks_on};
 ghost use Rattle.kom_model.specs.calls.Texts as Texts;
 
-use kom_state::State;
+use kom_state::{State, push_items_gone};
 use kom_types::{Effect, EffectList, Memory, Sequence};
 use std::alloc::Global;
 
-/// What hangs on a text goes before it: links, recipients, marks.
+/// What hangs on a text goes before it: links, recipients, marks, aux-items.
 pub(crate) fn gone_text(alloc: Global, rows: &State, text: u32) -> Result<EffectList, Memory>
     ensures { IfOk result (λ effects. effects ≡ Texts.gone_text rows.now.db text) }
 {
@@ -15,6 +15,7 @@ pub(crate) fn gone_text(alloc: Global, rows: &State, text: u32) -> Result<Effect
     push_links(&mut effects, rows, text)?;
     push_recipients(&mut effects, rows, text)?;
     push_marks(&mut effects, rows, text)?;
+    push_items_gone(&mut effects, rows, true, text)?;
     effects.push(Effect::TextGone { number: text })?;
     Ok(effects)
 }

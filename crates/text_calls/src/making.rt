@@ -1,18 +1,22 @@
-ghost use Rattle.std.specs.Prelude.{◌≡◌, ◌∷◌, ◌++◌, [], map, filter, IfOk, if◌then◌else◌};
+ghost use Rattle.std.specs.Prelude.{◌≡◌, ◌∷◌, ◌++◌, [], ◌≤◌, length, map, filter, IfOk};
+ghost use Rattle.std.specs.Prelude.{if◌then◌else◌};
 ghost use Rattle.std.specs.List.{list_all};
+ghost use Rattle.kom_types.specs.AuxItems.{most_items};
 ghost use Rattle.kom_model.specs.Db.{next_text_of};
 ghost use Rattle.kom_model.specs.calls.Call.{Meets};
 ghost use Rattle.kom_model.specs.calls.Guards.{Guards};
 ghost use Rattle.kom_model.specs.calls.NewTexts as NewTexts;
 ghost use Rattle.kom_types.specs.tables.Texts.{lines_of};
 
+use crate::inheriting::made_items;
 use crate::naming::{items_are_good, names_footnote, names_recipient};
 use crate::on_recipients::{new_recipient, written};
-use access_rights::{items_guard, login_guard, size_guard, unless};
+use access_rights::{login_guard, new_items_guard, size_guard, unless};
 use kom_model::CallError;
-use kom_state::{Asked, State, push_count};
+use kom_state::{Asked, State, push_count, push_items};
 use kom_types::{
-    Bytes, Counter, Decision, Effect, EffectList, Link, Memory, MiscInput, NewText, Reply, Sequence,
+    Bytes, Counter, Decision, Effect, EffectList, Link, Memory, MiscInput, NewText, Object, Reply,
+    Sequence,
 };
 
 /// How many bytes a text has at most.
@@ -54,7 +58,7 @@ fn new_text(asked: &Asked<'_>, anonymous: bool, given: &NewText) -> Result<Decis
         45,
         0,
     )?;
-    items_guard(&given.aux_items)?;
+    new_items_guard(Object::Text, caller.person, &given.aux_items)?;
     let number = asked.rows().next_text();
     Ok(Decision {
         reply: Reply::Number(number),
@@ -101,6 +105,7 @@ fn text_effects(
     text: u32,
     given: &NewText,
 ) -> Result<EffectList, Memory>
+    requires { length given.now.aux_items ≤ most_items }
     ensures { IfOk result (λ effects. effects
         ≡ NewTexts.text_effects asked.now anonymous text given.now) }
 {
@@ -112,7 +117,8 @@ fn text_effects(
         at: asked.moment(),
         body: Bytes::copy_of(alloc, given.body.as_slice())?,
     })?;
-    push_items(&mut effects, asked, text, given.misc_inputs.as_slice())?;
+    push_named(&mut effects, asked, text, given.misc_inputs.as_slice())?;
+    push_items(&mut effects, true, text, made_items(asked, given)?)?;
     push_written(&mut effects, asked, given.misc_inputs.as_slice())?;
     if !anonymous {
         push_author(&mut effects, asked, text, given.body.as_slice())?;
@@ -120,7 +126,7 @@ fn text_effects(
     Ok(effects)
 }
 
-fn push_items(
+fn push_named(
     effects: &mut EffectList,
     asked: &Asked<'_>,
     text: u32,

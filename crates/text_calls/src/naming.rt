@@ -34,7 +34,7 @@ pub(crate) fn names_recipient(item: &MiscInput) -> bool
 }
 
 /// Whether an item names a text that is commented.
-fn names_comment(item: &MiscInput) -> bool
+pub(crate) fn names_comment(item: &MiscInput) -> bool
     ensures { result ≡ NewTexts.names_comment item.now }
 {
     item.tag == COMMENT

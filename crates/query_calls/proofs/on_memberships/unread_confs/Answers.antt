@@ -4,7 +4,7 @@ use Rattle.std.proofs.lemmas.Iterator.Consumers.{YieldsList-at, YieldsList-from_
 use Rattle.std.proofs.lemmas.Result.{IfOk-at_ok}
 use Rattle.kom_types.specs.declared.memberships.MembershipRow.{MembershipRow}
 use Rattle.kom_model.specs.Db.{memberships_of}
-use Rattle.kom_model.specs.Shown.{is_passive}
+use Rattle.kom_types.specs.tables.Memberships.{is_passive}
 use Rattle.kom_model.specs.calls.Memberships.{is_shown, is_unread}
 use Rattle.query_calls.proofs.on_memberships.unread_confs.Goals as goal
 

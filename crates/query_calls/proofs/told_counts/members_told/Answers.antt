@@ -5,7 +5,7 @@ use Rattle.std.proofs.lemmas.Iterator.Consumers.{count_from_yields_List}
 use Rattle.kom_types.specs.declared.memberships.Member.{Member}
 use Rattle.kom_model.specs.Db.{members_of}
 use Rattle.kom_model.specs.Shown.{shows_membership}
-use Rattle.kom_model.specs.calls.Memberships.{member_of}
+use Rattle.kom_types.specs.tables.Memberships.{member_of}
 use Rattle.query_calls.proofs.ToldCounts.{counted_told-map}
 use Rattle.query_calls.proofs.told_counts.members_told.Goals as goal
 

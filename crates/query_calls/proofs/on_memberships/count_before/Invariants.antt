@@ -2,7 +2,7 @@ use Rattle.std.proofs.Common.{◌≡◌, ◌≤◌, ◌&&◌, nat_lt}
 use Rattle.kom_model.specs.Db.{memberships_of}
 use Rattle.kom_model.specs.calls.Memberships.{is_shown}
 use Rattle.query_calls.proofs.Memberships.{count_to}
-use Rattle.query_calls.proofs.on_memberships.place_of.Given as goal
+use Rattle.query_calls.proofs.on_memberships.count_before.Given as goal
 
 abbrev pub invariant-loop-place : goal.invariant-loop-place
 invariant-loop-place l = record {
