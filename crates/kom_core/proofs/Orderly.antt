@@ -6,9 +6,16 @@ use Rattle.std.proofs.lemmas.List.Elements.{filter_map-append}
 use Rattle.kom_types.specs.declared.acts.Act.{Act}
 use Rattle.kom_types.specs.declared.acts.Act.TheVariants as act
 use Rattle.kom_types.specs.declared.acts.Entry.{Entry}
+use Rattle.kom_types.specs.AuxItems.{items_from}
+use Rattle.kom_types.specs.declared.aux_items.Adder.{Adder}
+use Rattle.kom_types.specs.declared.aux_items.AuxChange.{AuxChange}
+use Rattle.kom_types.specs.declared.aux_items.AuxRow.{AuxRow}
+use Rattle.kom_types.specs.declared.aux_items.Object.{Object}
+use Rattle.kom_types.specs.declared.aux_items.Object.TheVariants as object
 use Rattle.kom_types.specs.declared.calls.Call.{Call}
 use Rattle.kom_types.specs.declared.calls.Call.TheVariants as call
 use Rattle.kom_types.specs.declared.conferences.ConferenceRow.{ConferenceRow}
+use Rattle.kom_types.specs.declared.conferences.NewConference.{NewConference}
 use Rattle.kom_types.specs.declared.decisions.Decision.{Decision}
 use Rattle.kom_types.specs.declared.effects.Counter.{Counter}
 use Rattle.kom_types.specs.declared.effects.Counter.TheVariants as counter
@@ -28,16 +35,19 @@ use Rattle.kom_types.specs.tables.Texts.{lines_of}
 use Rattle.kom_state.specs.Room.{name_given, IsOrderly}
 use Rattle.kom_model.specs.State.{State}
 use Rattle.kom_model.specs.Db.{Db, person_of, membership_of, memberships_at, next_conference_of, next_text_of, links_of}
-use Rattle.kom_model.specs.Db.{recipients_of, locals_of, marks_of, marks_on}
+use Rattle.kom_model.specs.Db.{recipients_of, locals_of, marks_of, marks_on, items_of, next_item_of}
+use Rattle.kom_model.specs.Shown.{text_adder, conference_adder}
+use Rattle.kom_model.specs.calls.AuxItems.{items_added, item_effects, changed, object_of, numbers_guard}
 use Rattle.kom_model.specs.calls.Call.{Asked, seat_of}
-use Rattle.kom_model.specs.calls.Conferences.{nearest, gone_person, gone_conference}
-use Rattle.kom_model.specs.calls.Guards.{Guard, with_items, items_guard, caller}
+use Rattle.kom_model.specs.calls.Conferences.{nearest, gone_person, gone_conference, create_conf}
+use Rattle.kom_model.specs.calls.Guards.{Guard, with_items, caller, first_refusal, items_guard}
+use Rattle.kom_model.specs.calls.Guards.{new_items_guard}
 use Rattle.read_ranges.specs.Changed.{all_marked, size_of}
 use Rattle.kom_model.specs.calls.Memberships.{mark_as_read, had_read, reads_now, member_effects, joins, is_near}
 use Rattle.kom_model.specs.calls.Memberships.{set_member, type_effects}
 use Rattle.kom_model.specs.calls.NewTexts.{names_recipient, names_footnote, item_effect, item_written, author_effects}
-use Rattle.kom_model.specs.calls.NewTexts.{text_effects, new_text}
-use Rattle.kom_model.specs.calls.Persons.{person_effects}
+use Rattle.kom_model.specs.calls.NewTexts.{text_effects, new_text, new_items}
+use Rattle.kom_model.specs.calls.Persons.{person_effects, maker}
 use Rattle.kom_model.specs.calls.Sessions.{counts, seat_left, all_left, leaving_effects}
 use Rattle.kom_model.specs.calls.Texts.{gone_text, new_recipient, nearest_text}
 use Rattle.kom_model.specs.Decide.{asked_in, definition_of, decision_of}
@@ -76,11 +86,53 @@ with_items-orderly : (guard : Guard) (decision : Decision) → IsOrderly decisio
 with_items-orderly None decision orderly = orderly
 with_items-orderly (Some refused) decision orderly = tt
 
+nameless-append : (first rest : List Effect) → IsNameless first → IsNameless rest → IsNameless (first ++ rest)
+nameless-append first rest one other = rw (filter_map-append name_given first rest, one) other
+
+nameless-map : {X : Type 0} (make : X → Effect) → ((x : X) → name_given (make x) ≡ None) → (xs : List X) →
+    IsNameless (map make xs)
+nameless-map make none [] = refl
+nameless-map make none (x ∷ xs) = rw (none x) (nameless-map make none xs)
+
+-- aux-items that are added, and that are changed
+added-nameless : (on_text : Bool) (number : ℕ) (items : List AuxRow) → IsNameless (items_added on_text number items)
+added-nameless on_text number items =
+    nameless-map (λ item. effect.AuxAdded on_text number item) (λ item. refl) items
+
+change-nameless : (asked : Asked) (on_text : Bool) (adder : Adder) (given : AuxChange) →
+    IsNameless (item_effects asked on_text adder given)
+change-nameless asked on_text adder given =
+    let gone = λ (number : ℕ). effect.AuxGone on_text given.object number in
+    let items = items_from (next_item_of asked.db on_text given.object) adder.person asked.moment given.add in
+    nameless-append (map gone given.delete) (items_added on_text given.object items)
+    (nameless-map gone (λ number. refl) given.delete) (added-nameless on_text given.object items)
+
+change-orderly : (asked : Asked) (on_text : Bool) (on : Object) (adder : Adder) (given : AuxChange) →
+    IsOrderly (changed asked on_text on adder given).effects
+change-orderly asked on_text on adder given =
+    with_items-orderly
+    (first_refusal
+    (items_guard on adder (items_of asked.db on_text given.object) given.delete given.add
+    ∷ numbers_guard asked.db on_text given ∷ [])) _
+    (IsOrderly-nameless (item_effects asked on_text adder given) (change-nameless asked on_text adder given))
+
 person-orderly : (asked : Asked) (number : ℕ) (given : NewPerson) → IsOrderly (person_effects asked number given)
 person-orderly asked number given =
     let by : ℕ = (caller asked).person in
-    elim (by == 0) as (λ b. filter_map name_given (cond b [] (counts by counter.CreatedPersons 1)) ≡ [])
-    [ true ↦ refl | false ↦ refl ]
+    let items = items_from 1 (maker by number) asked.moment given.aux_items in
+    let counted = λ (b : Bool). cond b [] (counts by counter.CreatedPersons 1) in
+    nameless-append (items_added false number items) (counted (by == 0)) (added-nameless false number items)
+    (elim (by == 0) as (λ b. IsNameless (counted b))
+    [ true ↦ refl | false ↦ counts-nameless by counter.CreatedPersons 1 ])
+
+conference-orderly : (asked : Asked) (given : NewConference) → IsOrderly (create_conf asked given).rest.effects
+conference-orderly asked given =
+    let by : ℕ = (caller asked).person in
+    let number = next_conference_of asked.db in
+    let items = items_from 1 by asked.moment given.aux_items in
+    with_items-orderly (new_items_guard object.Conference by given.aux_items) _
+    (nameless-append (items_added false number items) (counts by counter.CreatedConferences 1)
+    (added-nameless false number items) (counts-nameless by counter.CreatedConferences 1))
 
 nearest-orderly : (asked : Asked) (start : ℕ) (found : Option ConferenceRow) →
     IsOrderly (nearest asked start found).rest.effects
@@ -93,14 +145,6 @@ nearest_text-orderly asked start None = tt
 nearest_text-orderly asked start (Some row) = tt
 
 -- ---- texts
-nameless-append : (first rest : List Effect) → IsNameless first → IsNameless rest → IsNameless (first ++ rest)
-nameless-append first rest one other = rw (filter_map-append name_given first rest, one) other
-
-nameless-map : {X : Type 0} (make : X → Effect) → ((x : X) → name_given (make x) ≡ None) → (xs : List X) →
-    IsNameless (map make xs)
-nameless-map make none [] = refl
-nameless-map make none (x ∷ xs) = rw (none x) (nameless-map make none xs)
-
 abbrev gone_link : Link → Effect
 gone_link link = effect.LinkGone link.child link.parent link.footnote
 
@@ -110,16 +154,22 @@ gone_recipient row = effect.RecipientGone row.text row.conference
 abbrev gone_mark : MarkRow → Effect
 gone_mark row = effect.MarkGone row.person row.text
 
+abbrev gone_item : Bool → ℕ → AuxRow → Effect
+gone_item on_text object item = effect.AuxGone on_text object item.number
+
 gone-nameless : (db : Db) (text : ℕ) → IsNameless (gone_text db text)
 gone-nameless db text =
     let links = map gone_link (links_of db text) in
     let recipients = map gone_recipient (recipients_of db text) in
     let marks = map gone_mark (marks_on db text) in
-    nameless-append (links ++ recipients ++ marks) (effect.TextGone text ∷ [])
+    let items = map (gone_item true text) (items_of db true text) in
+    nameless-append (links ++ recipients ++ marks ++ items) (effect.TextGone text ∷ [])
+    (nameless-append (links ++ recipients ++ marks) items
     (nameless-append (links ++ recipients) marks
     (nameless-append links recipients (nameless-map gone_link (λ link. refl) (links_of db text))
     (nameless-map gone_recipient (λ row. refl) (recipients_of db text)))
-    (nameless-map gone_mark (λ row. refl) (marks_on db text))) refl
+    (nameless-map gone_mark (λ row. refl) (marks_on db text)))
+    (nameless-map (gone_item true text) (λ item. refl) (items_of db true text))) refl
 
 item-nameless : (asked : Asked) (text : ℕ) (item : MiscInput) → name_given (item_effect asked text item) ≡ None
 item-nameless asked text item =
@@ -144,10 +194,13 @@ text-nameless : (asked : Asked) (anonymous : Bool) (text : ℕ) (given : NewText
     IsNameless (text_effects asked anonymous text given)
 text-nameless asked anonymous text given =
     let made = map (item_effect asked text) given.misc_inputs in
+    let added = items_added true text (new_items asked given) in
     let written = map (item_written asked) (filter names_recipient given.misc_inputs) in
-    nameless-append (made ++ written) (cond anonymous [] (author_effects asked text given.body))
-    (nameless-append made written
+    nameless-append (made ++ added ++ written) (cond anonymous [] (author_effects asked text given.body))
+    (nameless-append (made ++ added) written
+    (nameless-append made added
     (nameless-map (item_effect asked text) (item-nameless asked text) given.misc_inputs)
+    (added-nameless true text (new_items asked given)))
     (nameless-map (item_written asked) (λ item. refl) (filter names_recipient given.misc_inputs)))
     (elim anonymous as (λ b. IsNameless (cond b [] (author_effects asked text given.body)))
     [ true ↦ refl | false ↦ author-nameless asked text given.body ])
@@ -179,9 +232,11 @@ deletion-nameless asked number =
     let locals = map (gone_local number) (locals_of asked.db number) in
     let marks = map (gone_own_mark number) (marks_of asked.db number) in
     let members = map gone_member (memberships_at asked.db number) in
+    let items = map (gone_item false number) (items_of asked.db false number) in
     let person = gone_person asked.db number in
-    nameless-append (left ++ locals ++ marks ++ members ++ person) (effect.ConfGone number ∷ [])
-    (nameless-append (left ++ locals ++ marks ++ members) person
+    nameless-append (left ++ locals ++ marks ++ members ++ items ++ person) (effect.ConfGone number ∷ [])
+    (nameless-append (left ++ locals ++ marks ++ members ++ items) person
+    (nameless-append (left ++ locals ++ marks ++ members) items
     (nameless-append (left ++ locals ++ marks) members
     (nameless-append (left ++ locals) marks
     (nameless-append left locals
@@ -189,6 +244,7 @@ deletion-nameless asked number =
     (nameless-map (gone_local number) (λ pair. refl) (locals_of asked.db number)))
     (nameless-map (gone_own_mark number) (λ row. refl) (marks_of asked.db number)))
     (nameless-map gone_member (λ row. refl) (memberships_at asked.db number)))
+    (nameless-map (gone_item false number) (λ item. refl) (items_of asked.db false number)))
     (person_gone-nameless asked.db number)) refl
 
 -- ---- memberships
@@ -223,7 +279,7 @@ type-nameless db person conference kind =
 new_text-orderly : (anonymous : Bool) (asked : Asked) (given : NewText) →
     IsOrderly (new_text anonymous asked given).rest.effects
 new_text-orderly anonymous asked given =
-    with_items-orderly (items_guard given.aux_items) _
+    with_items-orderly (new_items_guard object.Text (caller asked).person given.aux_items) _
     (IsOrderly-nameless (text_effects asked anonymous (next_text_of asked.db) given)
     (text-nameless asked anonymous (next_text_of asked.db) given))
 
@@ -233,9 +289,15 @@ rest-orderly asked call.Logout = IsOrderly-nameless (leaving_effects asked) (lea
 rest-orderly asked (call.Login person password invisible) =
     nameless-before (leaving_effects asked) _ (leaving-nameless asked) tt
 rest-orderly asked (call.CreatePerson given) =
-    with_items-orderly (items_guard given.aux_items) _ (person-orderly asked (next_conference_of asked.db) given)
+    with_items-orderly
+    (new_items_guard object.Letterbox (maker (caller asked).person (next_conference_of asked.db)) given.aux_items) _
+    (person-orderly asked (next_conference_of asked.db) given)
 rest-orderly asked (call.ChangeName conference name) = refl
-rest-orderly asked (call.CreateConf given) = with_items-orderly (items_guard given.aux_items) _ refl
+rest-orderly asked (call.CreateConf given) = conference-orderly asked given
+rest-orderly asked (call.ModifyTextInfo given) =
+    change-orderly asked true object.Text (text_adder asked.db (caller asked) given.object) given
+rest-orderly asked (call.ModifyConfInfo given) = change-orderly asked false (object_of asked.db given.object)
+    (conference_adder asked.db (caller asked) given.object) given
 rest-orderly asked (call.DeleteConf number) =
     IsOrderly-nameless (gone_conference asked number) (deletion-nameless asked number)
 rest-orderly asked (call.DeleteText text) =

@@ -89,6 +89,7 @@ ChangesConference (call.SetConfType conference kind) = Unit {0}
 ChangesConference (call.SetGarbNice conference days) = Unit {0}
 ChangesConference (call.SetExpire conference days) = Unit {0}
 ChangesConference (call.SetKeepCommented conference days) = Unit {0}
+ChangesConference (call.ModifyConfInfo change) = Unit {0}
 ChangesConference other = ⊥
 
 -- the call changes a membership
@@ -117,6 +118,7 @@ ChangesText (call.MarkText text kind) = Unit {0}
 ChangesText (call.UnmarkText text) = Unit {0}
 ChangesText (call.CreateText given) = Unit {0}
 ChangesText (call.CreateAnonymousText given) = Unit {0}
+ChangesText (call.ModifyTextInfo change) = Unit {0}
 ChangesText other = ⊥
 
 -- memory did not run out

@@ -70,7 +70,8 @@ pub(crate) fn make(asked: &Asked<'_>, call: &Call) -> Result<Decision, CallError
         | Call::SetConfType { .. }
         | Call::SetGarbNice { .. }
         | Call::SetExpire { .. }
-        | Call::SetKeepCommented { .. } => make_conference_change(asked, call),
+        | Call::SetKeepCommented { .. }
+        | Call::ModifyConfInfo(_) => make_conference_change(asked, call),
         Call::SubMember { .. }
         | Call::MarkAsRead { .. }
         | Call::SetUnread { .. }
@@ -90,16 +91,15 @@ pub(crate) fn make(asked: &Asked<'_>, call: &Call) -> Result<Decision, CallError
         | Call::MarkText { .. }
         | Call::UnmarkText { .. }
         | Call::CreateText(_)
-        | Call::CreateAnonymousText(_) => make_text_change(asked, call),
+        | Call::CreateAnonymousText(_)
+        | Call::ModifyTextInfo(_) => make_text_change(asked, call),
         Call::Refused(code, status) => refuse(*code, *status),
         Call::SendMessage { .. }
         | Call::Disconnect { .. }
         | Call::WhoIsOnDynamic { .. }
         | Call::GetStaticSessionInfo { .. }
         | Call::SyncKom
-        | Call::ShutdownKom { .. }
-        | Call::ModifyTextInfo(_)
-        | Call::ModifyConfInfo(_) => refuse(2, 0),
+        | Call::ShutdownKom { .. } => refuse(2, 0),
     }
 }
 
@@ -253,6 +253,7 @@ fn make_conference_change(asked: &Asked<'_>, call: &Call) -> Result<Decision, Ca
         Call::SetKeepCommented { conference, days } => {
             conf_calls::set_keep_commented(asked, *conference, *days)
         }
+        Call::ModifyConfInfo(change) => conf_calls::modify_conf_info(asked, change.get()),
         _ => unreachable!(),
     }
 }
@@ -325,6 +326,7 @@ fn make_text_change(asked: &Asked<'_>, call: &Call) -> Result<Decision, CallErro
         Call::CreateAnonymousText(given) => {
             text_calls::create_anonymous_text(asked, given.get())
         }
+        Call::ModifyTextInfo(change) => text_calls::modify_text_info(asked, change.get()),
         _ => unreachable!(),
     }
 }
