@@ -2,8 +2,8 @@
 """Tries the limits of texts on the built program `komd`: limits_of_texts.py [PROGRAM]
 
 Each case is a list of calls with what each is to be answered; the calls are too many, or too long, to stand in a file. The
-limits: bytes of a text, recipients of a text, comments and footnotes in and out of a text, and marks of a person. It prints
-a line for each call that is answered otherwise, and a count, and ends with 1 if there is one, else with 0. PROGRAM is
+limits: bytes of a text, recipients of a text, comments and footnotes in and out of a text, marks of a person, and the
+aux-items of a text and of a conference with the bytes of their contents. It prints a line for each call that is answered otherwise, and a count, and ends with 1 if there is one, else with 0. PROGRAM is
 crates/komd/out/komd unless it is named.
 """
 import pathlib
@@ -16,16 +16,26 @@ MOST_RECIPIENTS = 100
 MOST_COMMENTS = 1_000
 MOST_FOOTNOTES = 100
 MOST_MARKS = 2_000
+MOST_ITEMS = 100
+LONGEST_CONTENT = 16_384
 
 
 def hollerith(data):
     return str(len(data)).encode() + b"H" + data
 
 
-def create(body, items):
-    """The arguments of create-text: a body, and items as pairs of a tag and a number."""
-    listed = b" ".join(b"%d %d" % item for item in items)
-    return b"86 " + hollerith(body) + b" %d { " % len(items) + listed + b" } 0 { }"
+def listed(elements):
+    """An array, as a client spells it."""
+    return b"%d { " % len(elements) + b" ".join(elements) + b" }"
+
+
+def create(body, items, aux_items=()):
+    """The arguments of create-text: a body, items as pairs of a tag and a number, and aux-items."""
+    return b"86 " + hollerith(body) + b" " + listed([b"%d %d" % item for item in items]) + b" " + listed(aux_items)
+
+
+def aux_item(tag, content, flags=b"00000000"):
+    return b"%d %s 0 " % (tag, flags) + hollerith(content)
 
 
 class Case:
@@ -146,6 +156,35 @@ def ring():
     return case
 
 
+def aux_items():
+    case = Case("aux-items of a text and of a conference")
+    most = [aux_item(2, b"%d" % place) for place in range(MOST_ITEMS)]
+    one = aux_item(2, b"one")
+    case.refused(create(b"x", [], most + [one]), 48, MOST_ITEMS)
+    case.good(create(b"x", [], most), b"1")
+    case.refused(b"92 1 0 { } " + listed([one]), 48, 0)
+    case.good(b"92 1 1 { 7 } " + listed([one]))
+    case.refused(b"92 1 1 { 7 } 0 { }", 48, 0)
+    case.refused(b"92 1 1 { 8 } " + listed([one, one]), 48, 1)
+    case.good(b"92 1 " + listed([b"%d" % place for place in range(8, MOST_ITEMS + 2)]) + b" 0 { }")
+    handed = [aux_item(2, b"%d" % place, b"01000000") for place in range(MOST_ITEMS)]
+    case.good(create(b"x", [], handed), b"2")
+    case.good(create(b"y", [(2, 2)], [one]), b"3")
+    case.refused(b"92 3 0 { } " + listed([one]), 48, 0)
+    longest = b"a" * LONGEST_CONTENT
+    case.good(create(b"z", [], [aux_item(2, longest)]), b"4")
+    case.refused(create(b"z", [], [one, aux_item(2, longest + b"b")]), 48, 1)
+    case.refused(b"92 4 0 { } " + listed([aux_item(2, longest + b"b")]), 48, 0)
+    faqs = [aux_item(14, b"%d" % place) for place in range(MOST_ITEMS)]
+    conference = b"88 4HOpen 00000000 "
+    case.refused(conference + listed(faqs + [aux_item(14, b"1")]), 48, MOST_ITEMS)
+    case.good(conference + listed(faqs), b"6")
+    case.refused(b"93 6 0 { } " + listed([aux_item(14, b"1")]), 48, 0)
+    case.good(b"11 6")
+    case.good(b"29 3")
+    return case
+
+
 def cases():
     yield bodies()
     yield recipients()
@@ -153,6 +192,7 @@ def cases():
     yield links("footnotes in and out of a text", 4, MOST_FOOTNOTES, 35, 37)
     yield marks()
     yield ring()
+    yield aux_items()
 
 
 def main(words):
@@ -173,7 +213,7 @@ def main(words):
             if rest or done.returncode or done.stderr:
                 failed += 1
                 print(f"{case.name}: after the answers {rest[:60]!r}, status {done.returncode}, {done.stderr[:60]!r}")
-    print(f"{calls} calls at the limits of texts, {failed} cases are answered otherwise")
+    print(f"{calls} calls at the limits of texts and aux-items, {failed} cases are answered otherwise")
     return 1 if failed else 0
 
 
