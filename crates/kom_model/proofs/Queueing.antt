@@ -5,7 +5,7 @@ use Rattle.std.proofs.lemmas.List.{append-nil}
 use Rattle.kom_types.specs.declared.items.Item.{Item}
 use Rattle.kom_types.specs.Sessions.{Waiting, Session, Limits, fits, queued}
 use Rattle.kom_model.specs.State.{State}
-use Rattle.kom_model.specs.ToWhom.{Delivery}
+use Rattle.kom_model.specs.Sending.{Delivery}
 use Rattle.kom_model.specs.After.{with_session, queue_all}
 use Rattle.kom_model.proofs.Order.{AllAt}
 use Rattle.kom_model.proofs.Keeping.{KeepsRow, KeepsRows, KeepsRows-same, KeepsRows-changed}

@@ -16,7 +16,8 @@ use Rattle.kom_model.specs.State.{State}
 use Rattle.kom_model.specs.Effects.{apply_all}
 use Rattle.kom_model.specs.Decide.{asked_in, decision_of, is_firm}
 use Rattle.kom_model.specs.Refusal.{IsPossible}
-use Rattle.kom_model.specs.ToWhom.{Delivery, messages_of}
+use Rattle.kom_model.specs.Sending.{Delivery}
+use Rattle.kom_model.specs.ToWhom.{messages_of}
 
 -- the session that the record of an act names: that of the act; at a Connect the one that it makes;
 -- at a flush 0

@@ -30,7 +30,7 @@ asked_in state moment session reference =
       reference = reference;
     }
 
--- The definition of each call. One that the server does not make yet is refused as an unknown one.
+-- The definition of each call.
 abbrev pub definition_of : Asked → Call → Definition
 definition_of asked call.Logout = Sessions.logout asked
 definition_of asked (call.ChangeConference conference) =
@@ -74,8 +74,13 @@ definition_of asked (call.SetUnread conference count) =
 definition_of asked (call.Enable level) = Sessions.enable asked level
 definition_of asked (call.AddFootnote text parent) = Texts.add_footnote asked text parent
 definition_of asked (call.SubFootnote text parent) = Texts.sub_footnote asked text parent
+definition_of asked call.SyncKom = Server.sync_kom asked
+definition_of asked (call.ShutdownKom value) = Server.shutdown_kom asked
 definition_of asked (call.GetPersonStat person) = Persons.get_person_stat asked person
 definition_of asked (call.GetUnreadConfs person) = Memberships.get_unread_confs asked person
+definition_of asked (call.SendMessage recipient text) =
+    Sessions.send_message_to asked recipient text
+definition_of asked (call.Disconnect session) = Sessions.disconnect asked session
 definition_of asked call.WhoAmI = Sessions.who_am_i asked
 definition_of asked (call.SetUserArea person text) = Persons.set_user_area asked person text
 definition_of asked (call.FindNextTextNo start) = Texts.find_next_text_no asked start
@@ -96,6 +101,10 @@ definition_of asked (call.GetUconfStat conference) = Conferences.get_uconf_stat 
 definition_of asked (call.AcceptAsync numbers) = Sessions.accept_async asked numbers
 definition_of asked call.QueryAsync = Sessions.query_async asked
 definition_of asked call.UserActive = Sessions.user_active asked
+definition_of asked (call.WhoIsOnDynamic visible invisible most) =
+    Sessions.who_is_on_dynamic asked visible invisible most
+definition_of asked (call.GetStaticSessionInfo session) =
+    Sessions.get_static_session_info asked session
 definition_of asked call.GetCollateTable = Conferences.get_collate_table
 definition_of asked (call.CreateText text) = NewTexts.create_text asked text
 definition_of asked (call.CreateAnonymousText text) = NewTexts.create_anonymous_text asked text
@@ -138,7 +147,6 @@ definition_of asked (call.FindPreviousConfNo number) =
 definition_of asked (call.LocalToGlobalReverse conference ceiling count) =
     Texts.local_to_global_reverse asked conference ceiling count
 definition_of asked (call.Refused code status) = refused code status
-definition_of asked other = refused 2 0
 
 -- how many bytes the line of a reply has at most
 abbrev pub longest_reply : ℕ

@@ -1,6 +1,9 @@
 pub mod Db
 pub mod Rights
+pub mod Viewers
 pub mod Shown
+pub mod Sending
+pub mod Messages
 pub mod Effects
 pub mod Initial
 pub mod State
@@ -20,3 +23,4 @@ pub mod TextRows
 pub mod MemberRows
 pub mod ShownRows
 pub mod ItemRows
+pub mod MessageRows

@@ -16,7 +16,7 @@ use Rattle.kom_model.specs.State.{State, empty, IsSound}
 use Rattle.kom_model.specs.Db.{empty_db}
 use Rattle.kom_model.specs.calls.Call.{Asked, answer, unguarded, refused}
 use Rattle.kom_model.specs.Decide.{asked_in, definition_of, decision_of, limited, is_firm}
-use Rattle.kom_model.specs.ToWhom.{Delivery}
+use Rattle.kom_model.specs.Sending.{Delivery}
 use Rattle.kom_model.specs.Refusal.{refusal_of}
 use Rattle.kom_model.specs.After.{MayFollow, queue_all, make_changes, after}
 use Rattle.kom_model.specs.Legal.{IsLegal, state_after}
@@ -302,7 +302,5 @@ pub record Rows : Type 0 where
       ≡ unguarded (answer (reply.Numbers (5 ∷ 15 ∷ [])))
   pub time_of_the_entry :
       decision_of (asked_in met 951782400 1 7) call.GetTime ≡ answer (reply.Time 951782400)
-  pub not_made_yet : (asked : Asked) → definition_of asked call.SyncKom ≡ refused 2 0
-  pub firm_not_made : (asked : Asked) → is_firm asked call.SyncKom ≡ true
   pub not_firm : (asked : Asked) → is_firm asked (call.AcceptAsync []) ≡ false
   pub short_enough : limited 7 (answer (reply.Number 1)) ≡ answer (reply.Number 1)

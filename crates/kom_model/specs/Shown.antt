@@ -23,6 +23,7 @@ use Rattle.kom_types.specs.declared.texts.TextRow.{TextRow}
 use Rattle.kom_types.specs.declared.texts.TextStat.{TextStat}
 use Rattle.kom_types.specs.tables.Memberships.{is_secret_membership}
 use Rattle.kom_types.specs.tables.Persons.{last_count}
+use Rattle.kom_model.specs.declared.text_heads.TextHead.{TextHead}
 use Rattle.kom_model.specs.declared.viewers.Viewer.{Viewer}
 use Rattle.kom_model.specs.Db.{Db, person_flags_of, recipients_of, links_from, links_into}
 use Rattle.kom_model.specs.Db.{marks_of, marks_on, members_of, memberships_of, read_of}
@@ -188,25 +189,38 @@ recipients_shown db viewer author text =
     filter (shows_recipient db viewer author) (recipients_of db text)
 
 -- all that a text is linked to, each group in the order of adding. (Protocol A, "Misc-Info".)
-abbrev pub misc_infos : Db → Viewer → TextRow → List MiscInfo
-misc_infos db viewer row =
-    flat_map recipient_infos (recipients_shown db viewer row.author row.number)
-    ++ flat_map from_infos (links_from db row.number false)
-    ++ map into_info (links_into db row.number false)
-    ++ flat_map from_infos (links_from db row.number true)
-    ++ map into_info (links_into db row.number true)
+abbrev pub misc_infos : Db → Viewer → TextHead → List MiscInfo
+misc_infos db viewer head =
+    flat_map recipient_infos (recipients_shown db viewer head.author head.number)
+    ++ flat_map from_infos (links_from db head.number false)
+    ++ map into_info (links_into db head.number false)
+    ++ flat_map from_infos (links_from db head.number true)
+    ++ map into_info (links_into db head.number true)
+
+-- a text without its body
+abbrev pub text_head_of : TextRow → TextHead
+text_head_of row = record {
+  number = row.number;
+  author = row.author;
+  created = row.created;
+  lines = row.lines;
+  chars = length row.body;
+}
 
 -- A text, as it is told to who reads it. (Protocol A, "Texts".)
-abbrev pub shown_stat : Db → Viewer → TextRow → TextStat
-shown_stat db viewer row = record {
-  created = row.created;
-  author = row.author;
-  lines = told_count row.lines;
-  chars = told_count (length row.body);
-  marks = told_count (length (marks_on db row.number));
-  misc_infos = misc_infos db viewer row;
-  aux_items = items_shown (text_adder db viewer row.number) (items_of db true row.number);
+abbrev pub stat_of : Db → Viewer → TextHead → TextStat
+stat_of db viewer head = record {
+  created = head.created;
+  author = head.author;
+  lines = told_count head.lines;
+  chars = told_count head.chars;
+  marks = told_count (length (marks_on db head.number));
+  misc_infos = misc_infos db viewer head;
+  aux_items = items_shown (text_adder db viewer head.number) (items_of db true head.number);
 }
+
+abbrev pub shown_stat : Db → Viewer → TextRow → TextStat
+shown_stat db viewer row = stat_of db viewer (text_head_of row)
 
 -- the conference that a session is in, as it is told to who looks: 0 if that is not seen
 abbrev pub working_shown : Db → Viewer → Seat → ℕ

@@ -2,6 +2,7 @@ ghost use Rattle.kom_model.specs.CallRows.{CallRows};
 ghost use Rattle.kom_model.specs.DbRows.{DbRows};
 ghost use Rattle.kom_model.specs.ItemRows.{ItemRows};
 ghost use Rattle.kom_model.specs.MemberRows.{MemberRows};
+ghost use Rattle.kom_model.specs.MessageRows.{WorkedMessages};
 ghost use Rattle.kom_model.specs.Rows.{Rows};
 ghost use Rattle.kom_model.specs.ShownRows.{ShownRows};
 ghost use Rattle.kom_model.specs.TextRows.{TextRows};
@@ -45,4 +46,10 @@ pub fn worked_shown()
 /// calls over them, give what was worked out by hand.
 pub fn worked_items()
     ensures { ItemRows }
+{}
+
+/// A law alone: the definitions of who gets which message of a call, and of the calls that only
+/// tell or send, give what was worked out by hand.
+pub fn worked_messages()
+    ensures { WorkedMessages }
 {}

@@ -1,9 +1,9 @@
 ghost use Rattle.std.specs.Prelude.{◌≡◌, length, slice_get, option_copied};
 ghost use Rattle.kom_model.specs.Db.{Db, conference_head_of, membership_kind_of, text_author_of};
-ghost use Rattle.kom_model.specs.Db.{person_flags_of, recipients_of, text_of, links_from};
+ghost use Rattle.kom_model.specs.Db.{person_flags_of, recipients_of, links_from};
 ghost use Rattle.kom_model.specs.Db.{links_into, items_of, marks_on};
 
-use kom_types::{AuxRow, ConferenceHead, Link, Recipient, TextRow};
+use kom_types::{AuxRow, ConferenceHead, Link, Recipient};
 
 /// How the rights of persons read the stored rows. `None` comes exactly if there is no such row.
 pub trait Rows {
@@ -32,10 +32,6 @@ pub trait Rows {
     /// The recipient of a text at a place among its recipients, in the order of adding.
     fn recipient(&self, text: u32, place: usize) -> Option<Recipient>
         ensures { result ≡ slice_get (recipients_of (db self.now) text) place };
-
-    /// The text of a number.
-    fn text(&self, number: u32) -> Option<&TextRow>
-        ensures { option_copied result ≡ text_of (db self.now) number };
 
     /// To how many texts a text is a comment, or a footnote.
     fn count_from(&self, text: u32, footnote: bool) -> usize

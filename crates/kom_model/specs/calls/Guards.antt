@@ -13,11 +13,12 @@ use Rattle.kom_types.specs.declared.decisions.Decision.{Decision}
 use Rattle.kom_types.specs.declared.seats.Seat.{Seat}
 use Rattle.kom_types.specs.Names.{clash, is_name}
 use Rattle.kom_types.specs.tables.Conferences.{is_secret_protected, is_letterbox}
-use Rattle.kom_types.specs.tables.Persons.{is_mighty, password_hash}
+use Rattle.kom_types.specs.tables.Persons.{password_hash}
 use Rattle.kom_model.specs.declared.call_errors.Refused.{Refused}
 use Rattle.kom_model.specs.declared.viewers.Viewer.{Viewer}
 use Rattle.kom_model.specs.Db.{Db, person_of, conferences_of, next_conference_of}
 use Rattle.kom_model.specs.Effects.{longest_name, last_conference}
+use Rattle.kom_model.specs.Viewers.{viewer_of}
 use Rattle.kom_model.specs.Rights.{sees, supervises, reads, reads_conference, may_submit}
 use Rattle.kom_model.specs.calls.Call.{Asked, Definition, seat_of, refuse}
 
@@ -46,18 +47,10 @@ first_refusal (Some refused ∷ guards) = Some refused
 abbrev pub guarded : List Guard → Decision → Definition
 guarded guards decision = record { early = first_refusal guards; rest = decision }
 
--- a person's privileges let its sessions be strong
-abbrev pub has_might : Db → ℕ → Bool
-has_might db person = elim (person_of db person) [ None ↦ false | Some row ↦ is_mighty row.privileges ]
-
--- a session is strong at level 255, where its person's privileges let it
-abbrev pub is_strong_seat : Db → Seat → Bool
-is_strong_seat db seat = seat.level == 255 && has_might db seat.person
-
 -- who looks from a seat: nobody, if there is none
 abbrev pub viewer_at : Db → Option Seat → Viewer
 viewer_at db None = record { person = 0; strong = false }
-viewer_at db (Some seat) = record { person = seat.person; strong = is_strong_seat db seat }
+viewer_at db (Some seat) = viewer_of db seat
 
 -- who calls
 abbrev pub caller : Asked → Viewer

@@ -1,7 +1,9 @@
 -- The calls about the server. (Protocol A, "Protocol Requests".)
-use Rattle.std.specs.Prelude.{[], codes}
+use Rattle.std.specs.Prelude.{[], ◌∷◌, codes}
 use Rattle.kom_types.specs.declared.replies.Reply.TheVariants as reply
-use Rattle.kom_model.specs.calls.Call.{Asked, Definition, answer, unguarded}
+use Rattle.kom_types.specs.declared.session_changes.SessionChange.TheVariants as change
+use Rattle.kom_model.specs.calls.Call.{Asked, Definition, answer, done, unguarded}
+use Rattle.kom_model.specs.calls.Guards.{guarded, caller, strong_guard}
 
 -- call 35, get-time: the time of the entry
 abbrev pub get_time : Asked → Definition
@@ -23,3 +25,11 @@ get_info = unguarded (answer (reply.Info (record {
   motd_of_lyskom = 0;
   aux_items = [];
 })))
+
+-- call 43, sync-kom
+abbrev pub sync_kom : Asked → Definition
+sync_kom asked = guarded (strong_guard (caller asked) ∷ []) (done [] [])
+
+-- call 44, shutdown-kom: its value is not used
+abbrev pub shutdown_kom : Asked → Definition
+shutdown_kom asked = guarded (strong_guard (caller asked) ∷ []) (done [] (change.Stop ∷ []))

@@ -1,5 +1,6 @@
 -- The calls about sessions. (Protocol A, "Protocol Requests".)
-use Rattle.std.specs.Prelude.{ℕ, ◌-◌, ◌/◌, ◌%◌, ◌^◌, Bool, false, ◌==◌, not, List, [], ◌∷◌, ◌++◌}
+use Rattle.std.specs.Prelude.{ℕ, ◌-◌, ◌^◌, Bool, false, ◌==◌, ◌||◌, ◌&&◌, not, nat_le, min}
+use Rattle.std.specs.Prelude.{List, [], ◌∷◌, ◌++◌, length, map}
 use Rattle.std.specs.Prelude.{Option, Some, None, find, filter, fold, bit_or, if◌then◌else◌}
 use Rattle.std.specs.List.{flat_map}
 use Rattle.kom_types.specs.declared.effects.Counter.{Counter}
@@ -12,11 +13,21 @@ use Rattle.kom_types.specs.declared.seats.Seat.{Seat}
 use Rattle.kom_types.specs.declared.session_changes.SessionChange.{SessionChange}
 use Rattle.kom_types.specs.declared.session_changes.SessionChange.TheVariants as change
 use Rattle.kom_types.specs.declared.sessions.ClientVersion.{ClientVersion}
+use Rattle.kom_types.specs.declared.sessions.DynamicSession.{DynamicSession}
+use Rattle.kom_types.specs.declared.sessions.StaticSession.{StaticSession}
+use Rattle.kom_types.specs.Bits.{is_on}
+use Rattle.kom_types.specs.declared.decisions.Decision.{Decision}
+use Rattle.kom_types.specs.tables.Persons.{last_count}
 use Rattle.kom_model.specs.Effects.{longest_name}
 use Rattle.kom_model.specs.Kinds.{is_among}
+use Rattle.kom_model.specs.Messages.{send_message}
+use Rattle.kom_model.specs.Rights.{supervises}
+use Rattle.kom_model.specs.Sending.{accepts, delivered_to}
+use Rattle.kom_model.specs.Shown.{working_shown}
 use Rattle.kom_model.specs.calls.Call.{Asked, Definition, answer, done, unguarded, seat_of}
 use Rattle.kom_model.specs.calls.Guards.{guarded, unless, caller, login_guard, session_guard}
 use Rattle.kom_model.specs.calls.Guards.{size_guard, person_guard, password_guard, seat_at}
+use Rattle.kom_model.specs.calls.Guards.{conference_or_none_guard}
 
 -- call 56, who-am-i: the number of the caller's session
 abbrev pub who_am_i : Asked → Definition
@@ -48,14 +59,10 @@ accept_async asked numbers = unguarded (record {
   changes = change.Accept asked.session (accepted_bits numbers) ∷ [];
 })
 
--- whether the bit of a number is set
-abbrev pub has_bit : ℕ → ℕ → Bool
-has_bit bits number = bits / 2 ^ number % 2 == 1
-
 -- the messages that the caller's session accepts
 abbrev pub accepted_of : Asked → List ℕ
 accepted_of asked = elim (seat_of asked) [
-  | Some seat ↦ filter (has_bit seat.accepted) message_numbers
+  | Some seat ↦ filter (λ number. accepts number seat) message_numbers
   | None ↦ []
 ]
 
@@ -119,6 +126,9 @@ all_left asked person =
 abbrev pub leaving_effects : Asked → List Effect
 leaving_effects asked = elim (seat_of asked) [ None ↦ [] | Some seat ↦ seat_left asked seat ]
 
+abbrev pub seat_leaves : Seat → List SessionChange
+seat_leaves seat = if seat.person == 0 then [] else change.Person seat.number 0 false ∷ []
+
 abbrev pub leaving_changes : Asked → List SessionChange
 leaving_changes asked =
     if (caller asked).person == 0 then [] else change.Person asked.session 0 false ∷ []
@@ -138,3 +148,85 @@ login asked person password invisible = guarded
     (done
     (leaving_effects asked ++ effect.LoggedIn person asked.moment (user_of asked) ∷ [])
     (leaving_changes asked ++ change.Person asked.session person invisible ∷ []))
+
+-- call 53, send-message: somebody gets it
+abbrev pub longest_message : ℕ
+longest_message = 10000
+
+abbrev pub is_sent : Asked → ℕ → List ℕ → Bool
+is_sent asked recipient text = not (length (delivered_to asked.db asked.seats
+    (send_message asked.db recipient (caller asked).person text)) == 0)
+
+abbrev pub send_message_to : Asked → ℕ → List ℕ → Definition
+send_message_to asked recipient text = guarded
+    (login_guard (caller asked) ∷ size_guard text longest_message
+    ∷ conference_or_none_guard asked.db (caller asked) recipient
+    ∷ unless (is_sent asked recipient text) 53 recipient ∷ [])
+    (done [] [])
+
+-- the session that a number means: the caller's own with 0
+abbrev pub session_meant : Asked → ℕ → ℕ
+session_meant asked number = if number == 0 then asked.session else number
+
+-- the caller may end its own session, and one of a person that it supervises; a strong one all
+abbrev pub may_disconnect : Asked → ℕ → Bool
+may_disconnect asked session = session == asked.session || (caller asked).strong
+    || elim (seat_at asked.seats session) [
+      | None ↦ false
+      | Some seat ↦ not (seat.person == 0) && supervises asked.db (caller asked).person seat.person
+    ]
+
+-- call 55, disconnect: whoever is logged in is logged out, and the session makes no call any more
+abbrev pub ended : Asked → Seat → Decision
+ended asked seat = done (seat_left asked seat) (seat_leaves seat ++ change.Ended seat.number ∷ [])
+
+abbrev pub disconnect : Asked → ℕ → Definition
+disconnect asked number = let session = session_meant asked number in guarded
+    (session_guard asked.seats session ∷ unless (may_disconnect asked session) 12 session ∷ [])
+    (elim (seat_at asked.seats session) [ None ↦ done [] [] | Some seat ↦ ended asked seat ])
+
+-- for how many seconds a person has done nothing
+abbrev pub idle_of : ℕ → Seat → ℕ
+idle_of moment seat = moment - seat.active
+
+-- a session is invisible if somebody is logged in so
+abbrev pub is_invisible : Seat → Bool
+is_invisible seat = not (seat.person == 0) && is_on 128 seat.flags
+
+-- call 83, who-is-on-dynamic: the sessions that are asked for, of which no call has ended one, and
+-- those alone that were idle for at most so many seconds, unless that is 0
+abbrev pub is_asked_for : ℕ → Bool → Bool → ℕ → Seat → Bool
+is_asked_for moment visible invisible most seat =
+    not seat.ended && (if is_invisible seat then invisible else visible)
+    && (most == 0 || nat_le (idle_of moment seat) most)
+
+abbrev pub dynamic_of : Asked → Seat → DynamicSession
+dynamic_of asked seat = record {
+  session = seat.number;
+  person = seat.person;
+  working = working_shown asked.db (caller asked) seat;
+  idle = min (idle_of asked.moment seat) last_count;
+  flags = seat.flags;
+  doing = seat.doing;
+}
+
+abbrev pub who_is_on_dynamic : Asked → Bool → Bool → ℕ → Definition
+who_is_on_dynamic asked visible invisible most = unguarded (answer (reply.DynamicSessions
+    (map (dynamic_of asked) (filter (is_asked_for asked.moment visible invisible most) asked.seats))))
+
+-- call 84, get-static-session-info: this server asks no other one who its client is
+abbrev pub static_of : Seat → StaticSession
+static_of seat = record {
+  user = seat.user;
+  host = seat.host;
+  ident_user = [];
+  connected = seat.connected;
+}
+
+abbrev pub get_static_session_info : Asked → ℕ → Definition
+get_static_session_info asked number = guarded
+    (session_guard asked.seats number ∷ [])
+    (elim (seat_at asked.seats number) [
+      | None ↦ done [] []
+      | Some seat ↦ answer (reply.StaticSession (static_of seat))
+    ])

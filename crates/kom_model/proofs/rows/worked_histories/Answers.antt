@@ -93,8 +93,6 @@ returns c = record {
   no_messages = λ asked. refl;
   accepted_messages = refl;
   time_of_the_entry = refl;
-  not_made_yet = λ asked. refl;
-  firm_not_made = λ asked. refl;
   not_firm = λ asked. refl;
   short_enough = refl;
 }
