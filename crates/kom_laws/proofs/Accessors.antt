@@ -1,7 +1,7 @@
 -- What is read of the stored rows without what is hidden from a group, where it is not hidden.
 use Rattle.std.proofs.Common.{◌≡◌, ℕ, Bool, true, false, ◌==◌, ◌&&◌, List, [], ◌∷◌, Option, Some, None}
 use Rattle.std.proofs.Common.{refl, sym, ap, ap₂, ◌∙◌, subst, eqb-true, cond, not, nat_lt, inl, inr, true≢false}
-use Rattle.std.specs.Prelude.{map}
+use Rattle.std.specs.Prelude.{map, is_some}
 use Rattle.std.specs.List.{filter, fold}
 use Rattle.std.proofs.lemmas.Bool.{cases_Bool, cond-false, and_parts, and_left, and_right, not_from_false}
 use Rattle.kom_types.specs.Bits.{alike}
@@ -19,18 +19,18 @@ use Rattle.kom_types.specs.declared.texts.TextRow.{TextRow}
 use Rattle.kom_types.specs.tables.AuxItems.{is_item_of}
 use Rattle.kom_types.specs.tables.Conferences.{head_of}
 use Rattle.kom_types.specs.tables.Memberships.{is_membership, by_position}
-use Rattle.kom_types.specs.tables.Texts.{is_created_by, created_pair, rising_locals}
+use Rattle.kom_types.specs.tables.Texts.{is_recipient, is_created_by, created_pair, rising_locals}
 use Rattle.read_ranges.specs.Reads.{ReadRow, is_read_of}
 use Rattle.kom_model.specs.Db.{Db, conference_of, person_of, membership_of, text_of, conference_head_of}
 use Rattle.kom_model.specs.Db.{membership_kind_of, person_flags_of, text_author_of, memberships_of}
-use Rattle.kom_model.specs.Db.{next_local_of, recipients_of, locals_of, first_local_of, links_from, links_into}
-use Rattle.kom_model.specs.Db.{created_by, next_created_of, first_created_of, read_of, items_of}
+use Rattle.kom_model.specs.Db.{next_local_of, recipient_of, recipients_of, locals_of, first_local_of, links_from}
+use Rattle.kom_model.specs.Db.{links_into, created_by, next_created_of, first_created_of, read_of, items_of}
 use Rattle.kom_model.specs.Kinds.{is_among}
 use Rattle.kom_laws.specs.Groups.{Group, is_unseen, is_unread}
 use Rattle.kom_laws.specs.Erasing.{erased_db, erased_conference, erased_person, erased_membership}
 use Rattle.kom_laws.specs.Erasing.{erased_read, erased_text, keeps_recipient, keeps_link, keeps_item}
 use Rattle.kom_laws.proofs.Rows.{same-changed, told-changed, map-changed, filter-changed}
-use Rattle.kom_laws.proofs.Rows.{filter-thinned, fold-changed}
+use Rattle.kom_laws.proofs.Rows.{filter-thinned, find-thinned, fold-changed}
 
 -- what is told of a row that erasing leaves as it is
 pub same-conference : {Y : Type 0} (tell : ConferenceRow → Y) (group : Group) (db : Db) (row : ConferenceRow) →
@@ -97,6 +97,15 @@ kind-erased group db person conference =
     let tell : MembershipRow → Option ℕ = λ row. Some row.kind in
     told-changed test (erased_membership group db) None tell tell
     (λ row. same-membership test group db row refl) (λ row here. same-membership tell group db row refl) db.memberships
+
+pub joined-erased : (group : Group) (db : Db) (person conference : ℕ) →
+    is_some (membership_of (erased_db group db) person conference) ≡ is_some (membership_of db person conference)
+unfolding membership_of
+joined-erased group db person conference =
+    let test : MembershipRow → Bool = is_membership person conference in
+    let tell : MembershipRow → Bool = λ row. true in
+    told-changed test (erased_membership group db) false tell tell
+    (λ row. same-membership test group db row refl) (λ row here. refl) db.memberships
 
 pub flags-erased : (group : Group) (db : Db) (number : ℕ) →
     person_flags_of (erased_db group db) number ≡ person_flags_of db number
@@ -180,6 +189,14 @@ ranges-seen group db person conference seen =
     told-changed test (erased_read group db) [] tell tell
     (λ row. same-read test group db row refl)
     (λ row here. ap tell (read-seen group db person conference row here seen)) db.reads
+
+pub recipient-seen : (group : Group) (db : Db) (text conference : ℕ) → is_unseen group db conference ≡ false →
+    recipient_of (erased_db group db) text conference ≡ recipient_of db text conference
+unfolding recipient_of
+recipient-seen group db text conference seen =
+    find-thinned (is_recipient text conference) (keeps_recipient group db)
+    (λ row here. not_from_false _ (and_right _ _ (not-hidden (is_unseen group db) row.conference conference
+    (and_parts _ _ here).1 seen))) db.recipients
 
 -- of a person
 pub next_created-erased : (group : Group) (db : Db) (number : ℕ) →

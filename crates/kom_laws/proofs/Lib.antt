@@ -3,3 +3,6 @@ pub mod Accessors
 pub mod Rights
 pub mod Shown
 pub mod Told
+pub mod Messages
+pub mod Added
+pub mod Sent

@@ -114,9 +114,9 @@ as_weak viewer may not_strong is =
 -- what one of a group sees is not hidden from the group, nor is what one of it reads
 pub seen-by : (group : Group) (db : Db) (viewer : Viewer) (conference : ℕ) → IsOfGroup group viewer →
     sees db viewer conference ≡ true → is_unseen group db conference ≡ false
-seen-by group db viewer conference of_group is = not_from_true _ (any-among
+seen-by group db viewer conference of_group is = and_right _ _ (not_from_true _ (any-among
     (λ person. sees db (weak person) conference) (0 ∷ group.persons) viewer.person of_group.0
-    (as_weak viewer (λ viewer. sees db viewer conference) of_group.1 is))
+    (as_weak viewer (λ viewer. sees db viewer conference) of_group.1 is)))
 
 pub read-by : (group : Group) (db : Db) (viewer : Viewer) (text : ℕ) → IsInGroup group viewer →
     reads db viewer text ≡ true → is_unread group db text ≡ false
@@ -162,7 +162,8 @@ weak-of_group group person among = (or_right _ _ among, refl)
 
 pub hidden-erased : (group : Group) (db : Db) → IsProtected db → IsHiddenSame group (erased_db group db) db
 hidden-erased group db protected = record {
-  unseen = λ conference. ap (λ (test : ℕ → Bool). not (list_any test (0 ∷ group.persons)))
+  unseen = λ conference. ap₂ (λ (head : Option ConferenceHead) (test : ℕ → Bool). is_some head
+      && not (list_any test (0 ∷ group.persons))) (head-erased group db conference)
       (fun_ext (λ person. sees-erased group db (weak person) conference));
   unread = λ text. ap not (any-same (λ person. reads (erased_db group db) (weak person) text)
       (λ person. reads db (weak person) text) group.persons

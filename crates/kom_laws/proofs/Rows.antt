@@ -104,6 +104,20 @@ filter-thinned test keep keeps (row ∷ rows) =
       ]
     ]
 
+-- the row that a test finds, where only others are taken out
+pub find-thinned : {X : Type 0} (test keep : X → Bool) → ((row : X) → test row ≡ true → keep row ≡ true) →
+    (rows : List X) → find test (filter keep rows) ≡ find test rows
+find-thinned test keep keeps [] = refl
+find-thinned test keep keeps (row ∷ rows) =
+    let rest = find-thinned test keep keeps rows in
+    elim (cases_Bool (test row)) [
+      | inl here ↦ rw (keeps row here) (rw here refl)
+      | inr there ↦ elim (cases_Bool (keep row)) [
+        | inl kept ↦ rw kept (rw there rest)
+        | inr gone ↦ rw (gone, there) rest
+      ]
+    ]
+
 -- whether a row passes, where only rows are taken out that do not
 pub any-thinned : {X : Type 0} (pass test keep : X → Bool) → ((row : X) → pass row ≡ true → keep row ≡ true) →
     (rows : List X) → list_any pass (filter test (filter keep rows)) ≡ list_any pass (filter test rows)

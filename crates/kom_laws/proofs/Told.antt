@@ -8,13 +8,15 @@ use Rattle.std.proofs.lemmas.Bool.{cases_Bool, both_ways, or_right}
 use Rattle.kom_types.specs.declared.persons.PersonRow.{PersonRow}
 use Rattle.kom_types.specs.declared.texts.Recipient.{Recipient}
 use Rattle.kom_types.specs.declared.texts.TextRow.{TextRow}
+use Rattle.kom_model.specs.declared.text_heads.TextHead.{TextHead}
 use Rattle.kom_model.specs.declared.viewers.Viewer.{Viewer}
 use Rattle.kom_model.specs.Db.{Db, person_of, text_of, first_created_of, next_created_of, marks_of, marks_on}
 use Rattle.kom_model.specs.Db.{links_from, links_into, items_of}
 use Rattle.kom_model.specs.Kinds.{is_among}
 use Rattle.kom_model.specs.Rights.{reads, is_author}
 use Rattle.kom_model.specs.Shown.{memberships_shown, told_count, own_count, person_told, recipients_shown}
-use Rattle.kom_model.specs.Shown.{recipient_infos, from_infos, into_info, shown_stat, text_adder, items_shown}
+use Rattle.kom_model.specs.Shown.{recipient_infos, from_infos, into_info, text_head_of, stat_of, shown_stat}
+use Rattle.kom_model.specs.Shown.{text_adder, items_shown}
 use Rattle.kom_laws.specs.Groups.{Group, IsInGroup, IsOfGroup, is_unread}
 use Rattle.kom_laws.specs.Erasing.{erased_db, erased_person, erased_text}
 use Rattle.kom_laws.specs.Laws.{IsToldSame}
@@ -26,7 +28,7 @@ use Rattle.kom_laws.proofs.Rights.{read-by, supervises-erased}
 use Rattle.kom_laws.proofs.Shown.{recipient-erased, memberships_shown-erased}
 
 -- a person of a group is one of those to whom the same is shown
-in-of : (group : Group) (viewer : Viewer) → IsInGroup group viewer → IsOfGroup group viewer
+pub in-of : (group : Group) (viewer : Viewer) → IsInGroup group viewer → IsOfGroup group viewer
 in-of group viewer in_group = (or_right _ _ in_group.0, in_group.1)
 
 -- what is told to a person of itself alone is told to nobody else
@@ -90,7 +92,7 @@ recipients-told group db viewer author text read =
     (fun_ext (recipient-erased group db viewer author)) (recipients-read group db text read)
 
 -- who looks owns the same texts
-owns-told : (group : Group) (db : Db) (viewer : Viewer) (text : ℕ) →
+pub owns-told : (group : Group) (db : Db) (viewer : Viewer) (text : ℕ) →
     text_adder (erased_db group db) viewer text ≡ text_adder db viewer text
 owns-told group db viewer text =
     let owned = ap₂ (λ (owns : ℕ → Bool) (found : Option ℕ). told viewer.strong owns found)
@@ -98,29 +100,31 @@ owns-told group db viewer text =
     (supervises-erased group db viewer.person author))) (author-erased group db text) in
     λ i. record { person = viewer.person; owns = owned i }
 
-stat-told : (group : Group) (db : Db) (viewer : Viewer) (row : TextRow) → is_unread group db row.number ≡ false →
+-- what is told of a text, where the same hangs on it
+pub stat-same : (one other : Db) (viewer : Viewer) (head : TextHead) →
+    recipients_shown one viewer head.author head.number ≡ recipients_shown other viewer head.author head.number →
+    ((footnote : Bool) → links_from one head.number footnote ≡ links_from other head.number footnote) →
+    ((footnote : Bool) → links_into one head.number footnote ≡ links_into other head.number footnote) →
+    marks_on one head.number ≡ marks_on other head.number →
+    text_adder one viewer head.number ≡ text_adder other viewer head.number →
+    items_of one true head.number ≡ items_of other true head.number →
+    stat_of one viewer head ≡ stat_of other viewer head
+stat-same one other viewer head recipients from into marks adder items = λ i. record (stat_of other viewer head) {
+  marks = told_count (length (marks i));
+  misc_infos = flat_map recipient_infos (recipients i)
+      ++ flat_map from_infos (from false i) ++ map into_info (into false i)
+      ++ flat_map from_infos (from true i) ++ map into_info (into true i);
+  aux_items = items_shown (adder i) (items i);
+}
+
+pub stat-told : (group : Group) (db : Db) (viewer : Viewer) (row : TextRow) → is_unread group db row.number ≡ false →
     shown_stat (erased_db group db) viewer row ≡ shown_stat db viewer row
 unfolding marks_on
-stat-told group db viewer row read =
-    let recipients : recipients_shown (erased_db group db) viewer row.author row.number
-    ≡ recipients_shown db viewer row.author row.number =
-    recipients-told group db viewer row.author row.number read in
-    let from : (footnote : Bool) → links_from (erased_db group db) row.number footnote
-    ≡ links_from db row.number footnote =
-    λ footnote. links_from-read group db row.number footnote read in
-    let into : (footnote : Bool) → links_into (erased_db group db) row.number footnote
-    ≡ links_into db row.number footnote =
-    λ footnote. links_into-read group db row.number footnote read in
-    let adder : text_adder (erased_db group db) viewer row.number ≡ text_adder db viewer row.number =
-    owns-told group db viewer row.number in
-    let items : items_of (erased_db group db) true row.number ≡ items_of db true row.number =
-    items-read group db row.number read in
-    λ i. record (shown_stat db viewer row) {
-      misc_infos = flat_map recipient_infos (recipients i)
-          ++ flat_map from_infos (from false i) ++ map into_info (into false i)
-          ++ flat_map from_infos (from true i) ++ map into_info (into true i);
-      aux_items = items_shown (adder i) (items i);
-    }
+stat-told group db viewer row read = stat-same (erased_db group db) db viewer (text_head_of row)
+    (recipients-told group db viewer row.author row.number read)
+    (λ footnote. links_from-read group db row.number footnote read)
+    (λ footnote. links_into-read group db row.number footnote read) refl
+    (owns-told group db viewer row.number) (items-read group db row.number read)
 
 text-erased : (group : Group) (db : Db) (viewer : Viewer) (number : ℕ) → IsInGroup group viewer →
     reads db viewer number ≡ true →

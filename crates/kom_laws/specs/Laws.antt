@@ -1,12 +1,19 @@
 -- What a group may see and do, and what is shown to it, is the same in the state without what is
 -- hidden from it.
-use Rattle.std.specs.Prelude.{◌≡◌, ℕ, true, option_map}
+use Rattle.std.specs.Prelude.{◌≡◌, ℕ, true, List, option_map}
+use Rattle.std.specs.List.{filter_map}
+use Rattle.kom_types.specs.declared.calls.Call.{Call}
+use Rattle.kom_types.specs.declared.decisions.Decision.{Decision}
 use Rattle.kom_types.specs.declared.memberships.MembershipRow.{MembershipRow}
+use Rattle.kom_types.specs.declared.messages.Message.{Message}
 use Rattle.kom_types.specs.declared.seats.Seat.{Seat}
 use Rattle.kom_types.specs.declared.texts.Recipient.{Recipient}
 use Rattle.kom_model.specs.declared.viewers.Viewer.{Viewer}
+use Rattle.kom_model.specs.calls.Call.{Asked}
 use Rattle.kom_model.specs.Db.{Db, conference_of, person_of, text_of}
 use Rattle.kom_model.specs.Effects.{IsProtected}
+use Rattle.kom_model.specs.Sending.{Sending}
+use Rattle.kom_model.specs.ToWhom.{sent_by}
 use Rattle.kom_model.specs.Rights.{supervises, sees, reads_conference, reads, may_submit}
 use Rattle.kom_model.specs.Shown.{shows_recipient, shows_membership, is_reserved, shows_reads}
 use Rattle.kom_model.specs.Shown.{members_shown, memberships_shown, ranges_shown, time_shown}
@@ -54,6 +61,16 @@ pub record IsToldSame (viewer : Viewer) (one other : Db) : Type 0 where
       → option_map (shown_stat one viewer) (text_of one number)
       ≡ option_map (shown_stat other viewer) (text_of other number)
 
+-- what messages tell who looks
+abbrev pub told_to : Viewer → List Sending → List Message
+told_to viewer sendings = filter_map (λ sending. sending.told viewer) sendings
+
+-- All that a call which came to this sends tells who looks the same over two sets of stored rows.
+abbrev pub IsSentSame : Viewer → Asked → Db → Decision → Type 0
+IsSentSame viewer asked other decision = (call : Call)
+    → told_to viewer (sent_by (record asked { db = other }) decision call)
+    ≡ told_to viewer (sent_by asked decision call)
+
 -- what is hidden from a group stays so
 pub record IsHiddenSame (group : Group) (one other : Db) : Type 0 where
   pub unseen : (conference : ℕ)
@@ -69,5 +86,8 @@ pub record StandErased : Type 0 where
       → IsOfGroup group viewer → IsShownSame viewer (erased_db group db) db
   pub told : (group : Group) (db : Db) (viewer : Viewer) → IsProtected db
       → IsInGroup group viewer → IsToldSame viewer (erased_db group db) db
+  pub sent : (group : Group) (asked : Asked) (decision : Decision) (viewer : Viewer)
+      → IsProtected asked.db → IsInGroup group viewer
+      → IsSentSame viewer asked (erased_db group asked.db) decision
   pub hidden : (group : Group) (db : Db) → IsProtected db
       → IsHiddenSame group (erased_db group db) db
