@@ -5,7 +5,11 @@ use Rattle.kom_types.specs.declared.seats.Seat.{Seat}
 use Rattle.kom_types.specs.declared.session_changes.SessionChange.{SessionChange}
 use Rattle.kom_types.specs.declared.session_changes.SessionChange.TheVariants as change
 use Rattle.kom_types.specs.Sessions.{Session, Limits, fits, queued, drained, changed, with_person, with_invisible}
+use Rattle.sessions.proofs.Accepted.{KeepsAccepted}
 use Rattle.sessions.proofs.Places.{number_of, KeepsNumbers}
+
+abbrev accepted_of : Session → ℕ
+accepted_of row = row.seat.accepted
 
 pub queued_keeps : (limits : Limits) (entry : ℕ) (item : Item) → KeepsNumbers (queued limits entry item)
 queued_keeps limits entry item row =
@@ -14,6 +18,19 @@ queued_keeps limits entry item row =
     elim row.overrun as (λ b. number_of (cond b row (cond (fits limits row.waiting item) more over)) ≡ number_of row) [
       | true ↦ refl
       | false ↦ elim (fits limits row.waiting item) as (λ b. number_of (cond b more over) ≡ number_of row) [
+        | true ↦ refl
+        | false ↦ refl
+      ]
+    ]
+
+-- what happens to a session but for a change keeps what it accepts
+pub queued_silent : (limits : Limits) (entry : ℕ) (item : Item) → KeepsAccepted (queued limits entry item)
+queued_silent limits entry item row =
+    let more : Session = record row { waiting = row.waiting ++ record { item = item; entry = entry } ∷ [] } in
+    let over : Session = record row { overrun = true } in
+    elim row.overrun as (λ b. accepted_of (cond b row (cond (fits limits row.waiting item) more over)) ≡ accepted_of row) [
+      | true ↦ refl
+      | false ↦ elim (fits limits row.waiting item) as (λ b. accepted_of (cond b more over) ≡ accepted_of row) [
         | true ↦ refl
         | false ↦ refl
       ]

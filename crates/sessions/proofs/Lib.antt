@@ -4,3 +4,7 @@ pub mod Places
 pub mod Searching
 pub mod Taking
 pub mod Seats
+pub mod Moved
+pub mod Accepted
+pub mod Kept
+pub mod AcceptingLists

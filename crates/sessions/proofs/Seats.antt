@@ -1,12 +1,12 @@
 -- A session's seat is found by its number.
-use Rattle.std.proofs.Common.{◌≡◌, ℕ, ◌==◌, Bor, List, [], ◌∷◌, map, Option, Some, None, refl, sym, ap, ◌∙◌, inl, inr}
+use Rattle.std.proofs.Common.{◌≡◌, ℕ, ◌==◌, Bor, List, [], ◌∷◌, map, Option, refl, sym, ap, ◌∙◌, inl, inr}
 use Rattle.std.specs.List.{find}
 use Rattle.std.specs.Option.{option_map, option_copied}
 use Rattle.std.proofs.lemmas.Bool.{cases_Bool}
 use Rattle.kom_types.specs.declared.seats.Seat.{Seat}
 use Rattle.kom_types.specs.Sessions.{Session, is_session}
 
-find-seat : (number : ℕ) (rows : List Session) →
+pub find-seat : (number : ℕ) (rows : List Session) →
     find (λ seat. seat.number == number) (map (λ row. row.seat) rows)
     ≡ option_map (λ row. row.seat) (find (is_session number) rows)
 find-seat number [] = refl

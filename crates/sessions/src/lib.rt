@@ -1,6 +1,7 @@
 //! The rows of the sessions: the seat of each, and the items that wait for it in a ring.
 #![tactic(auto)]
 
+mod accepting;
 mod changing;
 mod outbox;
 mod queued;

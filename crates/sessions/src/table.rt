@@ -1,11 +1,13 @@
-ghost use Rattle.std.specs.Prelude.{slice_get, ◌≡◌, ◌==◌, ◌^◌, ◌-◌, ◌++◌, ◌∷◌, [], not, false, None};
+ghost use Rattle.std.specs.Prelude.{slice_get, ◌≡◌, ◌<◌, ◌==◌, ◌^◌, ◌-◌, ◌++◌, ◌∷◌, [], not, false, None};
 ghost use Rattle.std.specs.Prelude.{filter, find, length, take, option_copied, IfSome, OnOk, OnErr};
 ghost use Rattle.std.specs.Prelude.{IsSome, IsTrue, ◌↔◌, MatchOption, min, map};
+ghost use Rattle.kom_types.specs.Bits.{is_on};
 ghost use Rattle.kom_types.specs.Printing.{print_of};
 ghost use Rattle.kom_types.specs.Sessions.{is_session, waiting_limits, queued, drained_count};
 ghost use Rattle.kom_types.specs.Sessions.{drained, changed_session, is_stop, changed};
 ghost use Rattle.sessions.specs.Rows.{AllBelow, IsRising, IsAt, with_row, takes};
 
+use crate::accepting::Accepting;
 use crate::changing::session_of;
 use crate::row::SessionRow;
 use arrayvec::ArrayVec;
@@ -17,18 +19,21 @@ use std::marker::Model;
 #[derive(Drop)]
 pub struct Sessions {
     rows: Vec<SessionRow>,
+    /// The sessions that accept each message.
+    accepting: Accepting,
 }
 
 impl Model for Sessions {
     ghost use Rattle.std.specs.Prelude.{List};
     ghost use Rattle.kom_types.specs.Sessions.{Session};
+    ghost use Rattle.sessions.specs.Accepting.{IsAccepting};
     ghost use Rattle.sessions.specs.Rows.{IsRising};
 
     ghost Value = { List Session };
 
     ghost view = { λ s. s.rows.items };
 
-    ghost invariant = { λ s. IsRising s.rows.items };
+    ghost invariant = { λ s. IsRising s.rows.items × IsAccepting s.accepting.lists s.rows.items };
 }
 
 impl Sessions {
@@ -37,6 +42,7 @@ impl Sessions {
     {
         Sessions {
             rows: Vec::new(alloc),
+            accepting: Accepting::new(alloc),
         }
     }
 
@@ -53,12 +59,16 @@ impl Sessions {
         self.rows.is_empty()
     }
 
-    /// Adds a row after the others, whose numbers are below its own.
+    /// Adds a row after the others, whose numbers are below its own. The session accepts no message
+    /// yet.
     pub fn connect(&mut self, row: SessionRow) -> Result<(), Memory>
-        requires { AllBelow row.seat.number self.old }
+        requires below { AllBelow row.seat.number self.old }
+        requires silent { row.seat.accepted ≡ 0 }
         ensures ok { OnOk result (self.new ≡ self.old ++ row ∷ []) }
         ensures err { OnErr result (self.new ≡ self.old) }
     {
+        let count = self.len();
+        self.accepting.reserve(count + 1)?;
         self.rows.push(row)?;
         Ok(())
     }
@@ -87,13 +97,26 @@ impl Sessions {
         Some(row.seat())
     }
 
+    /// All that a call may read of the session at a place among those that accept a message, in the
+    /// order of their numbers. Other sessions cost nothing.
+    pub fn nth_accepting(&self, message: u32, place: usize) -> Option<&Seat>
+        requires { message < 32 }
+        ensures { option_copied result ≡ slice_get
+            (filter (λ seat. is_on (2 ^ message) seat.accepted) (map (λ row. row.seat) self.now)) place }
+    {
+        let session = self.accepting.nth(message, place)?;
+        self.seat(session)
+    }
+
     /// Takes the row of a session out, if it is there.
     pub fn close(&mut self, session: u32) -> Option<SessionRow>
         ensures row { result ≡ find (is_session session) self.old }
         ensures rest { self.new ≡ filter (λ row. not (is_session session row)) self.old }
     {
         let place = self.search(session)?;
-        Some(self.rows.remove(place))
+        let row = self.rows.remove(place);
+        self.accepting.change(session, row.seat().accepted, 0);
+        Some(row)
     }
 
     /// Queues an item that prints to so many bytes for a session, by the entry at this place in the
@@ -128,8 +151,13 @@ impl Sessions {
         requires there { IsSome (find (is_session (changed_session change)) self.old) }
         ensures { self.new ≡ with_row (changed_session change) (changed change at) self.old }
     {
-        let place = self.place(session_of(&change));
-        self.rows[place].change(change, at);
+        let session = session_of(&change);
+        let place = self.place(session);
+        let row = &mut self.rows[place];
+        let was = row.seat().accepted;
+        row.change(change, at);
+        let is = row.seat().accepted;
+        self.accepting.change(session, was, is);
     }
 
     /// The place of the row of a session that is there.
