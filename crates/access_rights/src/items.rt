@@ -197,8 +197,14 @@ fn push_items<R: Rows>(
     Ok(())
 }
 
-/// Adds an item as it is told, if it is shown to who looks.
-fn push_item(alloc: Global, items: &mut AuxRows, by: &Adder, item: &AuxRow) -> Result<(), Memory>
+/// Adds an item as it is told, with a copy of its content, if it is shown to who looks. (Protocol A,
+/// "Auxiliary Information".)
+pub fn push_item(
+    alloc: Global,
+    items: &mut AuxRows,
+    by: &Adder,
+    item: &AuxRow,
+) -> Result<(), Memory>
     ensures { IfOk result (λ done. items.new ≡ items.old
         ++ (if Items.is_shown by.now item.now then Shown.item_told by.now item.now ∷ [] else [])) }
 {

@@ -8,7 +8,7 @@ ghost use Rattle.kom_model.specs.Shown.{recipient_info, from_infos, into_info, s
 
 use crate::items::{items_shown, text_adder};
 use crate::texts::{BLIND, shows_recipient};
-use kom_model::{Rows, Viewer};
+use kom_model::{Rows, TextHead, Viewer};
 use kom_types::{
     Link, Memory, MiscInfo, MiscInfos, Moment, Recipient, Sequence, TextRow, TextStat,
 };
@@ -27,16 +27,34 @@ pub fn shown_stat<R: Rows>(
 ) -> Result<TextStat, Memory>
     ensures { IfOk result (λ stat. stat ≡ Shown.shown_stat (R.db rows.now) viewer.now row.now) }
 {
-    let by = text_adder(rows, viewer, row.number);
-    let lines = row.lines;
-    Ok(TextStat {
-        created: row.created,
+    let head = TextHead {
+        number: row.number,
         author: row.author,
-        lines,
-        chars: told_count(row.body.len()),
-        marks: told_count(rows.mark_count(row.number)),
-        misc_infos: misc_infos(alloc, rows, viewer, row)?,
-        aux_items: items_shown(alloc, rows, true, row.number, &by)?,
+        created: row.created,
+        lines: row.lines as usize,
+        chars: row.body.len(),
+    };
+    stat_of(alloc, rows, viewer, &head)
+}
+
+/// The same of a text whose row may not stand among the others yet.
+pub fn stat_of<R: Rows>(
+    alloc: Global,
+    rows: &R,
+    viewer: &Viewer,
+    head: &TextHead,
+) -> Result<TextStat, Memory>
+    ensures { IfOk result (λ stat. stat ≡ Shown.stat_of (R.db rows.now) viewer.now head.now) }
+{
+    let by = text_adder(rows, viewer, head.number);
+    Ok(TextStat {
+        created: head.created,
+        author: head.author,
+        lines: told_count(head.lines),
+        chars: told_count(head.chars),
+        marks: told_count(rows.mark_count(head.number)),
+        misc_infos: misc_infos(alloc, rows, viewer, head)?,
+        aux_items: items_shown(alloc, rows, true, head.number, &by)?,
     })
 }
 
@@ -52,7 +70,7 @@ fn misc_infos<R: Rows>(
     alloc: Global,
     rows: &R,
     viewer: &Viewer,
-    text: &TextRow,
+    text: &TextHead,
 ) -> Result<MiscInfos, Memory>
     ensures { IfOk result (λ infos. infos ≡ Shown.misc_infos (R.db rows.now) viewer.now text.now) }
 {
@@ -87,7 +105,7 @@ fn push_recipients<R: Rows>(
     infos: &mut MiscInfos,
     rows: &R,
     viewer: &Viewer,
-    text: &TextRow,
+    text: &TextHead,
 ) -> Result<(), Memory>
     ensures { IfOk result (λ done. infos.new ≡ infos.old ++ flat_map recipient_infos
         (recipients_shown (R.db rows.now) viewer.now text.now.author text.now.number)) }

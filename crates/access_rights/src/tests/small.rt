@@ -121,15 +121,6 @@ impl<'a> Rows for Small<'a> {
             .copied()
     }
 
-    #[tactic(auto, unfolding(kom_model::specs::Db::text_of))]
-    fn text(&self, number: u32) -> Option<&TextRow> {
-        if number == self.text.number {
-            Some(self.text)
-        } else {
-            None
-        }
-    }
-
     #[tactic(auto, unfolding(kom_model::specs::Db::links_from))]
     fn count_from(&self, text: u32, footnote: bool) -> usize {
         self.links
