@@ -1,4 +1,5 @@
 ghost use Rattle.std.specs.Prelude.{◌≡◌, [], ◌∷◌, ◌++◌, map, option_copied, IfOk};
+ghost use Rattle.kom_model.specs.Viewers.{viewer_of};
 ghost use Rattle.kom_model.specs.calls.Call.{seat_of, answer, done};
 ghost use Rattle.kom_model.specs.calls.Guards.{caller as caller_of};
 ghost use Rattle.kom_model.specs.calls.Sessions.{counts};
@@ -154,10 +155,17 @@ impl<'a> Asked<'a> {
                 person: 0,
                 strong: false,
             },
-            Some(seat) => Viewer {
-                person: seat.person,
-                strong: seat.level == u8::MAX && self.rows.has_might(seat.person),
-            },
+            Some(seat) => self.viewer(seat),
+        }
+    }
+
+    /// Who looks from a seat.
+    pub fn viewer(&self, seat: &Seat) -> Viewer
+        ensures { result ≡ viewer_of self.now.db seat.now }
+    {
+        Viewer {
+            person: seat.person,
+            strong: seat.level == u8::MAX && self.rows.has_might(seat.person),
         }
     }
 }

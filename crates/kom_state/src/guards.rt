@@ -3,6 +3,7 @@ ghost use Rattle.kom_model.specs.Db.{next_item_of};
 ghost use Rattle.kom_model.specs.Effects.{last_drawn};
 ghost use Rattle.kom_model.specs.calls.AuxItems as AuxItems;
 ghost use Rattle.kom_model.specs.calls.Guards as Guard;
+ghost use Rattle.kom_model.specs.Viewers.{has_might as has_might_in};
 ghost use Rattle.kom_model.specs.calls.Guards.{Guards};
 
 use crate::state::State;
@@ -18,7 +19,7 @@ const LAST_CONFERENCE: u32 = 65_535;
 impl State {
     /// Whether a person's privileges let its sessions be strong.
     pub fn has_might(&self, person: u32) -> bool
-        ensures { result ≡ Guard.has_might self.now.db person }
+        ensures { result ≡ has_might_in self.now.db person }
     {
         match self.person(person) {
             None => false,

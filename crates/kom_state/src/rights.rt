@@ -1,6 +1,6 @@
 use crate::state::State;
 use kom_model::Rows;
-use kom_types::{AuxRow, ConferenceHead, Link, Recipient, TextRow};
+use kom_types::{AuxRow, ConferenceHead, Link, Recipient};
 
 impl Rows for State {
     ghost db = { λ state. state.db };
@@ -38,10 +38,6 @@ impl Rows for State {
 
     fn recipient(&self, text: u32, place: usize) -> Option<Recipient> {
         self.nth_recipient(text, place).copied()
-    }
-
-    fn text(&self, number: u32) -> Option<&TextRow> {
-        State::text(self, number)
     }
 
     fn count_from(&self, text: u32, footnote: bool) -> usize {
