@@ -1,1 +1,3 @@
+mod Ending
 mod Messages
+mod Sent

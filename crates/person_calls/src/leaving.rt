@@ -3,7 +3,7 @@ ghost use Rattle.std.specs.Prelude.{◌≡◌, ◌++◌, IfOk, OnOk};
 ghost use Rattle.kom_model.specs.calls.Sessions as Sessions;
 
 use kom_state::Asked;
-use kom_types::{ChangeList, Counter, Effect, EffectList, Memory, Sequence, SessionChange};
+use kom_types::{ChangeList, Counter, Effect, EffectList, Memory, Seat, Sequence, SessionChange};
 
 /// A counter of a person rises, unless by nothing.
 pub(crate) fn count(
@@ -28,13 +28,21 @@ pub(crate) fn count(
 pub(crate) fn leaving_effects(asked: &Asked<'_>) -> Result<EffectList, Memory>
     ensures { IfOk result (λ effects. effects ≡ Sessions.leaving_effects asked.now) }
 {
+    match asked.seat() {
+        None => Ok(Sequence::new(asked.allocator())),
+        Some(seat) => seat_left(asked, seat),
+    }
+}
+
+/// The same of whoever is logged in at a seat.
+pub(crate) fn seat_left(asked: &Asked<'_>, seat: &Seat) -> Result<EffectList, Memory>
+    ensures { IfOk result (λ effects. effects ≡ Sessions.seat_left asked.now seat.now) }
+{
     let mut effects = Sequence::new(asked.allocator());
-    if let Some(seat) = asked.seat() {
-        if seat.person != 0 {
-            let now = asked.moment().seconds();
-            let present = now.saturating_sub(seat.login.seconds());
-            count(&mut effects, seat.person, Counter::TimePresent, present)?;
-        }
+    if seat.person != 0 {
+        let now = asked.moment().seconds();
+        let present = now.saturating_sub(seat.login.seconds());
+        count(&mut effects, seat.person, Counter::TimePresent, present)?;
     }
     Ok(effects)
 }
@@ -46,6 +54,17 @@ pub(crate) fn leaving_changes(asked: &Asked<'_>) -> Result<ChangeList, Memory>
     let mut changes = Sequence::new(asked.allocator());
     if asked.caller().person != 0 {
         changes.push(SessionChange::Person(asked.session(), 0, false))?;
+    }
+    Ok(changes)
+}
+
+/// Whoever is logged in at a seat is logged out.
+pub(crate) fn seat_leaves(asked: &Asked<'_>, seat: &Seat) -> Result<ChangeList, Memory>
+    ensures { IfOk result (λ changes. changes ≡ Sessions.seat_leaves seat.now) }
+{
+    let mut changes = Sequence::new(asked.allocator());
+    if seat.person != 0 {
+        changes.push(SessionChange::Person(seat.number, 0, false))?;
     }
     Ok(changes)
 }

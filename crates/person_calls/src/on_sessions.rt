@@ -1,14 +1,19 @@
-ghost use Rattle.std.specs.Prelude.{◌≡◌, not, find, IfOk};
+ghost use Rattle.std.specs.Prelude.{◌≡◌, ◌==◌, ◌&&◌, not, find, IfOk};
+ghost use Rattle.kom_model.specs.Rights.{supervises as supervises_by};
 ghost use Rattle.kom_model.specs.calls.Call.{Meets};
 ghost use Rattle.kom_model.specs.calls.Memberships as Memberships;
 ghost use Rattle.kom_model.specs.calls.Sessions as Sessions;
 ghost use Rattle.kom_model.specs.calls.Sessions.{is_message as is_message_number};
 
-use crate::leaving::{leaving_changes, leaving_effects};
-use access_rights::{conference_guard, login_guard, member_guard, size_guard, unless};
+use crate::leaving::{leaving_changes, leaving_effects, seat_leaves, seat_left};
+use access_rights::{
+    conference_guard, login_guard, member_guard, session_guard, size_guard, supervises, unless,
+};
 use kom_model::CallError;
-use kom_state::Asked;
-use kom_types::{Bytes, ClientVersion, Decision, Effect, Memory, Numbers, Reply, SessionChange};
+use kom_state::{Asked, State};
+use kom_types::{
+    Bytes, ClientVersion, Decision, Effect, Memory, Numbers, Reply, Seat, SessionChange,
+};
 
 /// How many bytes there are at most in what a person is said to be doing, and in the name and the
 /// version of a client.
@@ -58,6 +63,63 @@ pub fn enable(asked: &Asked<'_>, level: u8) -> Result<Decision, CallError>
 {
     login_guard(&asked.caller())?;
     Ok(asked.with_change(SessionChange::Level(asked.session(), level))?)
+}
+
+/// Call 55, disconnect: whoever is logged in is logged out, and the session makes no call any more.
+/// With 0 it is the caller's own.
+pub fn disconnect(asked: &Asked<'_>, session: u32) -> Result<Decision, CallError>
+    ensures { Meets (Sessions.disconnect asked.now session) result }
+{
+    let session = session_meant(asked, session);
+    session_guard(asked.sessions(), session)?;
+    unless(may_disconnect(asked, session), 12, session)?;
+    match asked.sessions().seat(session) {
+        None => Ok(asked.answer(Reply::Done)),
+        Some(seat) => Ok(ended(asked, seat)?),
+    }
+}
+
+/// The session that a number means.
+fn session_meant(asked: &Asked<'_>, number: u32) -> u32
+    ensures { result ≡ Sessions.session_meant asked.now number }
+{
+    if number == 0 { asked.session() } else { number }
+}
+
+/// Whether the caller may end a session: its own, and one of a person that it supervises; a strong
+/// one all.
+fn may_disconnect(asked: &Asked<'_>, session: u32) -> bool
+    ensures { result ≡ Sessions.may_disconnect asked.now session }
+{
+    let caller = asked.caller();
+    if session == asked.session() || caller.strong {
+        return true;
+    }
+    match asked.sessions().seat(session) {
+        None => false,
+        Some(seat) => supervises_at(asked.rows(), caller.person, seat),
+    }
+}
+
+/// Whether somebody is logged in at a seat that this person supervises.
+fn supervises_at(rows: &State, person: u32, seat: &Seat) -> bool
+    ensures { result ≡ (not (seat.now.person == 0)
+        && supervises_by rows.now.db person seat.now.person) }
+{
+    seat.person != 0 && supervises(rows, person, seat.person)
+}
+
+/// What becomes of a session that is ended.
+fn ended(asked: &Asked<'_>, seat: &Seat) -> Result<Decision, Memory>
+    ensures { IfOk result (λ decision. decision ≡ Sessions.ended asked.now seat.now) }
+{
+    let mut changes = seat_leaves(asked, seat)?;
+    changes.push(SessionChange::Ended(seat.number))?;
+    Ok(Decision {
+        reply: Reply::Done,
+        effects: seat_left(asked, seat)?,
+        changes,
+    })
 }
 
 /// Call 62, login: whoever is logged in is logged out first.

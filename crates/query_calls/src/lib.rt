@@ -22,7 +22,10 @@ pub use on_conferences::{
 pub use on_memberships::{get_members, get_membership, get_unread_confs, query_read_texts};
 pub use on_persons::get_person_stat;
 pub use on_server::{get_info, get_time, get_version_info};
-pub use on_sessions::{get_client_name, get_client_version, query_async, who_am_i};
+pub use on_sessions::{
+    get_client_name, get_client_version, get_static_session_info, query_async, who_am_i,
+    who_is_on_dynamic,
+};
 pub use on_texts::{
     find_next_text_no, find_previous_text_no, first_unused_text_no, get_marks, get_text_stat,
     local_to_global, local_to_global_reverse, map_created_texts,
