@@ -1,0 +1,4 @@
+pub mod Pushing
+pub mod Brought
+pub mod Passing
+pub mod Items
