@@ -1,5 +1,5 @@
--- A firm call has no effects.
-use Rattle.std.proofs.Common.{◌≡◌, ◌==◌, ◌||◌, ◌&&◌, not, ℕ, Bool, true, [], Option, Some, None, refl, ap, ◌∙◌}
+-- A firm call has no effects, changes no session and sends nothing.
+use Rattle.std.proofs.Common.{◌≡◌, ◌==◌, ◌||◌, ◌&&◌, not, ℕ, Bool, true, false, [], Option, Some, None, refl, ap, subst, ◌∙◌}
 use Rattle.std.proofs.Common.{inl, inr}
 use Rattle.std.specs.Option.{is_some}
 use Rattle.std.proofs.lemmas.Bool.{or_cases, and_parts}
@@ -20,69 +20,89 @@ use Rattle.kom_model.specs.calls.Conferences.{nearest}
 use Rattle.kom_model.specs.calls.Texts.{nearest_text}
 use Rattle.kom_model.specs.Decide.{asked_in, definition_of, decision_of, was_refused, is_firm}
 use Rattle.kom_model.specs.After.{moment_of}
+use Rattle.kom_model.specs.ToWhom.{is_refused}
 use Rattle.kom_core.specs.Deciding.{Decides, DecidesFirm}
-use Rattle.kom_core.proofs.Effects.{decision-holds}
+use Rattle.async_fanout.specs.Silent.{may_send, is_silent}
+use Rattle.kom_core.proofs.Effects.{decision-holds, decision-meets}
 
-nearest-none : (asked : Asked) (start : ℕ) (found : Option ConferenceRow) →
-    (nearest asked start found).rest.effects ≡ []
-nearest-none asked start None = refl
-nearest-none asked start (Some row) = refl
+-- nothing comes of a call but its reply
+abbrev IsIdle : Call → Decision → Type 0
+IsIdle what decision = (decision.effects ≡ []) × (decision.changes ≡ []) × (may_send what ≡ false)
 
-nearest_text-none : (asked : Asked) (start : ℕ) (found : Option TextRow) →
-    (nearest_text asked start found).rest.effects ≡ []
-nearest_text-none asked start None = refl
-nearest_text-none asked start (Some row) = refl
+nearest-idle : (asked : Asked) (start : ℕ) (found : Option ConferenceRow) (what : Call) → may_send what ≡ false →
+    IsIdle what (nearest asked start found).rest
+nearest-idle asked start None what silent = (refl, refl, silent)
+nearest-idle asked start (Some row) what silent = (refl, refl, silent)
 
--- a call that takes no memory has none
-firm-none : (asked : Asked) (what : Call) → is_among firm_numbers (number_of_call what) ≡ true →
-    (definition_of asked what).rest.effects ≡ []
-firm-none asked call.Logout among = cc
-firm-none asked (call.Login person password invisible) among = cc
-firm-none asked (call.SetPrivBits person privileges) among = cc
-firm-none asked (call.SetPasswd given) among = cc
-firm-none asked (call.CreatePerson given) among = cc
-firm-none asked (call.SetPersFlags person flags) among = cc
-firm-none asked (call.ChangeName conference name) among = cc
-firm-none asked (call.CreateConf given) among = cc
-firm-none asked (call.DeleteConf conference) among = cc
-firm-none asked (call.SetPresentation conference text) among = cc
-firm-none asked (call.SetEtcMotd conference text) among = cc
-firm-none asked (call.SetSupervisor conference supervisor) among = cc
-firm-none asked (call.SetPermittedSubmitters conference submitters) among = cc
-firm-none asked (call.SetSuperConf conference super_conference) among = cc
-firm-none asked (call.SetConfType conference kind) among = cc
-firm-none asked (call.SetGarbNice conference days) among = cc
-firm-none asked (call.SetExpire conference days) among = cc
-firm-none asked (call.SetKeepCommented conference days) among = cc
-firm-none asked (call.ModifyTextInfo given) among = cc
-firm-none asked (call.ModifyConfInfo given) among = cc
-firm-none asked (call.SetUserArea person text) among = cc
-firm-none asked (call.GetText text start end) among = cc
-firm-none asked (call.DeleteText text) among = cc
-firm-none asked (call.AddRecipient text conference tag) among = cc
-firm-none asked (call.SubRecipient text conference) among = cc
-firm-none asked (call.AddComment text parent) among = cc
-firm-none asked (call.SubComment text parent) among = cc
-firm-none asked (call.AddFootnote text parent) among = cc
-firm-none asked (call.SubFootnote text parent) among = cc
-firm-none asked (call.MarkText text kind) among = cc
-firm-none asked (call.UnmarkText text) among = cc
-firm-none asked (call.CreateText given) among = cc
-firm-none asked (call.CreateAnonymousText given) among = cc
-firm-none asked (call.ChangeConference conference) among = cc
-firm-none asked (call.SubMember conference person) among = cc
-firm-none asked (call.MarkAsRead conference locals) among = cc
-firm-none asked (call.SetUnread conference count) among = cc
-firm-none asked (call.SetLastRead conference local) among = cc
-firm-none asked (call.AddMember conference person priority place kind) among = cc
-firm-none asked (call.SetMembershipType person conference kind) among = cc
-firm-none asked (call.MarkAsUnread conference local) among = cc
-firm-none asked (call.SetReadRanges conference ranges) among = cc
-firm-none asked (call.FindNextTextNo start) among = nearest_text-none asked start _
-firm-none asked (call.FindPreviousTextNo start) among = nearest_text-none asked start _
-firm-none asked (call.FindNextConfNo start) among = nearest-none asked start _
-firm-none asked (call.FindPreviousConfNo start) among = nearest-none asked start _
-firm-none asked other among = refl
+nearest_text-idle : (asked : Asked) (start : ℕ) (found : Option TextRow) (what : Call) → may_send what ≡ false →
+    IsIdle what (nearest_text asked start found).rest
+nearest_text-idle asked start None what silent = (refl, refl, silent)
+nearest_text-idle asked start (Some row) what silent = (refl, refl, silent)
+
+-- of a call that takes no memory
+firm-idle : (asked : Asked) (what : Call) → is_among firm_numbers (number_of_call what) ≡ true →
+    IsIdle what (definition_of asked what).rest
+firm-idle asked call.Logout among = cc
+firm-idle asked (call.Login person password invisible) among = cc
+firm-idle asked (call.SetPrivBits person privileges) among = cc
+firm-idle asked (call.SetPasswd given) among = cc
+firm-idle asked (call.CreatePerson given) among = cc
+firm-idle asked (call.SetPersFlags person flags) among = cc
+firm-idle asked (call.ChangeName conference name) among = cc
+firm-idle asked (call.CreateConf given) among = cc
+firm-idle asked (call.DeleteConf conference) among = cc
+firm-idle asked (call.SetPresentation conference text) among = cc
+firm-idle asked (call.SetEtcMotd conference text) among = cc
+firm-idle asked (call.SetSupervisor conference supervisor) among = cc
+firm-idle asked (call.SetPermittedSubmitters conference submitters) among = cc
+firm-idle asked (call.SetSuperConf conference super_conference) among = cc
+firm-idle asked (call.SetConfType conference kind) among = cc
+firm-idle asked (call.SetGarbNice conference days) among = cc
+firm-idle asked (call.SetExpire conference days) among = cc
+firm-idle asked (call.SetKeepCommented conference days) among = cc
+firm-idle asked (call.ModifyTextInfo given) among = cc
+firm-idle asked (call.ModifyConfInfo given) among = cc
+firm-idle asked (call.SetUserArea person text) among = cc
+firm-idle asked (call.GetText text start end) among = cc
+firm-idle asked (call.DeleteText text) among = cc
+firm-idle asked (call.AddRecipient text conference tag) among = cc
+firm-idle asked (call.SubRecipient text conference) among = cc
+firm-idle asked (call.AddComment text parent) among = cc
+firm-idle asked (call.SubComment text parent) among = cc
+firm-idle asked (call.AddFootnote text parent) among = cc
+firm-idle asked (call.SubFootnote text parent) among = cc
+firm-idle asked (call.MarkText text kind) among = cc
+firm-idle asked (call.UnmarkText text) among = cc
+firm-idle asked (call.CreateText given) among = cc
+firm-idle asked (call.CreateAnonymousText given) among = cc
+firm-idle asked (call.ChangeConference conference) among = cc
+firm-idle asked (call.SubMember conference person) among = cc
+firm-idle asked (call.MarkAsRead conference locals) among = cc
+firm-idle asked (call.SetUnread conference count) among = cc
+firm-idle asked (call.SetLastRead conference local) among = cc
+firm-idle asked (call.AddMember conference person priority place kind) among = cc
+firm-idle asked (call.SetMembershipType person conference kind) among = cc
+firm-idle asked (call.MarkAsUnread conference local) among = cc
+firm-idle asked (call.SetReadRanges conference ranges) among = cc
+firm-idle asked (call.ChangeWhatIAmDoing doing) among = cc
+firm-idle asked (call.Enable level) among = cc
+firm-idle asked (call.SetClientVersion version) among = cc
+firm-idle asked (call.AcceptAsync numbers) among = cc
+firm-idle asked call.UserActive among = cc
+firm-idle asked call.SyncKom among = cc
+firm-idle asked (call.ShutdownKom value) among = cc
+firm-idle asked (call.SendMessage recipient text) among = cc
+firm-idle asked (call.Disconnect session) among = cc
+firm-idle asked (call.GetStaticSessionInfo session) among = cc
+firm-idle asked (call.FindNextTextNo start) among =
+    nearest_text-idle asked start _ (call.FindNextTextNo start) refl
+firm-idle asked (call.FindPreviousTextNo start) among =
+    nearest_text-idle asked start _ (call.FindPreviousTextNo start) refl
+firm-idle asked (call.FindNextConfNo start) among =
+    nearest-idle asked start _ (call.FindNextConfNo start) refl
+firm-idle asked (call.FindPreviousConfNo start) among =
+    nearest-idle asked start _ (call.FindPreviousConfNo start) refl
+firm-idle asked other among = (refl, refl, refl)
 
 refused-early : (asked : Asked) (what : Call) → was_refused what ≡ true → (definition_of asked what).early ≡ None → ⊥
 refused-early asked (call.Refused code status) is early = cc
@@ -111,7 +131,7 @@ firm-among asked what firm early =
 
 decision-none : (asked : Asked) (what : Call) → is_firm asked what ≡ true → (decision_of asked what).effects ≡ []
 decision-none asked what firm = decision-holds (λ effects. effects ≡ []) refl asked what
-    (λ early. firm-none asked what (firm-among asked what firm early))
+    (λ early. (firm-idle asked what (firm-among asked what firm early)).0)
 
 decides-none : (state : State) (pass moment : ℕ) (what : Act) (decision : Decision) →
     Decides state (record { pass = pass; moment = moment; act = what }) decision →
@@ -130,3 +150,33 @@ pub no_effects-firm : (state : State) (entry : Entry) (decision : Decision) → 
     DecidesFirm state entry → decision.effects ≡ []
 no_effects-firm state entry decision decides firm =
     decides-none state entry.pass entry.moment entry.act decision decides firm
+
+or-true : (b : Bool) → (b || true) ≡ true
+or-true true = refl
+or-true false = refl
+
+idle-silent : (what : Call) (decision : Decision) → IsIdle what decision → is_silent what decision ≡ true
+idle-silent what decision idle = rw (idle.1, idle.2) (or-true (is_refused decision.reply))
+
+decision-silent : (asked : Asked) (what : Call) → is_firm asked what ≡ true →
+    is_silent what (decision_of asked what) ≡ true
+decision-silent asked what firm = decision-meets (λ decision. is_silent what decision ≡ true) (λ why. refl) asked what
+    (λ early. idle-silent what (definition_of asked what).rest
+    (firm-idle asked what (firm-among asked what firm early)))
+
+silent-decided : (state : State) (pass moment session reference : ℕ) (what : Call) (decision : Decision) →
+    Decides state (record { pass = pass; moment = moment; act = act.Call session reference what }) decision →
+    DecidesFirm state (record { pass = pass; moment = moment; act = act.Call session reference what }) →
+    is_silent what decision ≡ true
+silent-decided state pass moment session reference what decision decides firm =
+    ap (is_silent what) decides
+    ∙ decision-silent (asked_in state (moment_of state moment) session reference) what firm
+
+-- of the call of an entry
+pub silent_firm : (state : State) (entry : Entry) (decision : Decision) (session reference : ℕ) (what : Call) →
+    entry.act ≡ act.Call session reference what → Decides state entry decision → DecidesFirm state entry →
+    is_silent what decision ≡ true
+silent_firm state entry decision session reference what is decides firm =
+    silent-decided state entry.pass entry.moment session reference what decision
+    (subst (λ one. Decides state (record entry { act = one }) decision) is decides)
+    (subst (λ one. DecidesFirm state (record entry { act = one })) is firm)

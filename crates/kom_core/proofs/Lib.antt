@@ -1,3 +1,4 @@
+pub mod Keeping
 pub mod Rows
 pub mod Effects
 pub mod Orderly

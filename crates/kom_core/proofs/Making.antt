@@ -1,15 +1,15 @@
 -- What the parts of a step come to.
-use Rattle.std.proofs.Common.{◌≡◌, ℕ, Bool, true, false, Option, Some, None, Result, Ok, Err, refl, sym, subst}
+use Rattle.std.proofs.Common.{◌≡◌, ℕ, Bool, true, false, Some, Result, Ok, refl, sym, subst}
 use Rattle.kom_types.specs.declared.acts.Act.{Act}
 use Rattle.kom_types.specs.declared.acts.Act.TheVariants as act
 use Rattle.kom_types.specs.declared.acts.Entry.{Entry}
 use Rattle.kom_types.specs.declared.acts.Record.{Record}
 use Rattle.kom_types.specs.declared.answers.Refusal.{Refusal}
 use Rattle.kom_model.specs.State.{State, IsSound}
-use Rattle.kom_model.specs.After.{MayBeShort, MayFollow}
+use Rattle.kom_model.specs.After.{MayBeShort}
 use Rattle.kom_model.proofs.Soundness.{IsSound-after}
 use Rattle.kom_core.specs.declared.server_state.Made.{Made}
-use Rattle.kom_core.specs.Acts.{Kinded, Held, IsMade}
+use Rattle.kom_core.specs.Acts.{Kinded}
 use Rattle.kom_core.specs.Steps.{Changes, ChangesBy, Steps, IsShort, Tells, made_of}
 
 -- the act of an entry, whatever its pass and moment

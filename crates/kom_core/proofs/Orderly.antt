@@ -38,17 +38,18 @@ use Rattle.kom_model.specs.Db.{Db, person_of, membership_of, memberships_at, nex
 use Rattle.kom_model.specs.Db.{recipients_of, locals_of, marks_of, marks_on, items_of, next_item_of}
 use Rattle.kom_model.specs.Shown.{text_adder, conference_adder}
 use Rattle.kom_model.specs.calls.AuxItems.{items_added, item_effects, changed, object_of, numbers_guard}
-use Rattle.kom_model.specs.calls.Call.{Asked, seat_of}
+use Rattle.kom_model.specs.calls.Call.{Asked, seat_of, done, answer}
 use Rattle.kom_model.specs.calls.Conferences.{nearest, gone_person, gone_conference, create_conf}
 use Rattle.kom_model.specs.calls.Guards.{Guard, with_items, caller, first_refusal, items_guard}
-use Rattle.kom_model.specs.calls.Guards.{new_items_guard}
+use Rattle.kom_model.specs.calls.Guards.{new_items_guard, seat_at}
+use Rattle.kom_types.specs.declared.replies.Reply.TheVariants as reply
 use Rattle.read_ranges.specs.Changed.{all_marked, size_of}
 use Rattle.kom_model.specs.calls.Memberships.{mark_as_read, had_read, reads_now, member_effects, joins, is_near}
 use Rattle.kom_model.specs.calls.Memberships.{set_member, type_effects}
 use Rattle.kom_model.specs.calls.NewTexts.{names_recipient, names_footnote, item_effect, item_written, author_effects}
 use Rattle.kom_model.specs.calls.NewTexts.{text_effects, new_text, new_items}
 use Rattle.kom_model.specs.calls.Persons.{person_effects, maker}
-use Rattle.kom_model.specs.calls.Sessions.{counts, seat_left, all_left, leaving_effects}
+use Rattle.kom_model.specs.calls.Sessions.{counts, seat_left, all_left, leaving_effects, session_meant, ended, static_of}
 use Rattle.kom_model.specs.calls.Texts.{gone_text, new_recipient, nearest_text}
 use Rattle.kom_model.specs.Decide.{asked_in, definition_of, decision_of}
 use Rattle.kom_model.specs.After.{moment_of}
@@ -76,6 +77,23 @@ leaving-nameless : (asked : Asked) → IsNameless (leaving_effects asked)
 leaving-nameless asked =
     elim (seat_of asked) as (λ found. IsNameless (elim found [ None ↦ [] | Some seat ↦ seat_left asked seat ]))
     [ None ↦ refl | Some seat ↦ left-nameless asked seat ]
+
+-- a session that is ended
+ended-nameless : (asked : Asked) (number : ℕ) →
+    IsNameless (definition_of asked (call.Disconnect number)).rest.effects
+ended-nameless asked number =
+    elim (seat_at asked.seats (session_meant asked number)) as
+    (λ found. IsNameless (let decision : Decision = elim found [
+      | None ↦ done [] []
+      | Some seat ↦ ended asked seat
+    ] in decision.effects)) [ None ↦ refl | Some seat ↦ left-nameless asked seat ]
+
+static-orderly : (found : Option Seat) → IsOrderly (let decision : Decision = elim found [
+  | None ↦ done [] []
+  | Some seat ↦ answer (reply.StaticSession (static_of seat))
+] in decision.effects)
+static-orderly None = tt
+static-orderly (Some seat) = tt
 
 -- effects that give no name, before others
 nameless-before : (first rest : List Effect) → IsNameless first → IsOrderly rest → IsOrderly (first ++ rest)
@@ -288,6 +306,9 @@ rest-orderly : (asked : Asked) (what : Call) → IsOrderly (definition_of asked 
 rest-orderly asked call.Logout = IsOrderly-nameless (leaving_effects asked) (leaving-nameless asked)
 rest-orderly asked (call.Login person password invisible) =
     nameless-before (leaving_effects asked) _ (leaving-nameless asked) tt
+rest-orderly asked (call.Disconnect session) =
+    IsOrderly-nameless (definition_of asked (call.Disconnect session)).rest.effects (ended-nameless asked session)
+rest-orderly asked (call.GetStaticSessionInfo session) = static-orderly (seat_at asked.seats session)
 rest-orderly asked (call.CreatePerson given) =
     with_items-orderly
     (new_items_guard object.Letterbox (maker (caller asked).person (next_conference_of asked.db)) given.aux_items) _

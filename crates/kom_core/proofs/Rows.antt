@@ -8,7 +8,7 @@ use Rattle.kom_types.specs.declared.session_changes.SessionChange.{SessionChange
 use Rattle.kom_types.specs.declared.session_changes.SessionChange.TheVariants.{Stop}
 use Rattle.kom_types.specs.Sessions.{Session, Limits, is_session, changed_session, changed, is_stop}
 use Rattle.kom_model.specs.State.{State}
-use Rattle.kom_model.specs.ToWhom.{Delivery}
+use Rattle.kom_model.specs.Sending.{Delivery}
 use Rattle.kom_model.specs.After.{with_session, queue_all, make_change, make_changes}
 use Rattle.kom_model.proofs.Finding.{changed_row}
 

@@ -14,7 +14,8 @@ use Rattle.kom_model.specs.declared.call_errors.CallError.TheVariants as error
 use Rattle.kom_model.specs.State.{State}
 use Rattle.kom_model.specs.calls.Call.{Definition, decided}
 use Rattle.kom_model.specs.Decide.{asked_in, is_firm}
-use Rattle.kom_model.specs.ToWhom.{Delivery, messages_of}
+use Rattle.kom_model.specs.Sending.{Delivery}
+use Rattle.kom_model.specs.ToWhom.{messages_of}
 use Rattle.kom_model.specs.After.{moment_of, decision_at}
 
 -- the act is a call
@@ -56,9 +57,11 @@ Asks (call.GetUnreadConfs person) = Unit {0}
 Asks (call.GetMembers conference first count) = Unit {0}
 Asks (call.QueryReadTexts person conference want_ranges most) = Unit {0}
 Asks (call.GetMembership person first count want_ranges most) = Unit {0}
+Asks (call.WhoIsOnDynamic visible invisible most) = Unit {0}
+Asks (call.GetStaticSessionInfo session) = Unit {0}
 Asks other = ⊥
 
--- the call changes sessions or persons
+-- the call changes sessions or persons, or the server
 abbrev pub ChangesPerson : Call → Type 0
 ChangesPerson call.Logout = Unit {0}
 ChangesPerson (call.Login person password invisible) = Unit {0}
@@ -73,6 +76,10 @@ ChangesPerson (call.SetPasswd change) = Unit {0}
 ChangesPerson (call.CreatePerson person) = Unit {0}
 ChangesPerson (call.SetPersFlags person flags) = Unit {0}
 ChangesPerson (call.SetUserArea person text) = Unit {0}
+ChangesPerson (call.SendMessage recipient text) = Unit {0}
+ChangesPerson (call.Disconnect session) = Unit {0}
+ChangesPerson call.SyncKom = Unit {0}
+ChangesPerson (call.ShutdownKom value) = Unit {0}
 ChangesPerson other = ⊥
 
 -- the call makes, changes or deletes a conference

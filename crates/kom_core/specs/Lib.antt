@@ -1,3 +1,4 @@
 pub mod Acts
 pub mod Deciding
+pub mod Keeping
 pub mod Steps

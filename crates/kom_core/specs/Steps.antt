@@ -15,7 +15,7 @@ use Rattle.kom_types.specs.Sessions.{waiting_limits, changed_session, is_stop}
 use Rattle.kom_model.specs.State.{State}
 use Rattle.kom_model.specs.Refusal.{refusal_of}
 use Rattle.kom_model.specs.Decide.{asked_in, is_firm}
-use Rattle.kom_model.specs.ToWhom.{Delivery}
+use Rattle.kom_model.specs.Sending.{Delivery}
 use Rattle.kom_model.specs.After.{session_in, moment_of, queue_all, reply_to, carry_out, sent}
 use Rattle.kom_model.specs.After.{after}
 use Rattle.kom_core.specs.declared.server_state.Made.{Made}

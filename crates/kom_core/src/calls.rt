@@ -11,8 +11,7 @@ use kom_model::{CallError, Refused};
 use kom_state::Asked;
 use kom_types::{Call, Decision};
 
-/// What a call comes to by its definition, but for the last guard. One that the server does not
-/// make yet is refused as unknown.
+/// What a call comes to by its definition, but for the last guard.
 pub(crate) fn make(asked: &Asked<'_>, call: &Call) -> Result<Decision, CallError>
     ensures meets { Meets (definition_of asked.now call.now) result }
     ensures firm { is_among firm_numbers (number_of_call call.now) ≡ true → HadMemory result }
@@ -45,7 +44,9 @@ pub(crate) fn make(asked: &Asked<'_>, call: &Call) -> Result<Decision, CallError
         | Call::GetMarks
         | Call::LocalToGlobal { .. }
         | Call::LocalToGlobalReverse { .. }
-        | Call::MapCreatedTexts { .. } => make_query(asked, call),
+        | Call::MapCreatedTexts { .. }
+        | Call::WhoIsOnDynamic { .. }
+        | Call::GetStaticSessionInfo { .. } => make_query(asked, call),
         Call::Logout
         | Call::Login { .. }
         | Call::ChangeConference { .. }
@@ -58,7 +59,11 @@ pub(crate) fn make(asked: &Asked<'_>, call: &Call) -> Result<Decision, CallError
         | Call::SetPasswd(_)
         | Call::CreatePerson(_)
         | Call::SetPersFlags { .. }
-        | Call::SetUserArea { .. } => make_person_change(asked, call),
+        | Call::SetUserArea { .. }
+        | Call::SendMessage { .. }
+        | Call::Disconnect { .. }
+        | Call::SyncKom
+        | Call::ShutdownKom { .. } => make_person_change(asked, call),
         Call::ChangeName { .. }
         | Call::CreateConf(_)
         | Call::DeleteConf { .. }
@@ -94,12 +99,6 @@ pub(crate) fn make(asked: &Asked<'_>, call: &Call) -> Result<Decision, CallError
         | Call::CreateAnonymousText(_)
         | Call::ModifyTextInfo(_) => make_text_change(asked, call),
         Call::Refused(code, status) => refuse(*code, *status),
-        Call::SendMessage { .. }
-        | Call::Disconnect { .. }
-        | Call::WhoIsOnDynamic { .. }
-        | Call::GetStaticSessionInfo { .. }
-        | Call::SyncKom
-        | Call::ShutdownKom { .. } => refuse(2, 0),
     }
 }
 
@@ -173,11 +172,19 @@ fn make_query(asked: &Asked<'_>, call: &Call) -> Result<Decision, CallError>
             first,
             count,
         } => query_calls::map_created_texts(asked, *author, *first, *count),
+        Call::WhoIsOnDynamic {
+            visible,
+            invisible,
+            idle,
+        } => query_calls::who_is_on_dynamic(asked, *visible, *invisible, *idle),
+        Call::GetStaticSessionInfo { session } => {
+            query_calls::get_static_session_info(asked, *session)
+        }
         _ => unreachable!(),
     }
 }
 
-/// The same of a call that changes sessions or persons.
+/// The same of a call that changes sessions or persons, or the server.
 fn make_person_change(asked: &Asked<'_>, call: &Call) -> Result<Decision, CallError>
     requires { ChangesPerson call.now }
     ensures meets { Meets (definition_of asked.now call.now) result }
@@ -207,6 +214,12 @@ fn make_person_change(asked: &Asked<'_>, call: &Call) -> Result<Decision, CallEr
             person_calls::set_pers_flags(asked, *person, *flags)
         }
         Call::SetUserArea { person, text } => person_calls::set_user_area(asked, *person, *text),
+        Call::SendMessage { recipient, message } => {
+            person_calls::send_message(asked, *recipient, message)
+        }
+        Call::Disconnect { session } => person_calls::disconnect(asked, *session),
+        Call::SyncKom => person_calls::sync_kom(asked),
+        Call::ShutdownKom { .. } => person_calls::shutdown_kom(asked),
         _ => unreachable!(),
     }
 }

@@ -1,10 +1,12 @@
-ghost use Rattle.std.specs.Prelude.{◌≡◌, ◌+◌, ◌^◌, ◌<◌, ◌≤◌, ◌||◌, IfOk, OnErr, IsOk, None};
+ghost use Rattle.std.specs.Prelude.{◌≡◌, ◌+◌, ◌^◌, ◌<◌, ◌≤◌, ◌||◌, IfOk, OnOk, OnErr, IsOk, None};
 ghost use Rattle.kom_model.specs.Effects.{IsProtected};
 ghost use Rattle.kom_model.specs.Initial.{initial};
 ghost use Rattle.kom_model.specs.State.{IsSound, opening};
+ghost use Rattle.kom_core.specs.Keeping.{appended, effects_kept};
 ghost use Rattle.kom_core.specs.Acts.{items_of, Answered, Kinded, IsUnchanged, TakesNone};
 
 use crate::answer_kind::AnswerKind;
+use crate::keeper::{Keeper, Unkept};
 use crate::server_state::State;
 use arrayvec::ArrayVec;
 use kom_types::{Answer, Entry, Item, Memory, Moment, Record};
@@ -63,8 +65,26 @@ impl Core {
         ensures was_sound { IsSound self.old.state }
         ensures sound { IsSound self.new.state }
     {
+        self.act_kept(entry, &mut Unkept)
+    }
+
+    /// Makes the act of an entry as `act` does, and gives a keeper the effects of a call that is
+    /// accepted, in one append before any is made. Where that runs out of memory, the call is
+    /// answered so, and nothing is kept.
+    pub fn act_kept<K: Keeper>(&mut self, entry: Entry, keeper: &mut K) -> Result<Answer, Memory>
+        requires { self.old.state.entries < 2 ^ 62 }
+        ensures answered { IfOk result (Answered self.old.state entry self.new) }
+        ensures kept { OnOk result (K.pending keeper.new
+            ≡ appended (effects_kept self.old.state self.new.last) (K.pending keeper.old)) }
+        ensures memory { OnErr result (IsUnchanged self.old.state self.new) }
+        ensures unkept { OnErr result (K.pending keeper.new ≡ K.pending keeper.old) }
+        ensures none_taken { TakesNone self.old.state entry.act → IsOk result }
+        ensures counted { self.new.state.entries ≤ self.old.state.entries + 1 }
+        ensures was_sound { IsSound self.old.state }
+        ensures sound { IsSound self.new.state }
+    {
         let mut items = ArrayVec::new();
-        let kind = self.make(entry, &mut items)?;
+        let kind = self.make_kept(entry, &mut items, keeper)?;
         Ok(kind.with_items(items))
     }
 
@@ -85,9 +105,31 @@ impl Core {
         ensures was_sound { IsSound self.old.state }
         ensures sound { IsSound self.new.state }
     {
+        self.make_kept(entry, items, &mut Unkept)
+    }
+
+    /// The same, and a keeper gets the effects of a call.
+    pub fn make_kept<K: Keeper>(
+        &mut self,
+        entry: Entry,
+        items: &mut ArrayVec<Item, 64>,
+        keeper: &mut K,
+    ) -> Result<AnswerKind, Memory>
+        requires { self.old.state.entries < 2 ^ 62 }
+        ensures answered { IfOk result (Kinded self.old.state entry self.new) }
+        ensures given { items.new.items ≡ items_of self.old.state entry.act }
+        ensures kept { OnOk result (K.pending keeper.new
+            ≡ appended (effects_kept self.old.state self.new.last) (K.pending keeper.old)) }
+        ensures memory { OnErr result (IsUnchanged self.old.state self.new) }
+        ensures unkept { OnErr result (K.pending keeper.new ≡ K.pending keeper.old) }
+        ensures none_taken { TakesNone self.old.state entry.act → IsOk result }
+        ensures counted { self.new.state.entries ≤ self.old.state.entries + 1 }
+        ensures was_sound { IsSound self.old.state }
+        ensures sound { IsSound self.new.state }
+    {
         self.last = None;
         items.clear();
-        match self.server.make(&entry, items)? {
+        match self.server.make(&entry, items, keeper)? {
             Ok(made) => {
                 self.last = Some(Record {
                     entry,
@@ -120,5 +162,9 @@ impl Core {
     }
 }
 
+#[cfg(test)]
+mod keeper_tests;
+#[cfg(test)]
+mod message_tests;
 #[cfg(test)]
 mod tests;

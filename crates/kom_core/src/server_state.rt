@@ -3,6 +3,7 @@ ghost use Rattle.kom_model.specs.State.{IsSound, opening as opening_state};
 ghost use Rattle.kom_model.specs.Decide.{asked_in};
 ghost use Rattle.kom_model.specs.After.{moment_of as moment_of_entry};
 ghost use Rattle.kom_core.specs.Acts.{items_of, TakesNone};
+ghost use Rattle.kom_core.specs.Keeping.{appended, effects_come};
 ghost use Rattle.kom_core.specs.Steps.{Steps, counted};
 
 mod acting;
@@ -11,6 +12,7 @@ mod queueing;
 mod refusing;
 
 use crate::answer_kind::AnswerKind;
+use crate::keeper::Keeper;
 use arrayvec::ArrayVec;
 use kom_state::Asked;
 use kom_types::{Entry, Item, Memory, Moment, Refusal};
@@ -103,24 +105,28 @@ impl State {
     }
 
     /// Makes the act of an entry, or returns why it is not made. A drain moves its items into an
-    /// array.
-    pub(crate) fn make(
+    /// array, and a keeper gets the effects of a call.
+    pub(crate) fn make<K: Keeper>(
         &mut self,
         entry: &Entry,
         items: &mut ArrayVec<Item, 64>,
+        keeper: &mut K,
     ) -> Result<Result<Made, Refusal>, Memory>
         requires sound { IsSound self.old }
         requires room { self.old.entries < 2 ^ 62 }
         requires none { items.old.items ≡ [] }
         ensures step { IfOk result (Steps self.old entry.now self.new) }
+        ensures kept { IfOk result (λ came. K.pending keeper.new
+            ≡ appended (effects_come self.old entry.now came) (K.pending keeper.old)) }
         ensures err { OnErr result (self.new ≡ self.old) }
+        ensures unkept { OnErr result (K.pending keeper.new ≡ K.pending keeper.old) }
         ensures none_taken { TakesNone self.old entry.now.act → IsOk result }
         ensures given { items.new.items ≡ items_of self.old entry.now.act }
     {
         if let Some(refusal) = self.refusal(&entry.act) {
             return Ok(Err(refusal));
         }
-        let made = self.change(entry, items)?;
+        let made = self.change(entry, items, keeper)?;
         self.advance(entry.moment);
         Ok(Ok(made))
     }

@@ -132,12 +132,17 @@ fn a_client_is_answered_by_its_lines(rt: HostRuntime) -> Result<(), Fail> {
             b"LysKOM\n%%Protocol error.\n",
             SessionEnd::Broken(11),
         ),
-        (b"A1Ha\n1 84 1\n", 0, b"LysKOM\n%1 2 0\n", SessionEnd::End),
+        (
+            b"A1Ha\n1 84 1\n",
+            0,
+            b"LysKOM\n=1 1Ha 6Hmemory 0H 0 0 0 29 1 100 2 59 0\n",
+            SessionEnd::End,
+        ),
         (
             b"A1Ha\n1 35\n2 75\n3 94\n4 96\n5 55 0\n",
             0,
-            b"LysKOM\n=1 0 0 0 29 1 100 2 59 0\n=2 11 4Hkomd 3H1.0\n=3 10000 1 2 3 4 0 0 *\n=4 12 { 1 2 3 4 5 6 7 8 10 13 14 15 }\n%5 2 0\n",
-            SessionEnd::End,
+            b"LysKOM\n=1 0 0 0 29 1 100 2 59 0\n=2 11 4Hkomd 3H1.0\n=3 10000 1 2 3 4 0 0 *\n=4 12 { 1 2 3 4 5 6 7 8 10 13 14 15 }\n=5\n",
+            SessionEnd::Dropped,
         ),
         (
             b"A1Ha\n1 80 0 *\n2 80 0 { }\n3 80 3 { 5 23 15 }\n4 81\n",

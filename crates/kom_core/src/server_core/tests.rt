@@ -8,7 +8,7 @@ use std::process::Abort;
 use std::test::Fail;
 
 /// A core before its first act, whose administrator has the empty password.
-fn fresh(alloc: Global) -> Result<Core, Memory>
+pub(super) fn fresh(alloc: Global) -> Result<Core, Memory>
     ensures { IfOk result (λ core. core.state.entries ≡ 0) }
 {
     Core::fresh(alloc, b"", Moment::at_most(0))
@@ -35,7 +35,7 @@ fn made(core: &mut Core, moment: u64, what: Act) -> Result<AnswerKind, Memory>
     Ok(kind_of(act(core, moment, what)?))
 }
 
-fn kind_of(answer: Answer) -> AnswerKind {
+pub(super) fn kind_of(answer: Answer) -> AnswerKind {
     match answer {
         Answer::Connected(number) => AnswerKind::Connected(number),
         Answer::Taken => AnswerKind::Taken,
@@ -48,7 +48,7 @@ fn kind_of(answer: Answer) -> AnswerKind {
     }
 }
 
-fn gone(why: Why) -> AnswerKind {
+pub(super) fn gone(why: Why) -> AnswerKind {
     AnswerKind::Refused(Refusal::Gone(why))
 }
 
@@ -73,7 +73,7 @@ fn printed(alloc: Global, items: &[Item]) -> Result<Writer, Memory> {
 }
 
 /// What a session takes prints to these lines.
-fn check_drained(
+pub(super) fn check_drained(
     rt: &impl Abort,
     alloc: Global,
     core: &mut Core,
@@ -90,7 +90,7 @@ fn check_drained(
 }
 
 /// The act of pass 3 is answered so.
-fn check_made(
+pub(super) fn check_made(
     rt: &impl Abort,
     core: &mut Core,
     moment: u64,
@@ -104,7 +104,7 @@ fn check_made(
     Ok(())
 }
 
-fn connect(alloc: Global, core: &mut Core, moment: u64) -> Result<AnswerKind, Memory>
+pub(super) fn connect(alloc: Global, core: &mut Core, moment: u64) -> Result<AnswerKind, Memory>
     requires { core.old.state.entries < 2 ^ 62 }
     ensures { core.new.state.entries ≤ core.old.state.entries + 1 }
 {
@@ -270,8 +270,7 @@ fn ask_in_vain(rt: &impl Abort, alloc: Global, core: &mut Core) -> Result<(), Fa
     requires { core.old.state.entries + 5 < 2 ^ 62 }
     ensures { core.new.state.entries ≤ core.old.state.entries + 6 }
 {
-    let unknown = Call::Disconnect { session: 1 };
-    check_line(rt, alloc, core, 1, unknown, b"%7 2 0\n")?;
+    check_line(rt, alloc, core, 1, Call::Refused(2, 0), b"%7 2 0\n")?;
     check_line(rt, alloc, core, 1, Call::Refused(4, 9), b"%7 4 9\n")
 }
 

@@ -4,26 +4,33 @@ ghost use Rattle.kom_model.specs.State.{IsSound};
 ghost use Rattle.kom_model.specs.Refusal.{refusal_of};
 ghost use Rattle.kom_model.specs.Out.{given_from};
 ghost use Rattle.kom_core.specs.Acts.{items_of, TakesNone};
-ghost use Rattle.kom_core.specs.Steps.{Changes, ChangesBy, greeting};
+ghost use Rattle.kom_core.specs.Keeping.{appended, effects_made};
+ghost use Rattle.kom_core.specs.Steps.{Changes, ChangesBy, greeting, made_of};
 
 use super::{Made, State, later};
 use crate::answer_kind::AnswerKind;
+use crate::keeper::Keeper;
 use arrayvec::ArrayVec;
 use kom_types::{Act, Bytes, Entry, Item, Memory, Moment};
 use sessions::SessionRow;
 
 impl State {
-    /// Makes the act of an entry that nothing refuses, but for the count of entries and the moment.
-    pub(super) fn change(
+    /// Makes the act of an entry that nothing refuses, but for the count of entries and the moment. A
+    /// keeper gets the effects of a call.
+    pub(super) fn change<K: Keeper>(
         &mut self,
         entry: &Entry,
         items: &mut ArrayVec<Item, 64>,
+        keeper: &mut K,
     ) -> Result<Made, Memory>
         requires sound { IsSound self.old }
         requires possible { refusal_of self.old entry.now.act ≡ None }
         requires none { items.old.items ≡ [] }
         ensures step { IfOk result (Changes self.old entry.now self.new) }
+        ensures kept { IfOk result (λ made. K.pending keeper.new ≡ appended
+            (effects_made self.old (made_of self.old entry.now made.short)) (K.pending keeper.old)) }
         ensures err { OnErr result (self.new ≡ self.old) }
+        ensures unkept { OnErr result (K.pending keeper.new ≡ K.pending keeper.old) }
         ensures none_taken { TakesNone self.old entry.now.act → IsOk result }
         ensures given { items.new.items ≡ items_of self.old entry.now.act }
     {
@@ -34,7 +41,7 @@ impl State {
                 reference,
                 ..
             } => {
-                let short = self.call(entry, *session, *reference);
+                let short = self.call(entry, *session, *reference, keeper);
                 Ok(taken(*session, short))
             }
             Act::Broken { session } => {

@@ -1,25 +1,38 @@
 ghost use Rattle.std.specs.Prelude.{◌≡◌, ℕ, [], Some, None, IfOk, IsOk, OnOk, OnErr};
+ghost use Rattle.std.specs.Prelude.{if◌then◌else◌};
 ghost use Rattle.kom_state.specs.Room.{IsOrderly};
 ghost use Rattle.kom_model.specs.Effects.{apply_all};
 ghost use Rattle.kom_model.specs.After.{make_change, make_changes};
 ghost use Rattle.kom_core.specs.Deciding.{IsCall, DecidesFirm};
+ghost use Rattle.kom_core.specs.Keeping.{appended, effects_of};
 ghost use Rattle.kom_core.specs.Steps.{ComesTo, CarriesOut, Answers, IsOf};
 
 use super::{State, later};
 use crate::decide::decide;
-use crate::fan_out::{Delivery, fan_out};
+use crate::fan_out::fan_out;
+use crate::keeper::Keeper;
+use async_fanout::Delivery;
 use kom_types::{
     ChangeList, Decision, EffectList, Entry, Item, Memory, Moment, Reply, SessionChange,
 };
 
 impl State {
     /// Carries out the call of an entry, sends its messages, and queues its reply; where memory ran
-    /// out before, only the reply that says so. Whether it did is returned.
-    pub(super) fn call(&mut self, entry: &Entry, session: u32, reference: u32) -> bool
+    /// out before, only the reply that says so. Whether it did is returned. A keeper gets the effects.
+    #[tactic(auto, using(crate::proofs::Keeping::none_appended))]
+    pub(super) fn call<K: Keeper>(
+        &mut self,
+        entry: &Entry,
+        session: u32,
+        reference: u32,
+        keeper: &mut K,
+    ) -> bool
         requires { IsCall entry.now.act }
-        ensures { Answers self.old entry.now session reference result self.new }
+        ensures answers { Answers self.old entry.now session reference result self.new }
+        ensures kept { K.pending keeper.new
+            ≡ appended (if result then [] else effects_of self.old entry.now) (K.pending keeper.old) }
     {
-        match self.carry_out(entry) {
+        match self.carry_out(entry, keeper) {
             Ok((body, messages)) => {
                 self.queue_all(messages);
                 self.queue(session, Item::Reply { reference, body });
@@ -34,12 +47,20 @@ impl State {
     }
 
     /// Makes what the call of an entry changes, and returns its reply and the messages that it
-    /// sends. Where memory runs out, nothing is changed.
-    fn carry_out(&mut self, entry: &Entry) -> Result<(Reply, Vec<Delivery>), Memory>
+    /// sends. A keeper gets its effects. Where memory runs out, nothing is changed or kept.
+    #[tactic(auto, using(crate::proofs::Keeping::decided_effects))]
+    fn carry_out<K: Keeper>(
+        &mut self,
+        entry: &Entry,
+        keeper: &mut K,
+    ) -> Result<(Reply, Vec<Delivery>), Memory>
         requires { IsCall entry.now.act }
         ensures ok { IfOk result (λ both.
             CarriesOut self.old entry.now both.0 both.1.items self.new) }
+        ensures kept { OnOk result (
+            K.pending keeper.new ≡ appended (effects_of self.old entry.now) (K.pending keeper.old)) }
         ensures err { OnErr result (self.new ≡ self.old) }
+        ensures unkept { OnErr result (K.pending keeper.new ≡ K.pending keeper.old) }
         ensures firm { DecidesFirm self.old entry.now → IsOk result }
     {
         let (decision, messages) = self.comes_to(entry)?;
@@ -48,7 +69,7 @@ impl State {
             effects,
             changes,
         } = decision;
-        self.apply(effects)?;
+        self.apply(effects, keeper)?;
         self.make_changes(changes, later(self.moment, entry.moment));
         Ok((reply, messages))
     }
@@ -64,18 +85,25 @@ impl State {
         Ok((decision, messages))
     }
 
-    /// Makes effects on the stored rows, in order. Where memory runs out, none is made.
-    fn apply(&mut self, effects: EffectList) -> Result<(), Memory>
+    /// Makes effects on the stored rows, in order, once a keeper has got them. Where memory runs out,
+    /// none is made or kept.
+    #[tactic(auto, using(crate::proofs::Keeping::none_appended))]
+    fn apply<K: Keeper>(&mut self, effects: EffectList, keeper: &mut K) -> Result<(), Memory>
         requires { IsOrderly effects }
         ensures ok { OnOk result (
             self.new ≡ record self.old { db = apply_all effects self.old.db }) }
+        ensures kept { OnOk result (
+            K.pending keeper.new ≡ appended effects (K.pending keeper.old)) }
         ensures err { OnErr result (self.new ≡ self.old) }
+        ensures unkept { OnErr result (K.pending keeper.new ≡ K.pending keeper.old) }
         ensures none { effects ≡ [] → IsOk result }
     {
-        if !effects.is_empty() {
-            self.rows.reserve(effects.as_slice())?;
-            self.rows.apply_all(effects);
+        if effects.is_empty() {
+            return Ok(());
         }
+        self.rows.reserve(effects.as_slice())?;
+        keeper.append(effects.as_slice())?;
+        self.rows.apply_all(effects);
         Ok(())
     }
 

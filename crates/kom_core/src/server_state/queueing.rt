@@ -3,7 +3,7 @@ ghost use Rattle.kom_types.specs.Sessions.{waiting_limits, queued};
 ghost use Rattle.kom_model.specs.After.{with_session, queue_all};
 
 use super::State;
-use crate::fan_out::Delivery;
+use async_fanout::Delivery;
 use kom_replies::printed_len;
 use kom_types::Item;
 

@@ -4,13 +4,13 @@ use Rattle.kom_core.proofs.Orderly.{IsOrderly-decided}
 use Rattle.kom_core.proofs.server_state.State.carry_out.Goals as goal
 
 pub apply-requires : goal.apply-requires
-apply-requires c =
+apply-requires g c =
     IsOrderly-decided c.args.self.now c.args.entry.now c.in_ok-decision.decision c.requires
     c.in_ok-decision.ensures.comes_to.0
 
 -- for a firm call there is nothing to apply, and so memory did not run out
 pub returns-in_err-apply-clause-firm : goal.returns-in_err-apply-clause-firm
-returns-in_err-apply-clause-firm c = λ firm.
+returns-in_err-apply-clause-firm g c = λ firm.
     let decision = c.in_ok-decision.decision in
     let none : decision.effects ≡ [] =
     no_effects-firm c.args.self.now c.args.entry.now decision c.in_ok-decision.ensures.comes_to.0 firm in

@@ -1,4 +1,4 @@
-use Rattle.std.proofs.Common.{◌≡◌, sym, ◌∙◌}
+use Rattle.std.proofs.Common.{sym, ◌∙◌}
 use Rattle.kom_core.proofs.Rows.{gone-copied, absent_stays}
 use Rattle.kom_core.proofs.server_state.State.queue.Goals as goal
 

@@ -1,4 +1,3 @@
-use Rattle.std.proofs.Common.{◌≡◌, refl}
 use Rattle.kom_types.specs.Sessions.{waiting_limits}
 use Rattle.kom_core.proofs.Rows.{queue_all-push}
 use Rattle.kom_core.proofs.server_state.State.queue_all.Goals as goal
