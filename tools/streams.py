@@ -3,8 +3,10 @@
 
 Each FOLDER of tests/streams holds pairs of files: NAME.in is what a client sends over standard input, NAME.out what it gets
 at a clock that stands at moment 0. Wherever NAME.out has the time of that moment, any time passes. Without a folder all are
-run. It prints a line for each stream that is answered otherwise, and a count, and ends with 1 if there is one, else with 0.
-PROGRAM is crates/komd/out/komd, which `rt ci` leaves there, unless it is named.
+run. A stream that is answered otherwise is given once more: how long a session was idle and a person was present is counted in
+seconds, and one may have ended while the program ran. It prints a line for each stream that is answered otherwise twice, and a
+count, and ends with 1 if there is one, else with 0. PROGRAM is crates/komd/out/komd, which `rt ci` leaves there, unless it is
+named.
 """
 import pathlib
 import re
@@ -51,7 +53,7 @@ def main(words):
     streams = [stream for folder in folders for stream in sorted(folder.glob("*.in"))]
     failed = 0
     for stream in streams:
-        why = run(program.resolve(), stream)
+        why = run(program.resolve(), stream) and run(program.resolve(), stream)
         if why:
             failed += 1
             print(f"{stream.relative_to(STREAMS) if STREAMS in stream.parents else stream}: {why}")
