@@ -9,7 +9,8 @@ use std::test::Fail;
 
 // A session of the user ceder at gnu.
 fn row(alloc: Global, number: u32) -> Result<SessionRow, Memory>
-    ensures { IfOk result (λ row. row.seat.number ≡ number) }
+    ensures number { IfOk result (λ row. row.seat.number ≡ number) }
+    ensures silent { IfOk result (λ row. row.seat.accepted ≡ 0) }
 {
     let user = Bytes::copy_of(alloc, b"ceder")?;
     let host = Bytes::copy_of(alloc, b"gnu")?;
@@ -186,5 +187,38 @@ fn a_client_tells_its_name_and_ends(rt: HostRuntime) -> Result<(), Fail> {
     assert_eq!(rt; seat.client.as_slice(), b"elisp".as_slice());
     assert_eq!(rt; seat.version.as_slice(), b"0.48".as_slice());
     assert_eq!(rt; seat.accepted, 0x20);
+    Ok(())
+}
+
+// The numbers of the sessions at the first three places among those that accept message 5; 0 where
+// there is none.
+fn accepting(sessions: &Sessions) -> [u32; 3] {
+    [0, 1, 2].map(|place| match sessions.nth_accepting(5, place) {
+        Some(seat) => seat.number,
+        None => 0,
+    })
+}
+
+// Session 5 asks for message 5 and the first session for others, and session 2 for both.
+fn asking(alloc: Global) -> Result<Sessions, Memory> {
+    let mut sessions = three(alloc)?;
+    for (session, accepted) in [(5, 0x20), (1, 0x40), (2, 0x60)] {
+        if sessions.get(session).is_some() {
+            let what = SessionChange::Accept(session, accepted);
+            sessions.change(what, Moment::at_most(1_001));
+        }
+    }
+    Ok(sessions)
+}
+
+#[test]
+fn accepting_sessions_are_found_by_their_places(rt: HostRuntime) -> Result<(), Fail> {
+    let mut sessions = asking(rt.alloc())?;
+    assert_eq!(rt; accepting(&sessions), [2, 5, 0]);
+    change(&mut sessions, SessionChange::Accept(2, 0x40), 1_002);
+    assert_eq!(rt; accepting(&sessions), [5, 0, 0]);
+    change(&mut sessions, SessionChange::Accept(2, 0x20), 1_003);
+    assert!(rt; sessions.close(5).is_some());
+    assert_eq!(rt; accepting(&sessions), [2, 0, 0]);
     Ok(())
 }
