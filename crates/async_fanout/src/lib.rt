@@ -1,5 +1,5 @@
-//! The messages that a call sends: to each session that accepts them, and in which somebody is logged
-//! in, what that person may know.
+//! The messages that a call sends: to each session that accepts them, and in which somebody is
+//! logged in, what that person may know.
 #![tactic(auto)]
 
 mod added;
@@ -12,6 +12,8 @@ mod on_persons;
 mod on_server;
 mod on_sessions;
 mod on_texts;
+#[cfg(test)]
+mod tests;
 
 pub use deliveries::Delivery;
 pub use messages::{fan_out, is_silent};
