@@ -1,6 +1,7 @@
 pub mod Passes
 pub mod Faults
 pub mod Desks
+pub mod Crowds
 pub mod Making
 pub mod Runs
 pub mod Serving

@@ -7,6 +7,11 @@ use std::sync::Wait;
 use std::test::Fail;
 use std::thread::Threads;
 
+mod crowd;
+mod ends;
+mod every_call;
+mod worked_rows;
+
 /// A greeting and the call for the caller's session number, and the answers.
 const ASKS: &[u8] = b"A5Hceder\n1 56\n";
 
@@ -63,6 +68,28 @@ fn gate_of(alloc: Global, input: &[u8], plan: LinkPlan, script: Script) -> Resul
     let input = Vec::from_slice(alloc, input)?;
     clients.push_back(Client { input, plan })?;
     Ok(GatePlan { clients, script })
+}
+
+/// What the run of `once` left in which these clients came one after the other.
+fn left_by_clients<R: Threads + Wait + Sync>(
+    rt: &R,
+    alloc: Global,
+    inputs: &[&[u8]],
+) -> Result<Left, Fail> {
+    let mut clients = VecDeque::new(alloc);
+    for input in inputs {
+        let input = Vec::from_slice(alloc, input)?;
+        let plan = LinkPlan::new(alloc);
+        clients.push_back(Client { input, plan })?;
+    }
+    let script = Script::new(alloc);
+    let gate = GatePlan { clients, script };
+    left_by(
+        rt,
+        alloc,
+        ["once"].as_slice(),
+        world_of(alloc, Some(gate), 0)?,
+    )
 }
 
 /// A world with this gate, or whose gate is refused, and whose sink fails at the write of this
@@ -141,7 +168,8 @@ fn a_client_is_answered_by_its_lines(rt: HostRuntime) -> Result<(), Fail> {
         (
             b"A1Ha\n1 35\n2 75\n3 94\n4 96\n5 55 0\n",
             0,
-            b"LysKOM\n=1 0 0 0 29 1 100 2 59 0\n=2 11 4Hkomd 3H1.0\n=3 10000 1 2 3 4 0 0 *\n=4 12 { 1 2 3 4 5 6 7 8 10 13 14 15 }\n=5\n",
+            b"LysKOM\n=1 0 0 0 29 1 100 2 59 0\n=2 11 4Hkomd 3H1.0\n=3 10000 1 2 3 4 0 0 *\n\
+            =4 12 { 1 2 3 4 5 6 7 8 10 13 14 15 }\n=5\n",
             SessionEnd::Dropped,
         ),
         (
@@ -267,8 +295,8 @@ fn a_gate_that_fails_ends_the_run(rt: HostRuntime) -> Result<(), Fail> {
 #[test]
 fn other_words_are_refused(rt: HostRuntime) -> Result<(), Fail> {
     let alloc = rt.alloc();
-    let usage =
-        b"usage: komd once [STORE] | serve STORE PORT WORKERS | init STORE PASSWORD | check STORE | load N\n";
+    let usage = b"usage: komd once [STORE] | serve STORE PORT WORKERS | init STORE PASSWORD \
+        | check STORE | load N\n";
     let rows: [&[&str]; 4] = [&[], &["twice"], &["once", "once"], &["once", ""]];
     for words in rows {
         for sink_fails in [0, 1] {
