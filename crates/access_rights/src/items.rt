@@ -197,8 +197,8 @@ fn push_items<R: Rows>(
     Ok(())
 }
 
-/// Adds an item as it is told, with a copy of its content, if it is shown to who looks. (Protocol A,
-/// "Auxiliary Information".)
+/// Adds an item as it is told, with a copy of its content, if it is shown to who looks. (Protocol
+/// A, "Auxiliary Information".)
 pub fn push_item(
     alloc: Global,
     items: &mut AuxRows,

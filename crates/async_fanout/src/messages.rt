@@ -13,9 +13,9 @@ use crate::{
 use kom_state::Asked;
 use kom_types::{Call, Decision, Memory, Reply, SessionChange};
 
-/// The messages of a call that came to this decision, message by message, and each by rising session:
-/// for each message the time grows with the sessions that accept it. A silent call takes no memory.
-/// (Protocol A, "Asynchronous Messages".)
+/// The messages of a call that came to this decision, message by message, and each by rising
+/// session: for each message the time grows with the sessions that accept it. A silent call takes
+/// no memory. (Protocol A, "Asynchronous Messages".)
 #[tactic(auto, using(crate::proofs::Brought::silent_sends, crate::proofs::Brought::whole), unfolding(kom_model::specs::ToWhom::messages_of))]
 pub fn fan_out(asked: &Asked<'_>, call: &Call, decision: &Decision) -> Result<Vec<Delivery>, Memory>
     ensures sends { IfOk result (λ sent.
@@ -34,8 +34,8 @@ pub fn fan_out(asked: &Asked<'_>, call: &Call, decision: &Decision) -> Result<Ve
     Ok(sent)
 }
 
-/// Whether a call that came to this decision sends nothing: it changes no session, and is refused or
-/// of no kind that sends something.
+/// Whether a call that came to this decision sends nothing: it changes no session, and is refused
+/// or of no kind that sends something.
 pub fn is_silent(call: &Call, decision: &Decision) -> bool
     ensures { result ≡ is_silent_call call.now decision.now }
 {

@@ -24,7 +24,8 @@ pub(crate) struct NewName<'a> {
 impl<'a> Tells for NewName<'a> {
     ghost use Rattle.kom_model.specs.Messages.{new_name};
 
-    ghost sending = { λ one. new_name one.rows.now.db one.conference one.old_name.now one.name.now };
+    ghost sending = { λ one.
+        new_name one.rows.now.db one.conference one.old_name.now one.name.now };
 
     fn number(&self) -> u32 {
         5
@@ -113,7 +114,8 @@ pub(crate) fn change_name(
     sent: &mut Vec<Delivery>,
 ) -> Result<(), Memory>
     ensures { IfOk result (λ done. (decision : Decision) → sent.new.items ≡ sent.old.items
-        ++ all_brought asked.now (sent_by asked.now decision (call.ChangeName conference name.now))) }
+        ++ all_brought asked.now
+        (sent_by asked.now decision (call.ChangeName conference name.now))) }
 {
     let rows = asked.rows();
     match rows.conference(conference) {
@@ -139,7 +141,8 @@ pub(crate) fn set_presentation(
     sent: &mut Vec<Delivery>,
 ) -> Result<(), Memory>
     ensures { IfOk result (λ done. (decision : Decision) → sent.new.items ≡ sent.old.items
-        ++ all_brought asked.now (sent_by asked.now decision (call.SetPresentation conference text))) }
+        ++ all_brought asked.now
+        (sent_by asked.now decision (call.SetPresentation conference text))) }
 {
     let rows = asked.rows();
     match rows.conference(conference) {

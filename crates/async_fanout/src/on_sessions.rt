@@ -100,7 +100,8 @@ pub(crate) fn send_message(
     sent: &mut Vec<Delivery>,
 ) -> Result<(), Memory>
     ensures { IfOk result (λ done. (decision : Decision) → sent.new.items ≡ sent.old.items
-        ++ all_brought asked.now (sent_by asked.now decision (call.SendMessage recipient text.now))) }
+        ++ all_brought asked.now
+        (sent_by asked.now decision (call.SendMessage recipient text.now))) }
 {
     let message = SendMessage {
         rows: asked.rows(),

@@ -44,8 +44,8 @@ impl<'a> Tells for DeletedText<'a> {
     }
 }
 
-/// Message 15, new-text: to who reads the text and takes the texts of a recipient, with what is told
-/// of it to that person.
+/// Message 15, new-text: to who reads the text and takes the texts of a recipient, with what is
+/// told of it to that person.
 #[derive(Clone, Copy)]
 pub(crate) struct NewText<'a> {
     pub(crate) rows: Added<'a>,
@@ -162,7 +162,8 @@ pub(crate) fn add_recipient(
     sent: &mut Vec<Delivery>,
 ) -> Result<(), Memory>
     ensures { IfOk result (λ done. (decision : Decision) → sent.new.items ≡ sent.old.items
-        ++ all_brought asked.now (sent_by asked.now decision (call.AddRecipient text conference kind))) }
+        ++ all_brought asked.now
+        (sent_by asked.now decision (call.AddRecipient text conference kind))) }
 {
     let message = NewRecipient {
         rows: asked.rows(),

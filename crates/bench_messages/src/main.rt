@@ -1,5 +1,5 @@
-//! Finds the messages of a new text for each of so many sessions, and prints them: how many there are
-//! and their bytes, or what finding a message takes beside printing it.
+//! Finds the messages of a new text for each of so many sessions, and prints them: how many there
+//! are and their bytes, or what finding a message takes beside printing it.
 #![tactic(auto)]
 
 ghost use Rattle.std.specs.Prelude.{◌<◌};
@@ -104,7 +104,8 @@ fn find_and_print<R: Print + Clock>(
     Ok(found)
 }
 
-/// Measures while one session alone accepts the message: it is found as often as there are sessions.
+/// Measures while one session alone accepts the message: it is found as often as there are
+/// sessions.
 fn measure_alone<R: Print + Clock>(
     rt: &R,
     alloc: Global,

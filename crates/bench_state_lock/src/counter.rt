@@ -26,7 +26,8 @@ impl Booked for Counter {
 
     ghost stays = { λ old new. new.total ≡ old.total };
 
-    ghost led = { λ opening history value. value.total ≡ fold (λ n e. (n + 1) % 2 ^ 64) opening.total history };
+    ghost led = { λ opening history value.
+        value.total ≡ fold (λ n e. (n + 1) % 2 ^ 64) opening.total history };
 
     ghost itself_stays = { λ value. refl };
 
@@ -34,5 +35,7 @@ impl Booked for Counter {
 
     ghost staying_leads = { λ opening history old new leads stays. stays ∙ leads };
 
-    ghost following_leads = { λ opening history old e new leads follows. follows ∙ (ap (λ n. (n + 1) % 2 ^ 64) leads ∙ sym (fold-append (λ n e. (n + 1) % 2 ^ 64) opening.total history (e ∷ []))) };
+    ghost following_leads = { λ opening history old e new leads follows.
+        follows ∙ (ap (λ n. (n + 1) % 2 ^ 64) leads
+        ∙ sym (fold-append (λ n e. (n + 1) % 2 ^ 64) opening.total history (e ∷ []))) };
 }

@@ -1,4 +1,5 @@
-//! Measures turns that threads take under a state lock, each of which adds one: what they add up to, or their times.
+//! Measures turns that threads take under a state lock, each of which adds one: what they add up
+//! to, or their times.
 #![tactic(auto)]
 
 ghost use Rattle.std.specs.Prelude.{◌≡◌, ◌<◌, ◌≤◌, length};
@@ -133,7 +134,8 @@ fn take_turns<R: Clock + Wait>(
     work: Work,
 )
     requires { IsPassOf hall.now pass.old × HoldsNoTurn pass.old.turn }
-    ensures { IsPassOf hall.now pass.new × HoldsNoTurn pass.new.turn × (pass.new.number ≡ pass.old.number) }
+    ensures { IsPassOf hall.now pass.new × HoldsNoTurn pass.new.turn
+        × (pass.new.number ≡ pass.old.number) }
 {
     for _ in 0..turns {
         let Ok(mut held) = hall.take(rt, pass) else {

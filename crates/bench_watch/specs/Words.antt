@@ -8,4 +8,5 @@ number_of word = digits_value 10 (without_leading_plus word)
 
 -- the word writes a number within these bounds
 abbrev pub IsNumberWithin : ℕ → ℕ → List ℕ → Type 0
-IsNumberWithin least most word = IsNumeral 10 (without_leading_plus word) × (least ≤ number_of word) × (number_of word ≤ most)
+IsNumberWithin least most word =
+    IsNumeral 10 (without_leading_plus word) × (least ≤ number_of word) × (number_of word ≤ most)

@@ -1,4 +1,5 @@
-//! What the programs that measure have alike: what their command line asks for, and how they tell of a measure.
+//! What the programs that measure have alike: what their command line asks for, and how they tell
+//! of a measure.
 #![tactic(auto)]
 
 mod request;

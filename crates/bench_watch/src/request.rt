@@ -41,7 +41,8 @@ pub struct Request {
     pub told: Told,
 }
 
-/// What the command line asks for, which may have one word. None too where the words cannot be read.
+/// What the command line asks for, which may have one word. None too where the words cannot be
+/// read.
 pub fn asked(rt: &(impl Env + Alloc), counts: Counts) -> Option<Request>
     ensures above { IfSome result (λ request. counts.least ≤ request.count) }
     ensures below { IfSome result (λ request. request.count ≤ counts.most) }
@@ -57,7 +58,8 @@ pub fn asked(rt: &(impl Env + Alloc), counts: Counts) -> Option<Request>
 
 /// With no word the sums of few, and with a number the times of so many.
 fn requested(word: Option<&str>, counts: Counts) -> Option<Request>
-    ensures no_word { IfNone word.entry (result ≡ Some (record { count = counts.few; told = Told.Sums })) }
+    ensures no_word { IfNone word.entry
+        (result ≡ Some (record { count = counts.few; told = Told.Sums })) }
     ensures word { IfSome word.entry (λ word. SomeIff result
         (IsNumberWithin counts.least counts.most word.now)
         (record { count = number_of word.now; told = Told.Times })) }

@@ -3,7 +3,8 @@
 ghost use Rattle.std.specs.Prelude.{◌≡◌, ◌≤◌, IsTrue, OnOk, IfOk, if◌then◌else◌};
 ghost use Rattle.kom_disk.specs.Faults.{CountsFault};
 ghost use Rattle.kom_disk.specs.Moments.{LeavesOnly};
-ghost use Rattle.disk_example.specs.Cell.{content_of, other_of, IsSettled, Stays, IsEither, Changes};
+ghost use Rattle.disk_example.specs.Cell.{content_of, other_of, IsSettled, Stays, IsEither};
+ghost use Rattle.disk_example.specs.Cell.{Changes};
 
 use kom_disk::{Disk, Failed, calls_in_turn, whole_calls};
 use std::marker::Brand;

@@ -44,7 +44,8 @@ ReadsText tokens (Err found) =
 
 abbrev pub ReadsChange : List Token → Result AuxChange ArgumentFault → Type 0
 ReadsChange tokens (Ok change) = (make : _ → _ → _ → Call) →
-    three integer numbers aux_inputs make tokens ≡ Took (make change.object change.delete change.add) []
+    three integer numbers aux_inputs make tokens
+    ≡ Took (make change.object change.delete change.add) []
 ReadsChange tokens (Err found) =
     AllDepart true (λ make. three integer numbers aux_inputs make tokens) found
 

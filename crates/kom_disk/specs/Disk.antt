@@ -1,5 +1,6 @@
 -- What the calls of a disk do to its bytes, and what a stop between two syncs may leave of them.
-use Rattle.std.specs.Prelude.{◌≡◌, ◌<◌, ◌≤◌, ◌↔◌, ◌⊎◌, ◌+◌, [], ◌∷◌, ◌++◌, ℕ, Bool, IsTrue, false, List, length, take, drop, max, min}
+use Rattle.std.specs.Prelude.{◌≡◌, ◌<◌, ◌≤◌, ◌↔◌, ◌⊎◌, ◌+◌, [], ◌∷◌, ◌++◌, ℕ, Bool, IsTrue}
+use Rattle.std.specs.Prelude.{false, List, length, take, drop, max, min}
 use Rattle.std.proofs.lemmas.Bool.{false≢true}
 
 -- bytes, with other bytes written over them from a place on

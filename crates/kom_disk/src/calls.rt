@@ -1,5 +1,6 @@
 // The calls of a disk in memory: the record of what they have done, and their script.
-ghost use Rattle.std.specs.Prelude.{◌≡◌, [], ◌∷◌, ◌++◌, IsErr, IsSomeAnd, OnOk, OnErr, if◌then◌else◌};
+ghost use Rattle.std.specs.Prelude.{◌≡◌, [], ◌∷◌, ◌++◌, IsErr, IsSomeAnd, OnOk, OnErr};
+ghost use Rattle.std.specs.Prelude.{if◌then◌else◌};
 ghost use Rattle.kom_disk.specs.Faults.{CountsFault};
 ghost use Rattle.kom_disk.specs.Script.{IsToFail, next_number};
 ghost use Rattle.kom_disk.specs.Steps.{KeepsNothing};

@@ -1,6 +1,8 @@
 // What a disk is.
-ghost use Rattle.std.specs.Prelude.{◌≡◌, ◌≤◌, ◌↔◌, ◌+◌, [], ◌∷◌, ◌++◌, ℕ, Bool, IsTrue, List, length, take, drop, min, max, IfOk, OnOk, OnErr};
-ghost use Rattle.kom_disk.specs.Disk.{overwritten, Torn, Shortened, ComesBy, AddsNone, Only, Passes};
+ghost use Rattle.std.specs.Prelude.{◌≡◌, ◌≤◌, ◌↔◌, ◌+◌, [], ◌∷◌, ◌++◌, ℕ, Bool, IsTrue, List};
+ghost use Rattle.std.specs.Prelude.{length, take, drop, min, max, IfOk, OnOk, OnErr};
+ghost use Rattle.kom_disk.specs.Disk.{overwritten, Torn, Shortened, ComesBy, AddsNone, Only};
+ghost use Rattle.kom_disk.specs.Disk.{Passes};
 ghost use Rattle.kom_disk.specs.Faults.{CountsFault};
 
 use crate::Failed;

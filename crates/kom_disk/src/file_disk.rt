@@ -1,5 +1,6 @@
 // A disk over a file of the system. It tells nothing of content.
-ghost use Rattle.std.specs.Prelude.{◌≡◌, ◌≤◌, ◌+◌, ℕ, List, [], false, length, max, min, OnOk, OnErr};
+ghost use Rattle.std.specs.Prelude.{◌≡◌, ◌≤◌, ◌+◌, ℕ, List, [], false, length, max, min, OnOk};
+ghost use Rattle.std.specs.Prelude.{OnErr};
 ghost use Rattle.kom_disk.specs.Disk.{owes_nothing};
 ghost use Rattle.kom_disk.specs.Faults.{CountsFault, Rose};
 

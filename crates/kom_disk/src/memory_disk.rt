@@ -1,7 +1,10 @@
 // A disk in memory, which can fail, stop, and show what a stop would leave.
-ghost use Rattle.std.specs.Prelude.{◌≡◌, ◌<◌, ◌≤◌, ◌+◌, [], true, false, refl, length, take, drop, vec_len, vec_capacity, IsErr, IfOk, IfSome, OnOk, OnErr};
+ghost use Rattle.std.specs.Prelude.{◌≡◌, ◌<◌, ◌≤◌, ◌+◌, [], true, false, refl, length, take};
+ghost use Rattle.std.specs.Prelude.{drop, vec_len, vec_capacity, IsErr, IfOk, IfSome, OnOk};
+ghost use Rattle.std.specs.Prelude.{OnErr};
 ghost use Rattle.std.proofs.Common.{inr};
-ghost use Rattle.kom_disk.specs.Disk.{overwritten, Torn, Shortened, ComesBy, AddsNone, Only, Passes};
+ghost use Rattle.kom_disk.specs.Disk.{overwritten, Torn, Shortened, ComesBy, AddsNone, Only};
+ghost use Rattle.kom_disk.specs.Disk.{Passes};
 ghost use Rattle.kom_disk.specs.Faults.{CountsFault};
 ghost use Rattle.kom_disk.specs.Steps.{bytes_after, IsWrite, all_steps};
 
@@ -30,7 +33,9 @@ pub struct MemoryDisk {
 }
 
 impl MemoryDisk {
-    ghost use Rattle.kom_disk.specs.MemoryDisk.{bytes_of, stable_of, images_of, moment_of, faults_of, room_of, fails_of, stop_of, calls_of, part_of, images_after};
+    ghost use Rattle.kom_disk.specs.MemoryDisk.{bytes_of, stable_of, images_of, moment_of};
+    ghost use Rattle.kom_disk.specs.MemoryDisk.{faults_of, room_of, fails_of, stop_of};
+    ghost use Rattle.kom_disk.specs.MemoryDisk.{calls_of, part_of, images_after};
     ghost use Rattle.kom_disk.specs.declared.tear.Tear.TheVariants.{Nothing};
 
     /// A disk with these bytes, which a stop would leave. A write that ends past `room` fails, and
@@ -150,7 +155,8 @@ impl MemoryDisk {
 }
 
 impl Disk for MemoryDisk {
-    ghost use Rattle.kom_disk.specs.MemoryDisk.{bytes_of, images_of, images_after, moment_of, faults_of, room_of, KeepsToScript};
+    ghost use Rattle.kom_disk.specs.MemoryDisk.{bytes_of, images_of, images_after, moment_of};
+    ghost use Rattle.kom_disk.specs.MemoryDisk.{faults_of, room_of, KeepsToScript};
 
     ghost tells = { true };
 

@@ -1,5 +1,7 @@
 // A disk in memory whose bytes change beside it, as if another process wrote them.
-ghost use Rattle.std.specs.Prelude.{◌≡◌, ◌≤◌, ◌+◌, ℕ, List, [], ◌∷◌, ◌++◌, IsTrue, true, false, length, take, drop, IsErr, IfOk, OnOk, OnErr, nat_le, if◌then◌else◌};
+ghost use Rattle.std.specs.Prelude.{◌≡◌, ◌≤◌, ◌+◌, ℕ, List, [], ◌∷◌, ◌++◌, IsTrue, true, false};
+ghost use Rattle.std.specs.Prelude.{length, take, drop, IsErr, IfOk, OnOk, OnErr, nat_le};
+ghost use Rattle.std.specs.Prelude.{if◌then◌else◌};
 ghost use Rattle.kom_disk.specs.Disk.{owes_nothing};
 ghost use Rattle.kom_disk.specs.Faults.{CountsFault};
 ghost use Rattle.kom_disk.specs.Shared.{shown_at, reads_given, TakesNumber};

@@ -24,7 +24,8 @@ erased_conference group db row = if is_unseen group db row.number then
 -- of a text that is not read: its body, and how many aux-items it had
 abbrev pub erased_text : Group → Db → TextRow → TextRow
 erased_text group db row =
-    if is_unread group db row.number then record row { body = []; lines = 0; next_item = 1 } else row
+    if is_unread group db row.number
+    then record row { body = []; lines = 0; next_item = 1 } else row
 
 -- a recipient stays of a text that is read, and where the conference is seen
 abbrev pub keeps_recipient : Group → Db → Recipient → Bool

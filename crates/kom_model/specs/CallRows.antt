@@ -23,7 +23,8 @@ use Rattle.kom_model.specs.calls.Sessions as Sessions
 -- session 1, which nobody, or this person, is logged in to since moment 10
 abbrev pub seat : ℕ → ℕ → Seat
 seat person level =
-    record (fresh_seat 1 0 (codes "ceder") (codes "h") 5) { person = person; login = 10; level = level }
+    record (fresh_seat 1 0 (codes "ceder") (codes "h") 5)
+    { person = person; login = 10; level = level }
 
 -- a call of session 1 at moment 30, of a server that began at moment 0
 abbrev pub asked : ℕ → ℕ → Asked

@@ -1,5 +1,6 @@
 -- The stored rows, and how definitions read them.
-use Rattle.std.specs.Prelude.{ℕ, Bool, true, false, ◌==◌, ◌||◌, List, [], ◌∷◌, filter, Option, Some, None, option_map}
+use Rattle.std.specs.Prelude.{ℕ, Bool, true, false, ◌==◌, ◌||◌, List, [], ◌∷◌, filter, Option}
+use Rattle.std.specs.Prelude.{Some, None, option_map}
 use Rattle.row_table.specs.Tables.{row_of}
 use Rattle.kom_types.specs.declared.aux_items.AuxRow.{AuxRow}
 use Rattle.kom_types.specs.declared.aux_items.ItemRow.{ItemRow}
@@ -23,8 +24,8 @@ use Rattle.read_ranges.specs.Reads as Reads
 use Rattle.read_ranges.specs.Reads.{ReadRow}
 
 -- Conferences, persons and texts by rising number; memberships, and what was read in each, in the
--- order of joining; recipients, links, marks and aux-items in the order of adding; and the numbers that the next
--- conference and the next text get. A person's number is that of its letterbox.
+-- order of joining; recipients, links, marks and aux-items in the order of adding; and the numbers
+-- that the next conference and the next text get. A person's number is that of its letterbox.
 pub record Db : Type 0 where
   pub conferences : List ConferenceRow
   pub persons : List PersonRow
@@ -183,8 +184,8 @@ marks_of db person = Texts.marks_of person db.marks
 unfoldable pub marks_on : Db → ℕ → List MarkRow
 marks_on db text = Texts.marks_on text db.marks
 
--- the aux-items of a text, or a conference, in the order of adding; and the number that the next one
--- gets: 1 if there is no such object
+-- the aux-items of a text, or a conference, in the order of adding; and the number that the next
+-- one gets: 1 if there is no such object
 unfoldable pub items_of : Db → Bool → ℕ → List AuxRow
 items_of db on_text object = AuxItems.items_of on_text object db.items
 

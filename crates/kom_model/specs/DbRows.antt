@@ -137,17 +137,20 @@ pub record DbRows : Type 0 where
   pub letterbox_lost : fits (effect.ConfField 5 (field.Kind 136)) rows ≡ false
   pub letterbox_made : fits (effect.ConfField 1 (field.Kind 24)) rows ≡ false
   pub field_set :
-      option_map (λ row. row.nice) (conference_of (with_effect (effect.ConfField 1 (field.Nice 3))) 1)
+      option_map (λ row. row.nice)
+      (conference_of (with_effect (effect.ConfField 1 (field.Nice 3))) 1)
       ≡ Some 3
   pub field_of_another :
-      option_map (λ row. row.nice) (conference_of (with_effect (effect.ConfField 1 (field.Nice 3))) 9)
+      option_map (λ row. row.nice)
+      (conference_of (with_effect (effect.ConfField 1 (field.Nice 3))) 9)
       ≡ Some 77
   pub person_without_letterbox : fits (effect.PersonAdded 1 0 0 10) rows ≡ false
   pub person_twice : fits (effect.PersonAdded 5 0 0 10) rows ≡ false
   pub field_of_nobody : fits (effect.PersonField 1 (person_field.Flags 128)) rows ≡ false
   pub user_name_too_long : fits (effect.LoggedIn 5 30 (replicate 1025 65)) rows ≡ false
   pub logged_in :
-      option_map (λ row. row.sessions) (person_of (with_effect (effect.LoggedIn 5 30 (codes "a"))) 5)
+      option_map (λ row. row.sessions)
+      (person_of (with_effect (effect.LoggedIn 5 30 (codes "a"))) 5)
       ≡ Some 1
   pub counted_to_the_end :
       option_map (λ row. row.created_lines)
@@ -161,7 +164,8 @@ pub record DbRows : Type 0 where
   pub moved_up : conferences_in 6 (with_effect (joins 6 1 1)) ≡ 10 ∷ 1 ∷ 6 ∷ []
   pub set_again_in_its_turn : persons_in 1 (with_effect (joins 7 1 9)) ≡ 7 ∷ 6 ∷ []
   pub read_as_added :
-      option_map (λ row. row.last_time_read) (membership_of (with_effect (joins 5 1 0)) 5 1) ≡ Some 20
+      option_map (λ row. row.last_time_read) (membership_of (with_effect (joins 5 1 0)) 5 1)
+      ≡ Some 20
   pub own_letterbox : supervises rows 6 6 ≡ true
   pub by_a_conference : supervises rows 6 9 ≡ true
   pub only_invited : supervises rows 7 9 ≡ false

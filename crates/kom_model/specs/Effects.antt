@@ -93,7 +93,8 @@ may_set (field.Motd text) row = true
 may_set (field.Supervisor conference) row = true
 may_set (field.PermittedSubmitters conference) row = true
 may_set (field.SuperConference conference) row = true
-may_set (field.Kind kind) row = is_secret_protected kind && alike (is_letterbox kind) (is_letterbox row.kind)
+may_set (field.Kind kind) row =
+    is_secret_protected kind && alike (is_letterbox kind) (is_letterbox row.kind)
 may_set (field.Nice days) row = true
 may_set (field.KeepCommented days) row = true
 may_set (field.Expire days) row = true

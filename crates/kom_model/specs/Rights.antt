@@ -31,8 +31,8 @@ supervises db person conference = elim (conference_head_of db conference) [
   | Some head ↦ stands_for db person head.supervisor
 ]
 
--- the person belongs to a conference that names this supervisor: as a member, as one that stands for
--- the supervisor, or as the person whose letterbox it is
+-- the person belongs to a conference that names this supervisor: as a member, as one that stands
+-- for the supervisor, or as the person whose letterbox it is
 abbrev pub belongs : Db → ℕ → ℕ → ℕ → Bool
 belongs db person conference supervisor =
     is_member db person conference || stands_for db person supervisor || person == conference

@@ -1,5 +1,5 @@
--- To whom a message goes: to the sessions in which somebody was logged in before the entry, and which
--- accepted its number then. (Protocol A, "Asynchronous Messages".)
+-- To whom a message goes: to the sessions in which somebody was logged in before the entry, and
+-- which accepted its number then. (Protocol A, "Asynchronous Messages".)
 use Rattle.std.specs.Prelude.{ℕ, ◌^◌, Bool, ◌==◌, ◌||◌, not, List, Option, Some, None}
 use Rattle.std.specs.Prelude.{option_map, if◌then◌else◌}
 use Rattle.std.specs.List.{filter_map}

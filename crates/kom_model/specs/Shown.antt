@@ -1,5 +1,5 @@
--- What of the stored rows is shown to whom. That this is shown is this server's choice. (Protocol A,
--- "Security".)
+-- What of the stored rows is shown to whom. That this is shown is this server's choice. (Protocol
+-- A, "Security".)
 use Rattle.std.specs.Prelude.{ℕ, ◌-◌, Bool, true, false, ◌==◌, ◌||◌, ◌&&◌, not, min}
 use Rattle.std.specs.Prelude.{List, [], ◌∷◌, ◌++◌, length, map, filter, Some, None}
 use Rattle.std.specs.Prelude.{if◌then◌else◌}
@@ -27,11 +27,12 @@ use Rattle.kom_model.specs.declared.text_heads.TextHead.{TextHead}
 use Rattle.kom_model.specs.declared.viewers.Viewer.{Viewer}
 use Rattle.kom_model.specs.Db.{Db, person_flags_of, recipients_of, links_from, links_into}
 use Rattle.kom_model.specs.Db.{marks_of, marks_on, members_of, memberships_of, read_of}
-use Rattle.kom_model.specs.Db.{text_author_of, items_of, first_local_of, next_local_of, first_created_of, next_created_of}
+use Rattle.kom_model.specs.Db.{text_author_of, items_of, first_local_of, next_local_of}
+use Rattle.kom_model.specs.Db.{first_created_of, next_created_of}
 use Rattle.kom_model.specs.Rights.{sees, reads_conference, supervises, is_author}
 
--- a recipient is shown to who sees the conference; one that is shown to few, only to who also is the
--- author, or added it, or reads the conference
+-- a recipient is shown to who sees the conference; one that is shown to few, only to who also is
+-- the author, or added it, or reads the conference
 abbrev pub shows_recipient : Db → Viewer → ℕ → Recipient → Bool
 shows_recipient db viewer author row = sees db viewer row.conference
     && (not (row.tag == 15) || is_author viewer.person author || is_author viewer.person row.sender

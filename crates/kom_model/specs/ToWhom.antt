@@ -1,5 +1,5 @@
--- The messages that a call sends, by what the call came to. Receivers and what they are told are by the
--- rows before the entry, but for what the entry itself makes.
+-- The messages that a call sends, by what the call came to. Receivers and what they are told are by
+-- the rows before the entry, but for what the entry itself makes.
 use Rattle.std.specs.Prelude.{ℕ, Bool, true, false, ◌==◌, ◌||◌, List, [], ◌∷◌, ◌++◌, map}
 use Rattle.std.specs.Prelude.{Option, Some, None, is_some, if◌then◌else◌}
 use Rattle.std.specs.List.{filter_map, flat_map, find}

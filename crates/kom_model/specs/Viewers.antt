@@ -7,7 +7,8 @@ use Rattle.kom_model.specs.Db.{Db, person_of}
 
 -- a person's privileges let its sessions be strong
 abbrev pub has_might : Db → ℕ → Bool
-has_might db person = elim (person_of db person) [ None ↦ false | Some row ↦ is_mighty row.privileges ]
+has_might db person =
+    elim (person_of db person) [ None ↦ false | Some row ↦ is_mighty row.privileges ]
 
 -- a session is strong at level 255, where its person's privileges let it
 abbrev pub is_strong_seat : Db → Seat → Bool

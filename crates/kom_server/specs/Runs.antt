@@ -1,7 +1,7 @@
 -- What a run leaves that serves gates, one for each of its passes.
 use Rattle.std.specs.Prelude.{◌≡◌, ◌≢◌, ℕ, ◌+◌, ◌<◌, ◌==◌, ◌⊎◌, nat_eq, Bool, true, false, not}
 use Rattle.std.specs.Prelude.{IsTrue, List, [], ◌∷◌, length, map, filter, flat_map, codes, Option}
-use Rattle.std.specs.Prelude.{Some, None, IfSome}
+use Rattle.std.specs.Prelude.{◌++◌, Some, None, IfSome}
 use Rattle.std.specs.List.{list_any, AllByRecursion, IsDistinct}
 use Rattle.kom_types.specs.declared.acts.Act.TheVariants as act
 use Rattle.kom_types.specs.declared.acts.Record.{Record}
@@ -30,7 +30,8 @@ IsRefused words = words ≢ codes "once" ∷ []
 -- the usage line
 abbrev pub usage : List ℕ
 usage =
-    codes "usage: komd once [STORE] | serve STORE PORT WORKERS | init STORE PASSWORD | check STORE | load N\n"
+    codes "usage: komd once [STORE] | serve STORE PORT WORKERS | init STORE PASSWORD "
+    ++ codes "| check STORE | load N\n"
 
 -- what the sink has of a command line that was refused: the usage line, or where the sink failed a
 -- prefix of it

@@ -17,8 +17,8 @@ use std::sync::Wait;
 use std::thread::Threads;
 
 /// The usage line.
-const USAGE: &[u8] =
-    b"usage: komd once [STORE] | serve STORE PORT WORKERS | init STORE PASSWORD | check STORE | load N\n";
+const USAGE: &[u8] = b"usage: komd once [STORE] | serve STORE PORT WORKERS | init STORE PASSWORD \
+    | check STORE | load N\n";
 
 /// Carries out a command line.
 pub fn run<R: Threads + Wait + Sync, W: World>(

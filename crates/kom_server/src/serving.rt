@@ -12,8 +12,8 @@ use kom_session::serve_link;
 use std::alloc::Global;
 use std::sync::Wait;
 
-/// Serves the sessions at a gate that has given no link yet, on a new server, until the gate ends or
-/// fails, and says whether it failed.
+/// Serves the sessions at a gate that has given no link yet, on a new server, until the gate ends
+/// or fails, and says whether it failed.
 pub(crate) fn serve_new<R: Wait, G: Gate, C: Clock>(
     rt: &R,
     alloc: Global,

@@ -18,8 +18,8 @@ use Rattle.kom_model.specs.Db.{Db}
 use Rattle.kom_model.specs.Effects.{fits, made}
 
 -- How many more rows fit without memory: conferences, persons and memberships; memberships of each
--- person and in each conference, as `room_in` reads them; the name that can be given; texts with all
--- that hangs on them; and aux-items.
+-- person and in each conference, as `room_in` reads them; the name that can be given; texts with
+-- all that hangs on them; and aux-items.
 pub record Room : Type 0 where
   pub conferences : ℕ
   pub persons : ℕ

@@ -97,10 +97,12 @@ impl State {
         self.memberships.count_of_conference(conference)
     }
 
-    /// The member at a place among those of a conference, in the order of joining, in constant time.
+    /// The member at a place among those of a conference, in the order of joining, in constant
+    /// time.
     #[tactic(auto, unfolding(kom_model::specs::Db::members_of))]
     pub fn nth_member(&self, conference: u32, place: usize) -> Option<Member>
-        ensures { result ≡ option_map member_of (slice_get (members_of self.now.db conference) place) }
+        ensures { result
+            ≡ option_map member_of (slice_get (members_of self.now.db conference) place) }
     {
         self.memberships.nth_member(conference, place)
     }

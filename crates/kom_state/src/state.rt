@@ -24,7 +24,8 @@ pub struct State {
     pub(crate) alloc: Global,
 }
 
-// A call of its own, so that whoever lets a state go has one step to prove and not one for each part.
+// A call of its own, so that whoever lets a state go has one step to prove and not one for each
+// part.
 impl Drop for State {
     fn drop(self) {
         let State {

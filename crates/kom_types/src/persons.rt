@@ -30,7 +30,8 @@ pub struct Person {
     pub conferences: u32,
 }
 
-/// A person as the server keeps it; what it owns, as its texts and memberships, are rows of their own.
+/// A person as the server keeps it; what it owns, as its texts and memberships, are rows of their
+/// own.
 #[derive(Drop)]
 pub struct PersonRow {
     /// The number of its letterbox.

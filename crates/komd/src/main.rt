@@ -21,7 +21,8 @@ fn main(rt: HostRuntime) -> ExitCode {
     }
 }
 
-/// The words of the command line after the program's name. Words that are no text are no command line.
+/// The words of the command line after the program's name. Words that are no text are no command
+/// line.
 fn words(rt: &HostRuntime) -> Result<Words, Memory> {
     let mut words = Words::new(rt.alloc());
     match env::args(rt) {

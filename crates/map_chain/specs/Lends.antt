@@ -14,7 +14,7 @@ abbrev pub with_node : {X Z : Type 0} → Nodes X Z → ℕ → Ptr → X → No
 with_node n i p w = record n { nodes = slice_set n.nodes i (p, w) }
 
 -- the i-th node, at p, is the last value written through r
-abbrev pub nodes_follow : (R Z : RattleType) (g : Ghosts Z.Denot) → MutBor (Nodes R.Denot Z.Denot) → ℕ → Ptr
-    → MutBor R.Denot → Fml
+abbrev pub nodes_follow : (R Z : RattleType) (g : Ghosts Z.Denot)
+    → MutBor (Nodes R.Denot Z.Denot) → ℕ → Ptr → MutBor R.Denot → Fml
 nodes_follow R Z g n i p r =
     follows (the_row R Z g) R n.ghost_name r.ghost_name (with_node n.now i p)

@@ -56,7 +56,8 @@ pub(crate) fn ranges_guard(highest: u32, ranges: &[ReadRange]) -> Result<(), Ref
     Ok(())
 }
 
-/// The range at a place of a list is one, comes after one with this end, and its numbers were drawn.
+/// The range at a place of a list is one, comes after one with this end, and its numbers were
+/// drawn.
 fn range_guard(highest: u32, place: usize, end: u32, range: &ReadRange) -> Result<(), Refused>
     ensures { Guards (first_refusal (Calls.range_guards highest place end range.now)) result }
 {

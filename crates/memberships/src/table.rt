@@ -35,7 +35,8 @@ pub struct Memberships {
     next_turn: u64,
 }
 
-// A call of its own, so that whoever lets the table go has one step to prove and not one for each part.
+// A call of its own, so that whoever lets the table go has one step to prove and not one for each
+// part.
 impl Drop for Memberships {
     fn drop(self) {
         let Memberships {
@@ -176,8 +177,8 @@ impl Memberships {
     }
 
     /// Sets a membership. A new one joins after the others, and nothing is read in it. One that is
-    /// there moves to its new position, and keeps its turn in the order of joining, what was read in
-    /// it and when that was set.
+    /// there moves to its new position, and keeps its turn in the order of joining, what was read
+    /// in it and when that was set.
     pub fn set(&mut self, row: MembershipRow) -> Result<(), Memory>
         ensures ok { OnOk result (self.new.rows ≡ with_membership row self.old.rows) }
         ensures reads { OnOk result

@@ -119,7 +119,8 @@ fn range(first: u32, last: u32) -> ReadRange {
     ReadRange { first, last }
 }
 
-// Sets what was read of conference 1 at the 60th second: from 1 to 4, from 5 to an end, from 9 to 12.
+// Sets what was read of conference 1 at the 60th second: from 1 to 4, from 5 to an end, from 9 to
+// 12.
 fn set_read(
     table: &mut Memberships,
     alloc: Global,

@@ -183,8 +183,8 @@ pub(crate) fn shows_member(rows: &State, viewer: &Viewer, conference: u32, membe
 }
 
 /// Call 107, query-read-texts. The time grows with the ranges that are told; with the person's
-/// memberships by little, since the list of their conferences is searched, unless some may be hidden
-/// from the caller: then it looks at each.
+/// memberships by little, since the list of their conferences is searched, unless some may be
+/// hidden from the caller: then it looks at each.
 pub fn query_read_texts(
     asked: &Asked<'_>,
     person: u32,

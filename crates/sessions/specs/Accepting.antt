@@ -1,5 +1,6 @@
 -- The sessions that accept each message, in lists of their numbers.
-use Rattle.std.specs.Prelude.{◌≡◌, ℕ, ◌+◌, ◌^◌, ◌<◌, ◌≤◌, Bool, true, false, nat_eq, nat_lt, List, []}
+use Rattle.std.specs.Prelude.{◌≡◌, ℕ, ◌+◌, ◌^◌, ◌<◌, ◌≤◌, Bool, true, false, nat_eq, nat_lt}
+use Rattle.std.specs.Prelude.{List, []}
 use Rattle.std.specs.Prelude.{◌∷◌, length, map, filter, position, unwrap_or, if◌then◌else◌, IsTrue}
 use Rattle.std.specs.Set.{remove_key, is_member}
 use Rattle.kom_types.specs.Bits.{is_on}

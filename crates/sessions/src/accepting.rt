@@ -65,7 +65,8 @@ impl Accepting {
     /// memory.
     pub(crate) fn change(&mut self, session: u32, was: u32, is: u32)
         requires { (message : ℕ) → message < 32
-            → MayMove self.old.lists session message (is_on (2 ^ message) was) (is_on (2 ^ message) is) }
+            → MayMove self.old.lists session message
+            (is_on (2 ^ message) was) (is_on (2 ^ message) is) }
         ensures lists { (message : ℕ) → message < 32 → list_of self.new.lists message
             ≡ moved session (is_on (2 ^ message) was) (is_on (2 ^ message) is)
             (list_of self.old.lists message) }

@@ -1,4 +1,5 @@
-ghost use Rattle.std.specs.Prelude.{slice_get, ◌≡◌, ◌<◌, ◌==◌, ◌^◌, ◌-◌, ◌++◌, ◌∷◌, [], not, false, None};
+ghost use Rattle.std.specs.Prelude.{slice_get, ◌≡◌, ◌<◌, ◌==◌, ◌^◌, ◌-◌, ◌++◌, ◌∷◌, [], not};
+ghost use Rattle.std.specs.Prelude.{false, None};
 ghost use Rattle.std.specs.Prelude.{filter, find, length, take, option_copied, IfSome, OnOk, OnErr};
 ghost use Rattle.std.specs.Prelude.{IsSome, IsTrue, ◌↔◌, MatchOption, min, map};
 ghost use Rattle.kom_types.specs.Bits.{is_on};
@@ -101,8 +102,8 @@ impl Sessions {
     /// order of their numbers. Other sessions cost nothing.
     pub fn nth_accepting(&self, message: u32, place: usize) -> Option<&Seat>
         requires { message < 32 }
-        ensures { option_copied result ≡ slice_get
-            (filter (λ seat. is_on (2 ^ message) seat.accepted) (map (λ row. row.seat) self.now)) place }
+        ensures { option_copied result ≡ slice_get (filter
+            (λ seat. is_on (2 ^ message) seat.accepted) (map (λ row. row.seat) self.now)) place }
     {
         let session = self.accepting.nth(message, place)?;
         self.seat(session)

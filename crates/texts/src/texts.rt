@@ -32,7 +32,8 @@ pub struct Texts {
     pub(crate) created: LocalMaps,
 }
 
-// A call of its own, so that whoever lets the texts go has one step to prove and not one for each part.
+// A call of its own, so that whoever lets the texts go has one step to prove and not one for each
+// part.
 impl Drop for Texts {
     fn drop(self) {
         let Texts {

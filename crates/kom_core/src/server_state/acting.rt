@@ -15,8 +15,8 @@ use kom_types::{Act, Bytes, Entry, Item, Memory, Moment};
 use sessions::SessionRow;
 
 impl State {
-    /// Makes the act of an entry that nothing refuses, but for the count of entries and the moment. A
-    /// keeper gets the effects of a call.
+    /// Makes the act of an entry that nothing refuses, but for the count of entries and the moment.
+    /// A keeper gets the effects of a call.
     pub(super) fn change<K: Keeper>(
         &mut self,
         entry: &Entry,
@@ -28,7 +28,8 @@ impl State {
         requires none { items.old.items ≡ [] }
         ensures step { IfOk result (Changes self.old entry.now self.new) }
         ensures kept { IfOk result (λ made. K.pending keeper.new ≡ appended
-            (effects_made self.old (made_of self.old entry.now made.short)) (K.pending keeper.old)) }
+            (effects_made self.old (made_of self.old entry.now made.short))
+            (K.pending keeper.old)) }
         ensures err { OnErr result (self.new ≡ self.old) }
         ensures unkept { OnErr result (K.pending keeper.new ≡ K.pending keeper.old) }
         ensures none_taken { TakesNone self.old entry.now.act → IsOk result }

@@ -18,7 +18,8 @@ use kom_types::{
 
 impl State {
     /// Carries out the call of an entry, sends its messages, and queues its reply; where memory ran
-    /// out before, only the reply that says so. Whether it did is returned. A keeper gets the effects.
+    /// out before, only the reply that says so. Whether it did is returned. A keeper gets the
+    /// effects.
     #[tactic(auto, using(crate::proofs::Keeping::none_appended))]
     pub(super) fn call<K: Keeper>(
         &mut self,
@@ -30,7 +31,8 @@ impl State {
         requires { IsCall entry.now.act }
         ensures answers { Answers self.old entry.now session reference result self.new }
         ensures kept { K.pending keeper.new
-            ≡ appended (if result then [] else effects_of self.old entry.now) (K.pending keeper.old) }
+            ≡ appended (if result then [] else effects_of self.old entry.now)
+            (K.pending keeper.old) }
     {
         match self.carry_out(entry, keeper) {
             Ok((body, messages)) => {
@@ -57,8 +59,8 @@ impl State {
         requires { IsCall entry.now.act }
         ensures ok { IfOk result (λ both.
             CarriesOut self.old entry.now both.0 both.1.items self.new) }
-        ensures kept { OnOk result (
-            K.pending keeper.new ≡ appended (effects_of self.old entry.now) (K.pending keeper.old)) }
+        ensures kept { OnOk result (K.pending keeper.new
+            ≡ appended (effects_of self.old entry.now) (K.pending keeper.old)) }
         ensures err { OnErr result (self.new ≡ self.old) }
         ensures unkept { OnErr result (K.pending keeper.new ≡ K.pending keeper.old) }
         ensures firm { DecidesFirm self.old entry.now → IsOk result }
@@ -85,8 +87,8 @@ impl State {
         Ok((decision, messages))
     }
 
-    /// Makes effects on the stored rows, in order, once a keeper has got them. Where memory runs out,
-    /// none is made or kept.
+    /// Makes effects on the stored rows, in order, once a keeper has got them. Where memory runs
+    /// out, none is made or kept.
     #[tactic(auto, using(crate::proofs::Keeping::none_appended))]
     fn apply<K: Keeper>(&mut self, effects: EffectList, keeper: &mut K) -> Result<(), Memory>
         requires { IsOrderly effects }

@@ -39,7 +39,8 @@ items_added on_text number items = map (λ item. effect.AuxAdded on_text number 
 -- a number is left for each item that is added
 abbrev pub numbers_guard : Db → Bool → AuxChange → Guard
 numbers_guard db on_text change =
-    unless (nat_le (next_item_of db on_text change.object + length change.add) (last_drawn + 1)) 45 0
+    unless (nat_le (next_item_of db on_text change.object + length change.add) (last_drawn + 1))
+    45 0
 
 -- the effects of a change: items go, and others are added with the next numbers
 abbrev pub item_effects : Asked → Bool → Adder → AuxChange → List Effect

@@ -221,7 +221,8 @@ first_seen asked test rows =
 
 -- a number is answered, or that there is none
 abbrev pub nearest : Asked → ℕ → Option ConferenceRow → Definition
-nearest asked start None = guarded (login_guard (caller asked) ∷ refusal 9 start ∷ []) (answer reply.Done)
+nearest asked start None =
+    guarded (login_guard (caller asked) ∷ refusal 9 start ∷ []) (answer reply.Done)
 nearest asked start (Some row) =
     guarded (login_guard (caller asked) ∷ []) (answer (reply.Number row.number))
 

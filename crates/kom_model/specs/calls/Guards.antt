@@ -1,6 +1,7 @@
 -- The guards that calls share: what each refuses, or none. Which code and status each gives is this
 -- server's choice. (Protocol A, "Error Codes".)
-use Rattle.std.specs.Prelude.{◌≡◌, ℕ, Bool, true, false, ◌==◌, ◌||◌, ◌&&◌, not, min, nat_le, bytes_eq}
+use Rattle.std.specs.Prelude.{◌≡◌, ℕ, Bool, true, false, ◌==◌, ◌||◌, ◌&&◌, not, min, nat_le}
+use Rattle.std.specs.Prelude.{bytes_eq}
 use Rattle.std.specs.Prelude.{List, [], ◌∷◌, length, find, Option, Some, None, is_some}
 use Rattle.std.specs.Prelude.{if◌then◌else◌, Result, Ok, Err}
 use Rattle.kom_types.specs.AuxItems.{refused_change}

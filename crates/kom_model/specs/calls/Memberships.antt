@@ -180,9 +180,9 @@ abbrev pub is_near : Db → Viewer → ℕ → Bool
 is_near db caller person =
     caller.person == person || supervises db caller.person person || caller.strong
 
--- Whether a person may become a member: through one who is near if it reads the conference itself or
--- the caller supervises that; through another if the conference is open, or the caller supervises
--- it.
+-- Whether a person may become a member: through one who is near if it reads the conference itself
+-- or the caller supervises that; through another if the conference is open, or the caller
+-- supervises it.
 abbrev pub is_open : Db → ℕ → Bool
 is_open db conference = elim (conference_of db conference) [
   | None ↦ false

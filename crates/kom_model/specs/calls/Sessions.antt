@@ -97,12 +97,14 @@ set_client_version asked given = guarded
 abbrev pub get_client_name : Asked → ℕ → Definition
 get_client_name asked number = guarded
     (session_guard asked.seats number ∷ [])
-    (answer (reply.Text (elim (seat_at asked.seats number) [ None ↦ [] | Some seat ↦ seat.client ])))
+    (answer (reply.Text
+    (elim (seat_at asked.seats number) [ None ↦ [] | Some seat ↦ seat.client ])))
 
 abbrev pub get_client_version : Asked → ℕ → Definition
 get_client_version asked number = guarded
     (session_guard asked.seats number ∷ [])
-    (answer (reply.Text (elim (seat_at asked.seats number) [ None ↦ [] | Some seat ↦ seat.version ])))
+    (answer (reply.Text
+    (elim (seat_at asked.seats number) [ None ↦ [] | Some seat ↦ seat.version ])))
 
 -- call 82, user-active
 abbrev pub user_active : Asked → Definition
@@ -212,7 +214,8 @@ dynamic_of asked seat = record {
 
 abbrev pub who_is_on_dynamic : Asked → Bool → Bool → ℕ → Definition
 who_is_on_dynamic asked visible invisible most = unguarded (answer (reply.DynamicSessions
-    (map (dynamic_of asked) (filter (is_asked_for asked.moment visible invisible most) asked.seats))))
+    (map (dynamic_of asked)
+    (filter (is_asked_for asked.moment visible invisible most) asked.seats))))
 
 -- call 84, get-static-session-info: this server asks no other one who its client is
 abbrev pub static_of : Seat → StaticSession

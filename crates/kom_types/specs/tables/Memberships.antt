@@ -11,8 +11,8 @@ use Rattle.kom_types.specs.declared.memberships.MembershipRow.{MembershipRow}
 abbrev pub is_invitation : ℕ → Bool
 is_invitation kind = is_on 128 kind
 
--- the bits that say that the person takes no messages of new texts, and that the membership is shown
--- to few
+-- the bits that say that the person takes no messages of new texts, and that the membership is
+-- shown to few
 abbrev pub is_passive : ℕ → Bool
 is_passive kind = is_on 64 kind
 
