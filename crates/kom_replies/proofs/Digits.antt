@@ -67,7 +67,3 @@ decimal_tells m n within same = elim (cases_lt n (10 ^ 64)) [
   | inr many ↦ let few : length (decimal m) ≤ 20 = length-decimal-le 20 m (omega arith) (omega arith) within in
       absurd (omega (arith, few, ap length same, long_decimal n many))
 ]
-
-scratch : decimal (2 * 10 ^ 64) ≡ decimal (3 * 10 ^ 64)
-unfolding digits
-scratch = refl
