@@ -8,20 +8,14 @@ ghost use Rattle.aux_items.specs.Kinds.{kind_meant};
 use crate::kinds::{AuxKind, kind_of};
 use crate::list::ItemList;
 use crate::standing::{Standing, is_among};
+use kom_types::bits::{SECRET_ITEM, WRONG_ITEM_FLAGS};
+use kom_types::limits::LONGEST_CONTENT;
 use kom_types::{Adder, AuxInput, AuxRow, Object};
 
 /// The codes illegal-aux-item and aux-item-permission.
 const ILLEGAL_ITEM: u32 = 48;
 
 const ITEM_PERMISSION: u32 = 49;
-
-/// The flags deleted and those that are reserved, and the flag secret.
-const WRONG_FLAGS: u8 = 135;
-
-const SECRET: u8 = 32;
-
-/// How many bytes the contents of an item have at most.
-const LONGEST_CONTENT: usize = 16_384;
 
 /// The tags of read-confirm and creating-software.
 const READ_CONFIRM: u32 = 7;
@@ -102,7 +96,7 @@ fn is_shown_at(by: &Adder, item: &AuxRow, number: u32) -> bool
 fn is_shown(by: &Adder, item: &AuxRow) -> bool
     ensures { result ≡ Items.is_shown by.now item.now }
 {
-    item.flags & SECRET == 0 || item.creator == by.person || by.owns
+    item.flags & SECRET_ITEM == 0 || item.creator == by.person || by.owns
 }
 
 /// Whether items of a tag may never be deleted.
@@ -168,6 +162,6 @@ fn fits<R: ItemList>(
 {
     known.places.include(on)
         && given.content.len() <= LONGEST_CONTENT
-        && given.flags & WRONG_FLAGS == 0
+        && given.flags & WRONG_ITEM_FLAGS == 0
         && beside.takes(known, creator)
 }

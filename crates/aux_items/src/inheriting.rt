@@ -5,12 +5,10 @@ ghost use Rattle.kom_types.specs.AuxItems as Items;
 use crate::kinds::kind_of;
 use crate::list::ItemList;
 use crate::standing::Standing;
+use kom_types::bits::INHERITED_ITEM;
 use kom_types::{AuxRow, AuxRows, Bytes, Memory, Sequence};
 use std::alloc::Global;
 use std::mem;
-
-/// The flag inherit.
-const INHERIT: u8 = 64;
 
 /// Puts what a new text inherits from one that it comments after the items that it has: a copy of
 /// each, with its contents. (Protocol A, "Auxiliary Information".)
@@ -69,7 +67,7 @@ fn inherit_one(alloc: Global, rows: &mut AuxRows, item: &AuxRow) -> Result<(), M
 fn passes_on(item: &AuxRow) -> bool
     ensures { result ≡ Items.passes_on item.now }
 {
-    item.flags & INHERIT != 0 && item.limit != 1
+    item.flags & INHERITED_ITEM != 0 && item.limit != 1
 }
 
 /// The item as it is inherited: it may be so once less, if there is a limit.

@@ -7,11 +7,9 @@ ghost use Rattle.aux_items.specs.Kinds.{count_meant, kind_meant};
 
 use crate::kinds::{AuxKind, Count};
 use crate::list::ItemList;
+use kom_types::limits::MOST_AUX_ITEMS;
 use kom_types::{AuxInput, AuxRow};
 use std::marker::Model;
-
-/// How many items an object has at most.
-const MOST_ITEMS: usize = 100;
 
 /// Items that are left of an object's, and then those that a person adds. They are not copied.
 #[derive(Drop)]
@@ -86,7 +84,7 @@ impl<'a, R: ItemList> Standing<'a, R> {
     fn is_short(&self) -> bool
         ensures { result ≡ nat_lt (length self.now) 100 }
     {
-        count_left(self.rows, self.deleted).saturating_add(self.added.len()) < MOST_ITEMS
+        count_left(self.rows, self.deleted).saturating_add(self.added.len()) < MOST_AUX_ITEMS
     }
 
     fn has(&self, tag: u32) -> bool

@@ -3,6 +3,7 @@ ghost use Rattle.std.specs.Prelude.{◌≡◌, None, IfOk};
 ghost use Rattle.kom_state.specs.Room.{IsOrderly, name_given};
 
 use kom_state::State;
+use kom_types::bits::LETTERBOX_TYPE;
 use kom_types::{Bytes, Effect, EffectList, Memory, Moment, Sequence};
 use std::alloc::Global;
 
@@ -11,9 +12,6 @@ pub(crate) const CONFERENCE: u32 = 4;
 
 /// The last person of a new server.
 const ADMINISTRATOR: u32 = 5;
-
-/// The type of a letterbox.
-const LETTERBOX: u8 = 152;
 
 /// The person of a session, which has another number than that of a new server.
 pub(crate) fn person_of(session: u32) -> u32 {
@@ -47,7 +45,7 @@ fn added(alloc: Global, person: u32) -> Result<EffectList, Memory>
     effects.push(Effect::ConfAdded {
         number: person,
         name: Bytes::of(name.into_bytes()),
-        kind: LETTERBOX,
+        kind: LETTERBOX_TYPE,
         at: Moment::at_most(0),
         creator: person,
         supervisor: person,

@@ -6,10 +6,8 @@ use crate::arguments::Arguments;
 use crate::elements::Element;
 use crate::fault::ArgumentFault;
 use kom_framing::Token;
+use kom_types::limits::LONGEST_ARRAY;
 use kom_types::{AuxInputs, MiscInputs, Numbers, ReadRanges, Sequence};
-
-/// How many elements an array has at most.
-const LONGEST_ARRAY: u32 = 2_048;
 
 impl Arguments<'_> {
     /// Takes an array of numbers.

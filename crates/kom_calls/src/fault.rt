@@ -13,7 +13,7 @@ pub enum ArgumentFault {
     BadBool,
     /// An array is too long.
     LongArray,
-    /// Memory was wanted and could not be had.
+    /// Memory ran out.
     Memory,
 }
 

@@ -27,7 +27,7 @@ pub enum CallFault {
     LongArray(u32),
     /// The line departs from the pattern of its call, or has no reference and call number.
     Malformed,
-    /// Memory was wanted for a string or an array and could not be had.
+    /// Memory ran out for a string or an array.
     Memory,
 }
 

@@ -8,7 +8,8 @@ ghost use Rattle.kom_framing.specs.BegunGreetings.{Turns, AreLetters};
 ghost use Rattle.kom_framing.specs.Splitting.{opening_of};
 
 use crate::fault::Fault;
-use crate::lines::{LONGEST_STREAM, Scan};
+use crate::lines::Scan;
+use kom_types::limits::LONGEST_STREAM;
 use kom_types::{ByteKind, Memory, Side, kind_of_byte};
 use std::alloc::Global;
 

@@ -11,19 +11,11 @@ use crate::fault::Fault;
 use crate::lexer::{Lexer, Span, Step};
 use crate::line::Line;
 use crate::units::Unit;
+use kom_types::limits::{LONGEST_CLIENT_LINE, LONGEST_SERVER_LINE, LONGEST_STREAM};
 use kom_types::{Memory, Side};
 use std::alloc::Global;
 use std::collections::VecDeque;
 use std::mem;
-
-// How many bytes a client's line has at most, its line feed counted.
-const LONGEST_LINE: usize = 2_097_152;
-
-// How many bytes a server's line has at most, its line feed counted.
-const LONGEST_REPLY: usize = 4_194_304;
-
-/// How many bytes a stream has at most.
-pub const LONGEST_STREAM: u64 = 1 << 62;
 
 /// A line that has begun: its bytes so far, the tokens that are whole, and how far the last one is.
 #[derive(Debug, Drop)]
@@ -195,8 +187,8 @@ fn longest_line(side: Side) -> usize
     ensures { result ≡ stream.longest_line side }
 {
     match side {
-        Side::Client => LONGEST_LINE,
-        Side::Server => LONGEST_REPLY,
+        Side::Client => LONGEST_CLIENT_LINE,
+        Side::Server => LONGEST_SERVER_LINE,
     }
 }
 

@@ -23,7 +23,7 @@ pub enum FeedRefusal {
     Malformed(u64),
     /// The byte at this place is one too many for its line.
     LineTooLong(u64),
-    /// Memory was wanted and could not be had.
+    /// Memory ran out.
     Memory,
 }
 

@@ -1,35 +1,19 @@
 ghost use Rattle.std.specs.Prelude.{◌≡◌, is_some};
 ghost use Rattle.kom_model.specs.Db.{conference_of, person_of};
 ghost use Rattle.kom_model.specs.Effects.{fits, is_free, may_name, may_add_conference};
-ghost use Rattle.kom_model.specs.Effects.{may_set, may_set_field, has_letterbox, may_join};
+ghost use Rattle.kom_model.specs.Effects.{may_set, may_set_field, has_letterbox, has_room_to_join};
 ghost use Rattle.kom_model.specs.Effects.{is_bare_conference, is_bare_person};
-ghost use Rattle.kom_types.specs.tables.Conferences.{is_secret_protected, is_letterbox};
+ghost use Rattle.kom_types.specs.tables.Conferences.{is_secret_protected};
 
 mod item_effects;
 mod text_effects;
 
 use crate::state::State;
+use kom_types::bits::{READ_PROTECTED, SECRET_CONFERENCE, is_letterbox};
+use kom_types::limits::{LAST_CONFERENCE, LONGEST_NAME, LONGEST_USER_NAME, MOST_MEMBERSHIPS};
 use kom_types::{ConfField, ConferenceRow, Effect};
 use read_ranges::rise;
 pub use text_effects::{is_recipient_tag, most_links};
-
-/// The bits of a conference's type.
-const READ_PROTECTED: u8 = 128;
-
-const SECRET: u8 = 32;
-
-const LETTERBOX: u8 = 16;
-
-/// The greatest number that a conference gets.
-const LAST_CONFERENCE: u32 = 65_535;
-
-/// How many bytes a name, and a user name, has at most.
-const LONGEST_NAME: usize = 60;
-
-const LONGEST_USER_NAME: usize = 1024;
-
-/// How many memberships a person has at most.
-const MOST_MEMBERSHIPS: usize = 2000;
 
 impl State {
     /// Whether an effect fits: what it changes is there, what it adds is not, numbers were never
@@ -71,7 +55,7 @@ impl State {
             } => {
                 self.has_person(*person)
                     && self.has_conference(*conference)
-                    && self.may_join(*person, *conference)
+                    && self.has_room_to_join(*person, *conference)
             }
             Effect::MemberGone { person, conference } => self.is_member(*person, *conference),
             Effect::ReadSet {
@@ -139,7 +123,7 @@ impl State {
     fn may_name(&self, number: u32, name: &[u8]) -> bool
         ensures { result ≡ may_name self.now.db number name.now }
     {
-        name.len() <= LONGEST_NAME && self.is_free(number, name)
+        name.len() <= LONGEST_NAME as usize && self.is_free(number, name)
     }
 
     fn may_add_conference(&self, number: u32, name: &[u8], kind: u8) -> bool
@@ -187,8 +171,8 @@ impl State {
         }
     }
 
-    fn may_join(&self, person: u32, conference: u32) -> bool
-        ensures { result ≡ may_join self.now.db person conference }
+    fn has_room_to_join(&self, person: u32, conference: u32) -> bool
+        ensures { result ≡ has_room_to_join self.now.db person conference }
     {
         self.is_member(person, conference) || self.membership_count(person) < MOST_MEMBERSHIPS
     }
@@ -209,11 +193,5 @@ fn may_set(field: ConfField, row: &ConferenceRow) -> bool
 fn is_secret_protected(kind: u8) -> bool
     ensures { result ≡ is_secret_protected kind }
 {
-    kind & SECRET == 0 || kind & READ_PROTECTED != 0
-}
-
-fn is_letterbox(kind: u8) -> bool
-    ensures { result ≡ is_letterbox kind }
-{
-    kind & LETTERBOX != 0
+    kind & SECRET_CONFERENCE == 0 || kind & READ_PROTECTED != 0
 }

@@ -9,12 +9,8 @@ ghost use Rattle.kom_model.specs.calls.Guards.{Guards};
 use crate::state::State;
 use kom_model::{Refused, Viewer};
 use kom_types::AuxChange;
-
-/// The privileges wheel and admin.
-const MIGHT: u16 = 49_152;
-
-/// The greatest number that a conference gets.
-const LAST_CONFERENCE: u32 = 65_535;
+use kom_types::bits::WHEEL_AND_ADMIN;
+use kom_types::limits::LAST_CONFERENCE;
 
 impl State {
     /// Whether a person's privileges let its sessions be strong.
@@ -23,7 +19,7 @@ impl State {
     {
         match self.person(person) {
             None => false,
-            Some(row) => row.privileges & MIGHT != 0,
+            Some(row) => row.privileges & WHEEL_AND_ADMIN != 0,
         }
     }
 

@@ -4,19 +4,13 @@ ghost use Rattle.kom_model.specs.Initial.{initial_conference as conference_at_fi
 ghost use Rattle.kom_model.specs.Effects.{apply, apply_all};
 
 use crate::state::State;
+use kom_types::bits::{ALL_PRIVILEGES, LETTERBOX_TYPE, TYPE_FOR_ALL};
 use kom_types::{Bytes, Effect, EffectList, Memory, Moment, Sequence};
 use std::alloc::Global;
 use std::slice;
 
 /// The number of the person that a new server has, and of its letterbox.
 const ADMINISTRATOR: u32 = 5;
-
-/// The types of a conference for all, and of a letterbox, and every privilege.
-const FOR_ALL: u8 = 8;
-
-const LETTERBOX: u8 = 152;
-
-const ALL_PRIVILEGES: u16 = 64_512;
 
 impl State {
     /// The rows of a new server, whose administrator has this password.
@@ -85,11 +79,11 @@ fn initial_conferences(alloc: Global, moment: Moment) -> Result<EffectList, Memo
     ensures { IfOk result (λ effects. effects ≡ take 5 (effects_at_first [] moment)) }
 {
     let rows: [(u32, &[u8], u8); 5] = [
-        (1, b"Presentations of conferences", FOR_ALL),
-        (2, b"Presentations of persons", FOR_ALL),
-        (3, b"Messages of the day", FOR_ALL),
-        (4, b"News", FOR_ALL),
-        (ADMINISTRATOR, b"Administrator", LETTERBOX),
+        (1, b"Presentations of conferences", TYPE_FOR_ALL),
+        (2, b"Presentations of persons", TYPE_FOR_ALL),
+        (3, b"Messages of the day", TYPE_FOR_ALL),
+        (4, b"News", TYPE_FOR_ALL),
+        (ADMINISTRATOR, b"Administrator", LETTERBOX_TYPE),
     ];
     let mut effects = Sequence::new(alloc);
     for (number, name, kind) in rows {

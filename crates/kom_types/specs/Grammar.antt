@@ -14,7 +14,7 @@ pub data Form (X : Type 0) : Type 0 where
   Whole : X → Form X
   Unfit : Form X
 
--- what is left after the bytes at the prefix that pass the test
+-- what is left after the bytes at the beginning that pass the test
 abbrev pub drop_while : (ℕ → Bool) → List ℕ → List ℕ
 drop_while test [] = []
 drop_while test (byte ∷ bytes) =

@@ -5,6 +5,7 @@
 mod acts;
 mod answers;
 mod aux_items;
+pub mod bits;
 mod boxed;
 mod byte_kind;
 mod calls;
@@ -12,6 +13,7 @@ mod conferences;
 mod decisions;
 mod effects;
 mod items;
+pub mod limits;
 mod lists;
 mod memberships;
 mod messages;
@@ -45,7 +47,7 @@ pub use lists::{Bytes, Numbers, Words};
 pub use memberships::{
     Member, Members, Membership, MembershipRow, Memberships, RangesShown, ReadRange, ReadRanges,
 };
-pub use messages::{ChangedItems, Message, NewName, SentMessage};
+pub use messages::{ChangedItems, MESSAGE_NUMBERS, Message, NewName, SentMessage};
 pub use persons::{NewPerson, PasswordChange, Person, PersonRow};
 pub use replies::Reply;
 pub use rows::{worked_rows, worked_tables};
@@ -60,4 +62,4 @@ pub use texts::{
     Block, Link, LocalText, Mapping, Mark, MarkRow, Marks, MiscInfo, MiscInfos, MiscInput,
     MiscInputs, NewText, Recipient, TextRow, TextStat,
 };
-pub use times::{LAST_MOMENT, Moment, Time};
+pub use times::{Moment, Time};

@@ -2,7 +2,7 @@ use std::alloc::{AllocError, AllocFailed};
 use std::error::Error;
 use std::fmt;
 
-/// Memory was wanted and could not be had.
+/// Memory ran out.
 #[derive(Clone, Copy, Debug, PartialEq, Eq, Hash)]
 pub struct Memory;
 

@@ -1,10 +1,8 @@
 ghost use Rattle.std.specs.Prelude.{◌≡◌, ℕ, ◌+◌, ◌≤◌, ◌<◌, ◌↔◌, min, Ok, IsSome, IfSome, pos, ◌≤ℤ◌};
 
+use crate::limits::LAST_MOMENT;
 use jiff_core::civil::Date;
 use std::marker::Model;
-
-/// The last moment: the end of the year 9999.
-pub const LAST_MOMENT: u64 = 253_402_300_799;
 
 /// Seconds since the beginning of 1970 in UTC, at most 253402300799.
 #[derive(Debug)]

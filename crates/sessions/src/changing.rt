@@ -2,6 +2,9 @@ ghost use Rattle.std.specs.Prelude.{◌≡◌, true};
 ghost use Rattle.kom_types.specs.Sessions.{changed_session, changed_seat, with_person};
 ghost use Rattle.kom_types.specs.Sessions.{with_invisible, with_active};
 
+use kom_types::bits::{
+    ALL_BUT_ACTIVE_AND_ABSENT, ALL_BUT_INVISIBLE, INVISIBLE_SESSION, USER_ACTIVE_USED,
+};
 use kom_types::{Bytes, Moment, Seat, SessionChange};
 
 /// The session whose number stands first in a change, or 0 where it is of none.
@@ -56,8 +59,8 @@ fn set_person(seat: &mut Seat, person: u32, invisible: bool, at: Moment)
 fn flags_of_login(flags: u8, invisible: bool) -> u8
     ensures { result ≡ with_invisible invisible flags }
 {
-    let highest = if invisible { 0b1000_0000 } else { 0 };
-    flags & 0b0111_1111 | highest
+    let highest = if invisible { INVISIBLE_SESSION } else { 0 };
+    flags & ALL_BUT_INVISIBLE | highest
 }
 
 fn set_level(seat: &mut Seat, level: u8)
@@ -104,7 +107,7 @@ fn set_active(seat: &mut Seat, at: Moment)
 fn flags_of_active(flags: u8) -> u8
     ensures { result ≡ with_active flags }
 {
-    flags & 0b1001_1111 | 0b0100_0000
+    flags & ALL_BUT_ACTIVE_AND_ABSENT | USER_ACTIVE_USED
 }
 
 fn set_ended(seat: &mut Seat)

@@ -7,15 +7,10 @@ ghost use Rattle.sessions.specs.Outboxes.{is_below_first, TakesFirstBelow};
 use crate::queued::Queued;
 use arrayvec::ArrayVec;
 use circular_buffer::HeapCircularBuffer;
+use kom_types::limits::{MOST_WAITING_BYTES, MOST_WAITING_ITEMS};
 use kom_types::{Item, Memory};
 use std::alloc::Global;
 use std::marker::Model;
-
-/// The most items that wait for a session.
-const MOST_ITEMS: usize = 4096;
-
-/// The most bytes that they print to.
-const MOST_BYTES: u64 = 33_554_432;
 
 /// The items that wait for a session, in the order in which they were queued.
 #[derive(Drop)]
@@ -43,7 +38,7 @@ impl Outbox {
         ensures { IfOk result (λ outbox. outbox ≡ []) }
     {
         Ok(Outbox {
-            ring: HeapCircularBuffer::with_capacity(alloc, MOST_ITEMS)?,
+            ring: HeapCircularBuffer::with_capacity(alloc, MOST_WAITING_ITEMS)?,
             printed: 0,
         })
     }
@@ -62,7 +57,7 @@ impl Outbox {
         ensures items { self.new ≡ (if fits waiting_limits self.old item
             then self.old ++ record { item = item; entry = entry } ∷ [] else self.old) }
     {
-        if len > MOST_BYTES - self.printed {
+        if len > MOST_WAITING_BYTES - self.printed {
             return false;
         }
         match self.ring.try_push_back(Queued::new(item, entry, len)) {

@@ -2,15 +2,10 @@
 ghost use Rattle.std.specs.Prelude.{◌≡◌};
 ghost use Rattle.kom_model.specs.Effects.{has_object, may_add_item, has_item};
 
-use crate::fitting::text_effects::LAST_DRAWN;
 use crate::state::State;
 use aux_items::is_known;
 use kom_types::AuxRow;
-
-/// How many aux-items a text, or a conference, has at most, and how many bytes the contents of one.
-const MOST_ITEMS: usize = 100;
-
-const LONGEST_CONTENT: usize = 16_384;
+use kom_types::limits::{LAST_DRAWN, LONGEST_CONTENT, MOST_AUX_ITEMS};
 
 impl State {
     /// Whether the text, or the conference, is there.
@@ -31,7 +26,7 @@ impl State {
             && self.next_item(on_text, object) <= item.number
             && item.number <= LAST_DRAWN
             && is_known(item.tag)
-            && self.item_count(on_text, object) < MOST_ITEMS
+            && self.item_count(on_text, object) < MOST_AUX_ITEMS
             && item.content.len() <= LONGEST_CONTENT
     }
 

@@ -6,22 +6,10 @@ ghost use Rattle.kom_model.specs.Effects.{may_add_recipient, most_links, may_lin
 ghost use Rattle.kom_model.specs.Effects.{may_number, may_create};
 
 use crate::state::State;
+use kom_types::limits::{
+    LAST_DRAWN, LONGEST_BODY, MOST_COMMENTS, MOST_FOOTNOTES, MOST_MARKS, MOST_RECIPIENTS,
+};
 use kom_types::{Link, Recipient, TextRow};
-
-/// The greatest number that a text gets, in all and in a conference or among those of its author,
-/// and that an aux-item gets among those of a text or a conference.
-pub(crate) const LAST_DRAWN: u32 = 4_294_967_294;
-
-/// How many bytes a text has at most.
-const LONGEST_BODY: usize = 1_048_576;
-
-const MOST_RECIPIENTS: usize = 100;
-
-const MOST_COMMENTS: usize = 1000;
-
-const MOST_FOOTNOTES: usize = 100;
-
-const MOST_MARKS: usize = 2000;
 
 impl State {
     pub(crate) fn has_text(&self, number: u32) -> bool
@@ -37,7 +25,7 @@ impl State {
         self.next_text <= number
             && number <= LAST_DRAWN
             && !self.has_text(number)
-            && body.len() <= LONGEST_BODY
+            && body.len() <= LONGEST_BODY as usize
     }
 
     /// Whether nothing is left that hangs on a text.
