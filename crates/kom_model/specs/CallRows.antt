@@ -7,43 +7,23 @@ use Rattle.kom_types.specs.declared.conferences.ConferenceName.{ConferenceName}
 use Rattle.kom_types.specs.declared.conferences.NewConference.{NewConference}
 use Rattle.kom_types.specs.declared.persons.NewPerson.{NewPerson}
 use Rattle.kom_types.specs.declared.replies.Reply.TheVariants as reply
-use Rattle.kom_types.specs.declared.seats.Seat.{Seat}
 use Rattle.kom_types.specs.declared.session_changes.SessionChange.TheVariants as change
-use Rattle.kom_types.specs.Sessions.{fresh_seat}
 use Rattle.kom_types.specs.tables.Persons.{password_hash}
+use Rattle.kom_model.specs.Cast.{Cast, cast_over, one_seat}
 use Rattle.kom_model.specs.Db.{empty_db}
 use Rattle.kom_model.specs.Effects.{all_fit}
 use Rattle.kom_model.specs.Initial.{initial, initial_effects}
-use Rattle.kom_model.specs.calls.Call.{Asked, answer, done}
+use Rattle.kom_model.specs.calls.Call.{answer, done}
 use Rattle.kom_model.specs.calls.Guards.{refusal}
 use Rattle.kom_model.specs.calls.Conferences as Conferences
 use Rattle.kom_model.specs.calls.Persons as Persons
 use Rattle.kom_model.specs.calls.Sessions as Sessions
 
--- session 1, which nobody, or this person, is logged in to since moment 10
-abbrev pub seat : ℕ → ℕ → Seat
-seat person level =
-    record (fresh_seat 1 0 (codes "ceder") (codes "h") 5)
-    { person = person; login = 10; level = level }
+-- over a server that began at moment 0
+abbrev pub cast : Cast
+cast = cast_over (initial [] 0) one_seat
 
--- a call of session 1 at moment 30, of a server that began at moment 0
-abbrev pub asked : ℕ → ℕ → Asked
-asked person level = record {
-  db = initial [] 0;
-  seats = seat person level ∷ record (seat 0 0) { number = 2; ended = true } ∷ [];
-  moment = 30;
-  session = 1;
-  reference = 7;
-}
-
-abbrev pub nobody : Asked
-nobody = asked 0 0
-
-abbrev pub anna : Asked
-anna = asked 5 0
-
-abbrev pub strong : Asked
-strong = asked 5 255
+open cast use {stranger, anna, high_anna as strong}
 
 abbrev pub person : List ℕ → NewPerson
 person name = record { name = name; password = []; flags = 128; aux_items = [] }
@@ -60,12 +40,12 @@ pub record CallRows : Type 0 where
       ≡ 34 ∷ 31 ∷ 138 ∷ 242 ∷ 55 ∷ 42 ∷ 149 ∷ 6 ∷ 79 ∷ 46 ∷ 247 ∷ 215 ∷ 113 ∷ 34 ∷ 22 ∷ 169 ∷ 171
       ∷ 70 ∷ 231 ∷ 239 ∷ 152 ∷ 72 ∷ 47 ∷ 210 ∷ 55 ∷ 225 ∷ 6 ∷ 248 ∷ 62 ∷ 170 ∷ 117 ∷ 105 ∷ []
   pub begins : all_fit (initial_effects (codes "secret") 3) empty_db ≡ true
-  pub login_of_no_person : (Sessions.login nobody 0 [] false).early ≡ refusal 8 0
-  pub login_of_a_conference : (Sessions.login nobody 4 [] false).early ≡ refusal 10 4
-  pub login_by_another_password : (Sessions.login nobody 5 (codes "x") false).early ≡ refusal 4 5
-  pub login_by_the_password : (Sessions.login nobody 5 [] true).early ≡ None
+  pub login_of_no_person : (Sessions.login stranger 0 [] false).early ≡ refusal 8 0
+  pub login_of_a_conference : (Sessions.login stranger 4 [] false).early ≡ refusal 10 4
+  pub login_by_another_password : (Sessions.login stranger 5 (codes "x") false).early ≡ refusal 4 5
+  pub login_by_the_password : (Sessions.login stranger 5 [] true).early ≡ None
   pub login_by_a_strong_session : (Sessions.login strong 5 (codes "x") true).early ≡ None
-  pub logs_in : (Sessions.login nobody 5 [] true).rest
+  pub logs_in : (Sessions.login stranger 5 [] true).rest
       ≡ done (effect.LoggedIn 5 30 (codes "ceder") ∷ []) (change.Person 1 5 true ∷ [])
   pub logs_in_again : (Sessions.login anna 5 [] false).rest
       ≡ done
@@ -73,13 +53,13 @@ pub record CallRows : Type 0 where
       (change.Person 1 0 false ∷ change.Person 1 5 false ∷ [])
   pub logs_out : (Sessions.logout anna).rest
       ≡ done (effect.Counted 5 counter.TimePresent 20 ∷ []) (change.Person 1 0 false ∷ [])
-  pub nobody_logs_out : (Sessions.logout nobody).rest ≡ done [] []
-  pub privileges_by_nobody : (Persons.set_priv_bits nobody 5 0).early ≡ refusal 6 0
+  pub nobody_logs_out : (Sessions.logout stranger).rest ≡ done [] []
+  pub privileges_by_nobody : (Persons.set_priv_bits stranger 5 0).early ≡ refusal 6 0
   pub privileges_of_no_person : (Persons.set_priv_bits anna 6 0).early ≡ refusal 10 6
   pub privileges_without_strength : (Persons.set_priv_bits anna 5 0).early ≡ refusal 12 0
   pub privileges_are_set : (Persons.set_priv_bits strong 5 0).rest
       ≡ done (effect.PersonField 5 (field.Privileges 0) ∷ []) []
-  pub person_made : (Persons.create_person nobody (person (codes "Bo"))).rest
+  pub person_made : (Persons.create_person stranger (person (codes "Bo"))).rest
       ≡ record {
         reply = reply.Number 6;
         effects =
@@ -102,15 +82,15 @@ pub record CallRows : Type 0 where
             ∷ [];
         changes = [];
       }
-  pub name_of_a_letterbox : (Persons.create_person nobody (person (codes "aDMINISTRATOR"))).early
+  pub name_of_a_letterbox : (Persons.create_person stranger (person (codes "aDMINISTRATOR"))).early
       ≡ refusal 21 0
-  pub name_of_a_conference : (Persons.create_person nobody (person (codes "news"))).early
+  pub name_of_a_conference : (Persons.create_person stranger (person (codes "news"))).early
       ≡ refusal 20 0
-  pub name_without_a_word : (Persons.create_person nobody (person (codes "(x)"))).early
+  pub name_without_a_word : (Persons.create_person stranger (person (codes "(x)"))).early
       ≡ refusal 18 0
-  pub name_too_long : (Persons.create_person nobody (person (replicate 61 65))).early
+  pub name_too_long : (Persons.create_person stranger (person (replicate 61 65))).early
       ≡ refusal 5 60
-  pub conference_by_nobody : (Conferences.create_conf nobody (conference (codes "Open") 8)).early
+  pub conference_by_nobody : (Conferences.create_conf stranger (conference (codes "Open") 8)).early
       ≡ refusal 6 0
   pub letterbox_refused : (Conferences.create_conf anna (conference (codes "Open") 16)).early
       ≡ refusal 23 0
@@ -128,9 +108,9 @@ pub record CallRows : Type 0 where
   pub renamed_alike : (Conferences.change_name anna 4 (codes "NEWS")).early ≡ None
   pub renamed_as_another : (Conferences.change_name anna 4 (codes "administrator")).early
       ≡ refusal 21 0
-  pub found_persons : (Conferences.lookup_z_name nobody (codes "a") true true).rest
+  pub found_persons : (Conferences.lookup_z_name stranger (codes "a") true true).rest
       ≡ answer (reply.ConferenceNames (named 5 144 (codes "Administrator") ∷ []))
-  pub found_conferences : (Conferences.lookup_z_name nobody [] false true).rest
+  pub found_conferences : (Conferences.lookup_z_name stranger [] false true).rest
       ≡ answer (reply.ConferenceNames
       (named 1 0 (codes "Presentations of conferences")
       ∷ named 2 0 (codes "Presentations of persons")
@@ -142,10 +122,10 @@ pub record CallRows : Type 0 where
   pub none_above : (Conferences.find_next_conf_no anna 5).early ≡ refusal 9 5
   pub next_below : (Conferences.find_previous_conf_no anna 65535).rest ≡ answer (reply.Number 5)
   pub none_below : (Conferences.find_previous_conf_no anna 1).early ≡ refusal 9 1
-  pub nearest_by_nobody : (Conferences.find_next_conf_no nobody 3).early ≡ refusal 6 0
-  pub first_unused : (Conferences.first_unused_conf_no nobody).rest ≡ answer (reply.Number 6)
-  pub too_long_to_do : (Sessions.change_what_i_am_doing nobody (replicate 61 65)).early
+  pub nearest_by_nobody : (Conferences.find_next_conf_no stranger 3).early ≡ refusal 6 0
+  pub first_unused : (Conferences.first_unused_conf_no stranger).rest ≡ answer (reply.Number 6)
+  pub too_long_to_do : (Sessions.change_what_i_am_doing stranger (replicate 61 65)).early
       ≡ refusal 5 60
-  pub client_told : (Sessions.get_client_name nobody 1).rest ≡ answer (reply.Text [])
-  pub client_of_no_session : (Sessions.get_client_name nobody 3).early ≡ refusal 42 3
-  pub client_of_an_ended_session : (Sessions.get_client_name nobody 2).early ≡ refusal 42 2
+  pub client_told : (Sessions.get_client_name stranger 1).rest ≡ answer (reply.Text [])
+  pub client_of_no_session : (Sessions.get_client_name stranger 3).early ≡ refusal 42 3
+  pub client_of_an_ended_session : (Sessions.get_client_name stranger 2).early ≡ refusal 42 2

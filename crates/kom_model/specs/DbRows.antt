@@ -1,6 +1,6 @@
 -- Stored rows, effects and rights whose outcome was worked out by hand.
-use Rattle.std.specs.Prelude.{◌≡◌, ℕ, true, false, List, [], ◌∷◌, ◌++◌, map, codes, replicate}
-use Rattle.std.specs.Prelude.{Some, None, option_map}
+use Rattle.std.specs.Prelude.{◌≡◌, ℕ, true, false, List, [], ◌∷◌, ◌++◌, map, codes, replicate, Some}
+use Rattle.std.specs.Prelude.{None, option_map}
 use Rattle.kom_types.specs.declared.effects.Counter.TheVariants as counter
 use Rattle.kom_types.specs.declared.effects.ConfField.TheVariants as field
 use Rattle.kom_types.specs.declared.effects.Effect.{Effect}
@@ -8,29 +8,11 @@ use Rattle.kom_types.specs.declared.effects.Effect.TheVariants as effect
 use Rattle.kom_types.specs.declared.effects.PersonField.TheVariants as person_field
 use Rattle.kom_types.specs.declared.memberships.MembershipRow.{MembershipRow}
 use Rattle.kom_types.specs.tables.Memberships.{without_membership}
-use Rattle.kom_model.specs.declared.viewers.Viewer.{Viewer}
+use Rattle.kom_model.specs.Cast.{makes, makes_person, joins, is_invited, person, nobody}
+use Rattle.kom_model.specs.Cast.{strong_nobody, conferences_in, persons_in, places_of}
 use Rattle.kom_model.specs.Db.{Db, empty_db, conference_of, person_of, membership_of}
-use Rattle.kom_model.specs.Db.{memberships_of, members_of}
 use Rattle.kom_model.specs.Effects.{fits, apply_all, all_fit, most_memberships}
 use Rattle.kom_model.specs.Rights.{supervises, sees, reads_conference}
-
--- a conference of this type that person 5 supervises
-abbrev pub makes : ℕ → List ℕ → ℕ → Effect
-makes number name kind = effect.ConfAdded number name kind 10 5 5
-
--- a person with a letterbox, which it supervises and is a member of
-abbrev pub makes_person : ℕ → List ℕ → List Effect
-makes_person number name =
-    effect.ConfAdded number name 152 10 number number
-    ∷ effect.PersonAdded number 7168 0 10
-    ∷ effect.MemberSet number number 0 255 number 10 0
-    ∷ []
-
-abbrev pub joins : ℕ → ℕ → ℕ → Effect
-joins person conference position = effect.MemberSet person conference position 100 person 20 0
-
-abbrev pub is_invited : ℕ → ℕ → Effect
-is_invited person conference = effect.MemberSet person conference 9 100 5 20 128
 
 -- An open conference 1; persons 5, 6, 7 and 8; a secret conference 9, which the members of the
 -- protected conference 10 supervise; 6 is a member of 10, 7 was invited to it, and 8 to 9.
@@ -45,31 +27,11 @@ made_rows =
 abbrev pub rows : Db
 rows = apply_all made_rows empty_db
 
-abbrev pub person : ℕ → Viewer
-person number = record { person = number; strong = false }
-
-abbrev pub nobody : Viewer
-nobody = person 0
-
-abbrev pub strong_nobody : Viewer
-strong_nobody = record { person = 0; strong = true }
-
--- the conferences of a person by their places, and the persons of a conference as they joined
-abbrev pub conferences_in : ℕ → Db → List ℕ
-conferences_in number db = map (λ row. row.conference) (memberships_of db number)
-
-abbrev pub persons_in : ℕ → Db → List ℕ
-persons_in number db = map (λ row. row.person) (members_of db number)
-
 abbrev pub with_effect : Effect → Db
 with_effect what = apply_all (what ∷ []) rows
 
 abbrev pub with_effects : List Effect → Db
 with_effects effects = apply_all effects rows
-
--- the places of the memberships of a person
-abbrev pub places_of : ℕ → Db → List ℕ
-places_of number db = map (λ row. row.position) (memberships_of db number)
 
 -- a secret letterbox of nobody's, and a letterbox that supervises itself
 abbrev pub alone : Db

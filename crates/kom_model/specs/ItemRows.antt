@@ -1,68 +1,29 @@
--- What becomes of aux-items, what is shown of them, and what the calls over them come to, worked
--- out by hand.
-use Rattle.std.specs.Prelude.{◌≡◌, ℕ, Bool, true, false, List, [], ◌∷◌, ◌++◌, map, codes}
-use Rattle.std.specs.Prelude.{zero, suc, replicate, None}
-use Rattle.kom_types.specs.declared.aux_items.AuxChange.{AuxChange}
+-- What becomes of aux-items, what is shown of them, and what the calls that change them come to,
+-- worked out by hand.
+use Rattle.std.specs.Prelude.{◌≡◌, ℕ, Bool, true, false, List, [], ◌∷◌, ◌++◌, map, codes, zero, suc}
+use Rattle.std.specs.Prelude.{replicate, None}
 use Rattle.kom_types.specs.declared.aux_items.AuxInput.{AuxInput}
 use Rattle.kom_types.specs.declared.aux_items.AuxRow.{AuxRow}
 use Rattle.kom_types.specs.declared.aux_items.ItemRow.{ItemRow}
-use Rattle.kom_types.specs.declared.conferences.NewConference.{NewConference}
-use Rattle.kom_types.specs.declared.effects.ConfField.TheVariants as field
-use Rattle.kom_types.specs.declared.effects.Counter.TheVariants as counter
 use Rattle.kom_types.specs.declared.effects.Effect.{Effect}
 use Rattle.kom_types.specs.declared.effects.Effect.TheVariants as effect
-use Rattle.kom_types.specs.declared.effects.PersonField.TheVariants as person_field
-use Rattle.kom_types.specs.declared.persons.NewPerson.{NewPerson}
 use Rattle.kom_types.specs.declared.replies.Reply.{Reply}
 use Rattle.kom_types.specs.declared.replies.Reply.TheVariants as reply
-use Rattle.kom_types.specs.declared.texts.MiscInput.{MiscInput}
-use Rattle.kom_types.specs.declared.texts.NewText.{NewText}
-use Rattle.kom_types.specs.tables.Persons.{password_hash}
-use Rattle.kom_model.specs.CallRows as CallRows
+use Rattle.kom_model.specs.Cast.{Cast, cast_over, one_seat, four_persons, three_conferences, makes}
+use Rattle.kom_model.specs.Cast.{joins, is_invited, under, sends, links, sets_fields, item}
+use Rattle.kom_model.specs.Cast.{new_item, adds, given, changes, after, early_of, person, nobody}
+use Rattle.kom_model.specs.Cast.{strong_nobody}
 use Rattle.kom_model.specs.Db.{Db, empty_db, items_of, next_item_of}
-use Rattle.kom_model.specs.DbRows as DbRows
-use Rattle.kom_model.specs.DbRows.{makes, makes_person, joins, is_invited, nobody, strong_nobody}
 use Rattle.kom_model.specs.Effects.{fits, apply_all, all_fit}
 use Rattle.kom_model.specs.Shown.{text_adder}
-use Rattle.kom_model.specs.ShownRows.{sends, links, sets_fields, early_of}
 use Rattle.kom_model.specs.calls.AuxItems.{modify_text_info, modify_conf_info}
 use Rattle.kom_model.specs.calls.Call.{Asked, Definition, answer, done, unguarded, decided}
-use Rattle.kom_model.specs.calls.Conferences.{create_conf, delete_conf, get_conf_stat}
+use Rattle.kom_model.specs.calls.Conferences.{delete_conf, get_conf_stat}
 use Rattle.kom_model.specs.calls.Guards.{refusal}
-use Rattle.kom_model.specs.calls.NewTexts.{create_text, create_anonymous_text}
-use Rattle.kom_model.specs.calls.Persons.{create_person}
-use Rattle.kom_model.specs.calls.Texts.{add_comment, delete_text, get_text_stat}
-
--- an item that was added at moment 21, or at 30
-abbrev pub item : ℕ → ℕ → ℕ → ℕ → ℕ → List ℕ → AuxRow
-item number tag creator flags limit content = record {
-  number = number;
-  tag = tag;
-  creator = creator;
-  at = 21;
-  flags = flags;
-  limit = limit;
-  content = content;
-}
-
-abbrev pub new_item : ℕ → ℕ → ℕ → ℕ → ℕ → List ℕ → AuxRow
-new_item number tag creator flags limit content =
-    record (item number tag creator flags limit content) { at = 30 }
-
-abbrev pub adds : Bool → ℕ → List AuxRow → List Effect
-adds on_text object items = map (λ what. effect.AuxAdded on_text object what) items
+use Rattle.kom_model.specs.calls.Texts.{get_text_stat}
 
 abbrev pub removes : Bool → ℕ → List ℕ → List Effect
 removes on_text object numbers = map (λ number. effect.AuxGone on_text object number) numbers
-
--- The persons 5 Anna, 6 Bo, 7 Cy, who has the privilege wheel, and 8 Di; and, supervised by 5, the
--- conferences 9, which is open, 10, which is protected, and 11, which is secret.
-abbrev pub made_persons : List Effect
-made_persons =
-    makes_person 5 (codes "Anna") ++ makes_person 6 (codes "Bo") ++ makes_person 7 (codes "Cy")
-    ++ makes_person 8 (codes "Di")
-    ++ makes 9 (codes "Open") 0 ∷ makes 10 (codes "Closed") 128 ∷ makes 11 (codes "Board") 160
-    ∷ effect.PersonField 7 (person_field.Privileges 32768) ∷ []
 
 -- Text 1 is Bo's to 9, 2 is without an author to 9, 3 is Anna's to 10, 4 is Anna's to 9, 5 is Bo's
 -- to 9, a comment to 1, and 6 is Di's to 9. Anna has a mark on 1.
@@ -126,92 +87,56 @@ made_items =
     ++ adds true 6 of_sixth ++ adds false 9 of_open ++ adds false 6 of_bo
     ++ effect.AuxAdded true 1 (item 7 2 8 0 0 []) ∷ effect.AuxGone true 1 7 ∷ []
 
+-- the four persons and the three conferences, with these texts and items
 abbrev pub made_rows : List Effect
-made_rows = made_persons ++ made_texts ++ made_items
+made_rows = four_persons ++ three_conferences ++ made_texts ++ made_items
 
 abbrev pub rows : Db
 rows = apply_all made_rows empty_db
 
-abbrev pub with_effects : List Effect → Db
-with_effects effects = apply_all effects rows
+abbrev pub cast : Cast
+cast = cast_over rows one_seat
 
--- session 1 of a person, since moment 10, at moment 30
-abbrev pub asked : ℕ → ℕ → Asked
-asked number level = record (CallRows.asked number level) { db = rows }
+-- the strong session is Cy's; Anna has not the privilege
+open cast use {with_effects, stranger, anna, bo, cy, di}
+open cast use {high_cy as strong, high_anna as not_strong}
 
-abbrev pub stranger : Asked
-stranger = asked 0 0
-
-abbrev pub anna : Asked
-anna = asked 5 0
-
-abbrev pub bo : Asked
-bo = asked 6 0
-
-abbrev pub cy : Asked
-cy = asked 7 0
-
-abbrev pub di : Asked
-di = asked 8 0
-
--- Cy's strong session, and one of Anna at the same level, who has not the privilege
-abbrev pub strong : Asked
-strong = asked 7 255
-
-abbrev pub not_strong : Asked
-not_strong = asked 5 255
-
--- what a session asks after these effects
-abbrev pub after : List Effect → Asked → Asked
-after effects asked = record asked { db = with_effects effects }
-
--- Anna, Cy, or the members of 10, supervise Bo; a person is one of them, or was invited to them
-abbrev pub under : ℕ → List Effect
-under conference = effect.ConfField 6 (field.Supervisor conference) ∷ []
-
+-- the members of 10 supervise Bo; a person is one of them, or was invited to them
 abbrev pub under_members : ℕ → List Effect
-under_members person = under 10 ++ joins person 10 0 ∷ []
+under_members person = under 10 6 ++ joins person 10 0 ∷ []
 
 abbrev pub under_invited : ℕ → List Effect
-under_invited person = under 10 ++ is_invited person 10 ∷ []
+under_invited person = under 10 6 ++ is_invited person 10 ∷ []
 
--- an item that is given
-abbrev pub given : ℕ → ℕ → ℕ → List ℕ → AuxInput
-given tag flags limit content =
-    record { tag = tag; flags = flags; inherit_limit = limit; content = content }
-
--- one of this tag alone; and as many fast replies
+-- an item of this tag alone; and as many fast replies
 abbrev pub tagged : ℕ → AuxInput
 tagged tag = given tag 0 0 []
 
 abbrev pub replies : ℕ → List AuxInput
 replies many = replicate many (tagged 2)
 
-abbrev pub change : ℕ → List ℕ → List AuxInput → AuxChange
-change object delete add = record { object = object; delete = delete; add = add }
-
 -- a call of a session that adds to text 1, or to 6, or deletes of 1
 abbrev pub adds_to_first : Asked → List AuxInput → Definition
-adds_to_first asked added = modify_text_info asked (change 1 [] added)
+adds_to_first asked added = modify_text_info asked (changes 1 [] added)
 
 abbrev pub adds_to_sixth : Asked → List AuxInput → Definition
-adds_to_sixth asked added = modify_text_info asked (change 6 [] added)
+adds_to_sixth asked added = modify_text_info asked (changes 6 [] added)
 
 abbrev pub deletes_of_first : Asked → List ℕ → Definition
-deletes_of_first asked deleted = modify_text_info asked (change 1 deleted [])
+deletes_of_first asked deleted = modify_text_info asked (changes 1 deleted [])
 
 -- the same of the conference 9 and of Bo's letterbox
 abbrev pub adds_to_open : Asked → List AuxInput → Definition
-adds_to_open asked added = modify_conf_info asked (change 9 [] added)
+adds_to_open asked added = modify_conf_info asked (changes 9 [] added)
 
 abbrev pub deletes_of_open : Asked → List ℕ → Definition
-deletes_of_open asked deleted = modify_conf_info asked (change 9 deleted [])
+deletes_of_open asked deleted = modify_conf_info asked (changes 9 deleted [])
 
 abbrev pub adds_to_bo : Asked → List AuxInput → Definition
-adds_to_bo asked added = modify_conf_info asked (change 6 [] added)
+adds_to_bo asked added = modify_conf_info asked (changes 6 [] added)
 
 abbrev pub deletes_of_bo : Asked → List ℕ → Definition
-deletes_of_bo asked deleted = modify_conf_info asked (change 6 deleted [])
+deletes_of_bo asked deleted = modify_conf_info asked (changes 6 deleted [])
 
 -- an item refuses a call: no guard before it does, and nothing changes
 abbrev pub denied : ℕ → ℕ → Definition
@@ -283,84 +208,8 @@ abbrev pub fits_tagged : Bool → ℕ → ℕ → Bool
 fits_tagged on_text object tag =
     fits (effect.AuxAdded on_text object (item 50 tag 8 0 0 [])) rows
 
-abbrev pub named : ℕ → ℕ → MiscInput
-named tag value = record { tag = tag; value = value }
-
-abbrev pub text : List ℕ → List MiscInput → List AuxInput → NewText
-text body misc items = record { body = body; misc_inputs = misc; aux_items = items }
-
--- the items of a text of Bo's with these
-abbrev pub made_with : List MiscInput → List AuxInput → List AuxRow
-made_with misc items = items_made (create_text bo (text [] misc items))
-
-abbrev pub to_fourth : MiscInput
-to_fourth = named 2 4
-
-abbrev pub to_fifth : MiscInput
-to_fifth = named 2 5
-
--- what a new comment inherits of text 4, and of text 5, from these numbers on
-abbrev pub p : ℕ → AuxRow
-p number = item number 3 8 64 0 (codes "p")
-
-abbrev pub q : ℕ → AuxRow
-q number = item number 3 8 64 1 (codes "q")
-
-abbrev pub t : ℕ → AuxRow
-t number = item number 1 5 64 2 (codes "t")
-
-abbrev pub di_read : ℕ → AuxRow
-di_read number = item number 7 8 64 0 []
-
-abbrev pub u : ℕ → AuxRow
-u number = item number 2 7 120 4294967294 (codes "u")
-
-abbrev pub v : ℕ → AuxRow
-v number = item number 1 6 64 0 (codes "v")
-
-abbrev pub bo_read : ℕ → AuxRow
-bo_read number = item number 7 6 64 4 []
-
-abbrev pub w : ℕ → AuxRow
-w number = item number 3 6 64 6 (codes "w")
-
--- as many fast replies as they become items of Bo's, from this number on
-abbrev pub replies_from : ℕ → ℕ → List AuxRow
-replies_from first zero = []
-replies_from first (suc many) = new_item first 2 6 0 0 [] ∷ replies_from (suc first) many
-
-abbrev pub conference : ℕ → List AuxInput → NewConference
-conference kind items = record { name = codes "New"; kind = kind; aux_items = items }
-
-abbrev pub person : List AuxInput → NewPerson
-person items = record { name = codes "Eva"; password = []; flags = 0; aux_items = items }
-
--- person 5, who began the server, asks
-abbrev pub beginner : Asked
-beginner = CallRows.anna
-
--- the server after a call of its beginner
-abbrev pub then : Definition → Asked → Asked
-then definition asked = record asked { db = apply_all (effects_of definition) asked.db }
-
--- three items of which the last two are inherited less often, on a text; a comment to it; and a
--- comment to that
-abbrev pub first_text : Definition
-first_text =
-    create_text beginner
-    (text (codes "a") []
-    (given 3 64 0 (codes "p") ∷ given 3 64 1 (codes "q") ∷ given 3 64 2 (codes "r") ∷ []))
-
-abbrev pub second_text : Definition
-second_text =
-    create_text (then first_text beginner) (text (codes "b") (named 2 1 ∷ []) [])
-
-abbrev pub third_text : Definition
-third_text =
-    create_text (then second_text (then first_text beginner)) (text (codes "c") (named 2 2 ∷ []) [])
-
--- what becomes of aux-items, and what the calls over them come to, in cases that were worked out by
--- hand
+-- what becomes of aux-items, and what the calls that change them come to, in cases that were worked
+-- out by hand
 pub record ItemRows : Type 0 where
   -- items of a text are not those of the conference with the same number
   pub all_are_made : all_fit made_rows empty_db ≡ true
@@ -485,7 +334,7 @@ pub record ItemRows : Type 0 where
       ∷ item 4 7 8 0 0 [] ∷ item 5 15 6 0 0 (codes "d") ∷ []
   -- who supervises the author, and the author whom another supervises
   pub told_to_the_supervisor :
-      map (λ asked. items_told (get_text_stat (after (under 7) asked) 1)) (cy ∷ bo ∷ [])
+      map (λ asked. items_told (get_text_stat (after (under 7 6) asked) 1)) (cy ∷ bo ∷ [])
       ≡ replicate 2 of_first
   pub told_to_supervising_members :
       items_told (get_text_stat (after (under_members 7) cy) 1) ≡ of_first
@@ -497,7 +346,7 @@ pub record ItemRows : Type 0 where
       ≡ of_second ∷ of_second ∷ (item 1 6 0 16 0 [] ∷ []) ∷ []
   pub owned_without_an_author :
       map (λ viewer. (text_adder rows viewer 2).owns)
-      (nobody ∷ DbRows.person 5 ∷ DbRows.person 6 ∷ strong_nobody ∷ [])
+      (nobody ∷ person 5 ∷ person 6 ∷ strong_nobody ∷ [])
       ≡ false ∷ false ∷ false ∷ true ∷ []
   -- of a conference: its supervisor, a creator, a stranger, and who is shown all
   pub told_of_a_conference :
@@ -513,25 +362,25 @@ pub record ItemRows : Type 0 where
       ≡ of_bo ∷ of_bo ∷ (item 1 8 6 0 0 (codes "5") ∷ []) ∷ []
   -- its person no more, where another supervises it
   pub told_of_a_letterbox_of_another :
-      map (λ asked. items_told (get_conf_stat (after (under 5) asked) 6)) (bo ∷ anna ∷ [])
+      map (λ asked. items_told (get_conf_stat (after (under 5 6) asked) 6)) (bo ∷ anna ∷ [])
       ≡ (item 1 8 6 0 0 (codes "5") ∷ []) ∷ of_bo ∷ []
   pub none_told : map (λ asked. items_told (get_text_stat asked 3)) (anna ∷ strong ∷ [])
       ≡ [] ∷ [] ∷ []
   -- Items of a text are changed after these guards, in this order: nobody is logged in; the text is
   -- 0; it is missing; it is hidden.
   pub text_refused :
-      early_of (map (λ asked. modify_text_info asked (change 0 (99 ∷ []) (tagged 99 ∷ [])))
+      early_of (map (λ asked. modify_text_info asked (changes 0 (99 ∷ []) (tagged 99 ∷ [])))
       (stranger ∷ bo ∷ [])
-      ++ map (λ number. modify_text_info bo (change number (99 ∷ []) (tagged 99 ∷ [])))
+      ++ map (λ number. modify_text_info bo (changes number (99 ∷ []) (tagged 99 ∷ [])))
       (98 ∷ 3 ∷ 1 ∷ [])
-      ++ modify_text_info strong (change 3 [] []) ∷ [])
+      ++ modify_text_info strong (changes 3 [] []) ∷ [])
       ≡ refusal 6 0 ∷ refusal 15 0 ∷ refusal 14 98 ∷ refusal 14 3 ∷ None ∷ None ∷ []
   -- an item that is to go is not there, or twice in the list
   pub deletion_of_nothing :
       map (deletes_of_first bo)
       ((7 ∷ []) ∷ (0 ∷ []) ∷ (1 ∷ 99 ∷ []) ∷ (1 ∷ 1 ∷ []) ∷ (1 ∷ 2 ∷ 1 ∷ []) ∷ [])
       ≡ denied 48 0 ∷ denied 48 0 ∷ denied 48 1 ∷ denied 48 1 ∷ denied 48 2 ∷ []
-  pub deletion_of_another : modify_text_info bo (change 6 (2 ∷ []) []) ≡ denied 48 0
+  pub deletion_of_another : modify_text_info bo (changes 6 (2 ∷ []) []) ≡ denied 48 0
   -- it is not shown; whether it is another's is not looked at
   pub deletion_of_the_hidden : map (deletes_of_first anna) ((2 ∷ []) ∷ (6 ∷ []) ∷ [])
       ≡ denied 48 0 ∷ denied 48 0 ∷ []
@@ -547,15 +396,15 @@ pub record ItemRows : Type 0 where
   pub deletion_of_anothers :
       map (λ asked. deletes_of_first asked (1 ∷ [])) (anna ∷ cy ∷ not_strong ∷ [])
       ≡ replicate 3 (denied 49 0)
-  pub deletion_by_its_maker : modify_text_info anna (change 2 (1 ∷ []) []) ≡ denied 49 0
+  pub deletion_by_its_maker : modify_text_info anna (changes 2 (1 ∷ []) []) ≡ denied 49 0
   -- the first entry that is refused decides
   pub deletion_in_turn :
       map (deletes_of_first di) ((5 ∷ 99 ∷ []) ∷ (99 ∷ 5 ∷ []) ∷ (4 ∷ 4 ∷ []) ∷ [])
       ≡ denied 49 0 ∷ denied 48 0 ∷ denied 49 0 ∷ []
   -- and deletions come before additions
   pub deletion_first :
-      modify_text_info bo (change 1 (1 ∷ 5 ∷ []) (tagged 99 ∷ []))
-      ∷ modify_text_info bo (change 1 (1 ∷ []) (tagged 99 ∷ [])) ∷ []
+      modify_text_info bo (changes 1 (1 ∷ 5 ∷ []) (tagged 99 ∷ []))
+      ∷ modify_text_info bo (changes 1 (1 ∷ []) (tagged 99 ∷ [])) ∷ []
       ≡ denied 49 1 ∷ denied 48 0 ∷ []
   -- the owner, a creator, a supervisor of the author and a strong session delete
   pub deleted_by_the_owner : deletes_of_first bo (6 ∷ 1 ∷ [])
@@ -565,13 +414,13 @@ pub record ItemRows : Type 0 where
   pub deleted_by_strength : deletes_of_first strong (2 ∷ 6 ∷ [])
       ≡ unguarded (done (removes true 1 (2 ∷ 6 ∷ [])) [])
   pub deleted_by_supervisors :
-      replied (deletes_of_first (after (under 7) cy) (1 ∷ 6 ∷ [])
-      ∷ deletes_of_first (after (under 7) bo) (1 ∷ 6 ∷ [])
+      replied (deletes_of_first (after (under 7 6) cy) (1 ∷ 6 ∷ [])
+      ∷ deletes_of_first (after (under 7 6) bo) (1 ∷ 6 ∷ [])
       ∷ deletes_of_first (after (under_members 7) cy) (1 ∷ 6 ∷ [])
       ∷ deletes_of_first (after (under_invited 7) cy) (1 ∷ 6 ∷ []) ∷ [])
       ≡ reply.Done ∷ reply.Done ∷ reply.Done ∷ reply.Refused 49 0 ∷ []
   pub deleted_without_an_author :
-      replied (map (λ asked. modify_text_info asked (change 2 (1 ∷ 2 ∷ []) [])) (bo ∷ strong ∷ []))
+      replied (map (λ asked. modify_text_info asked (changes 2 (1 ∷ 2 ∷ []) [])) (bo ∷ strong ∷ []))
       ≡ reply.Done ∷ reply.Done ∷ []
   -- An item that is to come is too long, of no known tag, or of one that is not for a text
   pub addition_too_long :
@@ -583,7 +432,7 @@ pub record ItemRows : Type 0 where
       (0 ∷ 8 ∷ 9 ∷ 10 ∷ 11 ∷ 12 ∷ 13 ∷ 14 ∷ 16 ∷ 99 ∷ [])
       ≡ replicate 10 (denied 48 0)
   pub addition_of_tags :
-      replied (map (λ tag. modify_text_info anna (change 3 [] (tagged tag ∷ [])))
+      replied (map (λ tag. modify_text_info anna (changes 3 [] (tagged tag ∷ [])))
       (1 ∷ 2 ∷ 3 ∷ 4 ∷ 5 ∷ 6 ∷ 7 ∷ 15 ∷ []))
       ≡ replicate 8 reply.Done
   -- deleted, or with a bit that means nothing
@@ -618,9 +467,9 @@ pub record ItemRows : Type 0 where
       ≡ reply.Done ∷ reply.Refused 48 0 ∷ []
   -- a deletion makes room for it
   pub addition_after_a_deletion :
-      replied (modify_text_info (with_items 100 di) (change 6 (100 ∷ []) (replies 1))
-      ∷ modify_text_info (with_items 100 di) (change 6 (1 ∷ 2 ∷ []) (replies 3))
-      ∷ modify_text_info bo (change 1 (6 ∷ []) (tagged 1 ∷ tagged 1 ∷ [])) ∷ [])
+      replied (modify_text_info (with_items 100 di) (changes 6 (100 ∷ []) (replies 1))
+      ∷ modify_text_info (with_items 100 di) (changes 6 (1 ∷ 2 ∷ []) (replies 3))
+      ∷ modify_text_info bo (changes 1 (6 ∷ []) (tagged 1 ∷ tagged 1 ∷ [])) ∷ [])
       ≡ reply.Done ∷ reply.Refused 48 2 ∷ reply.Refused 48 1 ∷ []
   -- it is for the owner of the text
   pub addition_by_a_reader :
@@ -631,12 +480,12 @@ pub record ItemRows : Type 0 where
       ≡ replicate 3 reply.Done
   pub addition_by_others :
       replied (map (λ asked. adds_to_first asked (tagged 4 ∷ []))
-      (bo ∷ strong ∷ di ∷ cy ∷ not_strong ∷ after (under 7) cy ∷ after (under 7) bo
+      (bo ∷ strong ∷ di ∷ cy ∷ not_strong ∷ after (under 7 6) cy ∷ after (under 7 6) bo
       ∷ after (under_members 7) cy ∷ after (under_invited 7) cy ∷ []))
       ≡ reply.Done ∷ reply.Done ∷ reply.Refused 49 0 ∷ reply.Refused 49 0 ∷ reply.Refused 49 0
       ∷ reply.Done ∷ reply.Done ∷ reply.Done ∷ reply.Refused 49 0 ∷ []
   pub addition_without_an_author :
-      replied (map (λ asked. modify_text_info asked (change 2 [] (tagged 4 ∷ [])))
+      replied (map (λ asked. modify_text_info asked (changes 2 [] (tagged 4 ∷ [])))
       (bo ∷ strong ∷ []))
       ≡ reply.Refused 49 0 ∷ reply.Done ∷ []
   -- but the item itself is looked at first, in each entry
@@ -660,13 +509,13 @@ pub record ItemRows : Type 0 where
   pub addition_after_the_last_number :
       replied (adds_to_sixth (after (sixth_after 4294967294) di) (replies 1)
       ∷ adds_to_sixth (after (sixth_after 4294967294) anna) (tagged 4 ∷ [])
-      ∷ modify_text_info (after (sixth_after 4294967294) di) (change 6 (1 ∷ []) (replies 1))
-      ∷ modify_text_info (after (sixth_after 4294967294) di) (change 6 (1 ∷ []) []) ∷ [])
+      ∷ modify_text_info (after (sixth_after 4294967294) di) (changes 6 (1 ∷ []) (replies 1))
+      ∷ modify_text_info (after (sixth_after 4294967294) di) (changes 6 (1 ∷ []) []) ∷ [])
       ≡ reply.Refused 45 0 ∷ reply.Refused 49 0 ∷ reply.Refused 45 0 ∷ reply.Done ∷ []
   -- What goes goes first, in the order of the list; what comes gets the next numbers
   pub text_changed :
       modify_text_info bo
-      (change 1 (6 ∷ 1 ∷ []) (given 1 64 3 (codes "g") ∷ given 2 32 0 (codes "h") ∷ []))
+      (changes 1 (6 ∷ 1 ∷ []) (given 1 64 3 (codes "g") ∷ given 2 32 0 (codes "h") ∷ []))
       ≡ unguarded (done
       (removes true 1 (6 ∷ 1 ∷ [])
       ++ adds true 1 (new_item 8 1 6 64 3 (codes "g") ∷ new_item 9 2 6 32 0 (codes "h") ∷ [])) [])
@@ -674,18 +523,18 @@ pub record ItemRows : Type 0 where
   pub text_changed_by_others :
       map (λ asked. items_made (adds_to_first asked (tagged 7 ∷ []))) (anna ∷ strong ∷ [])
       ≡ (new_item 8 7 5 0 0 [] ∷ []) ∷ (new_item 8 7 7 0 0 [] ∷ []) ∷ []
-  pub text_not_changed : modify_text_info bo (change 1 [] []) ≡ unguarded (done [] [])
+  pub text_not_changed : modify_text_info bo (changes 1 [] []) ≡ unguarded (done [] [])
   pub changes_fit :
-      all_fit (effects_of (modify_text_info bo (change 1 (6 ∷ 1 ∷ []) (tagged 1 ∷ tagged 2 ∷ []))))
+      all_fit (effects_of (modify_text_info bo (changes 1 (6 ∷ 1 ∷ []) (tagged 1 ∷ tagged 2 ∷ []))))
       rows
       ≡ true
   -- The same of a conference
   pub conference_refused :
-      early_of (map (λ asked. modify_conf_info asked (change 0 (99 ∷ []) (tagged 99 ∷ [])))
+      early_of (map (λ asked. modify_conf_info asked (changes 0 (99 ∷ []) (tagged 99 ∷ [])))
       (stranger ∷ bo ∷ [])
-      ++ map (λ number. modify_conf_info bo (change number (99 ∷ []) (tagged 99 ∷ [])))
+      ++ map (λ number. modify_conf_info bo (changes number (99 ∷ []) (tagged 99 ∷ [])))
       (99 ∷ 11 ∷ 10 ∷ 9 ∷ [])
-      ++ modify_conf_info anna (change 11 [] []) ∷ modify_conf_info strong (change 11 [] []) ∷ [])
+      ++ modify_conf_info anna (changes 11 [] []) ∷ modify_conf_info strong (changes 11 [] []) ∷ [])
       ≡ refusal 6 0 ∷ refusal 8 0 ∷ refusal 9 99 ∷ refusal 9 11 ∷ None ∷ None ∷ None ∷ None ∷ []
   pub conference_deletion_refused :
       map (deletes_of_open bo)
@@ -731,7 +580,7 @@ pub record ItemRows : Type 0 where
       ≡ reply.Done ∷ reply.Refused 45 0 ∷ reply.Refused 48 0 ∷ reply.Refused 45 0 ∷ reply.Done ∷ []
   pub conference_changed :
       modify_conf_info anna
-      (change 9 (4 ∷ 1 ∷ []) (given 14 8 7 (codes "g") ∷ given 3 0 0 (codes "h") ∷ []))
+      (changes 9 (4 ∷ 1 ∷ []) (given 14 8 7 (codes "g") ∷ given 3 0 0 (codes "h") ∷ []))
       ≡ unguarded (done
       (removes false 9 (4 ∷ 1 ∷ [])
       ++ adds false 9 (new_item 5 14 5 8 7 (codes "g") ∷ new_item 6 3 5 0 0 (codes "h") ∷ [])) [])
@@ -749,15 +598,15 @@ pub record ItemRows : Type 0 where
       (1 ∷ 2 ∷ 4 ∷ 5 ∷ 6 ∷ 7 ∷ 9 ∷ 15 ∷ [])
       ≡ replicate 8 (denied 48 0)
   pub letterbox_tags_by_others :
-      map (λ tag. modify_conf_info di (change 5 [] (tagged tag ∷ [])))
+      map (λ tag. modify_conf_info di (changes 5 [] (tagged tag ∷ [])))
       (3 ∷ 8 ∷ 10 ∷ 13 ∷ 14 ∷ [])
       ≡ replicate 5 (denied 49 0)
   pub letterbox_tags_of_many :
-      replied (map (λ tag. modify_conf_info anna (change 5 [] (replicate 2 (tagged tag))))
+      replied (map (λ tag. modify_conf_info anna (changes 5 [] (replicate 2 (tagged tag))))
       (3 ∷ 8 ∷ 10 ∷ 13 ∷ 14 ∷ []))
       ≡ reply.Done ∷ reply.Refused 48 1 ∷ reply.Done ∷ reply.Done ∷ reply.Done ∷ []
   pub letterbox_changed :
-      effects_of (modify_conf_info bo (change 6 (1 ∷ []) (given 8 0 0 (codes "g") ∷ [])))
+      effects_of (modify_conf_info bo (changes 6 (1 ∷ []) (given 8 0 0 (codes "g") ∷ [])))
       ≡ removes false 6 (1 ∷ []) ++ adds false 6 (new_item 3 8 6 0 0 (codes "g") ∷ [])
   pub letterbox_changed_by_others :
       replied (adds_to_bo di (tagged 3 ∷ []) ∷ deletes_of_bo di (1 ∷ []) ∷ deletes_of_bo di (2 ∷ [])
@@ -765,194 +614,9 @@ pub record ItemRows : Type 0 where
       ≡ reply.Refused 49 0 ∷ reply.Refused 49 0 ∷ reply.Done ∷ reply.Refused 48 0 ∷ reply.Done ∷ []
   -- by its person no more, where another supervises it
   pub letterbox_of_another :
-      replied (adds_to_bo (after (under 5) bo) (tagged 10 ∷ [])
-      ∷ adds_to_bo (after (under 5) anna) (tagged 10 ∷ [])
-      ∷ deletes_of_bo (after (under 5) bo) (2 ∷ []) ∷ deletes_of_bo (after (under 5) bo) (1 ∷ [])
-      ∷ deletes_of_bo (after (under 5) anna) (2 ∷ []) ∷ [])
+      replied (adds_to_bo (after (under 5 6) bo) (tagged 10 ∷ [])
+      ∷ adds_to_bo (after (under 5 6) anna) (tagged 10 ∷ [])
+      ∷ deletes_of_bo (after (under 5 6) bo) (2 ∷ [])
+      ∷ deletes_of_bo (after (under 5 6) bo) (1 ∷ [])
+      ∷ deletes_of_bo (after (under 5 6) anna) (2 ∷ []) ∷ [])
       ≡ reply.Refused 49 0 ∷ reply.Done ∷ reply.Refused 48 0 ∷ reply.Done ∷ reply.Done ∷ []
-  -- Who makes a text owns it, and its items come after what it names
-  pub text_made :
-      create_text bo (text (codes "Hi") (named 0 9 ∷ [])
-      (given 1 0 0 (codes "g") ∷ given 7 16 9 [] ∷ given 15 0 0 [] ∷ []))
-      ≡ unguarded (record {
-        reply = reply.Number 7;
-        effects =
-            effect.TextAdded 7 6 30 (codes "Hi")
-            ∷ effect.RecipientAdded (record {
-              text = 7;
-              conference = 9;
-              tag = 0;
-              local = 6;
-              sender = 0;
-              at = 30;
-            })
-            ∷ adds true 7
-            (new_item 1 1 6 0 0 (codes "g") ∷ new_item 2 7 6 16 9 [] ∷ new_item 3 15 6 0 0 [] ∷ [])
-            ++ effect.ConfField 9 (field.LastWritten 30) ∷ effect.Created 6 3 7
-            ∷ effect.Counted 6 counter.CreatedBytes 2 ∷ [];
-        changes = [];
-      })
-  -- also where it has no author
-  pub anonymous_text_made :
-      create_anonymous_text bo
-      (text (codes "Hi") [] (given 4 0 0 [] ∷ given 2 0 0 (codes "g") ∷ []))
-      ≡ unguarded (record {
-        reply = reply.Number 7;
-        effects =
-            effect.TextAdded 7 0 30 (codes "Hi")
-            ∷ adds true 7 (new_item 1 4 6 0 0 [] ∷ new_item 2 2 6 0 0 (codes "g") ∷ []);
-        changes = [];
-      })
-  pub items_of_a_text_refused :
-      map (λ items. create_text bo (text [] [] items))
-      ((tagged 1 ∷ tagged 1 ∷ []) ∷ (tagged 99 ∷ []) ∷ (tagged 2 ∷ tagged 8 ∷ [])
-      ∷ (given 2 128 0 [] ∷ []) ∷ (tagged 7 ∷ tagged 7 ∷ []) ∷ replies 101
-      ∷ (given 2 0 0 (replicate 16385 65) ∷ []) ∷ [])
-      ≡ denied 48 1 ∷ denied 48 0 ∷ denied 48 1 ∷ denied 48 0 ∷ denied 48 1 ∷ denied 48 100
-      ∷ denied 48 0 ∷ []
-  pub items_of_an_anonymous_text_refused :
-      map (λ items. create_anonymous_text bo (text [] [] items))
-      ((tagged 1 ∷ tagged 1 ∷ []) ∷ (tagged 99 ∷ []) ∷ [])
-      ≡ denied 48 1 ∷ denied 48 0 ∷ []
-  -- after all that is named, and after the numbers
-  pub items_of_a_text_last :
-      early_of (create_text bo (text [] (named 0 99 ∷ []) (tagged 99 ∷ []))
-      ∷ create_text stranger (text [] [] (tagged 99 ∷ []))
-      ∷ create_text (record bo { db = record rows { next_text = 4294967295 } })
-      (text [] [] (tagged 99 ∷ [])) ∷ [])
-      ≡ refusal 9 99 ∷ refusal 6 0 ∷ refusal 45 0 ∷ []
-  -- A comment inherits: without a limit for ever, else once less, and not at the last time
-  pub inherited_by_a_comment : made_with (to_fourth ∷ []) []
-      ≡ p 1 ∷ q 2 ∷ t 3 ∷ di_read 4 ∷ u 5 ∷ []
-  -- after what is given
-  pub inherited_after_the_given :
-      made_with (named 0 9 ∷ to_fourth ∷ []) (given 3 64 2 (codes "g") ∷ tagged 7 ∷ [])
-      ≡ new_item 1 3 6 64 2 (codes "g") ∷ new_item 2 7 6 0 0 [] ∷ p 3 ∷ q 4 ∷ t 5 ∷ di_read 6 ∷ u 7
-      ∷ []
-  -- from each text in the order of naming, and once what stands once
-  pub inherited_in_turn :
-      map (λ misc. made_with misc [])
-      ((to_fourth ∷ to_fifth ∷ []) ∷ (to_fifth ∷ named 0 9 ∷ to_fourth ∷ []) ∷ [])
-      ≡ (p 1 ∷ q 2 ∷ t 3 ∷ di_read 4 ∷ u 5 ∷ bo_read 6 ∷ w 7 ∷ [])
-      ∷ (v 1 ∷ di_read 2 ∷ bo_read 3 ∷ w 4 ∷ p 5 ∷ q 6 ∷ u 7 ∷ []) ∷ []
-  pub inherited_beside_the_given :
-      made_with (to_fourth ∷ to_fifth ∷ []) (tagged 1 ∷ tagged 7 ∷ [])
-      ≡ new_item 1 1 6 0 0 [] ∷ new_item 2 7 6 0 0 [] ∷ p 3 ∷ q 4 ∷ di_read 5 ∷ u 6 ∷ w 7 ∷ []
-  -- not past the limit
-  pub inherited_to_the_limit :
-      map (λ many. made_with (to_fourth ∷ []) (replies many)) (98 ∷ 99 ∷ 100 ∷ [])
-      ≡ (replies_from 1 98 ++ p 99 ∷ q 100 ∷ []) ∷ (replies_from 1 99 ++ p 100 ∷ [])
-      ∷ replies_from 1 100 ∷ []
-  -- from no other text, and by no footnote
-  pub none_inherited :
-      map (λ misc. made_with misc [])
-      ([] ∷ (named 2 1 ∷ []) ∷ (named 4 5 ∷ []) ∷ (named 2 6 ∷ named 4 1 ∷ []) ∷ [])
-      ≡ replicate 4 []
-  -- by one without an author too
-  pub inherited_without_an_author :
-      items_made (create_anonymous_text di (text [] (to_fifth ∷ []) (tagged 7 ∷ [])))
-      ≡ new_item 1 7 8 0 0 [] ∷ v 2 ∷ bo_read 3 ∷ w 4 ∷ []
-  -- a text that becomes a comment later inherits nothing
-  pub comment_inherits_nothing :
-      add_comment di 6 4 ≡ unguarded (done (links 6 4 false 8 30 ∷ []) [])
-  pub comment_fits :
-      all_fit (effects_of (create_text bo (text [] (to_fourth ∷ to_fifth ∷ []) (replies 98)))) rows
-      ≡ true
-  -- three texts in a row, as they are told
-  pub inherited_of_a_row : map items_made (first_text ∷ second_text ∷ third_text ∷ [])
-      ≡ (new_item 1 3 5 64 0 (codes "p") ∷ new_item 2 3 5 64 1 (codes "q")
-      ∷ new_item 3 3 5 64 2 (codes "r") ∷ [])
-      ∷ (new_item 1 3 5 64 0 (codes "p") ∷ new_item 2 3 5 64 1 (codes "r") ∷ [])
-      ∷ (new_item 1 3 5 64 0 (codes "p") ∷ []) ∷ []
-  -- Who makes a conference owns it
-  pub conference_made :
-      create_conf anna (conference 8 (given 10 0 0 (codes "g") ∷ given 3 32 5 [] ∷ []))
-      ≡ unguarded (record {
-        reply = reply.Number 12;
-        effects =
-            effect.ConfAdded 12 (codes "New") 8 30 5 5
-            ∷ adds false 12 (new_item 1 10 5 0 0 (codes "g") ∷ new_item 2 3 5 32 5 [] ∷ [])
-            ++ effect.Counted 5 counter.CreatedConferences 1 ∷ [];
-        changes = [];
-      })
-  pub items_of_a_conference_refused :
-      map (λ items. create_conf anna (conference 8 items))
-      ((tagged 8 ∷ []) ∷ (tagged 10 ∷ tagged 1 ∷ []) ∷ (given 10 2 0 [] ∷ [])
-      ∷ replicate 101 (tagged 10) ∷ [])
-      ≡ denied 48 0 ∷ denied 48 1 ∷ denied 48 0 ∷ denied 48 100 ∷ []
-  pub items_of_a_conference_last :
-      early_of (create_conf anna (record (conference 8 (tagged 8 ∷ [])) { name = codes "open" })
-      ∷ create_conf (record anna { db = record rows { next_conference = 65536 } })
-      (conference 8 (tagged 8 ∷ [])) ∷ [])
-      ≡ refusal 20 0 ∷ refusal 45 0 ∷ []
-  -- and who makes a person owns its letterbox; if nobody does, the person made the items
-  pub person_made :
-      create_person stranger (person (given 8 0 0 (codes "g") ∷ given 10 0 0 (codes "h") ∷ []))
-      ≡ unguarded (record {
-        reply = reply.Number 12;
-        effects =
-            effect.ConfAdded 12 (codes "Eva") 152 30 12 12 ∷ effect.PersonAdded 12 7168 0 30
-            ∷ effect.Password 12 (password_hash 12 []) ∷ effect.MemberSet 12 12 0 255 12 30 0
-            ∷ adds false 12
-            (new_item 1 8 12 0 0 (codes "g") ∷ new_item 2 10 12 0 0 (codes "h") ∷ []);
-        changes = [];
-      })
-  pub person_made_by_another :
-      create_person anna (person (tagged 8 ∷ []))
-      ≡ unguarded (record {
-        reply = reply.Number 12;
-        effects =
-            effect.ConfAdded 12 (codes "Eva") 152 30 5 12 ∷ effect.PersonAdded 12 7168 0 30
-            ∷ effect.Password 12 (password_hash 12 []) ∷ effect.MemberSet 12 12 0 255 5 30 0
-            ∷ adds false 12 (new_item 1 8 5 0 0 [] ∷ [])
-            ++ effect.Counted 5 counter.CreatedPersons 1 ∷ [];
-        changes = [];
-      })
-  pub items_of_a_person_refused :
-      map (λ items. create_person stranger (person items))
-      ((tagged 8 ∷ tagged 8 ∷ []) ∷ (tagged 1 ∷ []) ∷ (tagged 10 ∷ given 3 128 0 [] ∷ []) ∷ [])
-      ≡ denied 48 1 ∷ denied 48 0 ∷ denied 48 1 ∷ []
-  pub items_of_a_person_last :
-      early_of (create_person stranger (record (person (tagged 1 ∷ [])) { name = codes "bo" })
-      ∷ create_person (record anna { db = record rows { next_conference = 65536 } })
-      (person (tagged 1 ∷ [])) ∷ [])
-      ≡ refusal 21 0 ∷ refusal 45 0 ∷ []
-  -- what is made fits
-  pub made_fit :
-      map (λ definition. all_fit (effects_of definition) rows)
-      (create_conf anna (conference 8 (tagged 10 ∷ tagged 10 ∷ []))
-      ∷ create_person stranger (person (tagged 8 ∷ [])) ∷ [])
-      ≡ true ∷ true ∷ []
-  -- A text goes after its items, which go after links, recipients and marks
-  pub text_deleted : delete_text bo 1
-      ≡ unguarded (done
-      (effect.LinkGone 5 1 false ∷ effect.RecipientGone 1 9 ∷ effect.MarkGone 5 1
-      ∷ removes true 1 (1 ∷ 2 ∷ 3 ∷ 4 ∷ 5 ∷ 6 ∷ []) ++ effect.TextGone 1 ∷ []) [])
-  pub text_with_an_item_deleted : effects_of (delete_text di 6)
-      ≡ effect.RecipientGone 6 9 ∷ effect.AuxGone true 6 1 ∷ effect.TextGone 6 ∷ []
-  -- a conference likewise
-  pub conference_deleted : delete_conf anna 9
-      ≡ unguarded (done
-      (effect.RecipientGone 1 9 ∷ effect.RecipientGone 2 9 ∷ effect.RecipientGone 4 9
-      ∷ effect.RecipientGone 5 9 ∷ effect.RecipientGone 6 9
-      ∷ removes false 9 (1 ∷ 2 ∷ 3 ∷ 4 ∷ []) ++ effect.ConfGone 9 ∷ []) [])
-  -- and a letterbox, before its person
-  pub letterbox_deleted : effects_of (delete_conf bo 6)
-      ≡ effect.Counted 6 counter.TimePresent 20 ∷ effect.MemberGone 6 6
-      ∷ removes false 6 (1 ∷ 2 ∷ []) ++ effect.PersonGone 6 ∷ effect.ConfGone 6 ∷ []
-  pub deletions_fit :
-      map (λ definition. all_fit (effects_of definition) rows)
-      (delete_text bo 1 ∷ delete_text di 6 ∷ delete_conf anna 9 ∷ delete_conf bo 6 ∷ [])
-      ≡ replicate 4 true
-  pub items_are_gone :
-      map (λ on_text. items_of (with_effects (effects_of (delete_conf bo 6))) on_text 6)
-      (true ∷ false ∷ [])
-      ≡ of_sixth ∷ [] ∷ []
-  pub items_of_others_stay :
-      map (items_of (with_effects (effects_of (delete_text di 6))) true) (1 ∷ 6 ∷ [])
-      ≡ of_first ∷ [] ∷ []
-  pub items_of_the_letterbox_stay :
-      items_of (with_effects (effects_of (delete_text di 6))) false 6 ≡ of_bo
-  -- what a person made stays where it is, as it is
-  pub items_of_the_person_stay :
-      items_of (with_effects (effects_of (delete_conf di 8))) true 1 ≡ of_first

@@ -1,9 +1,7 @@
--- What becomes of memberships and of what was read, and what calls over them come to, worked out by
--- hand.
-use Rattle.std.specs.Prelude.{◌≡◌, ℕ, true, false, List, [], ◌∷◌, ◌++◌, map, codes, replicate}
-use Rattle.std.specs.Prelude.{zero, suc, ◌==◌, if◌then◌else◌, Some, None, Option, option_map}
+-- What becomes of memberships, and what calls over them come to, worked out by hand.
+use Rattle.std.specs.Prelude.{◌≡◌, ℕ, true, false, List, [], ◌∷◌, ◌++◌, map, codes, replicate, zero}
+use Rattle.std.specs.Prelude.{suc, ◌==◌, if◌then◌else◌, Some, None, Option, option_map}
 use Rattle.kom_types.specs.declared.effects.ConfField.TheVariants as field
-use Rattle.kom_types.specs.declared.effects.Counter.TheVariants as counter
 use Rattle.kom_types.specs.declared.effects.Effect.{Effect}
 use Rattle.kom_types.specs.declared.effects.Effect.TheVariants as effect
 use Rattle.kom_types.specs.declared.effects.PersonField.TheVariants as person_field
@@ -16,53 +14,31 @@ use Rattle.kom_types.specs.declared.memberships.ReadRange.{ReadRange}
 use Rattle.kom_types.specs.declared.replies.Reply.{Reply}
 use Rattle.kom_types.specs.declared.replies.Reply.TheVariants as reply
 use Rattle.kom_types.specs.declared.seats.Seat.{Seat}
-use Rattle.kom_types.specs.declared.session_changes.SessionChange.{SessionChange}
 use Rattle.kom_types.specs.declared.session_changes.SessionChange.TheVariants as change
-use Rattle.kom_types.specs.Sessions.{fresh_seat}
+use Rattle.kom_model.specs.Cast.{Cast, cast_over, four_persons, three_conferences, makes, member}
+use Rattle.kom_model.specs.Cast.{under_di, range, sends, seat, after, comes_to, answers, early_of}
+use Rattle.kom_model.specs.Cast.{conferences_in, persons_in, places_of}
 use Rattle.kom_model.specs.Db.{Db, empty_db, membership_of, read_of}
-use Rattle.kom_model.specs.DbRows.{makes, makes_person, conferences_in, persons_in, places_of}
 use Rattle.kom_model.specs.Effects.{fits, apply_all, all_fit}
-use Rattle.kom_model.specs.calls.Call.{Asked, Definition, answer, done, unguarded, decided}
-use Rattle.kom_model.specs.calls.Guards.{Guard, refusal}
+use Rattle.kom_model.specs.calls.Call.{Asked, Definition, decided}
+use Rattle.kom_model.specs.calls.Guards.{refusal}
 use Rattle.kom_model.specs.calls.Memberships.{change_conference, sub_member, mark_as_read}
-use Rattle.kom_model.specs.calls.Memberships.{set_unread, get_unread_confs, set_last_read}
 use Rattle.kom_model.specs.calls.Memberships.{add_member, get_members, set_membership_type}
-use Rattle.kom_model.specs.calls.Memberships.{query_read_texts, get_membership, mark_as_unread}
-use Rattle.kom_model.specs.calls.Memberships.{set_read_ranges}
-
--- a membership of this type, at a place, that somebody made at moment 20
-abbrev pub member : ℕ → ℕ → ℕ → ℕ → ℕ → Effect
-member person conference place by kind =
-    effect.MemberSet person conference place 100 by 20 kind
+use Rattle.kom_model.specs.calls.Memberships.{query_read_texts, get_membership, set_read_ranges}
 
 -- a text of 5 in a conference, under this local number
 abbrev pub writes : ℕ → ℕ → ℕ → List Effect
 writes text conference local =
-    effect.TextAdded text 5 20 []
-    ∷ effect.RecipientAdded (record {
-      text = text;
-      conference = conference;
-      tag = 0;
-      local = local;
-      sender = 0;
-      at = 20;
-    })
-    ∷ []
+    effect.TextAdded text 5 20 [] ∷ sends text conference 0 local ∷ []
 
-abbrev pub range : ℕ → ℕ → ReadRange
-range first last = record { first = first; last = last }
-
--- The persons 5 Anna, 6 Bo, 7 Cy, who has the privilege wheel, and 8 Di; and, supervised by 5, the
--- conferences 9, which is open, 10, which is protected, 11, which is secret, and 12, which is
--- protected and forbids secret members. Bo is in 11, his letterbox, 9 and, passively, 10; Cy is
--- secretly in 9, before her letterbox; Anna was invited to 9 by Bo. 9 has five texts, 10 and 11
--- have one. Bo has read 2 and 3 in 9.
+-- The four persons and the three conferences, and the conference 12, which is protected and forbids
+-- secret members. Bo is in 11, his letterbox, 9 and, passively, 10; Cy is secretly in 9, before her
+-- letterbox; Anna was invited to 9 by Bo. 9 has five texts, 10 and 11 have one. Bo has read 2 and 3
+-- in 9.
 abbrev pub made_rows : List Effect
 made_rows =
-    makes_person 5 (codes "Anna") ++ makes_person 6 (codes "Bo") ++ makes_person 7 (codes "Cy")
-    ++ makes_person 8 (codes "Di")
-    ++ makes 9 (codes "Open") 0 ∷ makes 10 (codes "Closed") 128 ∷ makes 11 (codes "Board") 160
-    ∷ makes 12 (codes "Strict") 132 ∷ effect.PersonField 7 (person_field.Privileges 32768)
+    four_persons ++ three_conferences
+    ++ makes 12 (codes "Strict") 132
     ∷ member 6 9 1 6 0 ∷ member 7 9 0 7 32 ∷ member 6 11 0 6 0 ∷ member 6 10 9 6 64
     ∷ member 5 9 9 6 128
     ∷ writes 1 9 1 ++ writes 2 9 2 ++ writes 3 9 3 ++ writes 4 9 4 ++ writes 5 9 5
@@ -71,60 +47,20 @@ made_rows =
 abbrev pub rows : Db
 rows = apply_all made_rows empty_db
 
-abbrev pub with_effects : List Effect → Db
-with_effects effects = apply_all effects rows
+-- session 1 of a person, in 9; Bo has two more, in 9 and in 10, Cy one in 9, Di one
+abbrev pub seats : ℕ → ℕ → List Seat
+seats person level =
+    seat 1 person level 9 10 ∷ seat 2 6 0 9 10 ∷ seat 3 6 0 10 10 ∷ seat 4 7 0 9 10
+    ∷ seat 5 8 0 0 10 ∷ []
 
--- a session of a person at this level, in this conference
-abbrev pub seat : ℕ → ℕ → ℕ → ℕ → Seat
-seat number person level working =
-    record (fresh_seat number 0 (codes "ceder") (codes "h") 5) {
-      person = person;
-      login = 10;
-      level = level;
-      working = working;
-    }
+abbrev pub cast : Cast
+cast = cast_over rows seats
 
--- session 1 of a person, in 9, at moment 30; Bo has two more, in 9 and in 10, Cy one in 9, Di one
-abbrev pub asked : ℕ → ℕ → Asked
-asked person level = record {
-  db = rows;
-  seats =
-      seat 1 person level 9 ∷ seat 2 6 0 9 ∷ seat 3 6 0 10 ∷ seat 4 7 0 9 ∷ seat 5 8 0 0 ∷ [];
-  moment = 30;
-  session = 1;
-  reference = 7;
-}
+-- the strong session is Cy's; Di has not the privilege
+open cast use {with_effects, made_by, stranger, anna, bo, cy, di}
+open cast use {high_cy as strong, high_di as not_strong}
 
-abbrev pub nobody : Asked
-nobody = asked 0 0
-
-abbrev pub anna : Asked
-anna = asked 5 0
-
-abbrev pub bo : Asked
-bo = asked 6 0
-
-abbrev pub cy : Asked
-cy = asked 7 0
-
-abbrev pub di : Asked
-di = asked 8 0
-
--- Cy's strong session, and one of Di at the same level, who has not the privilege
-abbrev pub strong : Asked
-strong = asked 7 255
-
-abbrev pub not_strong : Asked
-not_strong = asked 8 255
-
--- what a session asks after these effects
-abbrev pub after : List Effect → Asked → Asked
-after effects asked = record asked { db = with_effects effects }
-
--- Di supervises Bo; what Bo has read is secret; Bo is in 12 too
-abbrev pub under_di : List Effect
-under_di = effect.ConfField 6 (field.Supervisor 8) ∷ []
-
+-- what Bo has read is secret; Bo is in 12 too
 abbrev pub secretive : List Effect
 secretive = effect.PersonField 6 (person_field.Flags 128) ∷ []
 
@@ -139,32 +75,9 @@ without_letterbox = effect.MemberGone 8 8 ∷ effect.ConfField 8 (field.Supervis
 abbrev pub has_read : List ReadRange → List Effect
 has_read ranges = effect.ReadSet 6 9 26 ranges ∷ []
 
--- no guard refuses a call; and it makes these effects and changes, or has this reply, as these
--- conferences and these members are
-abbrev pub comes_to : List Effect → List SessionChange → Definition
-comes_to effects changes = unguarded (done effects changes)
-
-abbrev pub answers : Reply → Definition
-answers what = unguarded (answer what)
-
-abbrev pub lists : List ℕ → Definition
-lists conferences = answers (reply.Numbers conferences)
-
+-- no guard refuses a call, and it tells these members
 abbrev pub tells : List Member → Definition
 tells members = answers (reply.Members members)
-
--- what Bo's reading calls make of these ranges in 9
-abbrev pub reads : List ReadRange → Definition
-reads ranges = comes_to (effect.ReadSet 6 9 30 ranges ∷ []) []
-
--- the same, where so many texts were marked that were not read
-abbrev pub reads_new : List ReadRange → ℕ → Definition
-reads_new ranges many =
-    comes_to (effect.ReadSet 6 9 30 ranges ∷ effect.Counted 6 counter.ReadTexts many ∷ []) []
-
--- the first guard that refuses each of these calls
-abbrev pub early_of : List Definition → List Guard
-early_of definitions = map (λ definition. definition.early) definitions
 
 -- a membership of Bo's as it is told: its place, its time, its conference and what was read
 abbrev pub told : ℕ → ℕ → RangesShown → Membership
@@ -201,10 +114,6 @@ places_told other = []
 abbrev pub listed : Asked → ℕ → ℕ → List (ℕ × ℕ)
 listed asked first count =
     places_told (decided (get_membership asked 6 first count true 0)).reply
-
--- the unread conferences of Bo that Bo is told after these effects
-abbrev pub unread_after : List Effect → Definition
-unread_after effects = get_unread_confs (after effects bo) 6
 
 -- Bo has read three ranges in 9, and what Bo is told of that membership then
 abbrev pub three_ranges : List ReadRange
@@ -243,10 +152,6 @@ abbrev pub after_many : ℕ → Asked → Asked
 after_many many asked =
     record asked { db = record rows { memberships = map moved_into_open (rows_down many) } }
 
--- the rows after a call
-abbrev pub made_by : Definition → Db
-made_by definition = with_effects (decided definition).effects
-
 -- Bo sets its membership in 9 again, at this place
 abbrev pub moved_to : ℕ → Definition
 moved_to place = add_member bo 9 6 1 place 0
@@ -276,7 +181,7 @@ pub record MemberRows : Type 0 where
   -- refused in this order: nobody is logged in; the conference is missing; it is hidden; no
   -- membership
   pub goes_not :
-      early_of (change_conference nobody 99 ∷ change_conference bo 99 ∷ change_conference di 11
+      early_of (change_conference stranger 99 ∷ change_conference bo 99 ∷ change_conference di 11
       ∷ change_conference di 9 ∷ [])
       ≡ refusal 6 0 ∷ refusal 9 99 ∷ refusal 9 11 ∷ refusal 13 9 ∷ []
   -- supervising a conference, or strength, is no membership
@@ -290,7 +195,7 @@ pub record MemberRows : Type 0 where
   pub taken_out_of_ones_conference : sub_member anna 9 7
       ≡ comes_to (effect.MemberGone 7 9 ∷ []) (change.Working 4 0 ∷ [])
   -- the supervisor of the person does
-  pub taken_out_by_its_supervisor : sub_member (after under_di di) 9 6
+  pub taken_out_by_its_supervisor : sub_member (after (under_di 6) di) 9 6
       ≡ comes_to (effect.MemberGone 6 9 ∷ []) (change.Working 2 0 ∷ [])
   -- a strong session does, also of a passive membership
   pub taken_out_by_strength : sub_member strong 10 6
@@ -304,7 +209,8 @@ pub record MemberRows : Type 0 where
       ≡ refusal 12 10 ∷ refusal 12 10 ∷ []
   -- nobody leaves its own letterbox: not by itself, by strength or by its supervisor
   pub stays_in_letterbox :
-      early_of (sub_member bo 6 6 ∷ sub_member strong 6 6 ∷ sub_member (after under_di di) 6 6 ∷ [])
+      early_of (sub_member bo 6 6 ∷ sub_member strong 6 6
+      ∷ sub_member (after (under_di 6) di) 6 6 ∷ [])
       ≡ refusal 12 6 ∷ refusal 12 6 ∷ refusal 12 6 ∷ []
   -- another leaves a letterbox by itself or by the letterbox's person
   pub leaves_letterbox_of_another :
@@ -314,197 +220,15 @@ pub record MemberRows : Type 0 where
   -- refused in this order: nobody is logged in; the conference is 0; it is missing; the person is
   -- 0; it is none; there is no such membership
   pub taking_out_refused :
-      early_of (sub_member nobody 0 0 ∷ sub_member bo 0 0 ∷ sub_member bo 99 0 ∷ sub_member bo 9 0
+      early_of (sub_member stranger 0 0 ∷ sub_member bo 0 0 ∷ sub_member bo 99 0 ∷ sub_member bo 9 0
       ∷ sub_member bo 9 9 ∷ sub_member di 9 8 ∷ [])
       ≡ refusal 6 0 ∷ refusal 8 0 ∷ refusal 9 99 ∷ refusal 8 0 ∷ refusal 10 9 ∷ refusal 13 9 ∷ []
   -- a hidden membership, and one in a hidden conference, is refused as a missing one, to the
   -- person's supervisor too
   pub hidden_to_take_out :
-      early_of (sub_member di 9 7 ∷ sub_member di 11 6 ∷ sub_member (after under_di di) 11 6 ∷ [])
+      early_of (sub_member di 9 7 ∷ sub_member di 11 6
+      ∷ sub_member (after (under_di 6) di) 11 6 ∷ [])
       ≡ refusal 13 9 ∷ refusal 9 11 ∷ refusal 9 11 ∷ []
-  -- texts in any order, one of them twice: each new one counts once, and the ranges become one
-  pub marks : mark_as_read bo 9 (5 ∷ 1 ∷ 4 ∷ 1 ∷ []) ≡ reads_new (range 1 5 ∷ []) 3
-  -- only what was not read counts
-  pub marks_part : mark_as_read bo 9 (5 ∷ 3 ∷ 2 ∷ []) ≡ reads_new (range 2 3 ∷ range 5 5 ∷ []) 1
-  -- a number next to a range lengthens it, at either end
-  pub marks_at_an_edge : mark_as_read bo 9 (4 ∷ []) ∷ mark_as_read bo 9 (1 ∷ []) ∷ []
-      ≡ reads_new (range 2 4 ∷ []) 1 ∷ reads_new (range 1 3 ∷ []) 1 ∷ []
-  -- what was read already counts nothing, but the time is set
-  pub marked_before : mark_as_read bo 9 (3 ∷ 2 ∷ []) ≡ reads (range 2 3 ∷ [])
-  -- so it is with an empty list
-  pub marks_nothing : mark_as_read bo 9 [] ≡ reads (range 2 3 ∷ [])
-  -- a number whose text is deleted can be marked
-  pub marks_a_deleted_text : mark_as_read (after (effect.RecipientGone 1 9 ∷ []) bo) 9 (1 ∷ [])
-      ≡ reads_new (range 1 3 ∷ []) 1
-  -- also the last one
-  pub marks_the_last_number : mark_as_read (after (effect.RecipientGone 5 9 ∷ []) bo) 9 (5 ∷ [])
-      ≡ reads_new (range 2 3 ∷ range 5 5 ∷ []) 1
-  -- an invited person may mark, into an empty set
-  pub marks_as_invited : mark_as_read anna 9 (2 ∷ [])
-      ≡ comes_to (effect.ReadSet 5 9 30 (range 2 2 ∷ []) ∷ effect.Counted 5 counter.ReadTexts 1
-      ∷ []) []
-  -- refused in this order: nobody is logged in; the conference is 0; it is missing; it is hidden;
-  -- no membership, before a number that is 0; none by strength or by supervising
-  pub marking_refused :
-      early_of (mark_as_read nobody 0 [] ∷ mark_as_read bo 0 [] ∷ mark_as_read bo 99 []
-      ∷ mark_as_read di 11 (0 ∷ []) ∷ mark_as_read di 9 (0 ∷ []) ∷ mark_as_read strong 11 (1 ∷ [])
-      ∷ mark_as_read anna 11 [] ∷ [])
-      ≡ refusal 6 0 ∷ refusal 8 0 ∷ refusal 9 99 ∷ refusal 9 11 ∷ refusal 13 9 ∷ refusal 13 11
-      ∷ refusal 13 11 ∷ []
-  -- the numbers are tried in turn: 0, then one above the highest; nothing is above 0 in an empty
-  -- conference
-  pub numbers_refused :
-      early_of (mark_as_read bo 9 (1 ∷ 0 ∷ 9 ∷ []) ∷ mark_as_read bo 9 (1 ∷ 9 ∷ 0 ∷ [])
-      ∷ mark_as_read bo 9 (6 ∷ []) ∷ mark_as_read bo 6 (1 ∷ []) ∷ [])
-      ≡ refusal 17 0 ∷ refusal 16 9 ∷ refusal 16 6 ∷ refusal 16 1 ∷ []
-  -- all but the last so many count as read
-  pub unread : set_unread bo 9 0 ∷ set_unread bo 9 2 ∷ set_unread bo 9 4 ∷ []
-      ≡ reads (range 1 5 ∷ []) ∷ reads (range 1 3 ∷ []) ∷ reads (range 1 1 ∷ []) ∷ []
-  -- as many unread as there are, or more: nothing is read
-  pub all_unread : set_unread bo 9 5 ∷ set_unread bo 9 6 ∷ set_unread bo 9 4294967295 ∷ []
-      ≡ reads [] ∷ reads [] ∷ reads [] ∷ []
-  -- a conference without texts leaves an empty set
-  pub none_to_read : set_unread bo 6 0 ≡ comes_to (effect.ReadSet 6 6 30 [] ∷ []) []
-  -- deleted texts count with the others
-  pub unread_of_deleted_texts :
-      set_unread (after (effect.RecipientGone 5 9 ∷ effect.RecipientGone 1 9 ∷ []) bo) 9 2
-      ≡ reads (range 1 3 ∷ [])
-  -- refused in this order: as for marking; also a strong session without a membership
-  pub unread_refused :
-      early_of (set_unread nobody 0 0 ∷ set_unread bo 0 0 ∷ set_unread bo 99 0 ∷ set_unread di 11 0
-      ∷ set_unread di 9 0 ∷ set_unread strong 11 0 ∷ [])
-      ≡ refusal 6 0 ∷ refusal 8 0 ∷ refusal 9 99 ∷ refusal 9 11 ∷ refusal 13 9 ∷ refusal 13 11 ∷ []
-  -- all up to a number is read; 0 is none, and the highest is all
-  pub last_read : set_last_read bo 9 0 ∷ set_last_read bo 9 1 ∷ set_last_read bo 9 5 ∷ []
-      ≡ reads [] ∷ reads (range 1 1 ∷ []) ∷ reads (range 1 5 ∷ []) ∷ []
-  -- refused in this order: as for marking, then a number above the highest; 0 passes
-  pub last_read_refused :
-      early_of (set_last_read nobody 0 9 ∷ set_last_read bo 0 9 ∷ set_last_read bo 99 9
-      ∷ set_last_read di 11 9 ∷ set_last_read di 9 9 ∷ set_last_read bo 9 6 ∷ set_last_read bo 6 0
-      ∷ [])
-      ≡ refusal 6 0 ∷ refusal 8 0 ∷ refusal 9 99 ∷ refusal 9 11 ∷ refusal 13 9 ∷ refusal 16 6 ∷ None
-      ∷ []
-  -- a number at an end of a range goes, and the range stays
-  pub unmarks : mark_as_unread bo 9 2 ∷ mark_as_unread bo 9 3 ∷ []
-      ≡ reads (range 3 3 ∷ []) ∷ reads (range 2 2 ∷ []) ∷ []
-  -- at both ends of a longer range; in its middle, which makes two of it
-  pub unmarks_in_the_middle :
-      map (mark_as_unread (after (has_read (range 1 5 ∷ [])) bo) 9) (1 ∷ 3 ∷ 5 ∷ [])
-      ≡ reads (range 2 5 ∷ []) ∷ reads (range 1 2 ∷ range 4 5 ∷ []) ∷ reads (range 1 4 ∷ []) ∷ []
-  -- the last number leaves an empty set
-  pub unmarks_the_only_one : mark_as_unread (after (has_read (range 4 4 ∷ [])) bo) 9 4 ≡ reads []
-  -- a number that was not read changes the time alone
-  pub not_read_before : mark_as_unread bo 9 1 ∷ mark_as_unread bo 9 5 ∷ []
-      ≡ reads (range 2 3 ∷ []) ∷ reads (range 2 3 ∷ []) ∷ []
-  -- refused in this order: as for marking, then 0, then a number above the highest
-  pub unmarking_refused :
-      early_of (mark_as_unread nobody 0 0 ∷ mark_as_unread bo 0 0 ∷ mark_as_unread bo 99 0
-      ∷ mark_as_unread di 11 0 ∷ mark_as_unread di 9 0 ∷ mark_as_unread bo 9 0
-      ∷ mark_as_unread bo 9 6 ∷ [])
-      ≡ refusal 6 0 ∷ refusal 8 0 ∷ refusal 9 99 ∷ refusal 9 11 ∷ refusal 13 9 ∷ refusal 17 0
-      ∷ refusal 16 6 ∷ []
-  -- none, one and two ranges take the place of what was read, and nothing counts
-  pub ranges_set :
-      map (set_read_ranges bo 9) ([] ∷ (range 4 4 ∷ []) ∷ (range 1 1 ∷ range 3 5 ∷ []) ∷ [])
-      ≡ reads [] ∷ reads (range 4 4 ∷ []) ∷ reads (range 1 1 ∷ range 3 5 ∷ []) ∷ []
-  -- ranges that touch become one in the stored rows
-  pub ranges_merged :
-      map (λ ranges. read_of (made_by (set_read_ranges bo 9 ranges)) 6 9)
-      ((range 1 2 ∷ range 3 4 ∷ []) ∷ (range 1 1 ∷ range 2 2 ∷ range 4 4 ∷ range 5 5 ∷ []) ∷ [])
-      ≡ (range 1 4 ∷ []) ∷ (range 1 2 ∷ range 4 5 ∷ []) ∷ []
-  -- a range that begins with 0 or after its end is invalid, with its place
-  pub ranges_invalid :
-      early_of (map (set_read_ranges bo 9) ((range 0 2 ∷ []) ∷ (range 0 0 ∷ []) ∷ (range 3 2 ∷ [])
-      ∷ (range 1 1 ∷ range 5 4 ∷ []) ∷ []))
-      ≡ refusal 55 0 ∷ refusal 55 0 ∷ refusal 55 0 ∷ refusal 55 1 ∷ []
-  -- a range that begins at or before the end of the one before it is out of order, with its place
-  pub ranges_out_of_order :
-      early_of (map (set_read_ranges bo 9) ((range 1 2 ∷ range 2 3 ∷ [])
-      ∷ (range 4 5 ∷ range 1 2 ∷ []) ∷ (range 1 1 ∷ range 3 3 ∷ range 3 3 ∷ []) ∷ []))
-      ≡ refusal 56 1 ∷ refusal 56 1 ∷ refusal 56 2 ∷ []
-  -- a range's end is at most the highest number
-  pub ranges_past_the_highest :
-      early_of (map (set_read_ranges bo 9) ((range 1 6 ∷ []) ∷ (range 1 2 ∷ range 7 9 ∷ []) ∷ []))
-      ≡ refusal 16 6 ∷ refusal 16 9 ∷ []
-  -- the first faulty range decides, and of its faults invalid, then order, then its end
-  pub first_fault :
-      early_of (map (set_read_ranges bo 9) ((range 3 4 ∷ range 2 1 ∷ [])
-      ∷ (range 4 5 ∷ range 1 6 ∷ []) ∷ (range 1 6 ∷ range 0 0 ∷ []) ∷ (range 9 6 ∷ []) ∷ []))
-      ≡ refusal 55 1 ∷ refusal 56 1 ∷ refusal 16 6 ∷ refusal 55 0 ∷ []
-  -- refused in this order: as for marking, before the ranges are looked at
-  pub ranges_refused :
-      early_of (set_read_ranges nobody 0 [] ∷ set_read_ranges bo 0 [] ∷ set_read_ranges bo 99 []
-      ∷ set_read_ranges di 11 (range 0 0 ∷ []) ∷ set_read_ranges di 9 (range 0 0 ∷ []) ∷ [])
-      ≡ refusal 6 0 ∷ refusal 8 0 ∷ refusal 9 99 ∷ refusal 9 11 ∷ refusal 13 9 ∷ []
-  -- in the order of the places, without the passive one; a secret conference to its person, its
-  -- supervisor and a strong session
-  pub unread_told : map (λ asked. get_unread_confs asked 6) (bo ∷ anna ∷ strong ∷ di ∷ [])
-      ≡ lists (11 ∷ 9 ∷ []) ∷ lists (11 ∷ 9 ∷ []) ∷ lists (11 ∷ 9 ∷ []) ∷ lists (9 ∷ []) ∷ []
-  -- a secret membership to its person and the conference's supervisor alone
-  pub unread_in_secret : map (λ asked. get_unread_confs asked 7) (cy ∷ anna ∷ di ∷ [])
-      ≡ lists (9 ∷ []) ∷ lists (9 ∷ []) ∷ lists [] ∷ []
-  -- an invitation is listed
-  pub unread_as_invited : get_unread_confs di 5 ≡ lists (9 ∷ [])
-  -- all numbers are read
-  pub all_read : unread_after (has_read (range 1 5 ∷ [])) ≡ lists (11 ∷ [])
-  -- and more than there are
-  pub read_past_the_highest : unread_after (has_read (range 1 9 ∷ [])) ≡ lists (11 ∷ [])
-  -- deleted texts before the first that is left need not be read
-  pub first_deleted : unread_after (effect.RecipientGone 1 9 ∷ has_read (range 2 5 ∷ []))
-      ≡ lists (11 ∷ [])
-  -- but the first that is left
-  pub first_left_unread : unread_after (effect.RecipientGone 1 9 ∷ has_read (range 3 5 ∷ []))
-      ≡ lists (11 ∷ 9 ∷ [])
-  -- a deleted text in the middle counts as unread
-  pub middle_deleted :
-      unread_after (effect.RecipientGone 3 9 ∷ has_read (range 1 2 ∷ range 4 5 ∷ []))
-      ≡ lists (11 ∷ 9 ∷ [])
-  -- and a deleted one at the end, whose number is still the highest
-  pub last_deleted : unread_after (effect.RecipientGone 5 9 ∷ has_read (range 1 4 ∷ []))
-      ≡ lists (11 ∷ 9 ∷ [])
-  -- no text is left: nothing is unread
-  pub all_deleted : unread_after (effect.RecipientGone 7 11 ∷ []) ≡ lists (9 ∷ [])
-  -- a membership that is passive no longer is listed
-  pub passive_no_more : unread_after (member 6 10 9 6 0 ∷ []) ≡ lists (11 ∷ 9 ∷ 10 ∷ [])
-  -- passive is that bit alone
-  pub passive_by_its_bit : map (λ kind. unread_after (member 6 10 9 6 kind ∷ [])) (80 ∷ 191 ∷ [])
-      ≡ lists (11 ∷ 9 ∷ []) ∷ lists (11 ∷ 9 ∷ 10 ∷ []) ∷ []
-  -- another place changes the order
-  pub unread_by_places : unread_after (member 6 9 0 6 0 ∷ []) ≡ lists (9 ∷ 11 ∷ [])
-  -- what is read is secret: told to its person and a strong session, and refused to others, also
-  -- the supervisor of the conference
-  pub secret_unread :
-      early_of (map (λ asked. get_unread_confs (after secretive asked) 6)
-      (bo ∷ strong ∷ anna ∷ di ∷ not_strong ∷ []))
-      ≡ None ∷ None ∷ refusal 12 6 ∷ refusal 12 6 ∷ refusal 12 6 ∷ []
-  -- that is one flag alone
-  pub secret_by_its_flag :
-      early_of (map (λ flags. get_unread_confs
-      (after (effect.PersonField 6 (person_field.Flags flags) ∷ []) di) 6) (127 ∷ 255 ∷ []))
-      ≡ None ∷ refusal 12 6 ∷ []
-  -- its supervisor is told; the person itself is refused then
-  pub secret_unread_under_another :
-      early_of (map (λ asked. get_unread_confs (after (under_di ++ secretive) asked) 6)
-      (di ∷ bo ∷ []))
-      ≡ None ∷ refusal 12 6 ∷ []
-  -- the supervisor is a conference: its members are told, also the person as one of them, but not
-  -- who was only invited
-  pub secret_unread_under_members :
-      early_of (map (λ asked. get_unread_confs
-      (after (effect.ConfField 6 (field.Supervisor 9) ∷ secretive) asked) 6) (cy ∷ bo ∷ anna ∷ []))
-      ≡ None ∷ None ∷ refusal 12 6 ∷ []
-  -- so it is with the members of the letterbox of a person that supervises itself
-  pub secret_unread_in_letterbox :
-      early_of (map (λ kind. get_unread_confs (after (member 7 6 9 7 kind ∷ secretive) cy) 6)
-      (0 ∷ 128 ∷ []))
-      ≡ None ∷ refusal 12 6 ∷ []
-  -- the supervisor is told only what it is shown
-  pub unread_under_another : get_unread_confs (after (under_di ++ secretive) di) 6 ≡ lists (9 ∷ [])
-  -- refused in this order: nobody is logged in; 0; a conference that is no person; nothing
-  pub unread_confs_refused :
-      early_of (get_unread_confs nobody 0 ∷ get_unread_confs bo 0 ∷ get_unread_confs bo 9
-      ∷ get_unread_confs bo 99 ∷ [])
-      ≡ refusal 6 0 ∷ refusal 8 0 ∷ refusal 10 9 ∷ refusal 10 99 ∷ []
   -- in the order of joining, without a secret one but to its person and the conference's
   -- supervisor
   pub members_told : map (λ asked. get_members asked 9 0 9) (bo ∷ di ∷ anna ∷ cy ∷ [])
@@ -535,7 +259,7 @@ pub record MemberRows : Type 0 where
   -- refused in this order: nobody is logged in; the conference is 0; it is missing; it is hidden;
   -- a place past the shown ones, of which the supervisor has more
   pub members_refused :
-      early_of (get_members nobody 0 9 0 ∷ get_members bo 0 9 0 ∷ get_members bo 99 9 0
+      early_of (get_members stranger 0 9 0 ∷ get_members bo 0 9 0 ∷ get_members bo 99 9 0
       ∷ get_members di 11 0 9 ∷ get_members bo 9 2 0 ∷ get_members anna 9 3 0
       ∷ get_members bo 12 1 9 ∷ [])
       ≡ refusal 6 0 ∷ refusal 8 0 ∷ refusal 9 99 ∷ refusal 9 11 ∷ refusal 19 2 ∷ refusal 19 3
@@ -544,7 +268,7 @@ pub record MemberRows : Type 0 where
   pub type_set : set_membership_type bo 6 9 32
       ≡ comes_to (effect.MemberSet 6 9 2 100 6 20 32 ∷ []) []
   -- the supervisor of the person sets it; its place among all stays, not that among the shown
-  pub type_set_by_its_supervisor : set_membership_type (after under_di di) 6 9 64
+  pub type_set_by_its_supervisor : set_membership_type (after (under_di 6) di) 6 9 64
       ≡ comes_to (effect.MemberSet 6 9 2 100 6 20 64 ∷ []) []
   -- a strong session sets it
   pub type_set_by_strength : set_membership_type strong 6 11 16
@@ -563,12 +287,12 @@ pub record MemberRows : Type 0 where
   -- not a stranger, the conference's supervisor, or a person that another supervises
   pub type_not_set :
       early_of (set_membership_type di 6 9 0 ∷ set_membership_type anna 6 9 0
-      ∷ set_membership_type (after under_di bo) 6 9 0 ∷ [])
+      ∷ set_membership_type (after (under_di 6) bo) 6 9 0 ∷ [])
       ≡ refusal 12 6 ∷ refusal 12 6 ∷ refusal 12 6 ∷ []
   -- refused in this order: nobody is logged in; the person is 0; it is none; the conference is 0;
   -- it is missing; it is hidden; there is no membership, before the secret bit; it is hidden
   pub type_refused :
-      early_of (set_membership_type nobody 0 0 0 ∷ set_membership_type bo 0 0 0
+      early_of (set_membership_type stranger 0 0 0 ∷ set_membership_type bo 0 0 0
       ∷ set_membership_type bo 9 0 0 ∷ set_membership_type bo 6 0 0 ∷ set_membership_type bo 6 99 0
       ∷ set_membership_type di 6 11 0 ∷ set_membership_type bo 6 12 32
       ∷ set_membership_type di 7 9 0 ∷ [])
@@ -606,14 +330,15 @@ pub record MemberRows : Type 0 where
   pub added_by_strength : add_member strong 11 8 100 0 0
       ≡ comes_to (effect.MemberSet 8 11 0 100 7 30 0 ∷ []) []
   -- who supervises a person adds it without an invitation
-  pub added_by_its_supervisor : add_member (after (effect.MemberGone 6 9 ∷ under_di) di) 9 6 100 0 0
+  pub added_by_its_supervisor :
+      add_member (after (effect.MemberGone 6 9 ∷ under_di 6) di) 9 6 100 0 0
       ≡ comes_to (effect.MemberSet 6 9 0 100 8 30 0 ∷ []) []
   -- but not to a protected conference that the person itself does not read, though the caller does
-  pub may_not_read_it : (add_member (after (member 8 12 0 8 0 ∷ under_di) di) 12 6 100 0 0).early
+  pub may_not_read_it : (add_member (after (member 8 12 0 8 0 ∷ under_di 6) di) 12 6 100 0 0).early
       ≡ refusal 11 12
   -- unless the caller supervises the conference
   pub added_to_ones_conference :
-      add_member (after (effect.ConfField 12 (field.Supervisor 8) ∷ under_di) di) 12 6 100 0 0
+      add_member (after (effect.ConfField 12 (field.Supervisor 8) ∷ under_di 6) di) 12 6 100 0 0
       ≡ comes_to (effect.MemberSet 6 12 0 100 8 30 0 ∷ []) []
   -- another is invited to an open conference: the bit is put to those that are given
   pub invited : map (add_member bo 9 8 100 1) (0 ∷ 96 ∷ 128 ∷ 255 ∷ [])
@@ -647,10 +372,10 @@ pub record MemberRows : Type 0 where
   pub set_again_by_strength : add_member strong 9 6 1 2 128
       ≡ comes_to (effect.MemberSet 6 9 2 1 6 20 128 ∷ []) []
   -- the supervisor of the person does
-  pub set_again_by_its_supervisor : add_member (after under_di di) 9 6 1 1 64
+  pub set_again_by_its_supervisor : add_member (after (under_di 6) di) 9 6 1 1 64
       ≡ comes_to (effect.MemberSet 6 9 1 1 6 20 64 ∷ []) []
   -- a person is near itself, also if another supervises it
-  pub set_again_under_another : add_member (after under_di bo) 9 6 1 1 64
+  pub set_again_under_another : add_member (after (under_di 6) bo) 9 6 1 1 64
       ≡ comes_to (effect.MemberSet 6 9 1 1 6 20 64 ∷ []) []
   -- who is not near changes nothing, and is not refused: in an open conference, in a protected
   -- one, of a hidden membership, and as the conference's supervisor
@@ -661,7 +386,7 @@ pub record MemberRows : Type 0 where
   -- refused in this order: nobody is logged in; the conference is 0; it is missing; the person is
   -- 0; it is none, before the secret bit
   pub adding_refused :
-      early_of (add_member nobody 0 0 1 0 0 ∷ add_member bo 0 0 1 0 0 ∷ add_member bo 99 0 1 0 0
+      early_of (add_member stranger 0 0 1 0 0 ∷ add_member bo 0 0 1 0 0 ∷ add_member bo 99 0 1 0 0
       ∷ add_member bo 9 0 1 0 0 ∷ add_member bo 12 9 1 0 32 ∷ [])
       ≡ refusal 6 0 ∷ refusal 8 0 ∷ refusal 9 99 ∷ refusal 8 0 ∷ refusal 10 9 ∷ []
   -- the secret bit comes before the right to join; it is refused to a strong session, of a
@@ -750,7 +475,7 @@ pub record MemberRows : Type 0 where
       ≡ answers (reply.Membership (told 1 0 (shown.Count 0)))
   -- its supervisor is told, and the person that is supervised
   pub secret_reads_under_another :
-      map (λ asked. query_read_texts (after (under_di ++ secretive) asked) 6 9 true 0)
+      map (λ asked. query_read_texts (after (under_di 6 ++ secretive) asked) 6 9 true 0)
       (di ∷ bo ∷ [])
       ≡ answers (reply.Membership (told 1 25 two_and_three))
       ∷ answers (reply.Membership (told 2 25 two_and_three)) ∷ []
@@ -764,7 +489,7 @@ pub record MemberRows : Type 0 where
   -- refused in this order: nobody is logged in; the person is 0; it is none; the conference is 0;
   -- it is missing; it is hidden; the membership is hidden; there is none
   pub querying_refused :
-      early_of (query_read_texts nobody 0 0 true 0 ∷ query_read_texts bo 0 0 true 0
+      early_of (query_read_texts stranger 0 0 true 0 ∷ query_read_texts bo 0 0 true 0
       ∷ query_read_texts bo 9 0 true 0 ∷ query_read_texts bo 6 0 true 0
       ∷ query_read_texts bo 6 99 true 0 ∷ query_read_texts di 6 11 true 0
       ∷ query_read_texts di 7 9 true 0 ∷ query_read_texts bo 6 12 true 0 ∷ [])
@@ -776,7 +501,7 @@ pub record MemberRows : Type 0 where
       ≡ replicate 3 ((0, 11) ∷ (1, 6) ∷ (2, 9) ∷ (3, 10) ∷ [])
   -- others are not told of one in a secret conference, nor the person's supervisor, and places
   -- count without it
-  pub some_listed : map (λ asked. listed asked 0 9) (cy ∷ di ∷ after under_di di ∷ [])
+  pub some_listed : map (λ asked. listed asked 0 9) (cy ∷ di ∷ after (under_di 6) di ∷ [])
       ≡ replicate 3 ((0, 6) ∷ (1, 9) ∷ (2, 10) ∷ [])
   -- a secret membership is not told to others
   pub secret_listed :
@@ -806,7 +531,7 @@ pub record MemberRows : Type 0 where
   -- refused in this order: nobody is logged in; the person is 0; it is none; a place past the
   -- shown ones, of which the person has more
   pub listing_refused :
-      early_of (get_membership nobody 0 9 0 true 0 ∷ get_membership bo 0 9 0 true 0
+      early_of (get_membership stranger 0 9 0 true 0 ∷ get_membership bo 0 9 0 true 0
       ∷ get_membership bo 9 9 0 true 0 ∷ get_membership di 6 3 0 true 0
       ∷ get_membership bo 6 3 0 true 0 ∷ get_membership bo 6 4 0 true 0
       ∷ get_membership di 7 1 0 true 0 ∷ [])
@@ -840,39 +565,3 @@ pub record MemberRows : Type 0 where
   pub reads_gone_for_good :
       read_of (with_effects (effect.MemberGone 6 9 ∷ member 6 9 0 6 0 ∷ [])) 6 9
       ≡ []
-  -- ranges may be none, may touch and may pass the highest number
-  pub set_fits :
-      map (λ ranges. fits (effect.ReadSet 6 9 26 ranges) rows)
-      ([] ∷ (range 1 2 ∷ range 3 4 ∷ []) ∷ (range 1 4294967295 ∷ [])
-      ∷ (range 7 8 ∷ range 10 10 ∷ []) ∷ [])
-      ≡ replicate 4 true
-  -- not one from 0 on, one after its end, one that meets the one before, or one before it
-  pub set_fits_not :
-      map (λ ranges. fits (effect.ReadSet 6 9 26 ranges) rows)
-      ((range 0 1 ∷ []) ∷ (range 3 2 ∷ []) ∷ (range 1 2 ∷ range 2 3 ∷ [])
-      ∷ (range 4 4 ∷ range 1 1 ∷ []) ∷ [])
-      ≡ replicate 4 false
-  -- only of a membership that is there, by its person and its conference
-  pub set_of_no_membership :
-      map (λ what. fits what rows) (effect.ReadSet 6 12 26 [] ∷ effect.ReadSet 9 6 26 []
-      ∷ effect.ReadSet 8 9 26 [] ∷ [])
-      ≡ replicate 3 false
-  -- ranges that touch become one
-  pub set_merges : read_of (with_effects (has_read (range 1 2 ∷ range 3 4 ∷ range 7 9 ∷ []))) 6 9
-      ≡ range 1 4 ∷ range 7 9 ∷ []
-  -- they take the place of those that were there
-  pub set_replaces : read_of (with_effects (has_read (range 5 5 ∷ []))) 6 9 ≡ range 5 5 ∷ []
-  -- and their moment that of the last reading
-  pub set_has_its_time : time_in 6 9 (with_effects (has_read [])) ≡ Some 26
-  -- what another has read stays
-  pub set_of_one : read_of (with_effects (effect.ReadSet 7 9 26 (range 1 1 ∷ []) ∷ [])) 6 9
-      ≡ range 2 3 ∷ []
-  -- and so does what the same person has read of another conference
-  pub set_of_one_conference :
-      read_of (with_effects (effect.ReadSet 6 11 26 (range 1 1 ∷ []) ∷ [])) 6 9
-      ≡ range 2 3 ∷ []
-  -- with the time
-  pub time_of_one :
-      map (λ what. time_in 6 9 (with_effects (what ∷ [])))
-      (effect.ReadSet 6 11 26 [] ∷ effect.ReadSet 7 9 26 [] ∷ [])
-      ≡ Some 25 ∷ Some 25 ∷ []

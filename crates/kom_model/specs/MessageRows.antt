@@ -1,9 +1,7 @@
 -- Who gets which message of a call, and what the calls come to that only tell or send, worked out
 -- by hand.
-use Rattle.std.specs.Prelude.{◌≡◌, ℕ, ◌-◌, ◌^◌, ◌==◌, true, false, List, [], ◌∷◌, ◌++◌}
-use Rattle.std.specs.Prelude.{length, map, filter, not, codes, replicate, None}
-use Rattle.kom_types.specs.declared.aux_items.AuxChange.{AuxChange}
-use Rattle.kom_types.specs.declared.aux_items.AuxInput.{AuxInput}
+use Rattle.std.specs.Prelude.{◌≡◌, ℕ, ◌-◌, ◌^◌, ◌==◌, true, false, List, [], ◌∷◌, ◌++◌, length, map}
+use Rattle.std.specs.Prelude.{filter, not, codes, replicate, None}
 use Rattle.kom_types.specs.declared.aux_items.AuxRow.{AuxRow}
 use Rattle.kom_types.specs.declared.calls.Call.{Call}
 use Rattle.kom_types.specs.declared.calls.Call.TheVariants as call
@@ -23,38 +21,28 @@ use Rattle.kom_types.specs.declared.sessions.DynamicSession.{DynamicSession}
 use Rattle.kom_types.specs.declared.texts.MiscInfo.{MiscInfo}
 use Rattle.kom_types.specs.declared.texts.MiscInfo.TheVariants as info
 use Rattle.kom_types.specs.declared.texts.MiscInput.{MiscInput}
-use Rattle.kom_types.specs.declared.texts.TextStat.{TextStat}
-use Rattle.kom_types.specs.Sessions.{fresh_seat}
 use Rattle.kom_types.specs.tables.Persons.{password_hash}
+use Rattle.kom_model.specs.Cast.{Cast, cast_over, four_persons, makes, member, under, sends, links}
+use Rattle.kom_model.specs.Cast.{lines, item, new_item, adds, given, changes, named, text}
+use Rattle.kom_model.specs.Cast.{new_conference, new_person, seat, asks, after, comes_to, answers}
+use Rattle.kom_model.specs.Cast.{early_of}
 use Rattle.kom_model.specs.Db.{Db, empty_db}
-use Rattle.kom_model.specs.DbRows.{makes, makes_person}
 use Rattle.kom_model.specs.Decide.{decision_of, definition_of}
 use Rattle.kom_model.specs.Effects.{apply_all, all_fit}
-use Rattle.kom_model.specs.ItemRows.{item, new_item, adds, given, named, text}
-use Rattle.kom_model.specs.ItemRows as ItemRows
-use Rattle.kom_model.specs.MemberRows.{member}
 use Rattle.kom_model.specs.Sending.{Delivery}
-use Rattle.kom_model.specs.ShownRows.{sends, links, comes_to, answers, early_of}
 use Rattle.kom_model.specs.ToWhom.{messages_of}
 use Rattle.kom_model.specs.calls.Call.{Asked, Definition}
 use Rattle.kom_model.specs.calls.Guards.{refusal}
 
--- two lines and two bytes more
-abbrev pub lines : List ℕ
-lines = 97 ∷ 10 ∷ 10 ∷ 98 ∷ 33 ∷ []
-
--- The persons 5 Anna, 6 Bo, 7 Cy, who has the privilege wheel, and 8 Di; and, supervised by 5, the
--- conferences 9, which is open, 10, which is secret, 11, which is protected, and 12, which is open
--- and has no member. In 9 are Bo, Cy as a passive member, Di as one who takes messages inversely
--- too, and Anna inversely alone. Bo is in 10; Di is in Bo's letterbox, by which she supervises him,
--- and was invited to 11.
+-- The four persons; and, supervised by 5, the conferences 9, which is open, 10, which is secret,
+-- 11, which is protected, and 12, which is open and has no member. In 9 are Bo, Cy as a passive
+-- member, Di as one who takes messages inversely too, and Anna inversely alone. Bo is in 10; Di is
+-- in Bo's letterbox, by which she supervises him, and was invited to 11.
 abbrev pub made_persons : List Effect
 made_persons =
-    makes_person 5 (codes "Anna") ++ makes_person 6 (codes "Bo") ++ makes_person 7 (codes "Cy")
-    ++ makes_person 8 (codes "Di")
+    four_persons
     ++ makes 9 (codes "Open") 8 ∷ makes 10 (codes "Board") 160 ∷ makes 11 (codes "Closed") 128
-    ∷ makes 12 (codes "Empty") 0 ∷ effect.PersonField 7 (person_field.Privileges 32768)
-    ∷ effect.Password 5 (password_hash 5 [])
+    ∷ makes 12 (codes "Empty") 0 ∷ effect.Password 5 (password_hash 5 [])
     ∷ member 6 9 1 6 0 ∷ member 7 9 1 7 64 ∷ member 8 9 1 8 80 ∷ member 5 9 1 5 16
     ∷ member 8 6 2 6 0 ∷ member 6 10 2 5 0 ∷ member 8 11 3 5 128 ∷ []
 
@@ -112,69 +100,37 @@ abbrev pub few_messages : ℕ
 few_messages = 40992
 
 -- a session of a person at this level, in this conference, since a moment, that accepts these
-abbrev pub seat : ℕ → ℕ → ℕ → ℕ → ℕ → ℕ → Seat
-seat number person level working login accepted =
-    record (fresh_seat number 0 (codes "ceder") (codes "h") 5) {
-      person = person;
-      login = login;
-      active = login;
-      level = level;
-      working = working;
-      accepted = accepted;
-    }
+abbrev pub hearer : ℕ → ℕ → ℕ → ℕ → ℕ → ℕ → Seat
+hearer number person level working login accepted =
+    record (seat number person level working login) { active = login; accepted = accepted }
 
 -- Nobody is logged in at session 2. Anna has session 3, in 10; Bo 4, in 9, and 5, which accepts few
 -- messages; Cy 6, in 9, and 7, which is strong and in 10; Di 8, which is invisible; and 9 has
 -- ended.
 abbrev pub others : List Seat
 others =
-    seat 2 0 0 0 0 all_messages ∷ seat 3 5 0 10 12 all_messages ∷ seat 4 6 0 9 14 all_messages
-    ∷ seat 5 6 0 0 15 few_messages ∷ seat 6 7 0 9 16 all_messages
-    ∷ seat 7 7 255 10 17 all_messages ∷ record (seat 8 8 0 0 18 all_messages) { flags = 128 }
-    ∷ record (seat 9 0 0 0 0 all_messages) { ended = true } ∷ []
+    hearer 2 0 0 0 0 all_messages ∷ hearer 3 5 0 10 12 all_messages ∷ hearer 4 6 0 9 14 all_messages
+    ∷ hearer 5 6 0 0 15 few_messages ∷ hearer 6 7 0 9 16 all_messages
+    ∷ hearer 7 7 255 10 17 all_messages ∷ record (hearer 8 8 0 0 18 all_messages) { flags = 128 }
+    ∷ record (hearer 9 0 0 0 0 all_messages) { ended = true } ∷ []
 
--- Session 1 of a person, in 9 since moment 10, at moment 30: it accepts these messages.
-abbrev pub asked_with : ℕ → ℕ → ℕ → Asked
-asked_with accepted person level = record {
-  db = rows;
-  seats = seat 1 person level 9 10 accepted ∷ others;
-  moment = 30;
-  session = 1;
-  reference = 7;
-}
+-- Session 1 of a person, in 9 since moment 10: it accepts these messages.
+abbrev pub seats : ℕ → ℕ → ℕ → List Seat
+seats accepted person level = hearer 1 person level 9 10 accepted ∷ others
 
-abbrev pub asked : ℕ → ℕ → Asked
-asked person level = asked_with 0 person level
+abbrev pub cast : Cast
+cast = cast_over rows (seats 0)
 
-abbrev pub stranger : Asked
-stranger = asked 0 0
-
-abbrev pub anna : Asked
-anna = asked 5 0
-
-abbrev pub bo : Asked
-bo = asked 6 0
-
-abbrev pub cy : Asked
-cy = asked 7 0
-
-abbrev pub di : Asked
-di = asked 8 0
-
--- Cy's strong session, and one of Anna at the same level, who has not the privilege
-abbrev pub strong : Asked
-strong = asked 7 255
-
-abbrev pub not_strong : Asked
-not_strong = asked 5 255
+-- the strong session is Cy's; Anna has not the privilege
+open cast use {asked, stranger, anna, bo, cy, di, high_cy as strong, high_anna as not_strong}
 
 -- the same, if session 1 accepts all messages
 abbrev pub hears : ℕ → ℕ → Asked
-hears person level = asked_with all_messages person level
+hears person level = asks rows (seats all_messages person level)
 
 -- session 1 of a person that logged in at this very moment
 abbrev pub just_in : ℕ → Asked
-just_in person = record (asked person 0) { seats = seat 1 person 0 9 30 0 ∷ others }
+just_in person = record (asked person 0) { seats = hearer 1 person 0 9 30 0 ∷ others }
 
 -- a session accepts these messages; and all sessions do
 abbrev pub accepting : ℕ → Seat → Seat
@@ -182,14 +138,6 @@ accepting accepted seat = record seat { accepted = accepted }
 
 abbrev pub all_accept : ℕ → Asked → Asked
 all_accept accepted asked = record asked { seats = map (accepting accepted) asked.seats }
-
--- what a session asks after these effects
-abbrev pub after : List Effect → Asked → Asked
-after effects asked = record asked { db = apply_all effects rows }
-
--- Anna supervises Bo
-abbrev pub under_anna : List Effect
-under_anna = effect.ConfField 6 (field.Supervisor 5) ∷ []
 
 -- the messages of a call, each with its session
 abbrev pub sent : Asked → Call → List Delivery
@@ -212,10 +160,6 @@ all_heard asked call =
 
 abbrev pub items_of_messages : List (List Message) → List (List Item)
 items_of_messages told = map (map (λ each. queue.Message each)) told
-
--- a change of the items of a text or a conference
-abbrev pub changes : ℕ → List ℕ → List AuxInput → AuxChange
-changes object delete add = ItemRows.change object delete add
 
 -- how many sessions get a message of a call if all accept these
 abbrev pub counted : ℕ → Asked → Call → ℕ
@@ -362,7 +306,7 @@ tells_sessions sessions = answers (reply.DynamicSessions sessions)
 
 -- session 2, if it had the flag invisible
 abbrev pub nobody_hides : Seat
-nobody_hides = record (seat 2 0 0 0 0 0) { flags = 128 }
+nobody_hides = record (hearer 2 0 0 0 0 0) { flags = 128 }
 
 -- Di's session 1 after many years
 abbrev pub much_later : Asked
@@ -402,8 +346,8 @@ cy_then_di = message.Logout 7 1 ∷ message.Login 8 1 ∷ []
 abbrev pub few_are_there : Asked
 few_are_there = record (hears 5 0) {
   seats =
-      seat 1 5 0 9 10 all_messages ∷ seat 6 7 0 9 16 all_messages
-      ∷ seat 7 7 255 10 17 all_messages ∷ [];
+      hearer 1 5 0 9 10 all_messages ∷ hearer 6 7 0 9 16 all_messages
+      ∷ hearer 7 7 255 10 17 all_messages ∷ [];
 }
 
 -- who gets which message of a call
@@ -715,7 +659,7 @@ pub record WorkedMessages : Type 0 where
       ∷ call.AddComment 3 1 ∷ call.SubComment 2 1 ∷ call.AddFootnote 3 2 ∷ call.MarkText 1 7
       ∷ call.MarkAsRead 9 (1 ∷ []) ∷ call.SetMembershipType 5 9 0
       ∷ call.ModifyConfInfo (changes 9 [] (given 10 0 0 [] ∷ []))
-      ∷ call.CreateConf (ItemRows.conference 8 []) ∷ call.CreatePerson (ItemRows.person [])
+      ∷ call.CreateConf (new_conference 8 []) ∷ call.CreatePerson (new_person [])
       ∷ call.Refused 2 0 ∷ [])
       ≡ replicate 18 []
   pub shutdown_sends_nothing : sent (hears 7 255) (call.ShutdownKom 0) ≡ []
@@ -768,7 +712,7 @@ pub record WorkedMessages : Type 0 where
   pub ends_another :
       definition_of bo (call.Disconnect 4) ∷ definition_of strong (call.Disconnect 8)
       ∷ definition_of strong (call.Disconnect 2)
-      ∷ definition_of (after under_anna anna) (call.Disconnect 5) ∷ []
+      ∷ definition_of (after (under 5 6) anna) (call.Disconnect 5) ∷ []
       ≡ comes_to (effect.Counted 6 counter.TimePresent 16 ∷ [])
       (change.Person 4 0 false ∷ change.Ended 4 ∷ [])
       ∷ comes_to (effect.Counted 8 counter.TimePresent 12 ∷ [])
@@ -784,8 +728,8 @@ pub record WorkedMessages : Type 0 where
       ∷ definition_of anna (call.Disconnect 9) ∷ definition_of stranger (call.Disconnect 2)
       ∷ definition_of stranger (call.Disconnect 3) ∷ definition_of anna (call.Disconnect 2)
       ∷ definition_of anna (call.Disconnect 4) ∷ definition_of not_strong (call.Disconnect 4)
-      ∷ definition_of (after under_anna bo) (call.Disconnect 4)
-      ∷ definition_of (after under_anna bo) (call.Disconnect 1)
+      ∷ definition_of (after (under 5 6) bo) (call.Disconnect 4)
+      ∷ definition_of (after (under 5 6) bo) (call.Disconnect 1)
       ∷ definition_of anna (call.Disconnect 3) ∷ [])
       ≡ refusal 42 99 ∷ refusal 42 99 ∷ refusal 42 9 ∷ refusal 42 9 ∷ refusal 12 2 ∷ refusal 12 3
       ∷ refusal 12 2 ∷ refusal 12 4 ∷ refusal 12 4 ∷ refusal 12 4 ∷ None ∷ None ∷ []

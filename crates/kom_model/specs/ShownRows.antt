@@ -4,29 +4,27 @@ use Rattle.std.specs.Prelude.{◌≡◌, ℕ, Bool, true, false, List, [], ◌�
 use Rattle.std.specs.Prelude.{None, Some, is_some}
 use Rattle.kom_types.specs.declared.conferences.Conference.{Conference}
 use Rattle.kom_types.specs.declared.conferences.ConferenceRow.{ConferenceRow}
-use Rattle.kom_types.specs.declared.effects.ConfField.{ConfField}
 use Rattle.kom_types.specs.declared.effects.ConfField.TheVariants as field
 use Rattle.kom_types.specs.declared.effects.Counter.TheVariants as counter
 use Rattle.kom_types.specs.declared.effects.Effect.{Effect}
 use Rattle.kom_types.specs.declared.effects.Effect.TheVariants as effect
 use Rattle.kom_types.specs.declared.effects.PersonField.TheVariants as person_field
 use Rattle.kom_types.specs.declared.persons.Person.{Person}
-use Rattle.kom_types.specs.declared.replies.Reply.{Reply}
 use Rattle.kom_types.specs.declared.replies.Reply.TheVariants as reply
 use Rattle.kom_types.specs.declared.seats.Seat.{Seat}
-use Rattle.kom_types.specs.declared.session_changes.SessionChange.{SessionChange}
 use Rattle.kom_types.specs.declared.session_changes.SessionChange.TheVariants as change
 use Rattle.kom_types.specs.declared.texts.MiscInfo.{MiscInfo}
 use Rattle.kom_types.specs.declared.texts.MiscInfo.TheVariants as info
 use Rattle.kom_types.specs.declared.texts.TextStat.{TextStat}
-use Rattle.kom_types.specs.Sessions.{fresh_seat}
+use Rattle.kom_model.specs.Cast.{Cast, cast_over, four_persons, three_conferences, makes, member}
+use Rattle.kom_model.specs.Cast.{under, under_di, range, sent, sends, links, lines, fields}
+use Rattle.kom_model.specs.Cast.{sets_fields, seat, after, comes_to, answers, early_of, person}
+use Rattle.kom_model.specs.Cast.{nobody, strong_nobody, conferences_in, persons_in, places_of}
 use Rattle.kom_model.specs.Db.{Db, empty_db, conference_of, person_of, text_of, recipients_of}
 use Rattle.kom_model.specs.Db.{marks_of, marks_on, read_of, created_by, next_created_of}
-use Rattle.kom_model.specs.DbRows.{makes, makes_person, conferences_in, persons_in, places_of}
-use Rattle.kom_model.specs.DbRows.{person, nobody, strong_nobody}
 use Rattle.kom_model.specs.Effects.{fits, apply_all, all_fit}
 use Rattle.kom_model.specs.Shown.{told_count, working_shown}
-use Rattle.kom_model.specs.calls.Call.{Asked, Definition, answer, done, unguarded, decided}
+use Rattle.kom_model.specs.calls.Call.{Asked, Definition, decided}
 use Rattle.kom_model.specs.calls.Conferences.{set_presentation, set_etc_motd, set_supervisor}
 use Rattle.kom_model.specs.calls.Conferences.{set_permitted_submitters, set_super_conf}
 use Rattle.kom_model.specs.calls.Conferences.{set_conf_type, set_garb_nice, set_expire}
@@ -34,55 +32,19 @@ use Rattle.kom_model.specs.calls.Conferences.{set_keep_commented, delete_conf, g
 use Rattle.kom_model.specs.calls.Guards.{Guard, refusal}
 use Rattle.kom_model.specs.calls.Persons.{get_person_stat, set_user_area}
 use Rattle.kom_model.specs.calls.Texts.{get_text_stat}
-use Rattle.kom_model.specs.MemberRows.{member, range}
 
--- a recipient that a text was made with, or that somebody added later, of this tag and with this
--- local number
-abbrev pub sends : ℕ → ℕ → ℕ → ℕ → Effect
-sends text conference tag local = effect.RecipientAdded (record {
-  text = text;
-  conference = conference;
-  tag = tag;
-  local = local;
-  sender = 0;
-  at = 20;
-})
-
+-- a recipient that somebody added later
 abbrev pub sends_later : ℕ → ℕ → ℕ → ℕ → ℕ → ℕ → Effect
-sends_later text conference tag local sender at = effect.RecipientAdded (record {
-  text = text;
-  conference = conference;
-  tag = tag;
-  local = local;
-  sender = sender;
-  at = at;
-})
+sends_later text conference tag local sender at =
+    effect.RecipientAdded (record (sent text conference tag local) { sender = sender; at = at })
 
--- a comment, or a footnote, to a text: by whom it was linked later, or 0, and when
-abbrev pub links : ℕ → ℕ → Bool → ℕ → ℕ → Effect
-links child parent footnote sender at = effect.LinkAdded (record {
-  child = child;
-  parent = parent;
-  footnote = footnote;
-  sender = sender;
-  at = at;
-})
-
--- two lines and two bytes more
-abbrev pub lines : List ℕ
-lines = 97 ∷ 10 ∷ 10 ∷ 98 ∷ 33 ∷ []
-
--- The persons 5 Anna, 6 Bo, 7 Cy, who has the privilege wheel, and 8 Di; and, supervised by 5, the
--- conferences 9, which is open, 10, which is protected, and 11, which is secret. Bo is in 11, his
--- letterbox and 9; Di is in Bo's letterbox and then in hers; Cy is secretly in 9 and then in her
--- letterbox; Anna was invited to 9 by Bo.
+-- The four persons and the three conferences. Bo is in 11, his letterbox and 9; Di is in Bo's
+-- letterbox and then in hers; Cy is secretly in 9 and then in her letterbox; Anna was invited to 9
+-- by Bo.
 abbrev pub made_persons : List Effect
 made_persons =
-    makes_person 5 (codes "Anna") ++ makes_person 6 (codes "Bo") ++ makes_person 7 (codes "Cy")
-    ++ makes_person 8 (codes "Di")
-    ++ makes 9 (codes "Open") 0 ∷ makes 10 (codes "Closed") 128 ∷ makes 11 (codes "Board") 160
-    ∷ effect.PersonField 7 (person_field.Privileges 32768)
-    ∷ member 6 9 1 6 0 ∷ member 8 6 0 6 0 ∷ member 7 9 0 7 32 ∷ member 6 11 0 6 0
+    four_persons ++ three_conferences
+    ++ member 6 9 1 6 0 ∷ member 8 6 0 6 0 ∷ member 7 9 0 7 32 ∷ member 6 11 0 6 0
     ∷ member 5 9 9 6 128 ∷ []
 
 -- Text 1 is Anna's to 9, 2 is Bo's to 9, 3 is Anna's to 10. Text 4 is Bo's to 9, as a copy to 11,
@@ -121,82 +83,27 @@ made_rows = made_persons ++ made_texts ++ made_later
 abbrev pub rows : Db
 rows = apply_all made_rows empty_db
 
-abbrev pub with_effects : List Effect → Db
-with_effects effects = apply_all effects rows
+-- Session 1 of a person, in 9. Bo has two more, in 9 and, since this moment, in his letterbox; Di
+-- has one there, Cy one in 9, and in the last nobody is logged in.
+abbrev pub seats : ℕ → ℕ → List Seat
+seats person level =
+    seat 1 person level 9 10 ∷ seat 2 6 0 9 14 ∷ seat 3 8 0 6 12 ∷ seat 4 6 0 6 30
+    ∷ seat 5 7 0 9 11 ∷ seat 6 0 0 0 0 ∷ []
 
--- a session of a person at this level, in this conference, that logged in at a moment
-abbrev pub seat : ℕ → ℕ → ℕ → ℕ → ℕ → Seat
-seat number person level working login =
-    record (fresh_seat number 0 (codes "ceder") (codes "h") 5) {
-      person = person;
-      login = login;
-      level = level;
-      working = working;
-    }
+abbrev pub cast : Cast
+cast = cast_over rows seats
 
--- Session 1 of a person, in 9, at moment 30. Bo has two more, in 9 and, since this moment, in his
--- letterbox; Di has one there, Cy one in 9, and in the last nobody is logged in.
-abbrev pub asked : ℕ → ℕ → Asked
-asked person level = record {
-  db = rows;
-  seats =
-      seat 1 person level 9 10 ∷ seat 2 6 0 9 14 ∷ seat 3 8 0 6 12 ∷ seat 4 6 0 6 30
-      ∷ seat 5 7 0 9 11 ∷ seat 6 0 0 0 0 ∷ [];
-  moment = 30;
-  session = 1;
-  reference = 7;
-}
+-- the strong session is Cy's; Di has not the privilege
+open cast use {with_effects, made_by, stranger, anna, bo, cy, di}
+open cast use {high_cy as strong, high_di as not_strong}
 
-abbrev pub stranger : Asked
-stranger = asked 0 0
-
-abbrev pub anna : Asked
-anna = asked 5 0
-
-abbrev pub bo : Asked
-bo = asked 6 0
-
-abbrev pub cy : Asked
-cy = asked 7 0
-
-abbrev pub di : Asked
-di = asked 8 0
-
--- Cy's strong session, and one of Di at the same level, who has not the privilege
-abbrev pub strong : Asked
-strong = asked 7 255
-
-abbrev pub not_strong : Asked
-not_strong = asked 8 255
-
--- what a session asks after these effects
-abbrev pub after : List Effect → Asked → Asked
-after effects asked = record asked { db = with_effects effects }
-
--- Di supervises Bo, or Cy; and the members of 9 supervise 10
-abbrev pub under_di : ℕ → List Effect
-under_di person = effect.ConfField person (field.Supervisor 8) ∷ []
-
+-- the members of 9 supervise 10
 abbrev pub under_members : List Effect
-under_members = effect.ConfField 10 (field.Supervisor 9) ∷ []
+under_members = under 9 10
 
--- no guard refuses a call; and it makes these effects and changes, or has this reply
-abbrev pub comes_to : List Effect → List SessionChange → Definition
-comes_to effects changes = unguarded (done effects changes)
-
+-- no guard refuses a call, and it makes this effect alone
 abbrev pub sets : Effect → Definition
 sets what = comes_to (what ∷ []) []
-
-abbrev pub answers : Reply → Definition
-answers what = unguarded (answer what)
-
--- the first guard that refuses each of these calls
-abbrev pub early_of : List Definition → List Guard
-early_of definitions = map (λ definition. definition.early) definitions
-
--- the rows after a call
-abbrev pub made_by : Definition → Db
-made_by definition = with_effects (decided definition).effects
 
 -- what refuses a call that gives a text, or a conference, to a conference; and one that gives it a
 -- number
@@ -218,16 +125,6 @@ refuses_number call =
     ∷ call cy 9 3 ∷ call not_strong 9 3 ∷ call anna 9 4294967295 ∷ call anna 9 0 ∷ call strong 9 3
     ∷ call strong 11 3 ∷ call (after under_members bo) 10 3 ∷ call (after under_members cy) 10 3
     ∷ call (after under_members anna) 10 3 ∷ [])
-
--- all fields of a conference that an effect sets
-abbrev pub fields : List ConfField
-fields =
-    field.Presentation 21 ∷ field.Motd 22 ∷ field.Supervisor 23 ∷ field.PermittedSubmitters 24
-    ∷ field.SuperConference 25 ∷ field.Kind 140 ∷ field.Nice 26 ∷ field.KeepCommented 27
-    ∷ field.Expire 28 ∷ field.LastWritten 29 ∷ []
-
-abbrev pub sets_fields : List Effect
-sets_fields = map (λ what. effect.ConfField 9 what) fields
 
 -- the conference 9 as it is kept
 abbrev pub open_row : ConferenceRow

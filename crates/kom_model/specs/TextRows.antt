@@ -1,6 +1,6 @@
 -- What becomes of texts, and what calls over them come to, worked out by hand.
-use Rattle.std.specs.Prelude.{◌≡◌, ℕ, Bool, true, false, List, [], ◌∷◌, ◌++◌, map, codes}
-use Rattle.std.specs.Prelude.{◌+◌, zero, suc, replicate, None}
+use Rattle.std.specs.Prelude.{◌≡◌, ℕ, Bool, true, false, List, [], ◌∷◌, ◌++◌, map, codes, ◌+◌, zero}
+use Rattle.std.specs.Prelude.{suc, replicate, None}
 use Rattle.kom_types.specs.declared.effects.ConfField.TheVariants as field
 use Rattle.kom_types.specs.declared.effects.Counter.TheVariants as counter
 use Rattle.kom_types.specs.declared.effects.Effect.{Effect}
@@ -14,10 +14,10 @@ use Rattle.kom_types.specs.declared.texts.MiscInput.{MiscInput}
 use Rattle.kom_types.specs.declared.texts.NewText.{NewText}
 use Rattle.kom_types.specs.declared.texts.Recipient.{Recipient}
 use Rattle.kom_model.specs.declared.viewers.Viewer.{Viewer}
-use Rattle.kom_model.specs.CallRows as CallRows
-use Rattle.kom_model.specs.Db.{Db, next_text_of, next_local_of, next_created_of}
-use Rattle.kom_model.specs.Db.{locals_of, created_by}
-use Rattle.kom_model.specs.DbRows.{makes, makes_person, joins, person, nobody, strong_nobody}
+use Rattle.kom_model.specs.Cast.{Cast, cast_over, one_seat, after, makes, makes_person, joins}
+use Rattle.kom_model.specs.Cast.{person, nobody, strong_nobody, sent, sends, link, named}
+use Rattle.kom_model.specs.Db.{Db, next_text_of, next_local_of, next_created_of, locals_of}
+use Rattle.kom_model.specs.Db.{created_by}
 use Rattle.kom_model.specs.Effects.{fits, apply_all, all_fit, last_drawn, longest_body}
 use Rattle.kom_model.specs.Effects.{most_recipients, most_links, most_marks}
 use Rattle.kom_model.specs.Initial.{initial}
@@ -28,24 +28,7 @@ use Rattle.kom_model.specs.calls.Guards.{Guard, refusal}
 use Rattle.kom_model.specs.calls.NewTexts.{create_text, create_anonymous_text}
 use Rattle.kom_model.specs.calls.Texts as Texts
 
--- a recipient that a text was made with, of this tag and with this local number
-abbrev pub sent : ℕ → ℕ → ℕ → ℕ → Recipient
-sent text conference tag local =
-    record { text = text; conference = conference; tag = tag; local = local; sender = 0; at = 20 }
-
-abbrev pub sends : ℕ → ℕ → ℕ → ℕ → Effect
-sends text conference tag local = effect.RecipientAdded (sent text conference tag local)
-
--- a comment, or a footnote, to a text: by whom it was linked, or 0, and when
-abbrev pub link : ℕ → ℕ → Bool → ℕ → ℕ → Link
-link child parent footnote sender at = record {
-  child = child;
-  parent = parent;
-  footnote = footnote;
-  sender = sender;
-  at = at;
-}
-
+-- a comment, or a footnote, that a text was made with
 abbrev pub links : ℕ → ℕ → Bool → Effect
 links child parent footnote = effect.LinkAdded (link child parent footnote 0 20)
 
@@ -71,8 +54,10 @@ made_rows =
 abbrev pub rows : Db
 rows = apply_all made_rows (initial [] 0)
 
-abbrev pub with_effects : List Effect → Db
-with_effects effects = apply_all effects rows
+abbrev pub cast : Cast
+cast = cast_over rows one_seat
+
+open cast use {with_effects, asked, anna, high_anna as strong}
 
 -- without text 5, which is the last of all, of its author's and in conference 6; and without text 4
 abbrev pub without_last : Db
@@ -82,25 +67,15 @@ abbrev pub without_fourth : Db
 without_fourth =
     with_effects (effect.RecipientGone 4 6 ∷ effect.MarkGone 7 4 ∷ effect.TextGone 4 ∷ [])
 
--- session 1 of a person, at moment 30
-abbrev pub asked : ℕ → ℕ → Asked
-asked number level = record (CallRows.asked number level) { db = rows }
-
-abbrev pub anna : Asked
-anna = asked 5 0
-
 abbrev pub bo : Asked
 bo = asked 7 0
 
 abbrev pub cy : Asked
 cy = asked 9 0
 
-abbrev pub strong : Asked
-strong = asked 5 255
-
 -- what Bo asks after these effects, or where the next text has this number
 abbrev pub bo_after : List Effect → Asked
-bo_after effects = record bo { db = with_effects effects }
+bo_after effects = after effects bo
 
 abbrev pub bo_at : ℕ → Asked
 bo_at next = record bo { db = record rows { next_text = next } }
@@ -119,9 +94,6 @@ marks_down (suc many) = record { person = 7; text = many + 4; kind = 0 } ∷ mar
 
 abbrev pub with_marks : ℕ → Asked
 with_marks many = record bo { db = record rows { marks = marks_down many } }
-
-abbrev pub item : ℕ → ℕ → MiscInput
-item tag value = record { tag = tag; value = value }
 
 abbrev pub text : List ℕ → List MiscInput → NewText
 text body items = record { body = body; misc_inputs = items; aux_items = [] }
@@ -249,7 +221,7 @@ pub record TextRows : Type 0 where
   pub shown_to_its_sender : shows_blind (person 7) 5 7 ≡ true
   pub shown_to_all : shows_recipient rows (person 7) 5 (sent 2 8 0 2) ≡ true
   -- calls that make texts
-  pub text_made : create_text bo (text lines (item 0 6 ∷ item 2 1 ∷ []))
+  pub text_made : create_text bo (text lines (named 0 6 ∷ named 2 1 ∷ []))
       ≡ record {
         early = None;
         rest = record {
@@ -267,11 +239,12 @@ pub record TextRows : Type 0 where
         };
       }
   pub effects_fit :
-      all_fit (create_text bo (text lines (item 0 6 ∷ item 2 1 ∷ item 4 4 ∷ []))).rest.effects rows
+      all_fit
+      (create_text bo (text lines (named 0 6 ∷ named 2 1 ∷ named 4 4 ∷ []))).rest.effects rows
       ≡ true
   pub nothing_counted : (create_text bo (text [] [])).rest.effects
       ≡ effect.TextAdded 6 7 30 [] ∷ effect.Created 7 2 6 ∷ []
-  pub text_without_author : create_anonymous_text bo (text lines (item 1 9 ∷ []))
+  pub text_without_author : create_anonymous_text bo (text lines (named 1 9 ∷ []))
       ≡ record {
         early = None;
         rest = record {
@@ -284,30 +257,30 @@ pub record TextRows : Type 0 where
           changes = [];
         };
       }
-  pub nobody_writes : refuses (asked 0 0) (item 0 0 ∷ []) ≡ refusal 6 0
-  pub no_recipient : refuses bo (item 0 0 ∷ []) ≡ refusal 8 0
-  pub missing_recipient : refuses bo (item 15 10 ∷ []) ≡ refusal 9 10
-  pub recipient_named_twice : refuses bo (item 0 6 ∷ item 1 6 ∷ []) ≡ refusal 27 6
-  pub may_not_submit : refuses bo (item 0 8 ∷ []) ≡ refusal 11 8
-  pub takes_no_anonymous : refuses_anonymous bo (item 0 6 ∷ []) ≡ refusal 47 6
-  pub named_twice_is_first : refuses_anonymous bo (item 0 9 ∷ item 1 9 ∷ item 0 6 ∷ [])
+  pub nobody_writes : refuses (asked 0 0) (named 0 0 ∷ []) ≡ refusal 6 0
+  pub no_recipient : refuses bo (named 0 0 ∷ []) ≡ refusal 8 0
+  pub missing_recipient : refuses bo (named 15 10 ∷ []) ≡ refusal 9 10
+  pub recipient_named_twice : refuses bo (named 0 6 ∷ named 1 6 ∷ []) ≡ refusal 27 6
+  pub may_not_submit : refuses bo (named 0 8 ∷ []) ≡ refusal 11 8
+  pub takes_no_anonymous : refuses_anonymous bo (named 0 6 ∷ []) ≡ refusal 47 6
+  pub named_twice_is_first : refuses_anonymous bo (named 0 9 ∷ named 1 9 ∷ named 0 6 ∷ [])
       ≡ refusal 27 9
-  pub submitting_is_first : refuses_anonymous bo (item 0 8 ∷ []) ≡ refusal 11 8
-  pub no_parent : refuses bo (item 2 0 ∷ []) ≡ refusal 15 0
-  pub hidden_parent : refuses bo (item 2 2 ∷ item 0 0 ∷ []) ≡ refusal 14 2
-  pub parent_named_twice : refuses bo (item 2 1 ∷ item 2 1 ∷ []) ≡ refusal 28 1
-  pub footnote_to_nothing : refuses bo (item 4 0 ∷ []) ≡ refusal 15 0
-  pub footnote_to_another : refuses bo (item 4 1 ∷ []) ≡ refusal 37 1
-  pub footnote_by_strength : refuses strong (item 4 4 ∷ []) ≡ refusal 37 4
-  pub footnote_without_author : refuses_anonymous bo (item 4 4 ∷ []) ≡ refusal 37 4
-  pub footnote_named_twice : refuses bo (item 4 4 ∷ item 4 4 ∷ []) ≡ refusal 29 4
-  pub comment_and_footnote : refuses bo (item 2 4 ∷ item 4 4 ∷ []) ≡ None
+  pub submitting_is_first : refuses_anonymous bo (named 0 8 ∷ []) ≡ refusal 11 8
+  pub no_parent : refuses bo (named 2 0 ∷ []) ≡ refusal 15 0
+  pub hidden_parent : refuses bo (named 2 2 ∷ named 0 0 ∷ []) ≡ refusal 14 2
+  pub parent_named_twice : refuses bo (named 2 1 ∷ named 2 1 ∷ []) ≡ refusal 28 1
+  pub footnote_to_nothing : refuses bo (named 4 0 ∷ []) ≡ refusal 15 0
+  pub footnote_to_another : refuses bo (named 4 1 ∷ []) ≡ refusal 37 1
+  pub footnote_by_strength : refuses strong (named 4 4 ∷ []) ≡ refusal 37 4
+  pub footnote_without_author : refuses_anonymous bo (named 4 4 ∷ []) ≡ refusal 37 4
+  pub footnote_named_twice : refuses bo (named 4 4 ∷ named 4 4 ∷ []) ≡ refusal 29 4
+  pub comment_and_footnote : refuses bo (named 2 4 ∷ named 4 4 ∷ []) ≡ None
   pub other_tags :
-      map (λ tag. refuses bo (item 0 6 ∷ item tag 0 ∷ [])) (3 ∷ 5 ∷ 6 ∷ 7 ∷ 8 ∷ 9 ∷ [])
+      map (λ tag. refuses bo (named 0 6 ∷ named tag 0 ∷ [])) (3 ∷ 5 ∷ 6 ∷ 7 ∷ 8 ∷ 9 ∷ [])
       ≡ refusal 25 1 ∷ refusal 25 1 ∷ refusal 25 1 ∷ refusal 25 1 ∷ refusal 25 1 ∷ refusal 25 1 ∷ []
   pub last_number : refuses (bo_at 4294967294) [] ≡ None
-  pub past_the_last_number : refuses (bo_at 4294967295) (item 0 6 ∷ []) ≡ refusal 45 0
-  pub past_the_last_local : refuses (bo_after (sends 2 6 0 4294967294 ∷ [])) (item 0 6 ∷ [])
+  pub past_the_last_number : refuses (bo_at 4294967295) (named 0 6 ∷ []) ≡ refusal 45 0
+  pub past_the_last_local : refuses (bo_after (sends 2 6 0 4294967294 ∷ [])) (named 0 6 ∷ [])
       ≡ refusal 45 0
   pub past_the_last_created :
       map (λ guards. guards (bo_after (writes 6 7 [] ∷ effect.Created 7 4294967294 6 ∷ [])) [])
@@ -334,9 +307,9 @@ pub record TextRows : Type 0 where
       (link 9 2 true 0 20 ∷ link 1 9 true 0 20 ∷ link 9 2 false 0 20 ∷ [])
       ≡ refusal 35 2 ∷ refusal 35 1 ∷ None ∷ []
   pub parent_at_the_limit :
-      refuses (with_links bo (replicate 1000 (link 9 1 false 0 20))) (item 2 1 ∷ []) ≡ refusal 34 1
+      refuses (with_links bo (replicate 1000 (link 9 1 false 0 20))) (named 2 1 ∷ []) ≡ refusal 34 1
   pub footnoted_at_the_limit :
-      refuses (with_links bo (replicate 100 (link 9 4 true 0 20))) (item 4 4 ∷ []) ≡ refusal 35 4
+      refuses (with_links bo (replicate 100 (link 9 4 true 0 20))) (named 4 4 ∷ []) ≡ refusal 35 4
   pub marks_at_the_limit :
       map (λ many. (Texts.mark_text (with_marks many) 1 0).early) (1999 ∷ 2000 ∷ [])
       ≡ None ∷ refusal 36 0 ∷ []

@@ -3,6 +3,8 @@ ghost use Rattle.kom_model.specs.DbRows.{DbRows};
 ghost use Rattle.kom_model.specs.ItemRows.{ItemRows};
 ghost use Rattle.kom_model.specs.MemberRows.{MemberRows};
 ghost use Rattle.kom_model.specs.MessageRows.{WorkedMessages};
+ghost use Rattle.kom_model.specs.NewItemRows.{NewItemRows};
+ghost use Rattle.kom_model.specs.ReadingRows.{ReadingRows};
 ghost use Rattle.kom_model.specs.Rows.{Rows};
 ghost use Rattle.kom_model.specs.ShownRows.{ShownRows};
 ghost use Rattle.kom_model.specs.TextRows.{TextRows};
@@ -33,7 +35,8 @@ pub fn worked_texts()
 /// A law alone: the definitions of the calls over memberships and over what was read give what was
 /// worked out by hand.
 pub fn worked_memberships()
-    ensures { MemberRows }
+    ensures memberships { MemberRows }
+    ensures reading { ReadingRows }
 {}
 
 /// A law alone: the definitions of what is told of persons, conferences and texts, and of the calls
@@ -45,7 +48,8 @@ pub fn worked_shown()
 /// A law alone: the definitions of what becomes of aux-items, of what is told of them, and of the
 /// calls over them, give what was worked out by hand.
 pub fn worked_items()
-    ensures { ItemRows }
+    ensures items { ItemRows }
+    ensures new_items { NewItemRows }
 {}
 
 /// A law alone: the definitions of who gets which message of a call, and of the calls that only

@@ -14,14 +14,14 @@ use Rattle.kom_model.specs.Rights.{supervises, sees, reads_conference, reads, ma
 use Rattle.kom_model.specs.Shown.{shows_membership}
 use Rattle.kom_model.proofs.rows.worked_items.Goals as goal
 
-pub returns : goal.returns
+pub returns-clause-items : goal.returns-clause-items
 unfolding refused_change inherited is_name conference_of person_of membership_of memberships_of
     memberships_at members_of conferences_of next_conference_of conference_head_of
     membership_kind_of text_of text_author_of next_text_of next_local_of next_created_of
     recipient_of recipients_of link_of links_from links_into links_of locals_of first_local_of
     mark_of marks_of marks_on items_of next_item_of fits made initial supervises sees
     reads_conference reads may_submit shows_membership
-returns c = record {
+returns-clause-items c = record {
   all_are_made = refl;
   items_of_texts = refl;
   items_of_conferences = refl;
@@ -128,6 +128,16 @@ returns c = record {
   letterbox_changed = refl;
   letterbox_changed_by_others = refl;
   letterbox_of_another = refl;
+}
+
+pub returns-clause-new_items : goal.returns-clause-new_items
+unfolding refused_change inherited is_name conference_of person_of membership_of memberships_of
+    memberships_at members_of conferences_of next_conference_of conference_head_of
+    membership_kind_of text_of text_author_of next_text_of next_local_of next_created_of
+    recipient_of recipients_of link_of links_from links_into links_of locals_of first_local_of
+    mark_of marks_of marks_on items_of next_item_of fits made initial supervises sees
+    reads_conference reads may_submit shows_membership
+returns-clause-new_items c = record {
   text_made = refl;
   anonymous_text_made = refl;
   items_of_a_text_refused = refl;

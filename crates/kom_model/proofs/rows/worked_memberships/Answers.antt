@@ -11,12 +11,12 @@ use Rattle.kom_model.specs.Rights.{supervises, sees, reads_conference}
 use Rattle.kom_model.specs.Shown.{shows_membership}
 use Rattle.kom_model.proofs.rows.worked_memberships.Goals as goal
 
-pub returns : goal.returns
+pub returns-clause-memberships : goal.returns-clause-memberships
 unfolding items_of next_item_of refused_change inherited
     numbers_from conference_of person_of membership_of memberships_of members_of conferences_of person_flags_of
     conference_head_of membership_kind_of read_of text_of next_text_of next_local_of recipient_of recipients_of
     locals_of first_local_of fits made supervises sees reads_conference shows_membership
-returns c = record {
+returns-clause-memberships c = record {
   all_are_made = refl;
   places = refl;
   goes = refl;
@@ -34,55 +34,6 @@ returns c = record {
   leaves_letterbox_of_another = refl;
   taking_out_refused = refl;
   hidden_to_take_out = refl;
-  marks = refl;
-  marks_part = refl;
-  marks_at_an_edge = refl;
-  marked_before = refl;
-  marks_nothing = refl;
-  marks_a_deleted_text = refl;
-  marks_the_last_number = refl;
-  marks_as_invited = refl;
-  marking_refused = refl;
-  numbers_refused = refl;
-  unread = refl;
-  all_unread = refl;
-  none_to_read = refl;
-  unread_of_deleted_texts = refl;
-  unread_refused = refl;
-  last_read = refl;
-  last_read_refused = refl;
-  unmarks = refl;
-  unmarks_in_the_middle = refl;
-  unmarks_the_only_one = refl;
-  not_read_before = refl;
-  unmarking_refused = refl;
-  ranges_set = refl;
-  ranges_merged = refl;
-  ranges_invalid = refl;
-  ranges_out_of_order = refl;
-  ranges_past_the_highest = refl;
-  first_fault = refl;
-  ranges_refused = refl;
-  unread_told = refl;
-  unread_in_secret = refl;
-  unread_as_invited = refl;
-  all_read = refl;
-  read_past_the_highest = refl;
-  first_deleted = refl;
-  first_left_unread = refl;
-  middle_deleted = refl;
-  last_deleted = refl;
-  all_deleted = refl;
-  passive_no_more = refl;
-  passive_by_its_bit = refl;
-  unread_by_places = refl;
-  secret_unread = refl;
-  secret_by_its_flag = refl;
-  secret_unread_under_another = refl;
-  secret_unread_under_members = refl;
-  secret_unread_in_letterbox = refl;
-  unread_under_another = refl;
-  unread_confs_refused = refl;
   members_told = refl;
   members_told_to_strength = refl;
   secret_told_to_its_supervisor = refl;
@@ -168,6 +119,63 @@ returns c = record {
   reads_gone = refl;
   reads_of_others = refl;
   reads_gone_for_good = refl;
+}
+
+pub returns-clause-reading : goal.returns-clause-reading
+unfolding items_of next_item_of refused_change inherited
+    numbers_from conference_of person_of membership_of memberships_of members_of conferences_of person_flags_of
+    conference_head_of membership_kind_of read_of text_of next_text_of next_local_of recipient_of recipients_of
+    locals_of first_local_of fits made supervises sees reads_conference shows_membership
+returns-clause-reading c = record {
+  marks = refl;
+  marks_part = refl;
+  marks_at_an_edge = refl;
+  marked_before = refl;
+  marks_nothing = refl;
+  marks_a_deleted_text = refl;
+  marks_the_last_number = refl;
+  marks_as_invited = refl;
+  marking_refused = refl;
+  numbers_refused = refl;
+  unread = refl;
+  all_unread = refl;
+  none_to_read = refl;
+  unread_of_deleted_texts = refl;
+  unread_refused = refl;
+  last_read = refl;
+  last_read_refused = refl;
+  unmarks = refl;
+  unmarks_in_the_middle = refl;
+  unmarks_the_only_one = refl;
+  not_read_before = refl;
+  unmarking_refused = refl;
+  ranges_set = refl;
+  ranges_merged = refl;
+  ranges_invalid = refl;
+  ranges_out_of_order = refl;
+  ranges_past_the_highest = refl;
+  first_fault = refl;
+  ranges_refused = refl;
+  unread_told = refl;
+  unread_in_secret = refl;
+  unread_as_invited = refl;
+  all_read = refl;
+  read_past_the_highest = refl;
+  first_deleted = refl;
+  first_left_unread = refl;
+  middle_deleted = refl;
+  last_deleted = refl;
+  all_deleted = refl;
+  passive_no_more = refl;
+  passive_by_its_bit = refl;
+  unread_by_places = refl;
+  secret_unread = refl;
+  secret_by_its_flag = refl;
+  secret_unread_under_another = refl;
+  secret_unread_under_members = refl;
+  secret_unread_in_letterbox = refl;
+  unread_under_another = refl;
+  unread_confs_refused = refl;
   set_fits = refl;
   set_fits_not = refl;
   set_of_no_membership = refl;
