@@ -5,15 +5,9 @@ ghost use Rattle.kom_model.specs.calls.Guards.{Guards};
 use crate::rights::{reads_conference, sees, supervises};
 use crate::texts::{may_submit, reads};
 use kom_model::{Refused, Rows, Viewer};
+use kom_types::bits::{READ_PROTECTED, SECRET_CONFERENCE};
+use kom_types::limits::LONGEST_NAME;
 use sessions::Sessions;
-
-/// The bits of a conference's type.
-const READ_PROTECTED: u8 = 128;
-
-const SECRET: u8 = 32;
-
-/// How many bytes a name has at most.
-const LONGEST_NAME: u32 = 60;
 
 /// A condition, and the error's code and status if it does not hold.
 pub fn unless(holds: bool, code: u32, status: u32) -> Result<(), Refused>
@@ -106,8 +100,8 @@ pub fn strong_guard(caller: &Viewer) -> Result<(), Refused>
 }
 
 /// The caller supervises the conference.
-pub fn own_guard<R: Rows>(rows: &R, caller: &Viewer, number: u32) -> Result<(), Refused>
-    ensures { Guards (Guard.own_guard (R.db rows.now) caller.now number) result }
+pub fn supervisor_guard<R: Rows>(rows: &R, caller: &Viewer, number: u32) -> Result<(), Refused>
+    ensures { Guards (Guard.supervisor_guard (R.db rows.now) caller.now number) result }
 {
     unless(
         supervises(rows, caller.person, number) || caller.strong,
@@ -149,5 +143,9 @@ pub fn name_guard(name: &[u8]) -> Result<(), Refused>
 pub fn type_guard(kind: u8) -> Result<(), Refused>
     ensures { Guards (Guard.type_guard kind) result }
 {
-    unless(kind & SECRET == 0 || kind & READ_PROTECTED != 0, 22, 0)
+    unless(
+        kind & SECRET_CONFERENCE == 0 || kind & READ_PROTECTED != 0,
+        22,
+        0,
+    )
 }

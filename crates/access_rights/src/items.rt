@@ -11,14 +11,10 @@ use crate::text_stat::told_count;
 use crate::texts::is_author;
 use aux_items::{ItemList, check_items};
 use kom_model::{Refused, Rows, Viewer};
+use kom_types::bits::{HIDE_CREATOR, SECRET_ITEM};
 use kom_types::{Adder, AuxInput, AuxInputs, AuxRow, AuxRows, Bytes, Memory, Object, Sequence};
 use std::alloc::Global;
 use std::marker::Model;
-
-/// The flags secret and hide-creator of an item.
-const SECRET: u8 = 32;
-
-const HIDE_CREATOR: u8 = 16;
 
 /// The items of a text, or of a conference, as any rows keep them. They are not copied.
 #[derive(Drop)]
@@ -217,7 +213,7 @@ pub fn push_item(
 fn is_shown(by: &Adder, item: &AuxRow) -> bool
     ensures { result ≡ Items.is_shown by.now item.now }
 {
-    item.flags & SECRET == 0 || item.creator == by.person || by.owns
+    item.flags & SECRET_ITEM == 0 || item.creator == by.person || by.owns
 }
 
 fn item_told(alloc: Global, by: &Adder, item: &AuxRow) -> Result<AuxRow, Memory>

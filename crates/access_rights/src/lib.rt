@@ -14,9 +14,9 @@ mod text_stat;
 mod texts;
 
 pub use guards::{
-    conference_guard, conference_or_none_guard, login_guard, name_guard, own_guard, reads_guard,
-    session_guard, size_guard, strong_guard, submit_guard, text_guard, text_or_none_guard,
-    type_guard, unless,
+    conference_guard, conference_or_none_guard, login_guard, name_guard, reads_guard,
+    session_guard, size_guard, strong_guard, submit_guard, supervisor_guard, text_guard,
+    text_or_none_guard, type_guard, unless,
 };
 pub use items::{
     ItemsOf, conference_adder, items_guard, items_shown, new_items_guard, push_item, text_adder,

@@ -7,12 +7,7 @@ ghost use Rattle.kom_model.specs.calls.Memberships as Calls;
 use crate::guards::unless;
 use crate::rights::{is_member, sees, supervises};
 use kom_model::{Refused, Rows, Viewer};
-
-/// The bit of a membership's type that says that it is shown to few.
-const SECRET: u8 = 32;
-
-/// The bit of a person's flags that says that it keeps to itself what it has read.
-const UNREAD_IS_SECRET: u8 = 128;
+use kom_types::bits::{SECRET_MEMBERSHIP, UNREAD_IS_SECRET};
 
 /// Whether a membership of this type is shown to who looks. (Protocol A, "Security".)
 #[tactic(auto, unfolding(kom_model::specs::Shown::shows_membership))]
@@ -36,7 +31,7 @@ pub fn shows_membership<R: Rows>(
 fn is_secret_membership(kind: u8) -> bool
     ensures { result ≡ is_secret_membership kind }
 {
-    kind & SECRET != 0
+    kind & SECRET_MEMBERSHIP != 0
 }
 
 /// Whether a person keeps to itself what it has read.

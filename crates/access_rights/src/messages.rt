@@ -8,11 +8,7 @@ ghost use Rattle.kom_model.specs.Messages as Messages;
 
 use crate::texts::reads;
 use kom_model::{Rows, Viewer};
-
-/// The bits passive and passive-message-invert of a membership's type.
-const PASSIVE: u8 = 64;
-
-const PASSIVE_MESSAGE_INVERT: u8 = 16;
+use kom_types::bits::{PASSIVE_MEMBERSHIP, PASSIVE_MESSAGE_INVERT};
 
 /// Whether a person takes the texts of a conference. (Protocol A, "Asynchronous Messages".)
 pub fn takes<R: Rows>(rows: &R, person: u32, conference: u32) -> bool
@@ -67,7 +63,7 @@ fn hears_conference<R: Rows>(rows: &R, person: u32, conference: u32) -> bool
 fn is_passive(kind: u8) -> bool
     ensures { result ≡ is_passive kind }
 {
-    kind & PASSIVE != 0
+    kind & PASSIVE_MEMBERSHIP != 0
 }
 
 fn is_inverted(kind: u8) -> bool

@@ -3,18 +3,12 @@ ghost use Rattle.kom_model.specs.Rights as Rights;
 ghost use Rattle.kom_model.specs.Rights.{is_member, is_active_member, stands_for};
 ghost use Rattle.kom_model.specs.Rights.{belongs, is_let_in};
 ghost use Rattle.kom_model.specs.Shown.{working_shown};
-ghost use Rattle.kom_types.specs.tables.Conferences.{is_read_protected, is_secret_conference};
+ghost use Rattle.kom_types.specs.tables.Conferences.{is_read_protected};
 ghost use Rattle.kom_types.specs.tables.Memberships.{is_invitation};
 
 use kom_model::{Rows, Viewer};
 use kom_types::Seat;
-
-/// The bits of a conference's type, and of a membership's.
-const READ_PROTECTED: u8 = 128;
-
-const SECRET: u8 = 32;
-
-const INVITATION: u8 = 128;
+use kom_types::bits::{INVITATION, READ_PROTECTED, is_secret_conference};
 
 /// Whether a person supervises a conference. (Protocol A, "Security".)
 #[tactic(auto, using(crate::proofs::Heads::supervises_none, crate::proofs::Heads::supervises_some))]
@@ -63,12 +57,6 @@ pub fn working_shown<R: Rows>(rows: &R, viewer: &Viewer, seat: &Seat) -> u32
     } else {
         0
     }
-}
-
-fn is_secret_conference(kind: u8) -> bool
-    ensures { result ≡ is_secret_conference kind }
-{
-    kind & SECRET != 0
 }
 
 fn is_read_protected(kind: u8) -> bool

@@ -6,9 +6,10 @@ mod texts;
 
 use super::*;
 use kom_model::{Refused, Viewer};
+use kom_types::bits::{READ_PROTECTED, SECRET_CONFERENCE};
 use kom_types::{Bytes, Memory, Moment, SessionChange};
 use sessions::{SessionRow, Sessions};
-use small::{READ_PROTECTED, SECRET, Small, secret, text_by};
+use small::{Small, secret, text_by};
 use std::alloc::Global;
 use std::process::Abort;
 use std::test::Fail;
@@ -91,7 +92,7 @@ fn check_look(rt: &impl Abort, small: &Small<'_>, row: &Look) -> Result<(), Fail
     assert_eq!(rt; sees(small, &caller, 7), row.sees);
     assert_eq!(rt; reads_conference(small, &caller, 7), row.sees);
     assert_eq!(rt; reads_guard(small, &caller, 7).is_ok(), row.sees);
-    assert_eq!(rt; own_guard(small, &caller, 7).is_ok(), row.owns);
+    assert_eq!(rt; supervisor_guard(small, &caller, 7).is_ok(), row.owns);
     assert_eq!(rt; conference_guard(small, &caller, 7).is_ok(), row.sees);
     Ok(())
 }
@@ -135,7 +136,7 @@ fn a_conference_is_refused_by_its_number(rt: HostRuntime) -> Result<(), Fail> {
     }
     check_guard(&rt, conference_or_none_guard(&small, &stranger, 0), 0, 0)?;
     check_guard(&rt, conference_or_none_guard(&small, &stranger, 7), 9, 7)?;
-    check_guard(&rt, own_guard(&small, &stranger, 7), 12, 7)
+    check_guard(&rt, supervisor_guard(&small, &stranger, 7), 12, 7)
 }
 
 #[test]
@@ -214,11 +215,11 @@ fn a_secret_conference_is_read_protected(rt: HostRuntime) -> Result<(), Fail> {
             code: 0,
         },
         Typed {
-            kind: READ_PROTECTED | SECRET,
+            kind: READ_PROTECTED | SECRET_CONFERENCE,
             code: 0,
         },
         Typed {
-            kind: SECRET,
+            kind: SECRET_CONFERENCE,
             code: 22,
         },
     ];

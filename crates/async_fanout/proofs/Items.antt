@@ -9,7 +9,7 @@ use Rattle.kom_types.specs.declared.aux_items.Adder.{Adder}
 use Rattle.kom_types.specs.declared.aux_items.AuxRow.{AuxRow}
 use Rattle.kom_types.specs.declared.effects.Effect.{Effect}
 use Rattle.kom_model.specs.Shown.{items_shown, item_told}
-use Rattle.kom_model.specs.ToWhom.{item_added, items_added}
+use Rattle.kom_model.specs.ToWhom.{item_added, items_made}
 use Rattle.async_fanout.proofs.Brought.{filter_map-map}
 
 module _ {A : Type 0} (test : A → Bool) where
@@ -77,5 +77,5 @@ shown-each by pick (x ∷ xs) =
 abbrev pub item_of : Effect → Option AuxRow
 item_of effect = option_map (λ row. row.item) (item_added effect)
 
-pub items-of : (effects : List Effect) → filter_map item_of effects ≡ items_added effects
+pub items-of : (effects : List Effect) → filter_map item_of effects ≡ items_made effects
 items-of effects = filter_map-map item_added (λ row. row.item) effects

@@ -2,7 +2,7 @@
 ghost use Rattle.std.specs.Prelude.{◌≡◌, ◌++◌, true, IfOk, find, option_copied, ◌==◌};
 ghost use Rattle.kom_model.specs.Db.{items_of};
 ghost use Rattle.kom_model.specs.Shown.{items_shown};
-ghost use Rattle.kom_model.specs.ToWhom.{items_named, items_added};
+ghost use Rattle.kom_model.specs.ToWhom.{items_named, items_made};
 ghost use Rattle.kom_types.specs.declared.calls.Call.TheVariants as call;
 ghost use Rattle.kom_model.specs.ToWhom.{sent_by};
 ghost use Rattle.async_fanout.specs.Delivered.{all_brought};
@@ -32,10 +32,10 @@ pub(crate) struct TextAuxChanged<'a> {
 
 impl<'a> Tells for TextAuxChanged<'a> {
     ghost use Rattle.kom_model.specs.Messages.{text_aux_changed};
-    ghost use Rattle.kom_model.specs.ToWhom.{items_named, items_added};
+    ghost use Rattle.kom_model.specs.ToWhom.{items_named, items_made};
 
     ghost sending = { λ one. text_aux_changed one.rows.now.db one.text
-        (items_named one.rows.now.db one.text one.deleted.now) (items_added one.effects.now) };
+        (items_named one.rows.now.db one.text one.deleted.now) (items_made one.effects.now) };
 
     fn number(&self) -> u32 {
         22
@@ -97,7 +97,7 @@ fn item_of(rows: &State, text: u32, number: u32) -> Option<&AuxRow>
 
 /// The items that effects add, as they are told to who looks.
 fn added_shown(alloc: Global, effects: &[Effect], by: &Adder) -> Result<AuxRows, Memory>
-    ensures { IfOk result (λ items. items ≡ items_shown by.now (items_added effects.now)) }
+    ensures { IfOk result (λ items. items ≡ items_shown by.now (items_made effects.now)) }
 {
     let mut items = Sequence::new(alloc);
     for effect in effects {

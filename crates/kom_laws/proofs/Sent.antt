@@ -13,7 +13,7 @@ use Rattle.kom_model.specs.declared.viewers.Viewer.{Viewer}
 use Rattle.kom_model.specs.Db.{Db, person_of}
 use Rattle.kom_model.specs.Effects.{IsProtected}
 use Rattle.kom_model.specs.Messages.{told_if, new_membership, new_user_area}
-use Rattle.kom_model.specs.ToWhom.{text_added, items_named, items_added}
+use Rattle.kom_model.specs.ToWhom.{text_added, items_named, items_made}
 use Rattle.kom_model.specs.calls.Call.{Asked, seat_of}
 use Rattle.kom_model.specs.calls.Guards.{caller, viewer_at}
 use Rattle.kom_laws.specs.Groups.{Group, IsInGroup, is_unread}
@@ -79,7 +79,7 @@ module _ (group : Group) (asked : Asked) (viewer : Viewer) where
     sent-erased (call.CreateAnonymousText given) =
         made-erased group asked.db decision.effects viewer (filter_map text_added decision.effects)
     sent-erased (call.ModifyTextInfo given) =
-        ap alone (aux-told group asked.db viewer given.object _ _ (items_added decision.effects) protected in_group
+        ap alone (aux-told group asked.db viewer given.object _ _ (items_made decision.effects) protected in_group
         (named-read given.object given.delete))
     sent-erased (call.AddMember conference person priority place kind) =
         ap (λ joined. told_to viewer (cond joined [] (new_membership person conference ∷ [])))

@@ -1,4 +1,4 @@
-//! Laws over all histories: what the rights hide from a group of persons changes nothing that it
+//! Laws over all stored rows: what the rights hide from a group of persons changes nothing that it
 //! may see or do.
 #![tactic(auto)]
 

@@ -115,8 +115,8 @@ has_letterbox db number = elim (conference_of db number) [
 ]
 
 -- a membership is there already, or the person may have one more
-abbrev pub may_join : Db → ℕ → ℕ → Bool
-may_join db person conference =
+abbrev pub has_room_to_join : Db → ℕ → ℕ → Bool
+has_room_to_join db person conference =
     is_some (membership_of db person conference)
     || nat_lt (length (memberships_of db person)) most_memberships
 
@@ -230,7 +230,7 @@ fits (effect.LinkAdded link) db = may_link db link
 fits (effect.LinkGone child parent footnote) db = is_some (link_of db child parent footnote)
 fits (effect.MemberSet person conference position priority added_by added_at kind) db =
     is_some (person_of db person) && is_some (conference_of db conference)
-    && may_join db person conference
+    && has_room_to_join db person conference
 fits (effect.MemberGone person conference) db = is_some (membership_of db person conference)
 fits (effect.ReadSet person conference at ranges) db =
     is_some (membership_of db person conference) && rise_after 0 ranges

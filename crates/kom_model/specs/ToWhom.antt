@@ -74,8 +74,8 @@ item_added (effect.AuxAdded on_text object item) =
     Some (record { on_text = on_text; object = object; item = item })
 item_added other = None
 
-abbrev pub items_added : List Effect → List AuxRow
-items_added effects = map (λ row. row.item) (filter_map item_added effects)
+abbrev pub items_made : List Effect → List AuxRow
+items_made effects = map (λ row. row.item) (filter_map item_added effects)
 
 -- The rows with the texts that a call makes as the only texts: who reads such a text, and what is
 -- told of it, is by these, since nothing hangs on a text before it is made.
@@ -127,11 +127,77 @@ sent_by asked decision (call.SetUserArea person text) = elim (person_of asked.db
 sent_by asked decision (call.CreateText given) = of_made decision.effects asked.db
 sent_by asked decision (call.CreateAnonymousText given) = of_made decision.effects asked.db
 sent_by asked decision (call.ModifyTextInfo given) = Messages.text_aux_changed asked.db given.object
-    (items_named asked.db given.object given.delete) (items_added decision.effects) ∷ []
+    (items_named asked.db given.object given.delete) (items_made decision.effects) ∷ []
 sent_by asked decision (call.AddMember conference person priority place kind) =
     if is_some (membership_of asked.db person conference) then []
     else Messages.new_membership person conference ∷ []
-sent_by asked decision other = []
+sent_by asked decision call.Logout = []
+sent_by asked decision (call.ChangeConference conference) = []
+sent_by asked decision (call.ChangeWhatIAmDoing doing) = []
+sent_by asked decision (call.SetPrivBits person privileges) = []
+sent_by asked decision (call.SetPasswd change) = []
+sent_by asked decision (call.SetSupervisor conference supervisor) = []
+sent_by asked decision (call.SetPermittedSubmitters conference submitters) = []
+sent_by asked decision (call.SetSuperConf conference super_conference) = []
+sent_by asked decision (call.SetConfType conference kind) = []
+sent_by asked decision (call.SetGarbNice conference days) = []
+sent_by asked decision call.GetMarks = []
+sent_by asked decision (call.GetText text start end) = []
+sent_by asked decision (call.MarkAsRead conference locals) = []
+sent_by asked decision (call.AddComment text parent) = []
+sent_by asked decision (call.SubComment text parent) = []
+sent_by asked decision call.GetTime = []
+sent_by asked decision (call.SetUnread conference count) = []
+sent_by asked decision (call.Enable level) = []
+sent_by asked decision (call.AddFootnote text parent) = []
+sent_by asked decision (call.SubFootnote text parent) = []
+sent_by asked decision (call.ShutdownKom value) = []
+sent_by asked decision (call.GetPersonStat person) = []
+sent_by asked decision (call.GetUnreadConfs person) = []
+sent_by asked decision (call.Disconnect session) = []
+sent_by asked decision call.WhoAmI = []
+sent_by asked decision (call.FindNextTextNo start) = []
+sent_by asked decision (call.FindPreviousTextNo start) = []
+sent_by asked decision (call.Login person password invisible) = []
+sent_by asked decision (call.SetClientVersion version) = []
+sent_by asked decision (call.GetClientName session) = []
+sent_by asked decision (call.GetClientVersion session) = []
+sent_by asked decision (call.MarkText text kind) = []
+sent_by asked decision (call.UnmarkText text) = []
+sent_by asked decision call.GetVersionInfo = []
+sent_by asked decision (call.LookupZName pattern persons conferences) = []
+sent_by asked decision (call.SetLastRead conference local) = []
+sent_by asked decision (call.GetUconfStat conference) = []
+sent_by asked decision (call.AcceptAsync numbers) = []
+sent_by asked decision call.QueryAsync = []
+sent_by asked decision call.UserActive = []
+sent_by asked decision (call.WhoIsOnDynamic visible invisible most) = []
+sent_by asked decision (call.GetStaticSessionInfo session) = []
+sent_by asked decision call.GetCollateTable = []
+sent_by asked decision (call.CreateConf conference) = []
+sent_by asked decision (call.CreatePerson person) = []
+sent_by asked decision (call.GetTextStat text) = []
+sent_by asked decision (call.GetConfStat conference) = []
+sent_by asked decision (call.ModifyConfInfo change) = []
+sent_by asked decision call.GetInfo = []
+sent_by asked decision call.QueryPredefinedAuxItems = []
+sent_by asked decision (call.SetExpire conference days) = []
+sent_by asked decision (call.GetMembers conference first count) = []
+sent_by asked decision (call.SetMembershipType person conference kind) = []
+sent_by asked decision (call.LocalToGlobal conference first count) = []
+sent_by asked decision (call.MapCreatedTexts person first count) = []
+sent_by asked decision (call.SetKeepCommented conference days) = []
+sent_by asked decision (call.SetPersFlags person flags) = []
+sent_by asked decision (call.QueryReadTexts person conference want_ranges most) = []
+sent_by asked decision (call.GetMembership person first count want_ranges most) = []
+sent_by asked decision (call.MarkAsUnread conference local) = []
+sent_by asked decision (call.SetReadRanges conference ranges) = []
+sent_by asked decision call.FirstUnusedConfNo = []
+sent_by asked decision call.FirstUnusedTextNo = []
+sent_by asked decision (call.FindNextConfNo number) = []
+sent_by asked decision (call.FindPreviousConfNo number) = []
+sent_by asked decision (call.LocalToGlobalReverse conference ceiling count) = []
+sent_by asked decision (call.Refused code status) = []
 
 -- a call that is refused sends nothing
 abbrev pub is_refused : Reply → Bool

@@ -5,28 +5,17 @@ ghost use Rattle.kom_model.specs.calls.Guards.{Guards, first_refusal};
 ghost use Rattle.kom_model.specs.calls.Memberships as Calls;
 
 use access_rights::{
-    conference_guard, login_guard, own_guard, reads_conference, row_guard, supervises, unless,
+    conference_guard, login_guard, reads_conference, row_guard, supervises, supervisor_guard,
+    unless,
 };
 use kom_model::{CallError, Refused, Rows, Viewer};
 use kom_state::{Asked, State};
+use kom_types::bits::{FORBIDS_SECRET, INVITATION, READ_PROTECTED, SECRET_MEMBERSHIP};
+use kom_types::limits::MOST_MEMBERSHIPS;
 use kom_types::{
     ChangeList, Decision, Effect, EffectList, MembershipRow, Memory, Reply, Seat, Sequence,
     SessionChange,
 };
-
-/// The bits of a membership's type.
-const INVITATION: u8 = 128;
-
-const SECRET: u8 = 32;
-
-/// The bits of a conference's type: its texts are hidden from strangers; and it takes no secret
-/// memberships.
-const READ_PROTECTED: u8 = 128;
-
-const FORBIDS_SECRET: u8 = 4;
-
-/// How many memberships a person has at most.
-const MOST_MEMBERSHIPS: usize = 2000;
 
 /// Call 15, sub-member.
 pub fn sub_member(asked: &Asked<'_>, conference: u32, person: u32) -> Result<Decision, CallError>
@@ -119,14 +108,14 @@ fn secret_guard(rows: &State, conference: u32, kind: u8) -> Result<(), Refused>
     ensures { Guards (Calls.secret_guard rows.now.db conference kind) result }
 {
     unless(
-        !(kind & SECRET != 0 && forbids_secret(rows, conference)),
+        !(kind & SECRET_MEMBERSHIP != 0 && refuses_secret(rows, conference)),
         54,
         0,
     )
 }
 
-fn forbids_secret(rows: &State, conference: u32) -> bool
-    ensures { result ≡ Calls.forbids_secret rows.now.db conference }
+fn refuses_secret(rows: &State, conference: u32) -> bool
+    ensures { result ≡ Calls.refuses_secret rows.now.db conference }
 {
     match rows.conference(conference) {
         None => false,
@@ -250,7 +239,7 @@ pub fn set_membership_type(
     rows.person_guard(person)?;
     conference_guard(rows, &caller, conference)?;
     row_guard(rows, &caller, person, conference)?;
-    own_guard(rows, &caller, person)?;
+    supervisor_guard(rows, &caller, person)?;
     secret_guard(rows, conference, kind)?;
     Ok(Decision {
         reply: Reply::Done,

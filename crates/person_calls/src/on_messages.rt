@@ -7,10 +7,8 @@ ghost use Rattle.kom_model.specs.calls.Sessions as Sessions;
 use access_rights::{conference_or_none_guard, hears, login_guard, size_guard, unless};
 use kom_model::CallError;
 use kom_state::{Asked, State};
+use kom_types::limits::LONGEST_MESSAGE;
 use kom_types::{Bytes, Decision, Reply, Seat};
-
-/// How many bytes a message has at most.
-const LONGEST_MESSAGE: u32 = 10_000;
 
 /// The number of the message that is sent.
 const SEND_MESSAGE: u32 = 12;

@@ -6,26 +6,17 @@ ghost use Rattle.kom_model.specs.calls.Persons as Persons;
 
 use crate::leaving::count;
 use access_rights::{
-    login_guard, name_guard, new_items_guard, own_guard, size_guard, strong_guard,
+    login_guard, name_guard, new_items_guard, size_guard, strong_guard, supervisor_guard,
     text_or_none_guard, unless,
 };
 use kom_model::{CallError, Refused, Viewer};
 use kom_state::{Asked, State, new_items, push_items};
+use kom_types::bits::{CREATES_PERSONS, FIRST_PRIVILEGES, LETTERBOX_TYPE};
+use kom_types::limits::LONGEST_PASSWORD;
 use kom_types::{
     Bytes, Counter, Decision, Effect, EffectList, Memory, NewPerson, Object, PasswordChange,
     PersonField, Reply, Sequence,
 };
-
-/// How many bytes a password has at most.
-const LONGEST_PASSWORD: u32 = 128;
-
-/// The privilege to make persons.
-const CREATES_PERSONS: u16 = 4096;
-
-/// The type of a letterbox that is made, and the privileges of a person that is.
-const LETTERBOX: u8 = 152;
-
-const FIRST_PRIVILEGES: u16 = 7168;
 
 /// Call 7, set-priv-bits.
 pub fn set_priv_bits(asked: &Asked<'_>, person: u32, privileges: u16) -> Result<Decision, CallError>
@@ -49,7 +40,7 @@ pub fn set_passwd(asked: &Asked<'_>, given: &PasswordChange) -> Result<Decision,
     let rows = asked.rows();
     login_guard(&caller)?;
     rows.person_guard(given.person)?;
-    own_guard(rows, &caller, given.person)?;
+    supervisor_guard(rows, &caller, given.person)?;
     rows.password_guard(&caller, caller.person, given.old_password.as_slice())?;
     size_guard(given.new_password.as_slice(), LONGEST_PASSWORD)?;
     Ok(asked.with_effect(Effect::Password {
@@ -112,7 +103,7 @@ fn person_effects(asked: &Asked<'_>, person: u32, given: &NewPerson) -> Result<E
     effects.push(Effect::ConfAdded {
         number: person,
         name: Bytes::copy_of(asked.allocator(), given.name.as_slice())?,
-        kind: LETTERBOX,
+        kind: LETTERBOX_TYPE,
         at: asked.moment(),
         creator: by,
         supervisor: person,
@@ -158,7 +149,7 @@ pub fn set_pers_flags(asked: &Asked<'_>, person: u32, flags: u8) -> Result<Decis
     let caller = asked.caller();
     login_guard(&caller)?;
     asked.rows().person_guard(person)?;
-    own_guard(asked.rows(), &caller, person)?;
+    supervisor_guard(asked.rows(), &caller, person)?;
     Ok(asked.with_effect(Effect::PersonField {
         number: person,
         field: PersonField::Flags(flags),
@@ -173,7 +164,7 @@ pub fn set_user_area(asked: &Asked<'_>, person: u32, text: u32) -> Result<Decisi
     let rows = asked.rows();
     login_guard(&caller)?;
     rows.person_guard(person)?;
-    own_guard(rows, &caller, person)?;
+    supervisor_guard(rows, &caller, person)?;
     text_or_none_guard(rows, &caller, text)?;
     Ok(asked.with_effect(Effect::PersonField {
         number: person,

@@ -11,18 +11,11 @@ use access_rights::{
 };
 use kom_model::CallError;
 use kom_state::{Asked, State};
+use kom_types::limits::LONGEST_NAME;
 use kom_types::{
-    Bytes, ClientVersion, Decision, Effect, Memory, Numbers, Reply, Seat, SessionChange,
+    Bytes, ClientVersion, Decision, Effect, MESSAGE_NUMBERS, Memory, Numbers, Reply, Seat,
+    SessionChange,
 };
-
-/// How many bytes there are at most in what a person is said to be doing, and in the name and the
-/// version of a client.
-const LONGEST_NAME: u32 = 60;
-
-/// The numbers of messages.
-const MESSAGES: [u32; 20] = [
-    0, 1, 2, 5, 6, 7, 8, 9, 11, 12, 13, 14, 15, 16, 17, 18, 19, 20, 21, 22,
-];
 
 /// Call 1, logout: whoever is logged in is logged out. It is done also if nobody is.
 pub fn logout(asked: &Asked<'_>) -> Result<Decision, CallError>
@@ -219,7 +212,7 @@ fn first_other(numbers: &[u32]) -> Option<u32>
 fn is_message(number: u32) -> bool
     ensures { result ≡ is_message_number number }
 {
-    MESSAGES.contains(&number)
+    MESSAGE_NUMBERS.contains(&number)
 }
 
 /// Call 82, user-active.

@@ -2,14 +2,9 @@ use super::check_guard;
 use super::small::{Small, secret, text_by};
 use crate::{member_guard, row_guard, shows_membership, shows_reads};
 use kom_model::Viewer;
+use kom_types::bits::{SECRET_MEMBERSHIP, UNREAD_IS_SECRET};
 use std::process::Abort;
 use std::test::Fail;
-
-// The bit of a membership that is shown to few, and the flag of a person that keeps to itself what
-// it has read.
-const SECRET_MEMBERSHIP: u8 = 32;
-
-const UNREAD_IS_SECRET: u8 = 128;
 
 // Who looks, whether it is shown a secret membership of person 6 in conference 7, and whether it is
 // told what 6 has read.

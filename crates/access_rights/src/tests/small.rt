@@ -3,13 +3,9 @@ ghost use Rattle.kom_types.specs.Bits.{alike};
 ghost use Rattle.kom_types.specs.tables.AuxItems.{is_item_of};
 
 use kom_model::Rows;
+use kom_types::bits::{READ_PROTECTED, SECRET_CONFERENCE};
 use kom_types::{AuxRow, Bytes, ConferenceHead, ItemRow, Link, Memory, Moment, Recipient, TextRow};
 use std::alloc::Global;
-
-// The bits of a conference's type.
-pub const READ_PROTECTED: u8 = 128;
-
-pub const SECRET: u8 = 32;
 
 // The number of the text.
 pub const TEXT: u32 = 3;
@@ -238,7 +234,7 @@ pub fn comment(child: u32, parent: u32, sender: u32) -> Link {
 pub fn secret(text: &TextRow) -> Small<'_> {
     Small {
         number: 7,
-        kind: READ_PROTECTED | SECRET,
+        kind: READ_PROTECTED | SECRET_CONFERENCE,
         supervisor: 5,
         submitters: 0,
         member: 6,

@@ -1,6 +1,7 @@
-use super::small::{OPEN, READ_PROTECTED, Small, comment, recipient, secret, text_by};
+use super::small::{OPEN, Small, comment, recipient, secret, text_by};
 use crate::{shown_stat, told_count};
 use kom_model::Viewer;
+use kom_types::bits::READ_PROTECTED;
 use kom_types::{Link, MiscInfo};
 use std::alloc::Global;
 use std::process::Abort;

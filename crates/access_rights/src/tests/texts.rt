@@ -1,7 +1,8 @@
 use super::check_guard;
-use super::small::{READ_PROTECTED, Small, TEXT, recipient, secret, text_by};
+use super::small::{Small, TEXT, recipient, secret, text_by};
 use crate::{may_submit, reads, shows_recipient, submit_guard, text_guard, text_or_none_guard};
 use kom_model::Viewer;
+use kom_types::bits::READ_PROTECTED;
 use kom_types::{Recipient, TextRow};
 use std::process::Abort;
 use std::test::Fail;

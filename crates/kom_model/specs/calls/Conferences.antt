@@ -31,7 +31,8 @@ use Rattle.kom_model.specs.Effects.{longest_name}
 use Rattle.kom_model.specs.calls.AuxItems.{items_added}
 use Rattle.kom_model.specs.calls.Call.{Asked, Definition, answer, done, unguarded}
 use Rattle.kom_model.specs.calls.Guards.{Guard, guarded, refusal, unless, caller}
-use Rattle.kom_model.specs.calls.Guards.{login_guard, conference_guard, own_guard, size_guard}
+use Rattle.kom_model.specs.calls.Guards.{login_guard, conference_guard, supervisor_guard}
+use Rattle.kom_model.specs.calls.Guards.{size_guard}
 use Rattle.kom_model.specs.calls.Guards.{name_guard, free_guard, type_guard, drawn_guard}
 use Rattle.kom_model.specs.calls.Guards.{new_items_guard, with_items, text_or_none_guard}
 use Rattle.kom_model.specs.calls.Guards.{conference_or_none_guard}
@@ -41,7 +42,7 @@ use Rattle.kom_model.specs.calls.Sessions.{counts, all_left}
 abbrev pub owner_guards : Asked → ℕ → List Guard
 owner_guards asked number =
     login_guard (caller asked) ∷ conference_guard asked.db (caller asked) number
-    ∷ own_guard asked.db (caller asked) number ∷ []
+    ∷ supervisor_guard asked.db (caller asked) number ∷ []
 
 -- call 3, change-name
 abbrev pub change_name : Asked → ℕ → List ℕ → Definition
@@ -198,13 +199,14 @@ get_uconf_stat asked number = guarded
 abbrev pub get_collate_table : Definition
 get_collate_table = unguarded (answer (reply.Text (map fold (range_with_len 0 256))))
 
--- call 91, get-conf-stat
+-- what is replied of a conference
 abbrev pub conference_reply : Db → Viewer → ℕ → Reply
 conference_reply db caller number = elim (conference_of db number) [
   | None ↦ reply.Refused 9 number
   | Some row ↦ reply.Conference (conference_told db caller row)
 ]
 
+-- call 91, get-conf-stat
 abbrev pub get_conf_stat : Asked → ℕ → Definition
 get_conf_stat asked number = guarded
     (login_guard (caller asked) ∷ conference_guard asked.db (caller asked) number ∷ [])

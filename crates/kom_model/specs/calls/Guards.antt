@@ -96,8 +96,9 @@ abbrev pub strong_guard : Viewer → Guard
 strong_guard caller = unless caller.strong 12 0
 
 -- the caller supervises the conference
-abbrev pub own_guard : Db → Viewer → ℕ → Guard
-own_guard db caller number = unless (supervises db caller.person number || caller.strong) 12 number
+abbrev pub supervisor_guard : Db → Viewer → ℕ → Guard
+supervisor_guard db caller number =
+    unless (supervises db caller.person number || caller.strong) 12 number
 
 -- the seat of a session
 abbrev pub seat_at : List Seat → ℕ → Option Seat

@@ -17,7 +17,7 @@ use Rattle.kom_types.specs.declared.replies.Reply.TheVariants as reply
 use Rattle.kom_types.specs.declared.seats.Seat.{Seat}
 use Rattle.kom_types.specs.declared.session_changes.SessionChange.{SessionChange}
 use Rattle.kom_types.specs.declared.session_changes.SessionChange.TheVariants as change
-use Rattle.kom_types.specs.tables.Conferences.{is_read_protected}
+use Rattle.kom_types.specs.tables.Conferences.{is_read_protected, forbids_secret}
 use Rattle.kom_types.specs.tables.Persons.{last_count}
 use Rattle.read_ranges.specs.Changed.{size_of, all_marked, unmarked, up_to, has_unread}
 use Rattle.kom_model.specs.declared.viewers.Viewer.{Viewer}
@@ -31,7 +31,7 @@ use Rattle.kom_model.specs.Shown.{is_reserved, members_shown, memberships_shown,
 use Rattle.kom_model.specs.Shown.{time_shown}
 use Rattle.kom_model.specs.calls.Call.{Asked, Definition, answer, done}
 use Rattle.kom_model.specs.calls.Guards.{Guard, guarded, unless, caller, login_guard}
-use Rattle.kom_model.specs.calls.Guards.{conference_guard, person_guard, own_guard}
+use Rattle.kom_model.specs.calls.Guards.{conference_guard, person_guard, supervisor_guard}
 use Rattle.kom_model.specs.calls.Sessions.{counts}
 
 -- the person has a membership in the conference
@@ -75,12 +75,13 @@ reads_now asked conference ranges =
 abbrev pub had_read : Asked → ℕ → List ReadRange
 had_read asked conference = read_of asked.db (caller asked).person conference
 
--- call 27, mark-as-read: the texts that were not read before are counted
+-- the guards of each of these local numbers in turn
 abbrev pub all_locals_guards : ℕ → List ℕ → List Guard
 all_locals_guards highest [] = []
 all_locals_guards highest (local ∷ locals) =
     local_guards highest local ++ all_locals_guards highest locals
 
+-- call 27, mark-as-read: the texts that were not read before are counted
 abbrev pub mark_as_read : Asked → ℕ → List ℕ → Definition
 mark_as_read asked conference locals =
     let ranges = all_marked locals (had_read asked conference) in
@@ -131,12 +132,13 @@ set_read_ranges asked conference ranges = guarded
     ++ ranges_guards (highest_of asked.db conference) 0 0 ranges)
     (done (reads_now asked conference ranges ∷ []) [])
 
--- call 2, change-conference: into a conference that the caller is a member of, or 0, into none
+-- the guards of the conference that the caller goes into: none with 0
 abbrev pub entered_guards : Asked → ℕ → List Guard
 entered_guards asked conference = if conference == 0 then [] else
     conference_guard asked.db (caller asked) conference
     ∷ member_guard asked.db (caller asked).person conference ∷ []
 
+-- call 2, change-conference: into a conference that the caller is a member of, or 0, into none
 abbrev pub change_conference : Asked → ℕ → Definition
 change_conference asked conference = guarded
     (login_guard (caller asked) ∷ entered_guards asked conference)
@@ -165,15 +167,15 @@ sub_member asked conference person = guarded
     (done (effect.MemberGone person conference ∷ []) (left_by person conference asked.seats))
 
 -- a conference takes no secret memberships
-abbrev pub forbids_secret : Db → ℕ → Bool
-forbids_secret db conference = elim (conference_of db conference) [
+abbrev pub refuses_secret : Db → ℕ → Bool
+refuses_secret db conference = elim (conference_of db conference) [
   | None ↦ false
-  | Some row ↦ is_on 4 row.kind
+  | Some row ↦ forbids_secret row.kind
 ]
 
 abbrev pub secret_guard : Db → ℕ → ℕ → Guard
 secret_guard db conference kind =
-    unless (not (is_secret_membership kind && forbids_secret db conference)) 54 0
+    unless (not (is_secret_membership kind && refuses_secret db conference)) 54 0
 
 -- the caller is near a person: it is the person, supervises it, or its session is strong
 abbrev pub is_near : Db → Viewer → ℕ → Bool
@@ -247,7 +249,7 @@ set_membership_type asked person conference kind = guarded
     (login_guard (caller asked) ∷ person_guard asked.db person
     ∷ conference_guard asked.db (caller asked) conference
     ∷ row_guard asked.db (caller asked) person conference
-    ∷ own_guard asked.db (caller asked) person ∷ secret_guard asked.db conference kind ∷ [])
+    ∷ supervisor_guard asked.db (caller asked) person ∷ secret_guard asked.db conference kind ∷ [])
     (done (type_effects asked.db person conference kind) [])
 
 -- a membership is shown to the caller

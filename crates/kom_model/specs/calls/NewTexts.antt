@@ -25,7 +25,7 @@ use Rattle.kom_model.specs.calls.Guards.{Guard, guarded, refusal, first_refusal,
 use Rattle.kom_model.specs.calls.Guards.{login_guard, conference_guard, text_guard, submit_guard}
 use Rattle.kom_model.specs.calls.Guards.{size_guard, new_items_guard, with_items}
 use Rattle.kom_model.specs.calls.Sessions.{counts}
-use Rattle.kom_model.specs.calls.Texts.{is_own, new_recipient, written, into_guard}
+use Rattle.kom_model.specs.calls.Texts.{made_text, new_recipient, written, into_guard}
 
 -- whether an item names a recipient, or a text that is commented, or has a footnote
 abbrev pub names_recipient : MiscInput → Bool
@@ -63,7 +63,7 @@ anonymous_guard db anonymous conference =
 
 -- the caller made the text that gets a footnote, and makes this one not without an author
 abbrev pub author_guard : Db → Viewer → Bool → ℕ → Guard
-author_guard db caller anonymous text = unless (not anonymous && is_own db caller text) 37 text
+author_guard db caller anonymous text = unless (not anonymous && made_text db caller text) 37 text
 
 -- the guards of an item that names a recipient, after these items
 abbrev pub recipient_guard : Asked → Bool → List MiscInput → ℕ → Guard

@@ -19,7 +19,7 @@ use Rattle.kom_model.specs.calls.AuxItems.{items_added}
 use Rattle.kom_model.specs.calls.Call.{Asked, Definition, answer, done}
 use Rattle.kom_model.specs.calls.Guards.{Guard, guarded, unless, caller, login_guard}
 use Rattle.kom_model.specs.calls.Guards.{text_or_none_guard}
-use Rattle.kom_model.specs.calls.Guards.{person_guard, strong_guard, own_guard, size_guard}
+use Rattle.kom_model.specs.calls.Guards.{person_guard, strong_guard, supervisor_guard, size_guard}
 use Rattle.kom_model.specs.calls.Guards.{name_guard, free_guard, drawn_guard, password_guard}
 use Rattle.kom_model.specs.calls.Guards.{new_items_guard, with_items}
 use Rattle.kom_model.specs.calls.Sessions.{counts}
@@ -38,7 +38,7 @@ set_priv_bits asked person privileges = guarded
 abbrev pub set_passwd : Asked → PasswordChange → Definition
 set_passwd asked given = guarded
     (login_guard (caller asked) ∷ person_guard asked.db given.person
-    ∷ own_guard asked.db (caller asked) given.person
+    ∷ supervisor_guard asked.db (caller asked) given.person
     ∷ password_guard asked.db (caller asked) (caller asked).person given.old_password
     ∷ size_guard given.new_password longest_password ∷ [])
     (done (effect.Password given.person (password_hash given.person given.new_password) ∷ []) [])
@@ -47,24 +47,25 @@ set_passwd asked given = guarded
 abbrev pub set_pers_flags : Asked → ℕ → ℕ → Definition
 set_pers_flags asked person flags = guarded
     (login_guard (caller asked) ∷ person_guard asked.db person
-    ∷ own_guard asked.db (caller asked) person ∷ [])
+    ∷ supervisor_guard asked.db (caller asked) person ∷ [])
     (done (effect.PersonField person (field.Flags flags) ∷ []) [])
 
 -- call 57, set-user-area: a text, or 0
 abbrev pub set_user_area : Asked → ℕ → ℕ → Definition
 set_user_area asked person text = guarded
     (login_guard (caller asked) ∷ person_guard asked.db person
-    ∷ own_guard asked.db (caller asked) person
+    ∷ supervisor_guard asked.db (caller asked) person
     ∷ text_or_none_guard asked.db (caller asked) text ∷ [])
     (done (effect.PersonField person (field.UserArea text) ∷ []) [])
 
--- call 49, get-person-stat
+-- what is replied of a person
 abbrev pub person_reply : Db → Viewer → ℕ → Reply
 person_reply db caller number = elim (person_of db number) [
   | None ↦ reply.Refused 10 number
   | Some row ↦ reply.Person (person_told db caller row)
 ]
 
+-- call 49, get-person-stat
 abbrev pub get_person_stat : Asked → ℕ → Definition
 get_person_stat asked person = guarded
     (login_guard (caller asked) ∷ person_guard asked.db person ∷ [])

@@ -151,14 +151,16 @@ login asked person password invisible = guarded
     (leaving_effects asked ++ effect.LoggedIn person asked.moment (user_of asked) ∷ [])
     (leaving_changes asked ++ change.Person asked.session person invisible ∷ []))
 
--- call 53, send-message: somebody gets it
+-- the most bytes of a message that a session sends
 abbrev pub longest_message : ℕ
 longest_message = 10000
 
+-- a session gets the message
 abbrev pub is_sent : Asked → ℕ → List ℕ → Bool
 is_sent asked recipient text = not (length (delivered_to asked.db asked.seats
     (send_message asked.db recipient (caller asked).person text)) == 0)
 
+-- call 53, send-message: somebody gets it
 abbrev pub send_message_to : Asked → ℕ → List ℕ → Definition
 send_message_to asked recipient text = guarded
     (login_guard (caller asked) ∷ size_guard text longest_message
@@ -178,10 +180,11 @@ may_disconnect asked session = session == asked.session || (caller asked).strong
       | Some seat ↦ not (seat.person == 0) && supervises asked.db (caller asked).person seat.person
     ]
 
--- call 55, disconnect: whoever is logged in is logged out, and the session makes no call any more
+-- whoever is logged in at a session is logged out, and it ends
 abbrev pub ended : Asked → Seat → Decision
 ended asked seat = done (seat_left asked seat) (seat_leaves seat ++ change.Ended seat.number ∷ [])
 
+-- call 55, disconnect: whoever is logged in is logged out, and the session makes no call any more
 abbrev pub disconnect : Asked → ℕ → Definition
 disconnect asked number = let session = session_meant asked number in guarded
     (session_guard asked.seats session ∷ unless (may_disconnect asked session) 12 session ∷ [])
@@ -195,13 +198,14 @@ idle_of moment seat = moment - seat.active
 abbrev pub is_invisible : Seat → Bool
 is_invisible seat = not (seat.person == 0) && is_on 128 seat.flags
 
--- call 83, who-is-on-dynamic: the sessions that are asked for, of which no call has ended one, and
--- those alone that were idle for at most so many seconds, unless that is 0
+-- a session is asked for: by whether it is invisible, and by how long it was idle; one that a call
+-- has ended is not
 abbrev pub is_asked_for : ℕ → Bool → Bool → ℕ → Seat → Bool
 is_asked_for moment visible invisible most seat =
     not seat.ended && (if is_invisible seat then invisible else visible)
     && (most == 0 || nat_le (idle_of moment seat) most)
 
+-- a session as the caller is told of it
 abbrev pub dynamic_of : Asked → Seat → DynamicSession
 dynamic_of asked seat = record {
   session = seat.number;
@@ -212,12 +216,14 @@ dynamic_of asked seat = record {
   doing = seat.doing;
 }
 
+-- call 83, who-is-on-dynamic: the sessions that are asked for, of which no call has ended one, and
+-- those alone that were idle for at most so many seconds, unless that is 0
 abbrev pub who_is_on_dynamic : Asked → Bool → Bool → ℕ → Definition
 who_is_on_dynamic asked visible invisible most = unguarded (answer (reply.DynamicSessions
     (map (dynamic_of asked)
     (filter (is_asked_for asked.moment visible invisible most) asked.seats))))
 
--- call 84, get-static-session-info: this server asks no other one who its client is
+-- what does not change of a session
 abbrev pub static_of : Seat → StaticSession
 static_of seat = record {
   user = seat.user;
@@ -226,6 +232,7 @@ static_of seat = record {
   connected = seat.connected;
 }
 
+-- call 84, get-static-session-info: this server asks no other one who its client is
 abbrev pub get_static_session_info : Asked → ℕ → Definition
 get_static_session_info asked number = guarded
     (session_guard asked.seats number ∷ [])

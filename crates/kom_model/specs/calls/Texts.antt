@@ -35,12 +35,12 @@ abbrev pub body_of : Db → ℕ → List ℕ
 body_of db text = elim (text_of db text) [ None ↦ [] | Some row ↦ row.body ]
 
 -- the caller made the text; it made it, or supervises who did, or its session is strong
-abbrev pub is_own : Db → Viewer → ℕ → Bool
-is_own db caller text = is_author caller.person (author_of db text)
+abbrev pub made_text : Db → Viewer → ℕ → Bool
+made_text db caller text = is_author caller.person (author_of db text)
 
-abbrev pub answers_for : Db → Viewer → ℕ → Bool
-answers_for db caller text =
-    is_own db caller text || supervises db caller.person (author_of db text) || caller.strong
+abbrev pub owns_text : Db → Viewer → ℕ → Bool
+owns_text db caller text =
+    made_text db caller text || supervises db caller.person (author_of db text) || caller.strong
 
 -- what is asked of a text's bytes, from the first to the last one, as far as there are some
 abbrev pub cut : ℕ → ℕ → List ℕ → List ℕ
@@ -57,13 +57,14 @@ get_text asked text start end = guarded
       changes = [];
     })
 
--- call 90, get-text-stat
+-- what is replied of a text
 abbrev pub text_reply : Db → Viewer → ℕ → Reply
 text_reply db caller number = elim (text_of db number) [
   | None ↦ reply.Refused 14 number
   | Some row ↦ reply.TextStat (shown_stat db caller row)
 ]
 
+-- call 90, get-text-stat
 abbrev pub get_text_stat : Asked → ℕ → Definition
 get_text_stat asked text = guarded
     (login_guard (caller asked) ∷ text_guard asked.db (caller asked) text ∷ [])
@@ -82,7 +83,7 @@ gone_text db text =
 abbrev pub delete_text : Asked → ℕ → Definition
 delete_text asked text = guarded
     (login_guard (caller asked) ∷ text_guard asked.db (caller asked) text
-    ∷ unless (answers_for asked.db (caller asked) text) 12 text ∷ [])
+    ∷ unless (owns_text asked.db (caller asked) text) 12 text ∷ [])
     (done (gone_text asked.db text) [])
 
 -- a local number of the conference is left
@@ -137,7 +138,7 @@ linker_of db child parent footnote =
 -- the caller may take a recipient away
 abbrev pub may_take : Db → Viewer → ℕ → ℕ → Bool
 may_take db caller text conference =
-    answers_for db caller text || sender_of db text conference == caller.person
+    owns_text db caller text || sender_of db text conference == caller.person
     || supervises db caller.person conference
 
 -- call 31, sub-recipient
@@ -192,7 +193,7 @@ abbrev pub sub_comment : Asked → ℕ → ℕ → Definition
 sub_comment asked child parent = guarded
     (login_guard (caller asked) ∷ text_guard asked.db (caller asked) child
     ∷ text_guard asked.db (caller asked) parent ∷ linked_guard asked.db child parent false 31
-    ∷ unless (answers_for asked.db (caller asked) child
+    ∷ unless (owns_text asked.db (caller asked) child
     || linker_of asked.db child parent false == (caller asked).person) 12 child ∷ [])
     (done (effect.LinkGone child parent false ∷ []) [])
 
@@ -201,7 +202,7 @@ abbrev pub add_footnote : Asked → ℕ → ℕ → Definition
 add_footnote asked child parent = guarded
     (login_guard (caller asked) ∷ text_guard asked.db (caller asked) child
     ∷ text_guard asked.db (caller asked) parent ∷ unless (not (child == parent)) 12 child
-    ∷ unless (is_own asked.db (caller asked) child && is_own asked.db (caller asked) parent)
+    ∷ unless (made_text asked.db (caller asked) child && made_text asked.db (caller asked) parent)
     37 parent
     ∷ unlinked_guard asked.db child parent true 29 ∷ into_guard asked.db parent true 35 parent
     ∷ from_guard asked.db child true 35 ∷ [])
@@ -212,7 +213,7 @@ abbrev pub sub_footnote : Asked → ℕ → ℕ → Definition
 sub_footnote asked child parent = guarded
     (login_guard (caller asked) ∷ text_guard asked.db (caller asked) child
     ∷ text_guard asked.db (caller asked) parent ∷ linked_guard asked.db child parent true 32
-    ∷ unless (is_own asked.db (caller asked) child || (caller asked).strong) 12 child ∷ [])
+    ∷ unless (made_text asked.db (caller asked) child || (caller asked).strong) 12 child ∷ [])
     (done (effect.LinkGone child parent true ∷ []) [])
 
 -- call 72, mark-text: the mark may be there already

@@ -4,13 +4,13 @@ use Rattle.kom_types.specs.declared.effects.Effect.{Effect}
 use Rattle.kom_model.specs.Db.{Db}
 use Rattle.kom_model.specs.Messages.{text_aux_changed}
 use Rattle.kom_model.specs.Sending.{Sending, delivered_to}
-use Rattle.kom_model.specs.ToWhom.{items_named, items_added}
+use Rattle.kom_model.specs.ToWhom.{items_named, items_made}
 use Rattle.async_fanout.proofs.Brought.{one}
 use Rattle.async_fanout.proofs.on_aux_items.modify_text_info.Goals as goal
 
 -- the message, by the rows, the numbers that are deleted and the effects
 abbrev changed : ℕ → Db → List ℕ → List Effect → Sending
-changed text db numbers effects = text_aux_changed db text (items_named db text numbers) (items_added effects)
+changed text db numbers effects = text_aux_changed db text (items_named db text numbers) (items_made effects)
 
 pub returns : goal.returns
 returns c =
