@@ -2,7 +2,6 @@
 #![tactic(auto)]
 
 mod deletion;
-mod kinds;
 mod on_aux_items;
 mod on_conferences;
 mod owning;

@@ -2,10 +2,10 @@ ghost use Rattle.std.specs.Prelude.{◌≡◌};
 ghost use Rattle.kom_model.specs.calls.AuxItems as AuxItems;
 ghost use Rattle.kom_model.specs.calls.Call.{Meets};
 
-use crate::kinds::is_letterbox;
 use access_rights::{conference_adder, conference_guard, items_guard, login_guard};
 use kom_model::CallError;
 use kom_state::{Asked, State, item_effects};
+use kom_types::bits::is_letterbox;
 use kom_types::{AuxChange, Decision, Object, Reply, Sequence};
 
 /// Call 93, modify-conf-info. The time grows with the items of the conference for each entry.

@@ -7,17 +7,14 @@ ghost use Rattle.kom_model.specs.calls.Conferences as Conferences;
 ghost use Rattle.kom_model.specs.calls.Guards.{Guards};
 ghost use Rattle.kom_model.specs.calls.Sessions.{counts};
 
-use crate::kinds::is_letterbox;
 use crate::owning::owner_guards;
 use access_rights::{login_guard, name_guard, new_items_guard, type_guard, unless};
 use kom_model::{CallError, Refused, Viewer};
 use kom_state::{Asked, State, new_items, push_items};
+use kom_types::bits::{CREATES_CONFERENCES, is_letterbox};
 use kom_types::{
     Bytes, Counter, Decision, Effect, EffectList, Memory, NewConference, Object, Reply, Sequence,
 };
-
-/// The privilege to make conferences.
-const MAY_CREATE: u16 = 2048;
 
 /// Call 3, change-name.
 pub fn change_name(asked: &Asked<'_>, conference: u32, name: &Bytes) -> Result<Decision, CallError>
@@ -72,7 +69,7 @@ fn may_make_conferences(rows: &State, person: u32) -> bool
 {
     match rows.person(person) {
         None => false,
-        Some(row) => row.privileges & MAY_CREATE != 0,
+        Some(row) => row.privileges & CREATES_CONFERENCES != 0,
     }
 }
 

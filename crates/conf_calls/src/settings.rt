@@ -1,13 +1,14 @@
 //! The calls by which a field of a conference is set.
-ghost use Rattle.std.specs.Prelude.{◌≡◌};
-ghost use Rattle.kom_model.specs.calls.Call.{Meets};
+ghost use Rattle.std.specs.Prelude.{◌≡◌, ◌∷◌, []};
+ghost use Rattle.kom_types.specs.declared.effects.Effect.TheVariants as effect;
+ghost use Rattle.kom_model.specs.calls.Call.{Meets, done, unguarded};
 ghost use Rattle.kom_model.specs.calls.Conferences as Calls;
 
-use crate::kinds::{is_letterbox, is_secret};
 use crate::owning::owner_guards;
 use access_rights::{conference_or_none_guard, text_or_none_guard, type_guard, unless};
 use kom_model::CallError;
 use kom_state::{Asked, State};
+use kom_types::bits::{is_letterbox, is_secret_conference};
 use kom_types::{ConfField, Decision, Effect};
 
 /// Call 16, set-presentation: a text, or 0.
@@ -22,10 +23,7 @@ pub fn set_presentation(
     let rows = asked.rows();
     owner_guards(rows, &caller, conference)?;
     text_or_none_guard(rows, &caller, text)?;
-    Ok(asked.with_effect(Effect::ConfField {
-        number: conference,
-        field: ConfField::Presentation(text),
-    })?)
+    set_field(asked, conference, ConfField::Presentation(text))
 }
 
 /// Call 17, set-etc-motd: a text, or 0.
@@ -36,10 +34,7 @@ pub fn set_etc_motd(asked: &Asked<'_>, conference: u32, text: u32) -> Result<Dec
     let rows = asked.rows();
     owner_guards(rows, &caller, conference)?;
     text_or_none_guard(rows, &caller, text)?;
-    Ok(asked.with_effect(Effect::ConfField {
-        number: conference,
-        field: ConfField::Motd(text),
-    })?)
+    set_field(asked, conference, ConfField::Motd(text))
 }
 
 /// Call 18, set-supervisor: a conference, or 0.
@@ -50,10 +45,7 @@ pub fn set_supervisor(asked: &Asked<'_>, conference: u32, other: u32) -> Result<
     let rows = asked.rows();
     owner_guards(rows, &caller, conference)?;
     conference_or_none_guard(rows, &caller, other)?;
-    Ok(asked.with_effect(Effect::ConfField {
-        number: conference,
-        field: ConfField::Supervisor(other),
-    })?)
+    set_field(asked, conference, ConfField::Supervisor(other))
 }
 
 /// Call 19, set-permitted-submitters: a conference, or 0.
@@ -68,10 +60,7 @@ pub fn set_permitted_submitters(
     let rows = asked.rows();
     owner_guards(rows, &caller, conference)?;
     conference_or_none_guard(rows, &caller, other)?;
-    Ok(asked.with_effect(Effect::ConfField {
-        number: conference,
-        field: ConfField::PermittedSubmitters(other),
-    })?)
+    set_field(asked, conference, ConfField::PermittedSubmitters(other))
 }
 
 /// Call 20, set-super-conf: a conference, or 0.
@@ -82,10 +71,7 @@ pub fn set_super_conf(asked: &Asked<'_>, conference: u32, other: u32) -> Result<
     let rows = asked.rows();
     owner_guards(rows, &caller, conference)?;
     conference_or_none_guard(rows, &caller, other)?;
-    Ok(asked.with_effect(Effect::ConfField {
-        number: conference,
-        field: ConfField::SuperConference(other),
-    })?)
+    set_field(asked, conference, ConfField::SuperConference(other))
 }
 
 /// Call 21, set-conf-type.
@@ -96,10 +82,7 @@ pub fn set_conf_type(asked: &Asked<'_>, conference: u32, kind: u8) -> Result<Dec
     owner_guards(rows, &asked.caller(), conference)?;
     unless(may_become(rows, conference, kind), 23, conference)?;
     type_guard(kind)?;
-    Ok(asked.with_effect(Effect::ConfField {
-        number: conference,
-        field: ConfField::Kind(kind),
-    })?)
+    set_field(asked, conference, ConfField::Kind(kind))
 }
 
 /// Whether a conference may get a type: a letterbox stays one and is not secret, and no other
@@ -110,7 +93,8 @@ fn may_become(rows: &State, conference: u32, kind: u8) -> bool
     match rows.conference(conference) {
         None => false,
         Some(row) => {
-            is_letterbox(kind) == is_letterbox(row.kind) && !(is_letterbox(kind) && is_secret(kind))
+            is_letterbox(kind) == is_letterbox(row.kind)
+                && !(is_letterbox(kind) && is_secret_conference(kind))
         }
     }
 }
@@ -120,10 +104,7 @@ pub fn set_garb_nice(asked: &Asked<'_>, conference: u32, days: u32) -> Result<De
     ensures { Meets (Calls.set_garb_nice asked.now conference days) result }
 {
     owner_guards(asked.rows(), &asked.caller(), conference)?;
-    Ok(asked.with_effect(Effect::ConfField {
-        number: conference,
-        field: ConfField::Nice(days),
-    })?)
+    set_field(asked, conference, ConfField::Nice(days))
 }
 
 /// Call 97, set-expire: days.
@@ -131,10 +112,7 @@ pub fn set_expire(asked: &Asked<'_>, conference: u32, days: u32) -> Result<Decis
     ensures { Meets (Calls.set_expire asked.now conference days) result }
 {
     owner_guards(asked.rows(), &asked.caller(), conference)?;
-    Ok(asked.with_effect(Effect::ConfField {
-        number: conference,
-        field: ConfField::Expire(days),
-    })?)
+    set_field(asked, conference, ConfField::Expire(days))
 }
 
 /// Call 105, set-keep-commented: days.
@@ -146,8 +124,15 @@ pub fn set_keep_commented(
     ensures { Meets (Calls.set_keep_commented asked.now conference days) result }
 {
     owner_guards(asked.rows(), &asked.caller(), conference)?;
+    set_field(asked, conference, ConfField::KeepCommented(days))
+}
+
+/// What each of them comes to once its guards have let it pass.
+fn set_field(asked: &Asked<'_>, conference: u32, field: ConfField) -> Result<Decision, CallError>
+    ensures { Meets (unguarded (done (effect.ConfField conference field ∷ []) [])) result }
+{
     Ok(asked.with_effect(Effect::ConfField {
         number: conference,
-        field: ConfField::KeepCommented(days),
+        field,
     })?)
 }
