@@ -10,7 +10,7 @@ mod on_links;
 mod on_marks;
 mod on_recipients;
 mod on_texts;
-mod own;
+mod owning;
 
 pub use making::{create_anonymous_text, create_text};
 pub use on_aux_items::modify_text_info;

@@ -14,16 +14,11 @@ use crate::on_recipients::{new_recipient, written};
 use access_rights::{login_guard, new_items_guard, size_guard, unless};
 use kom_model::CallError;
 use kom_state::{Asked, State, push_count, push_items};
+use kom_types::limits::{LAST_DRAWN, LONGEST_BODY};
 use kom_types::{
     Bytes, Counter, Decision, Effect, EffectList, Link, Memory, MiscInput, NewText, Object, Reply,
     Sequence,
 };
-
-/// How many bytes a text has at most.
-const LONGEST_BODY: u32 = 1_048_576;
-
-/// The greatest number that a text gets, in all and in a conference or among those of its author.
-const LAST_DRAWN: u32 = 4_294_967_294;
 
 /// Call 86, create-text.
 pub fn create_text(asked: &Asked<'_>, given: &NewText) -> Result<Decision, CallError>

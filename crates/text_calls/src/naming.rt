@@ -3,28 +3,29 @@ ghost use Rattle.std.specs.Prelude.{◌≡◌, [], count_by};
 ghost use Rattle.std.specs.List.{list_any};
 ghost use Rattle.kom_model.specs.calls.Guards.{Guards, first_refusal};
 ghost use Rattle.kom_model.specs.calls.NewTexts as NewTexts;
+ghost use Rattle.text_calls.specs.Names.{names};
 
 use crate::on_links::into_guard;
-use crate::own::is_own;
+use crate::owning::made_text;
 use access_rights::{conference_guard, submit_guard, text_guard, unless};
 use kom_model::{Refused, Rows, Viewer};
 use kom_state::{Asked, State, is_recipient_tag};
 use kom_types::MiscInput;
+use kom_types::bits::ALLOWS_ANONYMOUS;
+use kom_types::limits::{MOST_COMMENTS, MOST_FOOTNOTES, MOST_RECIPIENTS};
 
 /// The tags of a comment's, and of a footnote's, link.
 const COMMENT: u32 = 2;
 
 const FOOTNOTE: u32 = 4;
 
-/// The bit of a conference's type that lets texts without an author in.
-const ANONYMOUS: u8 = 8;
-
-/// How many recipients a text has at most, and to how many texts it is a comment, or a footnote.
-const MOST_RECIPIENTS: usize = 100;
-
-const MOST_COMMENTS: usize = 1000;
-
-const MOST_FOOTNOTES: usize = 100;
+/// What an item may name: a recipient, or a text that is commented, or gets a footnote.
+#[derive(Clone, Copy)]
+pub(crate) enum Naming {
+    Recipient,
+    Comment,
+    Footnote,
+}
 
 /// Whether an item names a recipient.
 pub(crate) fn names_recipient(item: &MiscInput) -> bool
@@ -97,37 +98,14 @@ fn recipient_guard(
     let caller = asked.caller();
     let rows = asked.rows();
     conference_guard(rows, &caller, conference)?;
-    unless(is_new_recipient(before, conference), 27, conference)?;
+    unless(
+        is_new(Naming::Recipient, before, conference),
+        27,
+        conference,
+    )?;
     submit_guard(rows, &caller, conference)?;
     anonymous_guard(rows, anonymous, conference)?;
-    unless(count_recipients(before) < MOST_RECIPIENTS, 33, 0)
-}
-
-/// No item before names this recipient.
-fn is_new_recipient(before: &[MiscInput], conference: u32) -> bool
-    ensures { result ≡ NewTexts.is_new NewTexts.names_recipient before.now conference }
-{
-    !is_recipient_named(before, conference)
-}
-
-fn is_recipient_named(before: &[MiscInput], conference: u32) -> bool
-    ensures { result ≡ list_any
-        (NewTexts.names_value NewTexts.names_recipient conference) before.now }
-{
-    before.iter().any(|item| is_recipient_of(item, conference))
-}
-
-/// Whether an item names this recipient.
-fn is_recipient_of(item: &MiscInput, conference: u32) -> bool
-    ensures { result ≡ NewTexts.names_value NewTexts.names_recipient conference item.now }
-{
-    names_recipient(item) && item.value == conference
-}
-
-fn count_recipients(before: &[MiscInput]) -> usize
-    ensures { result ≡ count_by NewTexts.names_recipient before.now }
-{
-    before.iter().filter(|item| names_recipient(item)).count()
+    unless(count(Naming::Recipient, before) < MOST_RECIPIENTS, 33, 0)
 }
 
 /// A text without an author is taken by the conference.
@@ -147,7 +125,7 @@ fn takes_anonymous(rows: &State, conference: u32) -> bool
 {
     match Rows::conference(rows, conference) {
         None => false,
-        Some(head) => head.kind & ANONYMOUS != 0,
+        Some(head) => head.kind & ALLOWS_ANONYMOUS != 0,
     }
 }
 
@@ -157,36 +135,9 @@ fn comment_guard(asked: &Asked<'_>, before: &[MiscInput], text: u32) -> Result<(
     let caller = asked.caller();
     let rows = asked.rows();
     text_guard(rows, &caller, text)?;
-    unless(is_new_comment(before, text), 28, text)?;
+    unless(is_new(Naming::Comment, before, text), 28, text)?;
     into_guard(rows, text, false, 34, text)?;
-    unless(count_comments(before) < MOST_COMMENTS, 34, 0)
-}
-
-/// No item before names this text as one that is commented.
-fn is_new_comment(before: &[MiscInput], text: u32) -> bool
-    ensures { result ≡ NewTexts.is_new NewTexts.names_comment before.now text }
-{
-    !is_comment_named(before, text)
-}
-
-fn is_comment_named(before: &[MiscInput], text: u32) -> bool
-    ensures { result ≡ list_any
-        (NewTexts.names_value NewTexts.names_comment text) before.now }
-{
-    before.iter().any(|item| is_comment_of(item, text))
-}
-
-/// Whether an item names this text as one that is commented.
-fn is_comment_of(item: &MiscInput, text: u32) -> bool
-    ensures { result ≡ NewTexts.names_value NewTexts.names_comment text item.now }
-{
-    names_comment(item) && item.value == text
-}
-
-fn count_comments(before: &[MiscInput]) -> usize
-    ensures { result ≡ count_by NewTexts.names_comment before.now }
-{
-    before.iter().filter(|item| names_comment(item)).count()
+    unless(count(Naming::Comment, before) < MOST_COMMENTS, 34, 0)
 }
 
 fn footnote_guard(
@@ -201,41 +152,50 @@ fn footnote_guard(
     let rows = asked.rows();
     text_guard(rows, &caller, text)?;
     author_guard(rows, &caller, anonymous, text)?;
-    unless(is_new_footnote(before, text), 29, text)?;
+    unless(is_new(Naming::Footnote, before, text), 29, text)?;
     into_guard(rows, text, true, 35, text)?;
-    unless(count_footnotes(before) < MOST_FOOTNOTES, 35, 0)
+    unless(count(Naming::Footnote, before) < MOST_FOOTNOTES, 35, 0)
 }
 
 /// The caller made the text that gets a footnote, and makes this one not without an author.
 fn author_guard(rows: &State, caller: &Viewer, anonymous: bool, text: u32) -> Result<(), Refused>
     ensures { Guards (NewTexts.author_guard rows.now.db caller.now anonymous text) result }
 {
-    unless(!anonymous && is_own(rows, caller, text), 37, text)
+    unless(!anonymous && made_text(rows, caller, text), 37, text)
 }
 
-/// No item before names this text as one that gets a footnote.
-fn is_new_footnote(before: &[MiscInput], text: u32) -> bool
-    ensures { result ≡ NewTexts.is_new NewTexts.names_footnote before.now text }
+/// No item before names the same.
+fn is_new(naming: Naming, before: &[MiscInput], value: u32) -> bool
+    ensures { result ≡ NewTexts.is_new (names naming) before.now value }
 {
-    !is_footnote_named(before, text)
+    !is_named(naming, before, value)
 }
 
-fn is_footnote_named(before: &[MiscInput], text: u32) -> bool
-    ensures { result ≡ list_any
-        (NewTexts.names_value NewTexts.names_footnote text) before.now }
+fn is_named(naming: Naming, before: &[MiscInput], value: u32) -> bool
+    ensures { result ≡ list_any (NewTexts.names_value (names naming) value) before.now }
 {
-    before.iter().any(|item| is_footnote_of(item, text))
+    before.iter().any(|item| names_value(naming, item, value))
 }
 
-/// Whether an item names this text as one that gets a footnote.
-fn is_footnote_of(item: &MiscInput, text: u32) -> bool
-    ensures { result ≡ NewTexts.names_value NewTexts.names_footnote text item.now }
+/// Whether an item names this so.
+fn names_value(naming: Naming, item: &MiscInput, value: u32) -> bool
+    ensures { result ≡ NewTexts.names_value (names naming) value item.now }
 {
-    names_footnote(item) && item.value == text
+    names(naming, item) && item.value == value
 }
 
-fn count_footnotes(before: &[MiscInput]) -> usize
-    ensures { result ≡ count_by NewTexts.names_footnote before.now }
+fn count(naming: Naming, before: &[MiscInput]) -> usize
+    ensures { result ≡ count_by (names naming) before.now }
 {
-    before.iter().filter(|item| names_footnote(item)).count()
+    before.iter().filter(|item| names(naming, item)).count()
+}
+
+fn names(naming: Naming, item: &MiscInput) -> bool
+    ensures { result ≡ names naming item.now }
+{
+    match naming {
+        Naming::Recipient => names_recipient(item),
+        Naming::Comment => names_comment(item),
+        Naming::Footnote => names_footnote(item),
+    }
 }

@@ -3,7 +3,7 @@ ghost use Rattle.kom_model.specs.calls.Call.{Meets};
 ghost use Rattle.kom_model.specs.calls.Guards.{Guards};
 ghost use Rattle.kom_model.specs.calls.Texts as Texts;
 
-use crate::own::{answers_for, is_own};
+use crate::owning::{made_text, owns_text};
 use access_rights::{login_guard, text_guard, unless};
 use kom_model::{CallError, Refused};
 use kom_state::{Asked, State, most_links};
@@ -36,7 +36,7 @@ pub fn sub_comment(asked: &Asked<'_>, child: u32, parent: u32) -> Result<Decisio
     text_guard(rows, &caller, parent)?;
     linked_guard(rows, child, parent, false, 31)?;
     let is_linker = linker_of(rows, child, parent, false) == caller.person;
-    unless(answers_for(rows, &caller, child) || is_linker, 12, child)?;
+    unless(owns_text(rows, &caller, child) || is_linker, 12, child)?;
     Ok(asked.with_effect(Effect::LinkGone {
         child,
         parent,
@@ -54,7 +54,7 @@ pub fn add_footnote(asked: &Asked<'_>, child: u32, parent: u32) -> Result<Decisi
     text_guard(rows, &caller, child)?;
     text_guard(rows, &caller, parent)?;
     unless(child != parent, 12, child)?;
-    let are_own = is_own(rows, &caller, child) && is_own(rows, &caller, parent);
+    let are_own = made_text(rows, &caller, child) && made_text(rows, &caller, parent);
     unless(are_own, 37, parent)?;
     unlinked_guard(rows, child, parent, true, 29)?;
     into_guard(rows, parent, true, 35, parent)?;
@@ -72,7 +72,7 @@ pub fn sub_footnote(asked: &Asked<'_>, child: u32, parent: u32) -> Result<Decisi
     text_guard(rows, &caller, child)?;
     text_guard(rows, &caller, parent)?;
     linked_guard(rows, child, parent, true, 32)?;
-    unless(is_own(rows, &caller, child) || caller.strong, 12, child)?;
+    unless(made_text(rows, &caller, child) || caller.strong, 12, child)?;
     Ok(asked.with_effect(Effect::LinkGone {
         child,
         parent,

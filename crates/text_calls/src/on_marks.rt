@@ -4,10 +4,8 @@ ghost use Rattle.kom_model.specs.calls.Texts as Texts;
 use access_rights::{login_guard, text_guard, unless};
 use kom_model::CallError;
 use kom_state::Asked;
+use kom_types::limits::MOST_MARKS;
 use kom_types::{Decision, Effect};
-
-/// How many marks a person has at most.
-const MOST_MARKS: usize = 2000;
 
 /// Call 72, mark-text: the mark may be there already.
 pub fn mark_text(asked: &Asked<'_>, text: u32, kind: u8) -> Result<Decision, CallError>

@@ -4,19 +4,14 @@ ghost use Rattle.kom_model.specs.calls.Call.{Meets};
 ghost use Rattle.kom_model.specs.calls.Guards.{Guards};
 ghost use Rattle.kom_model.specs.calls.Texts as Texts;
 
-use crate::own::{answers_for, author_of};
+use crate::owning::{author_of, owns_text};
 use access_rights::{
     conference_guard, login_guard, shows_recipient, submit_guard, supervises, text_guard, unless,
 };
 use kom_model::{CallError, Refused, Viewer};
 use kom_state::{Asked, State, is_recipient_tag};
+use kom_types::limits::{LAST_DRAWN, MOST_RECIPIENTS};
 use kom_types::{ConfField, Decision, Effect, EffectList, Memory, Recipient, Reply, Sequence};
-
-/// The greatest number that a text gets in a conference.
-const LAST_DRAWN: u32 = 4_294_967_294;
-
-/// How many recipients a text has at most.
-const MOST_RECIPIENTS: usize = 100;
 
 /// Call 30, add-recipient.
 pub fn add_recipient(
@@ -121,7 +116,7 @@ fn shows_to(rows: &State, caller: &Viewer, text: u32, conference: u32) -> bool
 fn may_take(rows: &State, caller: &Viewer, text: u32, conference: u32) -> bool
     ensures { result ≡ Texts.may_take rows.now.db caller.now text conference }
 {
-    answers_for(rows, caller, text)
+    owns_text(rows, caller, text)
         || sender_of(rows, text, conference) == caller.person
         || supervises(rows, caller.person, conference)
 }

@@ -3,7 +3,7 @@ ghost use Rattle.kom_model.specs.calls.Call.{Meets};
 ghost use Rattle.kom_model.specs.calls.Texts as Texts;
 
 use crate::deleting::gone_text;
-use crate::own::answers_for;
+use crate::owning::owns_text;
 use access_rights::{login_guard, text_guard, unless};
 use kom_model::CallError;
 use kom_state::{Asked, State};
@@ -78,7 +78,7 @@ pub fn delete_text(asked: &Asked<'_>, text: u32) -> Result<Decision, CallError>
     let rows = asked.rows();
     login_guard(&caller)?;
     text_guard(rows, &caller, text)?;
-    unless(answers_for(rows, &caller, text), 12, text)?;
+    unless(owns_text(rows, &caller, text), 12, text)?;
     let alloc = asked.allocator();
     Ok(Decision {
         reply: Reply::Done,

@@ -17,17 +17,17 @@ pub(crate) fn author_of(rows: &State, text: u32) -> u32
 }
 
 /// Whether the caller made a text.
-pub(crate) fn is_own(rows: &State, caller: &Viewer, text: u32) -> bool
-    ensures { result ≡ Texts.is_own rows.now.db caller.now text }
+pub(crate) fn made_text(rows: &State, caller: &Viewer, text: u32) -> bool
+    ensures { result ≡ Texts.made_text rows.now.db caller.now text }
 {
     is_author(caller.person, author_of(rows, text))
 }
 
 /// Whether the caller made a text, or supervises who did, or its session is strong.
-pub(crate) fn answers_for(rows: &State, caller: &Viewer, text: u32) -> bool
-    ensures { result ≡ Texts.answers_for rows.now.db caller.now text }
+pub(crate) fn owns_text(rows: &State, caller: &Viewer, text: u32) -> bool
+    ensures { result ≡ Texts.owns_text rows.now.db caller.now text }
 {
-    is_own(rows, caller, text)
+    made_text(rows, caller, text)
         || supervises(rows, caller.person, author_of(rows, text))
         || caller.strong
 }
