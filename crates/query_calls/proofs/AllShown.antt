@@ -1,5 +1,5 @@
--- A person is shown all its memberships, and so is a strong session: what stands at a place among them is found by the
--- place alone.
+-- A person is shown all its memberships, who supervises a conference all its members, and a strong session both: what
+-- stands at a place among them is found by the place alone.
 use Rattle.std.proofs.Common.{◌≡◌, ℕ, zero, suc, ◌+◌, ◌-◌, ◌<◌, ◌≤◌, ◌⊎◌, Bool, true, false, cond, not, ◌||◌, ◌&&◌, eqb, ltb}
 use Rattle.std.proofs.Common.{List, [], ◌∷◌, length, map, filter, drop, Option, Some, None, is_some, option_map}
 use Rattle.std.proofs.Common.{refl, sym, ap, subst, ◌∙◌, inl, inr, ⊎_elim, true≢false, arith}
@@ -25,7 +25,7 @@ use Rattle.kom_model.specs.calls.Memberships.{is_shown, place_of}
 use Rattle.kom_state.specs.Placed.{AreThere, AreInPlace}
 use Rattle.kom_state.proofs.Placed.{all_own}
 use Rattle.kom_state.proofs.TableRows.{all_weaker, all_both}
-use Rattle.query_calls.specs.Walks.{sees_all, LeadsTo}
+use Rattle.query_calls.specs.Walks.{sees_all, sees_members, LeadsTo}
 
 -- ---- lists of which all pass a test
 module _ {X : Type 0} (test : X → Bool) where
@@ -137,14 +137,33 @@ own_alike true true false own by_person by_conference is = rw is refl
 own_alike true false strong own by_person by_conference is = refl
 own_alike false secret strong own by_person by_conference is = refl
 
+supervisor_alike : (seen others by_conference : Bool) → by_conference ≡ true →
+    (seen && (others || by_conference)) ≡ seen
+supervisor_alike true others by_conference is = or_right others by_conference is
+supervisor_alike false others by_conference is = refl
+
 module _ (db : Db) (viewer : Viewer) (person conference kind : ℕ) where
-  -- a strong session is shown all memberships of a conference, or none
-  pub shows-strong : viewer.strong ≡ true →
+  -- a strong session is shown all memberships of a conference, or none, and so is who supervises it
+  shows-strong : viewer.strong ≡ true →
       shows_membership db viewer person conference kind ≡ sees db viewer conference
   unfolding shows_membership
   shows-strong strong =
       strong_alike (sees db viewer conference) (is_secret_membership kind) viewer.strong (eqb viewer.person person)
       (supervises db viewer.person person) (supervises db viewer.person conference) strong
+
+  shows-supervised : supervises db viewer.person conference ≡ true →
+      shows_membership db viewer person conference kind ≡ sees db viewer conference
+  unfolding shows_membership
+  shows-supervised by =
+      supervisor_alike (sees db viewer conference)
+      (not (is_secret_membership kind) || viewer.strong || eqb viewer.person person
+      || supervises db viewer.person person)
+      (supervises db viewer.person conference) by
+
+  pub shows-members : sees_members db viewer conference ≡ true →
+      shows_membership db viewer person conference kind ≡ sees db viewer conference
+  shows-members all =
+      ⊎_elim shows-strong shows-supervised (or_cases viewer.strong (supervises db viewer.person conference) all)
 
   shows-own : eqb viewer.person person ≡ true →
       shows_membership db viewer person conference kind ≡ sees db viewer conference

@@ -1,14 +1,14 @@
 -- The row that is nearest to a number, of those that pass a test, by a walk along the numbers.
-use Rattle.std.proofs.Common.{◌≡◌, ℕ, ◌<◌, Bool, true, false, eqb, List, [], ◌∷◌, reverse, Option, Some, None, is_some}
-use Rattle.std.proofs.Common.{option_map, refl, ap, ◌∙◌, ⊎_elim, ne_of_lt, arith, ◌&&◌}
+use Rattle.std.proofs.Common.{◌≡◌, ℕ, ◌<◌, Bool, true, false, ◌&&◌, eqb, nat_lt, List, [], ◌∷◌, reverse}
+use Rattle.std.proofs.Common.{Option, Some, None, is_some, option_map, refl, sym, ap, ◌∙◌, ⊎_elim, ne_of_lt, arith}
 use Rattle.std.specs.List.{find, AllByRecursion}
 use Rattle.std.specs.Option.{option_or}
-use Rattle.std.proofs.lemmas.Bool.{cases_eq, cases_order, ne_eqb}
+use Rattle.std.proofs.lemmas.Bool.{cases_eq, cases_order, ne_eqb, lt-ltb, ltb-true}
 use Rattle.std.proofs.lemmas.List.{reverse-append}
 use Rattle.std.proofs.lemmas.List.Folds.{find-append}
 use Rattle.row_table.specs.Tables.{row_of, AllAbove, IsByNumber}
 
-pub both_or_not : (first second : Bool) → (first ≡ true → second ≡ false) → first && second ≡ false
+both_or_not : (first second : Bool) → (first ≡ true → second ≡ false) → first && second ≡ false
 both_or_not true second not_second = not_second refl
 both_or_not false second not_second = refl
 
@@ -101,3 +101,38 @@ module _ {R : Type 0} (number_of : R → ℕ) where
           let other : eqb (number_of row) number ≡ false = ne_eqb _ _ apart in
           stays-found _ _ (last-found next rows rising.1 below.1 (rw other at there) fail))
           (cases_eq (number_of row) number))
+
+  -- the nearest row to a number, where all that are shown are there
+  module _ (shown : ℕ → Bool) (start next : ℕ) (rows : List R) (rising : IsByNumber number_of rows)
+      (below : AllBelow next rows) (there : (number : ℕ) → shown number ≡ true → IsThere number rows) where
+    abbrev is_next : ℕ → Bool
+    is_next k = nat_lt start k && shown k
+
+    abbrev is_previous : ℕ → Bool
+    is_previous k = nat_lt k start && shown k
+
+    pub next-found : (number : ℕ) → start < number → shown number ≡ true →
+        ((k : ℕ) → start < k → k < number → shown k ≡ false) →
+        Some number ≡ option_map number_of (find (passes is_next) rows)
+    next-found number above is none =
+        sym (first-found is_next number (rw (lt-ltb start number above) is) rows rising (there number is)
+        (λ k less. both_or_not (nat_lt start k) (shown k) (λ high. none k (ltb-true start k high) less)))
+
+    pub next-none : ((k : ℕ) → start < k → k < next → shown k ≡ false) →
+        None ≡ option_map number_of (find (passes is_next) rows)
+    next-none none =
+        sym (ap (option_map number_of) (none-first is_next rows (fail-below is_next next rows below
+        (λ k less. both_or_not (nat_lt start k) (shown k) (λ high. none k (ltb-true start k high) less)))))
+
+    pub previous-found : (number : ℕ) → number < start → shown number ≡ true →
+        ((k : ℕ) → number < k → k < start → k < next → shown k ≡ false) →
+        Some number ≡ option_map number_of (find (passes is_previous) (reverse rows))
+    previous-found number under is none =
+        sym (last-found is_previous number (rw (lt-ltb number start under) is) next rows rising below (there number is)
+        (λ k more less. both_or_not (nat_lt k start) (shown k) (λ low. none k more (ltb-true k start low) less)))
+
+    pub previous-none : ((k : ℕ) → k < start → k < next → shown k ≡ false) →
+        None ≡ option_map number_of (find (passes is_previous) (reverse rows))
+    previous-none none =
+        sym (ap (option_map number_of) (none-last is_previous rows (fail-below is_previous next rows below
+        (λ k less. both_or_not (nat_lt k start) (shown k) (λ low. none k (ltb-true k start low) less)))))

@@ -2,7 +2,6 @@ mod AllShown
 mod AlongNumbers
 mod Bits
 mod Memberships
-mod ReadTexts
-mod Seen
+mod NextShown
 mod Shown
 mod ToldCounts

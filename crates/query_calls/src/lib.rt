@@ -4,7 +4,6 @@
 mod created;
 mod lookup;
 mod nearest;
-mod nearest_text;
 mod on_aux_items;
 mod on_conferences;
 mod on_memberships;

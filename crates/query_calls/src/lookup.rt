@@ -10,14 +10,9 @@ ghost use Rattle.query_calls.specs.Shown.{shown_of};
 use access_rights::sees;
 use kom_model::Viewer;
 use kom_state::{Asked, State};
+use kom_types::bits::{FIRST_CONFERENCE_BITS, LETTERBOX};
 use kom_types::{Bytes, ConferenceName, ConferenceNames, ConferenceRow, Memory, Sequence};
 use std::alloc::Global;
-
-/// The bit of a conference's type that a letterbox has.
-const LETTERBOX: u8 = 16;
-
-/// The first four bits of a conference's type.
-const FIRST_BITS: u8 = 240;
 
 /// What a look-up gives of the conferences whose names a pattern finds: of those that are wanted
 /// and that the caller is shown.
@@ -77,7 +72,7 @@ fn name_of(alloc: Global, row: &ConferenceRow) -> Result<ConferenceName, Memory>
 {
     Ok(ConferenceName {
         name: Bytes::copy_of(alloc, row.name.as_slice())?,
-        kind: row.kind & FIRST_BITS,
+        kind: row.kind & FIRST_CONFERENCE_BITS,
         number: row.number,
     })
 }

@@ -6,17 +6,15 @@ ghost use Rattle.kom_model.specs.calls.Call.{Meets, MeetsFirmly};
 ghost use Rattle.kom_model.specs.calls.Conferences as Conferences;
 
 use crate::lookup::shown_names;
-use crate::nearest::{next_seen, previous_seen};
+use crate::nearest::{Wanted, next_shown, previous_shown};
 use crate::told_counts::members_told;
 use access_rights::{conference_adder, conference_guard, items_shown, login_guard, size_guard};
 use kom_model::{CallError, Refused, Viewer};
 use kom_state::{Asked, State};
+use kom_types::limits::LONGEST_NAME;
 use kom_types::{Boxed, Bytes, Conference, ConferenceRow, Decision, Memory, Reply, UConference};
 use name_lookup::fold_byte;
 use std::alloc::Global;
-
-/// How many bytes a pattern has at most.
-const LONGEST_PATTERN: u32 = 60;
 
 /// Call 76, lookup-z-name: letterboxes, if persons are wanted, and other conferences, if they are,
 /// by rising number.
@@ -28,7 +26,7 @@ pub fn lookup_z_name(
 ) -> Result<Decision, CallError>
     ensures { Meets (Conferences.lookup_z_name asked.now pattern.now persons conferences) result }
 {
-    size_guard(pattern.as_slice(), LONGEST_PATTERN)?;
+    size_guard(pattern.as_slice(), LONGEST_NAME)?;
     let names = shown_names(asked, pattern.as_slice(), persons, conferences)?;
     let names = Boxed::new(asked.allocator(), names)?;
     Ok(asked.answer(Reply::ConferenceNames(names)))
@@ -174,7 +172,7 @@ pub fn find_next_conf_no(asked: &Asked<'_>, start: u32) -> Result<Decision, Refu
     ensures { MeetsFirmly (Conferences.find_next_conf_no asked.now start) result }
 {
     login_guard(&asked.caller())?;
-    match next_seen(asked, start) {
+    match next_shown(asked, Wanted::Conference, start) {
         Some(number) => Ok(asked.answer(Reply::Number(number))),
         None => Err(Refused {
             code: 9,
@@ -188,7 +186,7 @@ pub fn find_previous_conf_no(asked: &Asked<'_>, start: u32) -> Result<Decision, 
     ensures { MeetsFirmly (Conferences.find_previous_conf_no asked.now start) result }
 {
     login_guard(&asked.caller())?;
-    match previous_seen(asked, start) {
+    match previous_shown(asked, Wanted::Conference, start) {
         Some(number) => Ok(asked.answer(Reply::Number(number))),
         None => Err(Refused {
             code: 9,

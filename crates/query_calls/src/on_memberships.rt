@@ -1,9 +1,9 @@
 //! The calls that tell memberships, and what was read in them.
-ghost use Rattle.std.specs.Prelude.{◌≡◌, ℕ, ◌||◌, ◌&&◌, ◌<◌, ◌^◌, not, nat_lt, if◌then◌else◌};
+ghost use Rattle.std.specs.Prelude.{◌≡◌, ◌||◌, ◌&&◌, ◌<◌, ◌^◌, not, nat_lt, if◌then◌else◌};
 ghost use Rattle.std.specs.Prelude.{[], length, map, filter, IfOk};
 ghost use Rattle.read_ranges.specs.Changed as Changed;
 ghost use Rattle.read_ranges.specs.Numbers.{ranges_of as ranges_in};
-ghost use Rattle.kom_model.specs.Db.{Db, memberships_of, members_of, read_of};
+ghost use Rattle.kom_model.specs.Db.{memberships_of, members_of, read_of};
 ghost use Rattle.kom_model.specs.Shown as Shown;
 ghost use Rattle.kom_model.specs.Shown.{is_reserved as is_reserved_by};
 ghost use Rattle.kom_types.specs.tables.Memberships.{is_passive, member_of};
@@ -11,7 +11,7 @@ ghost use Rattle.kom_model.specs.Rights.{supervises as supervises_by};
 ghost use Rattle.kom_model.specs.calls.Call.{Meets};
 ghost use Rattle.kom_model.specs.calls.Guards.{caller as caller_of};
 ghost use Rattle.kom_model.specs.calls.Memberships as Calls;
-ghost use Rattle.query_calls.specs.Walks.{sees_all, LeadsTo};
+ghost use Rattle.query_calls.specs.Walks.{sees_all, sees_members, LeadsTo};
 
 use access_rights::{
     conference_guard, is_reserved, login_guard, row_guard, shows_membership, shows_reads,
@@ -19,14 +19,12 @@ use access_rights::{
 };
 use kom_model::{CallError, Refused, Viewer};
 use kom_state::{Asked, State};
+use kom_types::bits::PASSIVE_MEMBERSHIP;
 use kom_types::{
     Boxed, Decision, Member, Members, Membership, MembershipRow, Memberships, Memory, Moment,
     Numbers, RangesShown, ReadRange, Reply, Sequence,
 };
 use read_ranges::Ranges;
-
-/// The bit of a membership's type that says that the person takes no messages of new texts.
-const PASSIVE: u8 = 64;
 
 /// Call 52, get-unread-confs: by the places of the memberships.
 pub fn get_unread_confs(asked: &Asked<'_>, person: u32) -> Result<Decision, CallError>
@@ -70,7 +68,7 @@ fn is_told_unread(asked: &Asked<'_>, row: &MembershipRow) -> bool
     ensures { result ≡ (Calls.is_shown asked.now row.now && not (is_passive row.now.kind)
         && Calls.is_unread asked.now.db row.now) }
 {
-    is_shown(asked, row) && row.kind & PASSIVE == 0 && is_unread(asked.rows(), row)
+    is_shown(asked, row) && row.kind & PASSIVE_MEMBERSHIP == 0 && is_unread(asked.rows(), row)
 }
 
 /// Whether a membership is shown to the caller.
@@ -106,7 +104,8 @@ fn has_unread(read: &Ranges, first: u32, last: u32) -> bool
 }
 
 /// Call 101, get-members: those that are shown to the caller, in the order of joining. The time
-/// grows with how many are asked for, and, unless the session is strong, with the places before.
+/// grows with how many are asked for, and, unless all are shown to the caller, with the places
+/// before.
 pub fn get_members(
     asked: &Asked<'_>,
     conference: u32,
@@ -134,7 +133,7 @@ fn has_member_at(asked: &Asked<'_>, caller: &Viewer, conference: u32, place: u32
     ensures { result ≡ nat_lt place (length (Calls.shown_members asked.now conference)) }
 {
     let rows = asked.rows();
-    let begin = member_begin(caller, place);
+    let begin = member_begin(rows, caller, conference, place);
     let mut shown = rows
         .members_from(conference, begin)
         .filter(|member| shows_member(rows, caller, conference, member));
@@ -142,13 +141,24 @@ fn has_member_at(asked: &Asked<'_>, caller: &Viewer, conference: u32, place: u32
 }
 
 /// Where a walk over the members of a conference begins that is to come to a place among those that
-/// are shown to the caller: at that place in a strong session, else at the first.
-fn member_begin(caller: &Viewer, place: u32) -> usize
-    ensures { (db : Db) (conference : ℕ) → LeadsTo
-        (λ row. Shown.shows_membership db caller.now row.person conference row.kind)
-        (members_of db conference) place result }
+/// are shown to the caller: at that place if all are shown, or none is, else at the first.
+fn member_begin(rows: &State, caller: &Viewer, conference: u32, place: u32) -> usize
+    ensures { LeadsTo
+        (λ row. Shown.shows_membership rows.now.db caller.now row.person conference row.kind)
+        (members_of rows.now.db conference) place result }
 {
-    if caller.strong { place as usize } else { 0 }
+    if sees_members(rows, caller, conference) {
+        place as usize
+    } else {
+        0
+    }
+}
+
+/// Whether all members of a conference that is seen are shown to who looks.
+fn sees_members(rows: &State, viewer: &Viewer, conference: u32) -> bool
+    ensures { result ≡ sees_members rows.now.db viewer.now conference }
+{
+    viewer.strong || supervises(rows, viewer.person, conference)
 }
 
 /// The members at some places among those that are shown to the caller.
@@ -164,7 +174,7 @@ fn members_from(
         (Calls.part first count (Calls.shown_members asked.now conference))) }
 {
     let rows = asked.rows();
-    let begin = member_begin(caller, first);
+    let begin = member_begin(rows, caller, conference, first);
     let members = rows
         .members_from(conference, begin)
         .filter(|member| shows_member(rows, caller, conference, member))

@@ -7,19 +7,12 @@ ghost use Rattle.kom_model.specs.calls.Sessions as Sessions;
 use access_rights::{session_guard, working_shown};
 use kom_model::{CallError, Viewer};
 use kom_state::Asked;
+use kom_types::bits::INVISIBLE_SESSION;
 use kom_types::{
-    Boxed, Bytes, Decision, DynamicSession, DynamicSessions, Memory, Moment, Numbers, Reply, Seat,
-    Sequence, StaticSession,
+    Boxed, Bytes, Decision, DynamicSession, DynamicSessions, MESSAGE_NUMBERS, Memory, Moment,
+    Numbers, Reply, Seat, Sequence, StaticSession,
 };
 use std::alloc::Global;
-
-/// The numbers of messages, rising.
-const MESSAGES: [u32; 20] = [
-    0, 1, 2, 5, 6, 7, 8, 9, 11, 12, 13, 14, 15, 16, 17, 18, 19, 20, 21, 22,
-];
-
-/// The bit of a session's flags that is set if somebody is logged in invisibly.
-const INVISIBLE: u8 = 128;
 
 /// Call 56, who-am-i: the number of the caller's session.
 pub fn who_am_i(asked: &Asked<'_>) -> Decision
@@ -34,7 +27,7 @@ pub fn query_async(asked: &Asked<'_>) -> Result<Decision, CallError>
 {
     let alloc = asked.allocator();
     let numbers = match asked.seat() {
-        Some(seat) => with_bit(alloc, seat.accepted, &MESSAGES)?,
+        Some(seat) => with_bit(alloc, seat.accepted, &MESSAGE_NUMBERS)?,
         None => Sequence::new(alloc),
     };
     Ok(asked.answer(Reply::Numbers(Boxed::new(alloc, numbers)?)))
@@ -149,7 +142,7 @@ fn is_asked_for(moment: Moment, visible: bool, invisible: bool, most: u32, seat:
 fn is_invisible(seat: &Seat) -> bool
     ensures { result ≡ Sessions.is_invisible seat.now }
 {
-    seat.person != 0 && seat.flags & INVISIBLE != 0
+    seat.person != 0 && seat.flags & INVISIBLE_SESSION != 0
 }
 
 /// For how many seconds a person has done nothing.

@@ -6,15 +6,13 @@ ghost use Rattle.kom_model.specs.calls.Guards.{Guards};
 ghost use Rattle.kom_model.specs.calls.Texts as Texts;
 
 use crate::created::created_up;
-use crate::nearest_text::{next_read, previous_read};
+use crate::nearest::{Wanted, next_shown, previous_shown};
 use access_rights::{conference_guard, login_guard, reads_guard, shown_stat, text_guard, unless};
 use kom_model::{CallError, Refused, Viewer};
 use kom_state::{Asked, State};
+use kom_types::limits::MOST_MAPPED;
 use kom_types::{Boxed, Decision, Mapping, Memory, Reply};
 use std::alloc::Global;
-
-/// How many texts a mapping tells of at most.
-const MOST_MAPPED: u32 = 255;
 
 /// Call 23, get-marks: by rising text.
 pub fn get_marks(asked: &Asked<'_>) -> Result<Decision, CallError>
@@ -63,7 +61,7 @@ pub fn find_next_text_no(asked: &Asked<'_>, start: u32) -> Result<Decision, Refu
     ensures { MeetsFirmly (Texts.find_next_text_no asked.now start) result }
 {
     login_guard(&asked.caller())?;
-    match next_read(asked, start) {
+    match next_shown(asked, Wanted::Text, start) {
         Some(number) => Ok(asked.answer(Reply::Number(number))),
         None => Err(Refused {
             code: 14,
@@ -77,7 +75,7 @@ pub fn find_previous_text_no(asked: &Asked<'_>, start: u32) -> Result<Decision, 
     ensures { MeetsFirmly (Texts.find_previous_text_no asked.now start) result }
 {
     login_guard(&asked.caller())?;
-    match previous_read(asked, start) {
+    match previous_shown(asked, Wanted::Text, start) {
         Some(number) => Ok(asked.answer(Reply::Number(number))),
         None => Err(Refused {
             code: 14,

@@ -26,4 +26,4 @@ returns c =
     (c.filter-shown.ensures.source ∙ c.members_from.ensures))
     c.filter-shown.ensures.closure (λ x b q k. search (rules, tests))))
     ∙ ap (ltb left) (length-filter-map member_of test (drop begin rows))
-    ∙ led-length (λ row. test (member_of row)) rows c.args.place begin (c.member_begin-begin.ensures db c.args.conference))
+    ∙ led-length (λ row. test (member_of row)) rows c.args.place begin (c.member_begin-begin.ensures))

@@ -31,4 +31,4 @@ returns c =
     c.take.ensures.count)) in
     rw (← c.requires, ← c.rows-rows.ensures)
     (c.of.ensures ∙ taken ∙ part-map member_of test left c.args.count (drop begin rows)
-    ∙ ap (λ l. map member_of (take c.args.count l)) (c.member_begin-begin.ensures db c.args.conference).same)
+    ∙ ap (λ l. map member_of (take c.args.count l)) (c.member_begin-begin.ensures).same)
