@@ -4,8 +4,7 @@ ghost use Rattle.kom_model.specs.declared.call_errors.CallError.TheVariants as e
 ghost use Rattle.kom_model.specs.Kinds.{firm_numbers, is_among};
 ghost use Rattle.kom_model.specs.Decide.{definition_of};
 ghost use Rattle.kom_model.specs.calls.Call.{Meets};
-ghost use Rattle.kom_core.specs.Deciding.{Asks, ChangesPerson, ChangesConference};
-ghost use Rattle.kom_core.specs.Deciding.{ChangesMember, ChangesText, HadMemory};
+ghost use Rattle.kom_core.specs.Deciding.{HadMemory};
 
 use kom_model::{CallError, Refused};
 use kom_state::Asked;
@@ -13,98 +12,6 @@ use kom_types::{Call, Decision};
 
 /// What a call comes to by its definition, but for the last guard.
 pub(crate) fn make(asked: &Asked<'_>, call: &Call) -> Result<Decision, CallError>
-    ensures meets { Meets (definition_of asked.now call.now) result }
-    ensures firm { is_among firm_numbers (number_of_call call.now) ≡ true → HadMemory result }
-{
-    match call {
-        Call::GetTime
-        | Call::WhoAmI
-        | Call::FirstUnusedConfNo
-        | Call::FindNextConfNo { .. }
-        | Call::FindPreviousConfNo { .. }
-        | Call::FirstUnusedTextNo
-        | Call::FindNextTextNo { .. }
-        | Call::FindPreviousTextNo { .. }
-        | Call::QueryAsync
-        | Call::GetClientName { .. }
-        | Call::GetClientVersion { .. }
-        | Call::GetVersionInfo
-        | Call::GetInfo
-        | Call::QueryPredefinedAuxItems
-        | Call::LookupZName { .. }
-        | Call::GetUconfStat { .. }
-        | Call::GetCollateTable
-        | Call::GetPersonStat { .. }
-        | Call::GetTextStat { .. }
-        | Call::GetConfStat { .. }
-        | Call::GetUnreadConfs { .. }
-        | Call::GetMembers { .. }
-        | Call::QueryReadTexts { .. }
-        | Call::GetMembership { .. }
-        | Call::GetMarks
-        | Call::LocalToGlobal { .. }
-        | Call::LocalToGlobalReverse { .. }
-        | Call::MapCreatedTexts { .. }
-        | Call::WhoIsOnDynamic { .. }
-        | Call::GetStaticSessionInfo { .. } => make_query(asked, call),
-        Call::Logout
-        | Call::Login { .. }
-        | Call::ChangeConference { .. }
-        | Call::ChangeWhatIAmDoing { .. }
-        | Call::Enable { .. }
-        | Call::SetClientVersion(_)
-        | Call::AcceptAsync { .. }
-        | Call::UserActive
-        | Call::SetPrivBits { .. }
-        | Call::SetPasswd(_)
-        | Call::CreatePerson(_)
-        | Call::SetPersFlags { .. }
-        | Call::SetUserArea { .. }
-        | Call::SendMessage { .. }
-        | Call::Disconnect { .. }
-        | Call::SyncKom
-        | Call::ShutdownKom { .. } => make_person_change(asked, call),
-        Call::ChangeName { .. }
-        | Call::CreateConf(_)
-        | Call::DeleteConf { .. }
-        | Call::SetPresentation { .. }
-        | Call::SetEtcMotd { .. }
-        | Call::SetSupervisor { .. }
-        | Call::SetPermittedSubmitters { .. }
-        | Call::SetSuperConf { .. }
-        | Call::SetConfType { .. }
-        | Call::SetGarbNice { .. }
-        | Call::SetExpire { .. }
-        | Call::SetKeepCommented { .. }
-        | Call::ModifyConfInfo(_) => make_conference_change(asked, call),
-        Call::SubMember { .. }
-        | Call::MarkAsRead { .. }
-        | Call::SetUnread { .. }
-        | Call::SetLastRead { .. }
-        | Call::AddMember { .. }
-        | Call::SetMembershipType { .. }
-        | Call::MarkAsUnread { .. }
-        | Call::SetReadRanges { .. } => make_member_change(asked, call),
-        Call::GetText { .. }
-        | Call::DeleteText { .. }
-        | Call::AddRecipient { .. }
-        | Call::SubRecipient { .. }
-        | Call::AddComment { .. }
-        | Call::SubComment { .. }
-        | Call::AddFootnote { .. }
-        | Call::SubFootnote { .. }
-        | Call::MarkText { .. }
-        | Call::UnmarkText { .. }
-        | Call::CreateText(_)
-        | Call::CreateAnonymousText(_)
-        | Call::ModifyTextInfo(_) => make_text_change(asked, call),
-        Call::Refused(code, status) => refuse(*code, *status),
-    }
-}
-
-/// The same of a call that only asks.
-fn make_query(asked: &Asked<'_>, call: &Call) -> Result<Decision, CallError>
-    requires { Asks call.now }
     ensures meets { Meets (definition_of asked.now call.now) result }
     ensures firm { is_among firm_numbers (number_of_call call.now) ≡ true → HadMemory result }
 {
@@ -180,17 +87,6 @@ fn make_query(asked: &Asked<'_>, call: &Call) -> Result<Decision, CallError>
         Call::GetStaticSessionInfo { session } => {
             query_calls::get_static_session_info(asked, *session)
         }
-        _ => unreachable!(),
-    }
-}
-
-/// The same of a call that changes sessions or persons, or the server.
-fn make_person_change(asked: &Asked<'_>, call: &Call) -> Result<Decision, CallError>
-    requires { ChangesPerson call.now }
-    ensures meets { Meets (definition_of asked.now call.now) result }
-    ensures firm { is_among firm_numbers (number_of_call call.now) ≡ true → HadMemory result }
-{
-    match call {
         Call::Logout => person_calls::logout(asked),
         Call::Login {
             person,
@@ -220,17 +116,6 @@ fn make_person_change(asked: &Asked<'_>, call: &Call) -> Result<Decision, CallEr
         Call::Disconnect { session } => person_calls::disconnect(asked, *session),
         Call::SyncKom => person_calls::sync_kom(asked),
         Call::ShutdownKom { .. } => person_calls::shutdown_kom(asked),
-        _ => unreachable!(),
-    }
-}
-
-/// The same of a call that makes, changes or deletes a conference.
-fn make_conference_change(asked: &Asked<'_>, call: &Call) -> Result<Decision, CallError>
-    requires { ChangesConference call.now }
-    ensures meets { Meets (definition_of asked.now call.now) result }
-    ensures firm { is_among firm_numbers (number_of_call call.now) ≡ true → HadMemory result }
-{
-    match call {
         Call::ChangeName { conference, name } => {
             conf_calls::change_name(asked, *conference, name)
         }
@@ -267,17 +152,6 @@ fn make_conference_change(asked: &Asked<'_>, call: &Call) -> Result<Decision, Ca
             conf_calls::set_keep_commented(asked, *conference, *days)
         }
         Call::ModifyConfInfo(change) => conf_calls::modify_conf_info(asked, change.get()),
-        _ => unreachable!(),
-    }
-}
-
-/// The same of a call that changes a membership.
-fn make_member_change(asked: &Asked<'_>, call: &Call) -> Result<Decision, CallError>
-    requires { ChangesMember call.now }
-    ensures meets { Meets (definition_of asked.now call.now) result }
-    ensures firm { is_among firm_numbers (number_of_call call.now) ≡ true → HadMemory result }
-{
-    match call {
         Call::SubMember { conference, person } => {
             member_calls::sub_member(asked, *conference, *person)
         }
@@ -308,17 +182,6 @@ fn make_member_change(asked: &Asked<'_>, call: &Call) -> Result<Decision, CallEr
         Call::SetReadRanges { conference, ranges } => {
             member_calls::set_read_ranges(asked, *conference, ranges)
         }
-        _ => unreachable!(),
-    }
-}
-
-/// The same of a call that changes a text, or what hangs on one.
-fn make_text_change(asked: &Asked<'_>, call: &Call) -> Result<Decision, CallError>
-    requires { ChangesText call.now }
-    ensures meets { Meets (definition_of asked.now call.now) result }
-    ensures firm { is_among firm_numbers (number_of_call call.now) ≡ true → HadMemory result }
-{
-    match call {
         Call::GetText { text, start, end } => text_calls::get_text(asked, *text, *start, *end),
         Call::DeleteText { text } => text_calls::delete_text(asked, *text),
         Call::AddRecipient {
@@ -340,7 +203,7 @@ fn make_text_change(asked: &Asked<'_>, call: &Call) -> Result<Decision, CallErro
             text_calls::create_anonymous_text(asked, given.get())
         }
         Call::ModifyTextInfo(change) => text_calls::modify_text_info(asked, change.get()),
-        _ => unreachable!(),
+        Call::Refused(code, status) => refuse(*code, *status),
     }
 }
 

@@ -10,11 +10,9 @@ use crate::server_state::State;
 use kom_model::{CallError, Refused};
 use kom_replies::printed_len;
 use kom_state::Asked;
+use kom_types::limits::LONGEST_SERVER_LINE;
 use kom_types::{Act, Call, Decision, Entry, Item, Memory, Reply, Sequence};
 use std::alloc::Global;
-
-/// How many bytes the line of a reply has at most.
-const LONGEST_REPLY: u64 = 4_194_304;
 
 /// What the call of an entry comes to. A firm call takes no memory.
 #[tactic(auto, unfolding(kom_model::specs::Decide::decision_of))]
@@ -54,7 +52,7 @@ fn limited(alloc: Global, reference: u32, decision: Decision) -> Decision
     ensures { result ≡ limited_decision reference decision }
 {
     let (length, reply) = measured(reference, decision.reply);
-    if length <= LONGEST_REPLY {
+    if length <= LONGEST_SERVER_LINE as u64 {
         Decision {
             reply,
             effects: decision.effects,
