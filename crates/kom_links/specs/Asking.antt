@@ -1,7 +1,10 @@
 -- How often a world was asked for what it has.
-use Rattle.std.specs.Prelude.{Bool, true, false}
+use Rattle.std.specs.Prelude.{ℕ, ◌+◌, ◌-◌, ◌^◌, min, Bool, true, false}
 use Rattle.kom_links.specs.declared.asked.Asked.{Asked}
-use Rattle.kom_links.specs.Script.{next_call}
+
+-- the number of the call that follows this many calls; the count stands still at 2^64 - 1
+abbrev pub next_call : ℕ → ℕ
+next_call made = min (made + 1) (2 ^ 64 - 1)
 
 -- once more for its gate, which it gave or refused
 abbrev pub with_gate : Bool → Asked → Asked

@@ -4,8 +4,4 @@ pub mod Records
 pub mod DeskCalls
 pub mod Streams
 pub mod Talk
-pub mod Script
 pub mod Asking
-pub mod PlannedItems
-pub mod Marks
-pub mod Memories

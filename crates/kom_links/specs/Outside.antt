@@ -66,7 +66,7 @@ MayWrite size before after took.Failed = Rose before after
 abbrev pub grown : List ℕ → Option (List ℕ) → Option (List ℕ)
 grown bytes told = option_map (λ before. before ++ bytes) told
 
--- where it is told before, it is told after with these bytes fewer at its prefix
+-- where it is told before, it is told after with these bytes fewer at its beginning
 abbrev pub Shrinks : Option (List ℕ) → List ℕ → Option (List ℕ) → Type 0
 Shrinks before bytes after = before ≡ option_map (λ left. bytes ++ left) after
 

@@ -16,7 +16,7 @@ pub struct Asked {
 
 impl Asked {
     /// A world was asked for nothing yet.
-    pub(crate) const fn nothing() -> Asked
+    pub const fn nothing() -> Asked
         ensures { result ≡ record { gates = 0; given = 0; clocks = 0; sinks = 0 } }
     {
         Asked {
@@ -28,7 +28,7 @@ impl Asked {
     }
 
     /// Counts that a gate was asked for, and whether it is given.
-    pub(crate) fn count_gate(&mut self, is_given: bool)
+    pub fn count_gate(&mut self, is_given: bool)
         ensures { self.new ≡ with_gate is_given self.old }
     {
         self.gates = self.gates.saturating_add(1);
@@ -38,14 +38,14 @@ impl Asked {
     }
 
     /// Counts that a clock was asked for.
-    pub(crate) fn count_clock(&mut self)
+    pub fn count_clock(&mut self)
         ensures { self.new ≡ with_clock self.old }
     {
         self.clocks = self.clocks.saturating_add(1);
     }
 
     /// Counts that a sink was asked for.
-    pub(crate) fn count_sink(&mut self)
+    pub fn count_sink(&mut self)
         ensures { self.new ≡ with_sink self.old }
     {
         self.sinks = self.sinks.saturating_add(1);

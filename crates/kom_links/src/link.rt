@@ -17,7 +17,7 @@ pub enum Got {
 /// What a write to a link answers.
 #[derive(Clone, Copy, Debug, PartialEq, Eq)]
 pub enum Took {
-    /// So many bytes were taken from the prefix of what was handed in.
+    /// So many bytes were taken from the beginning of what was handed in.
     Some(usize),
     /// Nothing could be taken in this call's own step.
     NotYet,

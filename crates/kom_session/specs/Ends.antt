@@ -29,8 +29,8 @@ IsEndOf (Some (fault.Gone why.Stopped)) ending = (ending ≡ end.Stopped) ⊎ (e
 IsEndOf (Some (fault.Full number)) ending = (ending ≡ end.Full number) ⊎ (ending ≡ end.Memory)
 IsEndOf (Some fault.Memory) ending = ending ≡ end.Memory
 
--- The cause of an end: a fault of the link goes before all; then the desk's first fault; want of
--- memory is free.
+-- The cause of an end: a fault of the link goes before all; then the desk's first fault; that
+-- memory ran out is free.
 pub record HasCause (before after : ℕ) (fault : Option DeskFault) (ended : Bool)
     (ending : SessionEnd) : Type 0 where
   pub link_fault : ending ≡ end.LinkFault → Rose before after
@@ -39,7 +39,7 @@ pub record HasCause (before after : ℕ) (fault : Option DeskFault) (ended : Boo
   pub has_ended : ending ≡ end.End → ended ≡ true
 
 -- A stream at fault is answered so, unless the link failed, the desk answered a fault, or memory
--- was wanted.
+-- ran out.
 abbrev pub TellsFault : ℕ → ℕ → Option DeskFault → List ℕ → SessionEnd → Type 0
 TellsFault before after fault input ending =
     (place : ℕ) → fault_of input ≡ Some place → (Rose before after → ⊥) → fault ≡ None
@@ -74,8 +74,8 @@ end_at (fault.Gone why.Stopped) = end.Stopped
 end_at (fault.Full number) = end.Full number
 end_at fault.Memory = end.Memory
 
--- the end of a service that was to end so: the desk's first fault goes before all but want of
--- memory
+-- the end of a service that was to end so: the desk's first fault goes before all but that
+-- memory ran out
 abbrev pub ending_of : SessionEnd → Option DeskFault → SessionEnd
 ending_of planned None = planned
 ending_of end.Memory (Some fault) = end.Memory

@@ -2,11 +2,9 @@
 ghost use Rattle.std.specs.Prelude.{None};
 
 use crate::serve_link;
-use kom_links::{
-    Desk, DeskFault, DeskPlan, Got, Link, LinkPlan, MemoryClock, MemoryDesk, MemoryLink, Script,
-    Served, SessionEnd, Took,
-};
+use kom_links::{Desk, DeskFault, Got, Link, Served, SessionEnd, Took};
 use kom_types::{Act, Moment, Record, Why};
+use memory_links::{DeskPlan, LinkPlan, MemoryClock, MemoryDesk, MemoryLink, Script};
 use std::alloc::{AllocError, Global};
 use std::sync::Wait;
 use std::test::Fail;

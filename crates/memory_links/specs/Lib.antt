@@ -1,0 +1,4 @@
+pub mod Script
+pub mod PlannedItems
+pub mod Marks
+pub mod Memories

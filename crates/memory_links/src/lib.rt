@@ -1,0 +1,26 @@
+//! The doors of `kom_links` in memory: each keeps to a script or a plan, and tells what it took and
+//! gave.
+#![tactic(auto)]
+
+mod desk_plan;
+mod marks;
+mod memory_clock;
+mod memory_desk;
+#[cfg(test)]
+mod memory_desk_tests;
+mod memory_gate;
+mod memory_link;
+mod memory_sink;
+mod memory_world;
+mod planned_items;
+mod read_log;
+#[cfg(test)]
+mod tests;
+
+pub use desk_plan::DeskPlan;
+pub use memory_clock::MemoryClock;
+pub use memory_desk::MemoryDesk;
+pub use memory_gate::{Client, MemoryGate};
+pub use memory_link::{LinkPlan, MemoryLink, Script};
+pub use memory_sink::MemorySink;
+pub use memory_world::{GatePlan, MemoryWorld};

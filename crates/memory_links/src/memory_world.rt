@@ -1,0 +1,168 @@
+ghost use Rattle.std.specs.Prelude.{◌≡◌, ◌<◌, ◌≤◌, ◌↔◌, [], None, is_ok, IfOk, IfSome, vec_len};
+ghost use Rattle.kom_links.specs.Outside.{IsNothing};
+ghost use Rattle.kom_links.specs.Doors.{MayRefuse, has_failed, IsNewGate, IsNewSink};
+ghost use Rattle.kom_links.specs.Asking.{with_gate, with_clock, with_sink};
+ghost use Rattle.memory_links.specs.Script.{faults_after};
+
+use crate::memory_clock::MemoryClock;
+use crate::memory_gate::{Client, MemoryGate};
+use crate::memory_link::Script;
+use crate::memory_sink::MemorySink;
+use kom_links::{Asked, Clock, Gate, Sink, World, WorldFault};
+use kom_types::{Memory, Moment};
+use std::alloc::Global;
+use std::collections::VecDeque;
+use std::mem;
+
+/// The clients of a gate in memory, and which of its calls are not served.
+#[derive(Debug, Drop)]
+pub struct GatePlan {
+    pub clients: VecDeque<Client>,
+    pub script: Script,
+}
+
+/// A world in memory. It has one gate, over standard input and output: a second one is refused,
+/// which is counted.
+#[derive(Debug, Drop)]
+pub struct MemoryWorld {
+    alloc: Global,
+    gate: Option<GatePlan>,
+    moments: Vec<Moment>,
+    sink_fails: Vec<u64>,
+    asked: Asked,
+    faults: u64,
+    ghost some: { 0 < vec_len moments },
+}
+
+impl MemoryWorld {
+    ghost use Rattle.memory_links.specs.Memories.{gate_plan_of, world_moments_of, sink_fails_of};
+
+    /// A world whose gate has this plan or is refused, whose clocks give these moments, and whose
+    /// sink fails at the writes of these numbers, counted from 1.
+    pub fn new(
+        alloc: Global,
+        gate: Option<GatePlan>,
+        moments: Vec<Moment>,
+        sink_fails: Vec<u64>,
+    ) -> MemoryWorld
+        requires { 0 < vec_len moments }
+        ensures no_fault { (⟦<MemoryWorld as World>⟧.view result).faults ≡ 0 }
+        ensures gate { gate_plan_of result ≡ gate }
+        ensures moments { world_moments_of result ≡ moments.items }
+        ensures sink_fails { sink_fails_of result ≡ sink_fails.items }
+    {
+        MemoryWorld {
+            alloc,
+            gate,
+            moments,
+            sink_fails,
+            asked: Asked::nothing(),
+            faults: 0,
+        }
+    }
+}
+
+impl World for MemoryWorld {
+    ghost use Rattle.memory_links.specs.Memories.{clients_of, script_of, calls_of, moments_of};
+    ghost use Rattle.memory_links.specs.Memories.{readings_of, fails_of, sink_writes_of};
+    ghost use Rattle.memory_links.specs.Memories.{gate_plan_of, world_moments_of, sink_fails_of};
+
+    type Gate = MemoryGate;
+
+    type Clock = MemoryClock;
+
+    type Sink = MemorySink;
+
+    ghost view = { λ world. record { asked = world.asked; faults = world.faults } };
+
+    fn faults(&self) -> u64 {
+        self.faults
+    }
+
+    fn std_gate(&mut self) -> Result<MemoryGate, WorldFault>
+        ensures may { MayRefuse (⟦<MemoryWorld as World>⟧.view self.old).faults
+            (⟦<MemoryWorld as World>⟧.view self.new).faults result }
+        ensures fresh { IfOk result (λ gate. IsNewGate (⟦<MemoryGate as Gate>⟧.view gate)) }
+        ensures asked { (⟦<MemoryWorld as World>⟧.view self.new).asked
+            ≡ with_gate (is_ok result) (⟦<MemoryWorld as World>⟧.view self.old).asked }
+        ensures faults { (⟦<MemoryWorld as World>⟧.view self.old).faults
+            ≤ (⟦<MemoryWorld as World>⟧.view self.new).faults }
+
+        // what it counts
+        ensures counted { (⟦<MemoryWorld as World>⟧.view self.new).faults
+            ≡ faults_after (has_failed result) (⟦<MemoryWorld as World>⟧.view self.old).faults }
+
+        // which gate is given
+        ensures failed { (result ≡ Err WorldFault.Failed) ↔ (gate_plan_of self.old ≡ None) }
+        ensures clients { IfOk result (λ gate.
+            IfSome (gate_plan_of self.old) (λ plan. clients_of gate ≡ plan.clients.items)) }
+        ensures script { IfOk result (λ gate.
+            IfSome (gate_plan_of self.old) (λ plan. script_of gate ≡ plan.script)) }
+        ensures no_call { IfOk result (λ gate. calls_of gate ≡ 0) }
+
+        // what is left
+        ensures gate { gate_plan_of self.new ≡ None }
+        ensures moments { world_moments_of self.new ≡ world_moments_of self.old }
+        ensures sink_fails { sink_fails_of self.new ≡ sink_fails_of self.old }
+    {
+        let opened = match self.gate.take() {
+            Some(plan) => match MemoryGate::make(self.alloc, plan.clients, plan.script) {
+                Ok(gate) => Ok(gate),
+                Err(Memory) => Err(WorldFault::Memory),
+            },
+            None => {
+                self.faults = self.faults.saturating_add(1);
+                Err(WorldFault::Failed)
+            }
+        };
+        self.asked.count_gate(opened.is_ok());
+        opened
+    }
+
+    fn clock(&mut self) -> Result<MemoryClock, Memory>
+        ensures fresh { IfOk result (λ clock. IsNothing (⟦<MemoryClock as Clock>⟧.gave clock)) }
+        ensures asked { (⟦<MemoryWorld as World>⟧.view self.new).asked
+            ≡ with_clock (⟦<MemoryWorld as World>⟧.view self.old).asked }
+        ensures faults { (⟦<MemoryWorld as World>⟧.view self.old).faults
+            ≤ (⟦<MemoryWorld as World>⟧.view self.new).faults }
+        ensures no_more { (⟦<MemoryWorld as World>⟧.view self.new).faults
+            ≡ (⟦<MemoryWorld as World>⟧.view self.old).faults }
+
+        // which clock is given
+        ensures script { IfOk result (λ clock. moments_of clock ≡ world_moments_of self.old) }
+        ensures no_reading { IfOk result (λ clock. readings_of clock ≡ 0) }
+
+        // what is left
+        ensures gate { gate_plan_of self.new ≡ gate_plan_of self.old }
+        ensures moments { world_moments_of self.new ≡ world_moments_of self.old }
+        ensures sink_fails { sink_fails_of self.new ≡ sink_fails_of self.old }
+    {
+        self.asked.count_clock();
+        Ok(MemoryClock::new(Vec::from_slice(self.alloc, self.moments.as_slice())?))
+    }
+
+    fn out(&mut self) -> MemorySink
+        ensures fresh { IsNewSink (⟦<MemorySink as Sink>⟧.view result) }
+        ensures asked { (⟦<MemoryWorld as World>⟧.view self.new).asked
+            ≡ with_sink (⟦<MemoryWorld as World>⟧.view self.old).asked }
+        ensures faults { (⟦<MemoryWorld as World>⟧.view self.old).faults
+            ≤ (⟦<MemoryWorld as World>⟧.view self.new).faults }
+        ensures no_more { (⟦<MemoryWorld as World>⟧.view self.new).faults
+            ≡ (⟦<MemoryWorld as World>⟧.view self.old).faults }
+
+        // which sink is given
+        ensures fails { fails_of result ≡ sink_fails_of self.old }
+        ensures no_write { sink_writes_of result ≡ 0 }
+
+        // what is left
+        ensures gate { gate_plan_of self.new ≡ gate_plan_of self.old }
+        ensures moments { world_moments_of self.new ≡ world_moments_of self.old }
+        ensures sink_fails { sink_fails_of self.new ≡ [] }
+    {
+        self.asked.count_sink();
+        MemorySink::new(
+            self.alloc,
+            mem::replace(&mut self.sink_fails, Vec::new(self.alloc)),
+        )
+    }
+}
