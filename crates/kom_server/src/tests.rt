@@ -1,6 +1,7 @@
 use super::run;
-use kom_links::{Client, GatePlan, LinkPlan, MemoryWorld, Script, SessionEnd};
+use kom_links::SessionEnd;
 use kom_types::{Moment, Words};
+use memory_links::{Client, GatePlan, LinkPlan, MemoryWorld, Script};
 use std::alloc::Global;
 use std::collections::VecDeque;
 use std::sync::Wait;

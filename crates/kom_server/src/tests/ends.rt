@@ -1,9 +1,10 @@
 //! How the sessions of a run end.
 use super::crowd::{CrowdedDesk, Deed};
 use super::left_by_clients;
-use kom_links::{LinkPlan, MemoryClock, MemoryLink, SessionEnd};
+use kom_links::SessionEnd;
 use kom_session::serve_link;
 use kom_types::{Memory, Moment};
+use memory_links::{LinkPlan, MemoryClock, MemoryLink};
 use std::alloc::Global;
 use std::sync::Wait;
 use std::test::Fail;
