@@ -167,4 +167,6 @@ mod keeper_tests;
 #[cfg(test)]
 mod message_tests;
 #[cfg(test)]
+mod number_tests;
+#[cfg(test)]
 mod tests;

@@ -79,6 +79,16 @@ impl State {
         }
     }
 
+    /// A server whose sessions have all gone, after so many connects, with these stored rows.
+    #[cfg(test)]
+    pub(crate) fn after_connects(alloc: Global, rows: kom_state::State, connects: u32) -> State
+        ensures { result ≡ record (opening_state rows.db) { connects = connects } }
+    {
+        let mut server = State::opening(alloc, rows);
+        server.connects = connects;
+        server
+    }
+
     pub(crate) fn allocator(&self) -> Global {
         self.alloc
     }

@@ -114,7 +114,7 @@ pub(super) fn connect(alloc: Global, core: &mut Core, moment: u64) -> Result<Ans
 }
 
 /// A session is connected under this number.
-fn check_connected(
+pub(super) fn check_connected(
     rt: &impl Abort,
     alloc: Global,
     core: &mut Core,
@@ -156,7 +156,7 @@ fn ask(core: &mut Core, session: u32, call: Call) -> Result<(), Memory>
 }
 
 /// What a session is sent for a call under reference 7 at moment 0 is this line.
-fn check_line(
+pub(super) fn check_line(
     rt: &impl Abort,
     alloc: Global,
     core: &mut Core,
