@@ -1,3 +1,4 @@
+pub mod Counting
 pub mod Finding
 pub mod JoinedRows
 pub mod Joining
@@ -12,5 +13,7 @@ pub mod RenewedRows
 pub mod Renewing
 pub mod Rooms
 pub mod Rows
+pub mod TalliedRows
+pub mod Tallies
 pub mod Turns
 pub mod Viewing

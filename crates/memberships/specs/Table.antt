@@ -2,7 +2,6 @@
 use Rattle.std.specs.Prelude.{◌≡◌, ◌≢◌, ℕ, ◌+◌, ◌≤◌, List, map, All}
 use Rattle.std.specs.List.{IsDistinct, range_with_len}
 use Rattle.kom_types.specs.declared.memberships.MembershipRow.{MembershipRow}
-use Rattle.kom_types.specs.declared.memberships.Member.{Member}
 use Rattle.kom_types.specs.tables.Memberships.{memberships_of, count_of}
 use Rattle.read_ranges.specs.Numbers.{AreRanges}
 use Rattle.read_ranges.specs.Reads.{ReadRow}

@@ -14,8 +14,10 @@ ghost use Rattle.read_ranges.specs.Reads.{read_of, with_reader, without_reader};
 ghost use Rattle.read_ranges.specs.Reads.{with_read, read_at};
 
 mod keys;
+mod tallies;
 
 use crate::kept::Kept;
+use crate::table::tallies::{is_secret, retally};
 use indexmap::IndexMap;
 use kom_types::{Member, MembershipRow, Memory, Moment, ReadRange};
 use read_ranges::Ranges;
@@ -28,9 +30,9 @@ use std::marker::Model;
 pub struct Memberships {
     /// What is kept of each membership, by its person and its conference.
     entries: IndexMap<(u32, u32), Kept>,
-    /// The conferences of each person, by position.
+    /// The conferences of each person, by position, with how many of the memberships are secret.
     conferences: Lists,
-    /// The persons in each conference, in the order of joining.
+    /// The persons in each conference, in the order of joining, with the same.
     persons: Lists,
     next_turn: u64,
 }
@@ -54,8 +56,9 @@ impl Model for Memberships {
     ghost use Rattle.indexmap.specs.IndexMap.{spare};
     ghost use Rattle.memberships.specs.Entries.{rows_of, reads_of};
     ghost use Rattle.memberships.specs.Keeping.{IsTable};
-    ghost use Rattle.row_slots.specs.Lists.{list_of, rooms_of};
+    ghost use Rattle.row_slots.specs.Lists.{list_of, tally_of, rooms_of};
     ghost use Rattle.memberships.specs.Table.{Table};
+    ghost use Rattle.memberships.specs.Tallies.{AreTallied};
 
     ghost Value = { Table };
 
@@ -68,7 +71,9 @@ impl Model for Memberships {
     } };
 
     ghost invariant = { λ a. IsTable a.entries.entries a.next_turn
-        (list_of a.conferences) (list_of a.persons) };
+        (list_of a.conferences) (list_of a.persons)
+        × AreTallied (rows_of (list_of a.conferences) a.entries.entries)
+        (tally_of a.conferences) (tally_of a.persons) };
 }
 
 impl Memberships {
@@ -220,6 +225,9 @@ impl Memberships {
         self.conferences
             .insert(person, row.position as usize, conference);
         self.persons.push(conference, person);
+        let is = is_secret(row.kind);
+        retally(&mut self.conferences, person, false, is);
+        retally(&mut self.persons, conference, false, is);
     }
 
     /// Sets a membership that is there. Takes no memory.
@@ -232,10 +240,14 @@ impl Memberships {
     {
         let (person, conference) = (row.person, row.conference);
         let kept = self.entries.get_mut(&(person, conference)).unwrap();
+        let was = is_secret(kept.kind);
         kept.renew(row);
         self.conferences.remove(person, conference);
         self.conferences
             .insert(person, row.position as usize, conference);
+        let is = is_secret(row.kind);
+        retally(&mut self.conferences, person, was, is);
+        retally(&mut self.persons, conference, was, is);
     }
 
     /// Sets what a person has read of a conference, which was told at a moment. Ranges that touch
@@ -260,11 +272,14 @@ impl Memberships {
         ensures reads { self.new.reads ≡ without_reader person conference self.old.reads }
         ensures room { KeepsRoom self.old self.new }
     {
-        if self.entries.swap_remove(&(person, conference)).is_none() {
+        let Some(kept) = self.entries.swap_remove(&(person, conference)) else {
             return false;
-        }
+        };
         self.conferences.remove(person, conference);
         self.persons.remove(conference, person);
+        let was = is_secret(kept.kind);
+        retally(&mut self.conferences, person, was, false);
+        retally(&mut self.persons, conference, was, false);
         true
     }
 

@@ -1,4 +1,5 @@
 use crate::Memberships;
+use kom_types::bits::SECRET_MEMBERSHIP;
 use kom_types::{MembershipRow, Memory, Moment, ReadRange};
 use read_ranges::{RangeFault, list};
 use std::alloc::Global;
@@ -235,5 +236,50 @@ fn room_is_reserved(rt: HostRuntime) -> Result<(), Fail> {
     let mut table = Memberships::new(rt.alloc());
     table.reserve(5, 1, 100)?;
     assert_eq!(rt; table.len(), 0);
+    Ok(())
+}
+
+// A membership of a type, which comes last among the person's.
+fn of_kind(person: u32, conference: u32, kind: u8) -> MembershipRow {
+    let mut row = row(person, conference, 9, 50);
+    row.kind = kind;
+    row
+}
+
+// Whether persons 5 and 6, and conferences 1 and 2, have a secret membership.
+fn secrets(table: &Memberships) -> [bool; 4] {
+    [
+        table.has_secret_of_person(5),
+        table.has_secret_of_person(6),
+        table.has_secret_in_conference(1),
+        table.has_secret_in_conference(2),
+    ]
+}
+
+#[test]
+fn a_membership_becomes_secret_and_is_shown_again(rt: HostRuntime) -> Result<(), Fail> {
+    let mut table = Memberships::new(rt.alloc());
+    fill(&mut table)?;
+    assert_eq!(rt; secrets(&table), [false, false, false, false]);
+    table.set(of_kind(5, 1, SECRET_MEMBERSHIP))?;
+    assert_eq!(rt; secrets(&table), [true, false, true, false]);
+    table.set(of_kind(5, 1, SECRET_MEMBERSHIP))?;
+    assert_eq!(rt; secrets(&table), [true, false, true, false]);
+    table.set(of_kind(5, 1, 0))?;
+    assert_eq!(rt; secrets(&table), [false, false, false, false]);
+    Ok(())
+}
+
+#[test]
+fn a_second_secret_membership_counts_too(rt: HostRuntime) -> Result<(), Fail> {
+    let mut table = Memberships::new(rt.alloc());
+    table.set(of_kind(5, 1, SECRET_MEMBERSHIP))?;
+    table.set(of_kind(5, 2, SECRET_MEMBERSHIP))?;
+    table.set(of_kind(6, 2, 0))?;
+    assert_eq!(rt; secrets(&table), [true, false, true, true]);
+    assert!(rt; table.remove(5, 1));
+    assert_eq!(rt; secrets(&table), [true, false, false, true]);
+    assert!(rt; table.remove(5, 2));
+    assert_eq!(rt; secrets(&table), [false, false, false, false]);
     Ok(())
 }

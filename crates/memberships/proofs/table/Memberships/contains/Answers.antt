@@ -6,5 +6,5 @@ use Rattle.memberships.proofs.table.Memberships.contains.Goals as goal
 
 pub returns : goal.returns
 returns c =
-    c.contains_key.ensures ∙ sym (is_there _ _ _ _ c.self.invariant c.args.person c.args.conference)
+    c.contains_key.ensures ∙ sym (is_there _ _ _ _ c.self.invariant.0 c.args.person c.args.conference)
     ∙ ap (λ (t : Table). is_some (membership_of c.args.person c.args.conference t.rows)) c.self.view_is

@@ -5,4 +5,4 @@ use Rattle.memberships.proofs.table.Memberships.count_of_conference.Goals as goa
 pub returns : goal.returns
 returns c =
     rw (← c.self.view_is)
-    (ap length c.list.ensures ∙ sym (conference_count _ _ _ _ c.self.invariant c.args.conference))
+    (ap length c.list.ensures ∙ sym (conference_count _ _ _ _ c.self.invariant.0 c.args.conference))

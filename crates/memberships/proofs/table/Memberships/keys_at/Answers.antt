@@ -23,7 +23,7 @@ returns c =
     let kept : c.deref.result.now ≡ dedup same_timed c.sort_unstable_by_key.new.self.items =
     c.deref.ensures.value ∙ dedup_is same_timed _ _ c.dedup.ensures.filtered in
     let keys = ap (map (λ (key : Timed). key.1)) kept
-    ∙ keys_once _ _ _ _ c.self.invariant number _ _ given c.sort_unstable_by_key.ensures.permutation up
+    ∙ keys_once _ _ _ _ c.self.invariant.0 number _ _ given c.sort_unstable_by_key.ensures.permutation up
     ∙ ap (λ (t : Table). map (λ (row : MembershipRow). (row.person, row.conference))
     (filter (λ row. row.person == number || row.conference == number) t.rows)) c.self.view_is in
     rw keys at c.keys_of.ensures

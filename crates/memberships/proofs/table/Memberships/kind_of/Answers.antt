@@ -8,12 +8,12 @@ returns-in_err-kept c =
     rw (← c.self.view_is)
     (c.from_residual.ensures
     ∙ sym (ap (option_map (λ (row : MembershipRow). row.kind))
-    (not_found _ _ _ _ c.self.invariant c.args.person c.args.conference
+    (not_found _ _ _ _ c.self.invariant.0 c.args.person c.args.conference
     (sym c.get.ensures.value ∙ ap option_copied c.in_err-kept.was))))
 
 pub returns : goal.returns
 returns c =
     rw (← c.self.view_is)
     (sym (ap (option_map (λ (row : MembershipRow). row.kind))
-    (found _ _ _ _ c.self.invariant c.args.person c.args.conference c.in_ok-kept.kept.now
+    (found _ _ _ _ c.self.invariant.0 c.args.person c.args.conference c.in_ok-kept.kept.now
     (sym c.get.ensures.value ∙ ap option_copied c.in_ok-kept.was))))

@@ -12,14 +12,14 @@ returns-in_err-person c =
     rw (← c.self.view_is)
     (c.from_residual.ensures
     ∙ sym (ap (option_map member_of)
-    (conference_none _ _ _ _ c.self.invariant c.args.conference c.args.place none)))
+    (conference_none _ _ _ _ c.self.invariant.0 c.args.conference c.args.place none)))
 
 -- the membership of a person in the list of a conference is kept
 pub returns-in_err-kept : goal.returns-in_err-kept
 returns-in_err-kept c =
     let gives = c.in_ok-person.ensures.lookup in
     let at = element_of _ _ c.args.place c.in_ok-person.field-0.now c.list.ensures gives.3.0 gives.1 in
-    let there = conference_kept _ _ _ _ c.self.invariant c.args.conference c.args.place c.in_ok-person.field-0.now at in
+    let there = conference_kept _ _ _ _ c.self.invariant.0 c.args.conference c.args.place c.in_ok-person.field-0.now at in
     absurd (false≢true (ap is_some (ap option_copied (sym c.in_err-kept.was) ∙ c.get-2.ensures.value) ∙ there))
 
 pub returns : goal.returns
@@ -31,5 +31,5 @@ returns c =
     (ap Some (c.member.ensures c.args.conference
     (place_of c.args.conference (list_of c.self.inside.conferences c.in_ok-person.field-0.now)))
     ∙ sym (ap (option_map member_of)
-    (member_found _ _ _ _ c.self.invariant c.args.conference c.args.place c.in_ok-person.field-0.now
+    (member_found _ _ _ _ c.self.invariant.0 c.args.conference c.args.place c.in_ok-person.field-0.now
     c.in_ok-kept.kept.now at there)))

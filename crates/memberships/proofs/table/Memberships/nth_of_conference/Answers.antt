@@ -6,7 +6,7 @@ pub returns-in_err-person : goal.returns-in_err-person
 returns-in_err-person c =
     let none = none_of _ _ c.args.place c.list.ensures c.in_err-person.ensures.lookup.3 in
     rw (← c.self.view_is)
-    (c.from_residual.ensures ∙ sym (conference_none _ _ _ _ c.self.invariant c.args.conference c.args.place none))
+    (c.from_residual.ensures ∙ sym (conference_none _ _ _ _ c.self.invariant.0 c.args.conference c.args.place none))
 
 pub returns : goal.returns
 returns c =
@@ -14,4 +14,4 @@ returns c =
     let at = element_of _ _ c.args.place c.in_ok-person.field-0.now c.list.ensures gives.3.0 gives.1 in
     c.get-2.ensures
     ∙ rw (← c.self.view_is)
-    (conference_found _ _ _ _ c.self.invariant c.args.conference c.args.place c.in_ok-person.field-0.now at)
+    (conference_found _ _ _ _ c.self.invariant.0 c.args.conference c.args.place c.in_ok-person.field-0.now at)

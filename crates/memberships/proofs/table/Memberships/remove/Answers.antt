@@ -1,69 +1,121 @@
-use Rattle.std.proofs.Common.{is_some, sym, ap, ◌∙◌, arith}
+use Rattle.std.proofs.Common.{◌≡◌, nat_eq, Some, is_some, false, sym, ap, ◌∙◌, arith}
 use Rattle.std.specs.Bool.{⊤}
+use Rattle.std.specs.Set.{remove_key}
 use Rattle.std.proofs.lemmas.Option.{MatchOption-at_none}
 use Rattle.kom_types.specs.tables.Memberships.{without_membership}
 use Rattle.read_ranges.specs.Reads.{without_reader}
+use Rattle.row_slots.specs.Lists.{list_of}
 use Rattle.row_slots.proofs.Rooms.{rooms_stay, no_room_falls}
+use Rattle.memberships.specs.Entries.{kept_at}
 use Rattle.memberships.specs.Table.{Table}
-use Rattle.memberships.proofs.Finding.{is_there, none_kept, some_kept, person_there}
+use Rattle.memberships.proofs.Finding.{is_there, person_there}
 use Rattle.memberships.proofs.Leaving.{Leaves, IsTable-left}
-use Rattle.memberships.proofs.Rooms.{sets_list}
+use Rattle.memberships.proofs.Rooms.{sets_list, still_sets, rooms_tallied}
 use Rattle.memberships.proofs.LeftRows.{without_left, without_none}
 use Rattle.memberships.proofs.ReadRows.{reads_left, reads_none}
+use Rattle.memberships.proofs.Tallies.{AreTallied-after, person_above, conference_above, tally_follows}
+use Rattle.memberships.proofs.TalliedRows.{changes_removed}
+use Rattle.memberships.proofs.Turns.{Sets}
 use Rattle.memberships.proofs.table.Memberships.remove.Goals as goal
+use Rattle.memberships.proofs.table.Memberships.remove.Goals.{After-remove-2}
 
-pub returns-then-is_none-clause-there : goal.returns-then-is_none-clause-there
-returns-then-is_none-clause-there c =
+pub returns-in_default-clause-there : goal.returns-in_default-clause-there
+returns-in_default-clause-there c =
     rw (← c.self.view_is)
-    (sym (is_there _ _ _ _ c.self.invariant c.args.person c.args.conference
-    ∙ ap is_some (sym c.swap_remove.ensures.value) ∙ c.if-is_none.ensures))
+    (sym (is_there _ _ _ _ c.self.invariant.0 c.args.person c.args.conference
+    ∙ ap is_some (sym c.swap_remove.ensures.value ∙ c.in_default.is)))
 
-pub returns-then-is_none-clause-rows : goal.returns-then-is_none-clause-rows
-returns-then-is_none-clause-rows c =
-    let absent = none_kept _ (ap is_some (sym c.swap_remove.ensures.value) ∙ c.if-is_none.ensures) in
-    without_none _ _ _ _ _ c.args.person c.args.conference c.self.invariant absent
-    (MatchOption-at_none _ (λ _. ⊤) (none_kept _ c.if-is_none.ensures) c.swap_remove.ensures.unchanged)
+pub returns-in_default-clause-rows : goal.returns-in_default-clause-rows
+returns-in_default-clause-rows c =
+    without_none _ _ _ _ _ c.args.person c.args.conference c.self.invariant.0
+    (sym c.swap_remove.ensures.value ∙ c.in_default.is)
+    (MatchOption-at_none _ (λ _. ⊤) c.in_default.is c.swap_remove.ensures.unchanged)
     ∙ ap (λ (t : Table). without_membership c.args.person c.args.conference t.rows) c.self.view_is
 
-pub returns-then-is_none-clause-reads : goal.returns-then-is_none-clause-reads
-returns-then-is_none-clause-reads c =
-    let absent = none_kept _ (ap is_some (sym c.swap_remove.ensures.value) ∙ c.if-is_none.ensures) in
-    reads_none _ _ _ _ c.self.invariant c.args.person c.args.conference _ absent
-    (MatchOption-at_none _ (λ _. ⊤) (none_kept _ c.if-is_none.ensures) c.swap_remove.ensures.unchanged)
+pub returns-in_default-clause-reads : goal.returns-in_default-clause-reads
+returns-in_default-clause-reads c =
+    reads_none _ _ _ _ c.self.invariant.0 c.args.person c.args.conference _
+    (sym c.swap_remove.ensures.value ∙ c.in_default.is)
+    (MatchOption-at_none _ (λ _. ⊤) c.in_default.is c.swap_remove.ensures.unchanged)
     ∙ ap (λ (t : Table). without_reader c.args.person c.args.conference t.reads) c.self.view_is
 
 -- the person is in the list of the conference
 pub remove-requires-2 : goal.remove-requires-2
 remove-requires-2 c =
-    let there = some_kept _ (ap is_some (sym c.swap_remove.ensures.value) ∙ c.if-is_none.ensures) in
-    person_there _ _ _ _ c.self.invariant c.args.person c.args.conference there.0 there.1
+    person_there _ _ _ _ c.self.invariant.0 c.args.person c.args.conference c.in-Some.kept
+    (sym c.swap_remove.ensures.value ∙ c.in-Some.is)
 
-leaves : (c : goal.After-remove-2) →
+there : (c : After-remove-2) →
+    kept_at (c.args.person, c.args.conference) c.self.inside.entries.entries ≡ Some c.in-Some.kept
+there c = sym c.swap_remove.ensures.value ∙ c.in-Some.is
+
+leaves : (c : After-remove-2) →
     Leaves c.self.inside.entries.entries c.swap_remove.new.self.entries c.args.person c.args.conference
 leaves c = record { unique = c.swap_remove.ensures.unique; changed = c.swap_remove.ensures.updates.0 }
 
+-- the conference is taken out of the list of the person
+takes : (c : After-remove-2) →
+    Sets (list_of c.self.inside.conferences) (list_of c.remove.new.self) c.args.person
+    (remove_key (nat_eq c.args.conference) (list_of c.self.inside.conferences c.args.person))
+takes c = sets_list _ _ _ _ c.remove.ensures.others c.remove.ensures.list
+
+pub retally-requires-clause-above : goal.retally-requires-clause-above
+retally-requires-clause-above c =
+    λ secret none.
+    let at = (goal.at.retally-requires-clause-above c).After-remove-2 in
+    omega (
+      arith,
+      c.remove.ensures.tallies c.args.person,
+      person_above _ _ _ _ c.self.invariant.1 _ _ c.is_secret-was.result false
+          (changes_removed _ _ _ _ _ _ c.self.invariant.0 _ _ _ _ c.is_secret-was.ensures (there at) (leaves at)
+          (takes at)) secret none,
+    )
+
+pub retally-requires-2-clause-above : goal.retally-requires-2-clause-above
+retally-requires-2-clause-above c =
+    λ secret none.
+    let at = (goal.at.retally-requires-2-clause-above c).After-remove-2 in
+    omega (
+      arith,
+      c.remove-2.ensures.tallies c.args.conference,
+      conference_above _ _ _ _ c.self.invariant.1 _ _ c.is_secret-was.result false
+          (changes_removed _ _ _ _ _ _ c.self.invariant.0 _ _ _ _ c.is_secret-was.ensures (there at) (leaves at)
+          (takes at)) secret none,
+    )
+
 pub invariant_of-self-2 : goal.invariant_of-self-2
 invariant_of-self-2 c =
-    IsTable-left _ _ _ _ _ c.args.person c.args.conference c.self.invariant (leaves c) _ _
-    (sets_list _ _ _ _ c.remove.ensures.others c.remove.ensures.list)
-    (sets_list _ _ _ _ c.remove-2.ensures.others c.remove-2.ensures.list)
+    let at = (goal.at.invariant_of-self-2 c).After-remove-2 in
+    let takes_now = still_sets _ _ _ _ _ (takes at) c.retally.ensures.others in (
+      IsTable-left _ _ _ _ _ c.args.person c.args.conference c.self.invariant.0 (leaves at) _ _ takes_now
+          (still_sets _ _ _ _ _ (sets_list _ _ _ _ c.remove-2.ensures.others c.remove-2.ensures.list)
+          c.retally-2.ensures.others),
+      AreTallied-after _ _ _ _ c.self.invariant.1 _ _ c.is_secret-was.result false
+          (changes_removed _ _ _ _ _ _ c.self.invariant.0 _ _ _ _ c.is_secret-was.ensures (there at) (leaves at)
+          takes_now) _ _
+          (tally_follows c.self.inside.conferences c.remove.new.self c.retally.new.lists _ _ false c.remove.ensures.tallies c.retally.ensures.tally
+          c.retally.ensures.others)
+          (tally_follows c.self.inside.persons c.remove-2.new.self c.retally-2.new.lists _ _ false c.remove-2.ensures.tallies c.retally-2.ensures.tally
+          c.retally-2.ensures.others),
+    )
 
 pub returns-clause-there : goal.returns-clause-there
 returns-clause-there c =
     rw (← c.self.view_is)
-    (sym (is_there _ _ _ _ c.self.invariant c.args.person c.args.conference
-    ∙ ap is_some (sym c.swap_remove.ensures.value) ∙ c.if-is_none.ensures))
+    (sym (is_there _ _ _ _ c.self.invariant.0 c.args.person c.args.conference
+    ∙ ap is_some (there (goal.at.returns-clause-there c).After-remove-2)))
 
 pub returns-clause-rows : goal.returns-clause-rows
 returns-clause-rows c =
-    let there = some_kept _ (ap is_some (sym c.swap_remove.ensures.value) ∙ c.if-is_none.ensures) in
-    without_left _ _ _ _ _ _ c.args.person c.args.conference there.0 c.self.invariant there.1 (leaves c)
-    (sets_list _ _ _ _ c.remove.ensures.others c.remove.ensures.list)
+    let at = (goal.at.returns-clause-rows c).After-remove-2 in
+    without_left _ _ _ _ _ _ c.args.person c.args.conference c.in-Some.kept c.self.invariant.0 (there at) (leaves at)
+    (still_sets _ _ _ _ _ (takes at) c.retally.ensures.others)
     ∙ ap (λ (t : Table). without_membership c.args.person c.args.conference t.rows) c.self.view_is
 
 pub returns-clause-reads : goal.returns-clause-reads
 returns-clause-reads c =
-    reads_left _ _ _ _ c.self.invariant c.args.person c.args.conference _ (leaves c)
+    reads_left _ _ _ _ c.self.invariant.0 c.args.person c.args.conference _
+    (leaves (goal.at.returns-clause-reads c).After-remove-2)
     ∙ ap (λ (t : Table). without_reader c.args.person c.args.conference t.reads) c.self.view_is
 
 pub returns-clause-room : goal.returns-clause-room
@@ -71,8 +123,12 @@ returns-clause-room c =
     rw (← c.self.view_is)
     (record {
       spare = omega (arith, c.swap_remove.ensures.room.0);
-      persons = rooms_stay c.self.inside.conferences c.remove.new.self
-          (no_room_falls _ _ c.args.person c.remove.ensures.others (omega (arith, c.remove.ensures.room)));
-      conferences = rooms_stay c.self.inside.persons c.remove-2.new.self
-          (no_room_falls _ _ c.args.conference c.remove-2.ensures.others (omega (arith, c.remove-2.ensures.room)));
+      persons = rooms_stay c.self.inside.conferences c.retally.new.lists
+          (rooms_tallied c.self.inside.conferences c.remove.new.self c.retally.new.lists c.args.person
+          (no_room_falls _ _ c.args.person c.remove.ensures.others (omega (arith, c.remove.ensures.room)))
+          c.retally.ensures.others);
+      conferences = rooms_stay c.self.inside.persons c.retally-2.new.lists
+          (rooms_tallied c.self.inside.persons c.remove-2.new.self c.retally-2.new.lists c.args.conference
+          (no_room_falls _ _ c.args.conference c.remove-2.ensures.others (omega (arith, c.remove-2.ensures.room)))
+          c.retally-2.ensures.others);
     })

@@ -6,6 +6,7 @@ use Rattle.memberships.specs.Entries.{Key, same_key, kept_with_read, reads_of, k
 use Rattle.memberships.specs.Table.{Table}
 use Rattle.memberships.proofs.Renewing.{Renews, IsTable-kept}
 use Rattle.memberships.proofs.ReadRows.{rows_none, unread_none, rows_read, reads_set}
+use Rattle.memberships.proofs.Tallies.{AreTallied-read}
 use Rattle.memberships.proofs.table.Memberships.set_read.Goals as goal
 
 absent : (c : goal.After-drop-ranges) →
@@ -15,12 +16,12 @@ absent c = sym c.get_mut.ensures.value ∙ ap option_copied_mut c.in_default.is
 pub returns-in_default-clause-rows : goal.returns-in_default-clause-rows
 returns-in_default-clause-rows c =
     rw (c.get_mut.follows.holds-at-none, ← c.self.view_is)
-    (rows_none _ _ _ _ c.self.invariant c.args.person c.args.conference c.args.at (absent c))
+    (rows_none _ _ _ _ c.self.invariant.0 c.args.person c.args.conference c.args.at (absent c))
 
 pub returns-in_default-clause-reads : goal.returns-in_default-clause-reads
 returns-in_default-clause-reads c =
     rw (c.get_mut.follows.holds-at-none, ← c.self.view_is)
-    (unread_none _ _ _ _ c.self.invariant c.args.person c.args.conference (merged c.args.ranges.items) (absent c))
+    (unread_none _ _ _ _ c.self.invariant.0 c.args.person c.args.conference (merged c.args.ranges.items) (absent c))
 
 renews : (c : goal.After-self-2-1) →
     Renews c.self.inside.entries.entries (c.get_mut.follows.lender c.set_read.new.self).entries c.args.person
@@ -40,16 +41,20 @@ renews c =
     }
 
 pub invariant_of-self-2 : goal.invariant_of-self-2
-invariant_of-self-2 c = IsTable-kept _ _ _ _ _ _ _ _ _ c.self.invariant (renews c)
+invariant_of-self-2 c = (
+  IsTable-kept _ _ _ _ _ _ _ _ _ c.self.invariant.0 (renews c),
+  AreTallied-read _ _ _ _ c.self.invariant.1 c.args.person c.args.conference c.args.at
+      (rows_read _ _ _ _ c.self.invariant.0 c.args.person c.args.conference _ _ _ _ (renews c)),
+)
 
 pub returns-clause-rows : goal.returns-clause-rows
 returns-clause-rows c =
-    rows_read _ _ _ _ c.self.invariant c.args.person c.args.conference _ _ _ _ (renews c)
+    rows_read _ _ _ _ c.self.invariant.0 c.args.person c.args.conference _ _ _ _ (renews c)
     ∙ ap (λ (t : Table). read_at c.args.person c.args.conference c.args.at t.rows) c.self.view_is
 
 pub returns-clause-reads : goal.returns-clause-reads
 returns-clause-reads c =
-    reads_set _ _ _ _ c.self.invariant c.args.person c.args.conference _ _ _ (renews c)
+    reads_set _ _ _ _ c.self.invariant.0 c.args.person c.args.conference _ _ _ (renews c)
     ∙ ap (λ ranges. with_read c.args.person c.args.conference ranges (reads_of c.self.inside.entries.entries))
     c.from_list.ensures.ranges
     ∙ ap (λ (t : Table). with_read c.args.person c.args.conference (merged c.args.ranges.items) t.reads) c.self.view_is
