@@ -4,6 +4,7 @@
 mod changes;
 mod keyed;
 mod row;
+mod secret;
 mod table;
 #[cfg(test)]
 mod tests;

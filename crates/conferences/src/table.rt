@@ -1,11 +1,15 @@
 ghost use Rattle.std.specs.Prelude.{◌≡◌, ◌+◌, ◌<◌, ◌≤◌, ◌↔◌, [], None, length, option_copied};
+ghost use Rattle.std.specs.Prelude.{map, filter};
 ghost use Rattle.std.specs.Prelude.{IsOk, IsTrue, OnOk, OnErr};
 ghost use Rattle.row_table.specs.Tables.{row_of, with_row, without_row, changed_row, IsByNumber};
 ghost use Rattle.kom_types.specs.tables.Conferences.{number_of_conference, with_field, with_name};
 ghost use Rattle.kom_types.specs.tables.Conferences.{with_local_drawn, with_item_drawn};
+ghost use Rattle.kom_types.specs.tables.Conferences.{is_secret_conference};
 
 use crate::changes::{Rename, SetField, SetNextItem, SetNextLocal};
 use crate::keyed::ByNumber;
+use crate::secret::SecretNumbers;
+use kom_types::bits::is_secret_conference;
 use kom_types::{Bytes, ConfField, ConferenceRow, Memory};
 use row_table::Table;
 use std::alloc::Global;
@@ -13,19 +17,30 @@ use std::marker::Model;
 
 /// The rows of the conferences.
 ///
-/// All but `reserve`, and a `put` that takes memory, are done in constant time.
+/// All but `reserve`, and a `put` that takes memory, are done in constant time, with one exception:
+/// `put`, `remove` and a change of the type look a number up among the secret ones by halving, and
+/// move those after it where it comes or goes.
 #[derive(Drop)]
 pub struct Conferences {
     rows: Table<ByNumber>,
+    /// The secret ones, with room for all.
+    secret: SecretNumbers,
 }
 
 impl Model for Conferences {
+    ghost use Rattle.std.specs.Prelude.{◌-◌, min, length};
     ghost use Rattle.row_table.specs.Tables.{Tabled};
     ghost use Rattle.kom_types.specs.declared.conferences.ConferenceRow.{ConferenceRow};
+    ghost use Rattle.conferences.specs.Secret.{IsListed};
 
     ghost Value = { Tabled ConferenceRow };
 
-    ghost view = { λ conferences. conferences.rows };
+    ghost view = { λ conferences. record {
+      rows = conferences.rows.rows;
+      spare = min conferences.rows.spare (conferences.secret.room - length conferences.rows.rows);
+    } };
+
+    ghost invariant = { λ conferences. IsListed conferences.rows.rows conferences.secret };
 }
 
 impl Conferences {
@@ -35,6 +50,7 @@ impl Conferences {
     {
         Conferences {
             rows: Table::new(alloc),
+            secret: SecretNumbers::new(alloc),
         }
     }
 
@@ -59,6 +75,14 @@ impl Conferences {
         self.rows.get(number)
     }
 
+    /// The numbers of the secret conferences, rising.
+    pub fn secret(&self) -> &[u32]
+        ensures { result.now ≡ map number_of_conference
+            (filter (λ row. is_secret_conference row.kind) self.now.rows) }
+    {
+        self.secret.as_slice()
+    }
+
     /// Puts a row in, in place of the one of its number if there is one, which takes no memory.
     pub fn put(&mut self, row: ConferenceRow) -> Result<(), Memory>
         ensures ok { OnOk result (self.new.rows ≡ with_row number_of_conference row self.old.rows) }
@@ -68,7 +92,12 @@ impl Conferences {
         ensures succeeds { 0 < self.old.spare → IsOk result }
         ensures spare { self.old.spare ≤ self.new.spare + 1 }
     {
+        let number = row.number;
+        let is_secret = is_secret_conference(row.kind);
+        let additional = usize::from(self.rows.get(number).is_none());
+        self.secret.reserve(self.rows.len(), additional)?;
         self.rows.put(row)?;
+        self.secret.set(number, is_secret);
         Ok(())
     }
 
@@ -78,6 +107,7 @@ impl Conferences {
         ensures rows { self.new.rows ≡ without_row number_of_conference number self.old.rows }
         ensures spare { self.old.spare ≤ self.new.spare }
     {
+        self.secret.set(number, false);
         self.rows.remove(number)
     }
 
@@ -88,6 +118,7 @@ impl Conferences {
         ensures err { OnErr result (self.old.spare < additional) }
         ensures spare { self.old.spare ≤ self.new.spare }
     {
+        self.secret.reserve(self.rows.len(), additional)?;
         self.rows.reserve(additional)?;
         Ok(())
     }
@@ -98,7 +129,13 @@ impl Conferences {
             ≡ changed_row number_of_conference number (with_field field) self.old.rows }
         ensures spare { self.old.spare ≤ self.new.spare }
     {
+        if self.rows.get(number).is_none() {
+            return;
+        }
         self.rows.change(number, SetField(field));
+        if let ConfField::Kind(kind) = &field {
+            self.secret.set(number, is_secret_conference(*kind));
+        }
     }
 
     /// Notes that a text of a conference has got this local number: the next one gets a greater.

@@ -1,5 +1,6 @@
 use super::*;
-use kom_types::{Bytes, ConfField, Moment};
+use kom_types::{Bytes, ConfField, ConferenceRow, Memory, Moment};
+use std::alloc::Global;
 use std::test::Fail;
 
 #[test]
@@ -51,4 +52,52 @@ fn numbers_of_items_are_drawn(rt: HostRuntime) -> Result<(), Fail> {
     conferences.draw_item(4, 7);
     assert_eq!(rt; conferences.get(4).map(|row| row.next_item), Some(8));
     Ok(())
+}
+
+// The types of a secret conference and of an open one.
+const SECRET: u8 = 160;
+
+const OPEN: u8 = 8;
+
+#[test]
+fn secret_conferences_are_listed(rt: HostRuntime) -> Result<(), Fail> {
+    let mut conferences = Conferences::new(rt.alloc());
+    assert!(rt; conferences.secret().is_empty());
+    conferences.put(conference(rt.alloc(), 9, SECRET)?)?;
+    conferences.put(conference(rt.alloc(), 4, OPEN)?)?;
+    conferences.put(conference(rt.alloc(), 2, SECRET)?)?;
+    conferences.put(conference(rt.alloc(), 7, SECRET)?)?;
+    assert!(rt; are_secret(&conferences, &[2, 7, 9]));
+    conferences.set_field(4, ConfField::Kind(SECRET));
+    assert!(rt; are_secret(&conferences, &[2, 4, 7, 9]));
+    conferences.set_field(7, ConfField::Kind(OPEN));
+    conferences.set_field(4, ConfField::Kind(SECRET));
+    conferences.set_field(3, ConfField::Kind(SECRET));
+    assert!(rt; are_secret(&conferences, &[2, 4, 9]));
+    Ok(())
+}
+
+#[test]
+fn secret_conferences_are_removed_and_replaced(rt: HostRuntime) -> Result<(), Fail> {
+    let mut conferences = Conferences::new(rt.alloc());
+    conferences.put(conference(rt.alloc(), 9, SECRET)?)?;
+    conferences.put(conference(rt.alloc(), 2, SECRET)?)?;
+    conferences.put(conference(rt.alloc(), 4, SECRET)?)?;
+    conferences.remove(4);
+    assert!(rt; are_secret(&conferences, &[2, 9]));
+    conferences.put(conference(rt.alloc(), 2, OPEN)?)?;
+    conferences.put(conference(rt.alloc(), 9, SECRET)?)?;
+    assert!(rt; are_secret(&conferences, &[9]));
+    conferences.put(conference(rt.alloc(), 2, SECRET)?)?;
+    assert!(rt; are_secret(&conferences, &[2, 9]));
+    Ok(())
+}
+
+fn conference(alloc: Global, number: u32, kind: u8) -> Result<ConferenceRow, Memory> {
+    let name = Bytes::copy_of(alloc, b"News")?;
+    Ok(fresh_conference(number, name, kind, Moment(9), 5, 5))
+}
+
+fn are_secret(conferences: &Conferences, numbers: &[u32]) -> bool {
+    conferences.secret() == numbers
 }

@@ -1,0 +1,4 @@
+pub mod Rows
+pub mod Chosen
+pub mod Places
+pub mod Listing
