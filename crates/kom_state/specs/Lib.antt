@@ -1,4 +1,5 @@
 pub mod Drawing
+pub mod Secrecy
 pub mod Keeping
 pub mod Placed
 pub mod Room

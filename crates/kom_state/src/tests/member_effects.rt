@@ -1,7 +1,7 @@
 //! Tests of the effects on memberships.
 use super::{join, make, open_all};
 use crate::State;
-use kom_types::{Effect, Memory, Moment, ReadRange, Sequence};
+use kom_types::{ConfField, Effect, Memory, Moment, ReadRange, Sequence};
 use std::process::Abort;
 use std::test::Fail;
 
@@ -75,4 +75,57 @@ fn check_unread(rt: &impl Abort, state: &mut State) -> Result<(), Fail> {
     assert!(rt; !read(state, 4, 7)? && !leave(state, 4)?);
     assert!(rt; join(state, 5, 4)? && !read(state, 4, 2)?);
     check_read(rt, state, 4, None)
+}
+
+// The administrator has a membership of this type in a conference.
+fn join_as(state: &mut State, conference: u32, kind: u8) -> Result<bool, Memory> {
+    let effect = Effect::MemberSet {
+        person: 5,
+        conference,
+        position: 0,
+        priority: 255,
+        added_by: 5,
+        added_at: Moment(9),
+        kind,
+    };
+    make(state, effect)
+}
+
+fn set_kind(state: &mut State, number: u32, kind: u8) -> Result<bool, Memory> {
+    let field = ConfField::Kind(kind);
+    make(state, Effect::ConfField { number, field })
+}
+
+// Whether some membership of the administrator, and whether one in a conference, may be hidden.
+fn may_hide(state: &State, conference: u32) -> (bool, bool) {
+    (
+        state.may_hide_membership(5),
+        state.may_hide_member(conference),
+    )
+}
+
+#[test]
+fn what_may_be_hidden_is_told(rt: HostRuntime) -> Result<(), Fail> {
+    check_hidden(&rt, &mut State::empty(rt.alloc()))
+}
+
+// A membership may be hidden where it is secret, or its conference is; a member only in the first.
+fn check_hidden(rt: &impl Abort, state: &mut State) -> Result<(), Fail> {
+    open_all(rt, state)?;
+    assert!(rt; join(state, 5, 4)?);
+    assert_eq!(rt; may_hide(state, 4), (false, false));
+    assert!(rt; set_kind(state, 4, 160)?);
+    assert_eq!(rt; may_hide(state, 4), (true, false));
+    assert!(rt; join(state, 5, 3)?);
+    assert_eq!(rt; may_hide(state, 4), (true, false));
+    check_secret_membership(rt, state)
+}
+
+fn check_secret_membership(rt: &impl Abort, state: &mut State) -> Result<(), Fail> {
+    assert!(rt; set_kind(state, 4, 8)? && join_as(state, 4, 32)?);
+    assert_eq!(rt; may_hide(state, 4), (true, true));
+    assert_eq!(rt; may_hide(state, 3), (true, false));
+    assert!(rt; leave(state, 4)?);
+    assert_eq!(rt; may_hide(state, 4), (false, false));
+    Ok(())
 }
