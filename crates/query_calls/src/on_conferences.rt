@@ -72,7 +72,8 @@ fn uconference(alloc: Global, row: &ConferenceRow) -> Result<UConference, Memory
     })
 }
 
-/// Call 91, get-conf-stat. The time grows with the conference's members and aux-items.
+/// Call 91, get-conf-stat. The time grows with the conference's aux-items, and, where a membership
+/// in it is secret and the caller does not see all, with its members.
 pub fn get_conf_stat(asked: &Asked<'_>, number: u32) -> Result<Decision, CallError>
     ensures { Meets (Conferences.get_conf_stat asked.now number) result }
 {

@@ -104,8 +104,8 @@ fn has_unread(read: &Ranges, first: u32, last: u32) -> bool
 }
 
 /// Call 101, get-members: those that are shown to the caller, in the order of joining. The time
-/// grows with how many are asked for, and, unless all are shown to the caller, with the places
-/// before.
+/// grows with how many are asked for, and, where a membership in the conference is secret and the
+/// caller does not see all, with the places before.
 pub fn get_members(
     asked: &Asked<'_>,
     conference: u32,
@@ -155,10 +155,12 @@ fn member_begin(rows: &State, caller: &Viewer, conference: u32, place: u32) -> u
 }
 
 /// Whether all members of a conference that is seen are shown to who looks.
-fn sees_members(rows: &State, viewer: &Viewer, conference: u32) -> bool
+pub(crate) fn sees_members(rows: &State, viewer: &Viewer, conference: u32) -> bool
     ensures { result ≡ sees_members rows.now.db viewer.now conference }
 {
-    viewer.strong || supervises(rows, viewer.person, conference)
+    viewer.strong
+        || supervises(rows, viewer.person, conference)
+        || !rows.may_hide_member(conference)
 }
 
 /// The members at some places among those that are shown to the caller.
@@ -193,8 +195,8 @@ pub(crate) fn shows_member(rows: &State, viewer: &Viewer, conference: u32, membe
 }
 
 /// Call 107, query-read-texts. The time grows with the ranges that are told; with the person's
-/// memberships by little, since the list of their conferences is searched, unless some may be
-/// hidden from the caller: then it looks at each.
+/// memberships by little, since the list of their conferences is searched, unless one may be
+/// hidden from somebody and the caller does not see all: then it looks at each.
 pub fn query_read_texts(
     asked: &Asked<'_>,
     person: u32,
@@ -223,12 +225,13 @@ pub fn query_read_texts(
     Ok(asked.answer(Reply::Membership(told)))
 }
 
-/// The place of a membership among those of its person that are shown to the caller. Where all are
-/// shown it is found in constant time; else the time grows with the person's memberships.
+/// The place of a membership among those of its person that are shown to the caller. Where it is
+/// known that all are shown it is the place that is kept; else the time grows with the person's
+/// memberships.
 fn place_of(asked: &Asked<'_>, row: &MembershipRow) -> usize
     ensures { result ≡ Calls.place_of asked.now row.now }
 {
-    if sees_all(asked, row.person) {
+    if sees_all(asked.rows(), &asked.caller(), row.person) {
         let count = asked.rows().membership_count(row.person);
         count.min(row.position as usize)
     } else {
@@ -236,12 +239,11 @@ fn place_of(asked: &Asked<'_>, row: &MembershipRow) -> usize
     }
 }
 
-/// Whether all memberships of a person are shown to the caller.
-fn sees_all(asked: &Asked<'_>, person: u32) -> bool
-    ensures { result ≡ sees_all (caller_of asked.now) person }
+/// Whether all memberships of a person are shown to who looks.
+pub(crate) fn sees_all(rows: &State, viewer: &Viewer, person: u32) -> bool
+    ensures { result ≡ sees_all rows.now.db viewer.now person }
 {
-    let caller = asked.caller();
-    caller.strong || caller.person == person
+    viewer.strong || viewer.person == person || !rows.may_hide_membership(person)
 }
 
 /// How many memberships of a person are shown to the caller before this one.
@@ -344,7 +346,8 @@ fn at_most(most: u32, ranges: &[ReadRange]) -> &[ReadRange]
 }
 
 /// Call 108, get-membership: those that are shown to the caller, by their places. The time grows
-/// with how many are asked for, and, unless all are shown to the caller, with the places before.
+/// with how many are asked for, and, where one may be hidden from somebody and the caller does not
+/// see all, with the places before.
 pub fn get_membership(
     asked: &Asked<'_>,
     person: u32,
@@ -386,7 +389,7 @@ fn has_membership_at(asked: &Asked<'_>, person: u32, place: u32) -> bool
 fn walk_begin(asked: &Asked<'_>, person: u32, place: u32) -> usize
     ensures { LeadsTo (Calls.is_shown asked.now) (memberships_of asked.now.db person) place result }
 {
-    if sees_all(asked, person) {
+    if sees_all(asked.rows(), &asked.caller(), person) {
         let count = asked.rows().membership_count(person);
         count.min(place as usize)
     } else {

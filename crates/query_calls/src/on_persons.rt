@@ -10,7 +10,8 @@ use kom_state::{Asked, State};
 use kom_types::{Boxed, Bytes, Decision, Memory, Person, PersonRow, Reply};
 use std::alloc::Global;
 
-/// Call 49, get-person-stat. The time grows with the person's memberships.
+/// Call 49, get-person-stat. Where a membership of the person may be hidden from somebody, and the
+/// caller does not see all, the time grows with the person's memberships.
 pub fn get_person_stat(asked: &Asked<'_>, person: u32) -> Result<Decision, CallError>
     ensures { Meets (Persons.get_person_stat asked.now person) result }
 {

@@ -14,5 +14,4 @@ returns-then-sees_members c =
     let conference = c.args.conference in
     let all : sees_members db viewer conference ≡ true = sym c.sees_members.ensures ∙ c.if-sees_members.true in
     leads-alike (λ (row : MembershipRow). shows_membership db viewer row.person conference row.kind)
-    (sees db viewer conference) (λ row. shows-members db viewer row.person conference row.kind all)
-    (members_of db conference) c.args.place
+    (sees db viewer conference) (members_of db conference) (shows-members db viewer conference all) c.args.place

@@ -11,9 +11,12 @@ pub returns-then-sees_all : goal.returns-then-sees_all
 returns-then-sees_all c =
     let asked = c.args.asked.now in
     let person = c.args.person in
-    let sees : sees_all (caller asked) person ≡ true = sym c.sees_all.ensures ∙ c.if-sees_all.true in
+    let sees : sees_all asked.db (caller asked) person ≡ true =
+    subst (λ viewer. sees_all asked.db viewer person ≡ true) c.caller.ensures
+    (subst (λ db. sees_all db c.caller.result person ≡ true) c.rows.ensures
+    (sym c.sees_all.ensures ∙ c.if-sees_all.true)) in
     let there : AreThere asked.db person =
-    subst (λ db. AreThere db person) c.rows.ensures c.membership_count-count.ensures.there in
+    subst (λ db. AreThere db person) c.rows-then-sees_all.ensures c.membership_count-count.ensures.there in
     let within : c.min.result ≤ c.args.place = omega (arith, c.min.ensures) in
     leads-all (is_shown asked) (memberships_of asked.db person) c.args.place c.min.result within
-    (all_shown asked person sees there)
+    (all_shown asked.db (caller asked) person there sees)
