@@ -3,9 +3,11 @@
 
 usage: tools/instructions_of_memberships.py [KOMD]      (KOMD: the built program, crates/komd/out/komd if left out)
 
-A person asks for what it has itself, with 20 memberships and with 1,990: for the last one (query-read-texts), and for the
-last ten and the first ten (get-membership), without ranges. Counted by callgrind, so the figures are nearly the same in
-each run, whatever else the machine does: the instructions of a run with 500 calls less those of the same run without them.
+A person has 20 memberships, or 1,990, and a conference 20 members, or 10,000. The person itself, and one from whom nothing is
+hidden though it supervises neither, ask for the last of them, for the last ten and the first ten, without ranges, and for how many
+they are; and the person marks a text as read. Where one membership is secret, a stranger's calls are counted too: the shown
+ones before the asked part are then walked. Counted by callgrind, so the figures are nearly the same in each run, whatever else
+the machine does: the instructions of a run with so many calls less those of the same run without them.
 """
 import pathlib
 import re
@@ -14,40 +16,101 @@ import sys
 
 ROOT = pathlib.Path(__file__).resolve().parent.parent
 CALLS = 500
-FEW, MANY = 20, 1_990
+FEW, MANY, MEMBERS = 20, 1_990, 10_000
+# The first conference that a stream makes, and the first person after it.
+FIRST = 6
 
 
-def stream(memberships, call, calls):
-    """A person joins so many conferences, each after the others, and makes a call so often."""
-    lines = [b"A5Hceder", b"1 62 5 0H 0"]
-    for number in range(6, 6 + memberships):
+def login(person):
+    return b"1 62 %d 0H 0" % person
+
+
+def person_stream(memberships, secret, asker):
+    """The administrator makes a person, then conferences, each of which that person joins, the first one secretly if
+    so said, and a second person; one of the two asks. The conferences have the numbers from FIRST on, the persons the next."""
+    person = FIRST + memberships
+    lines = [b"A5Hceder", login(5)]
+    for number in range(FIRST, person):
         name = b"C%d" % number
         lines.append(b"2 88 %dH%s 00000000 0 { }" % (len(name), name))
-        lines.append(b"3 100 %d 5 100 5000 00000000" % number)
-    return b"\n".join(lines + [call] * calls) + b"\n"
+    lines += [b"2 89 2HBo 0H 00000000 0 { }", b"2 89 2HCy 0H 00000000 0 { }"]
+    lines.append(b"2 86 1Ha 1 { 0 %d } 0 { }" % (person - 1))
+    lines.append(login(person))
+    for number in range(FIRST, person):
+        kind = b"00100000" if secret and number == FIRST else b"00000000"
+        lines.append(b"3 100 %d %d 100 5000 %s" % (number, person, kind))
+    lines.append(login(person + asker))
+    return lines
 
 
-def instructions(program, given):
+def conference_stream(members, secret):
+    """Persons are made and join a conference, the first one secretly if so said; the last one asks."""
+    lines = [b"A5Hceder", login(5), b"2 88 4HOpen 00000000 0 { }"]
+    for number in range(FIRST + 1, FIRST + 1 + members):
+        name = b"P%d" % number
+        lines.append(b"2 89 %dH%s 0H 00000000 0 { }" % (len(name), name))
+    for number in range(FIRST + 1, FIRST + 1 + members):
+        kind = b"00100000" if secret and number == FIRST + 1 else b"00000000"
+        lines += [login(number), b"3 100 %d %d 100 1 %s" % (FIRST, number, kind)]
+    return lines
+
+
+def instructions(program, lines):
     words = ["valgrind", "--tool=callgrind", "--callgrind-out-file=/dev/null", program, "once"]
-    done = subprocess.run(words, input=given, capture_output=True, check=True)
+    done = subprocess.run(words, input=b"\n".join(lines) + b"\n", capture_output=True, check=True)
     return int(re.search(rb"Collected : (\d+)", done.stderr).group(1))
 
 
-def each(program, memberships, call):
-    more = instructions(program, stream(memberships, call, CALLS))
-    return (more - instructions(program, stream(memberships, call, 0))) / CALLS
+class Prepared:
+    """A stream after which calls are counted; what it takes itself is counted once."""
+
+    def __init__(self, program, lines):
+        self.program, self.lines = program, lines
+        self.before = instructions(program, lines)
+
+    def each(self, call):
+        return (instructions(self.program, self.lines + [call] * CALLS) - self.before) / CALLS
+
+
+def tell(name, few, many, count):
+    print(f"{name}: {few:.0f} instructions with {FEW}, {many:.0f} with {count}, {many / few:.2f} times", flush=True)
+
+
+def compare_persons(program, who, secret, asker, marks):
+    few, many = (Prepared(program, person_stream(memberships, secret, asker)) for memberships in (FEW, MANY))
+    # The place of the last one: the letterbox comes first, and a stranger is not shown a secret one.
+    hidden = 1 if secret and asker else 0
+    calls = {
+        "query-read-texts of the last": lambda n: b"4 107 %d %d 0 0" % (FIRST + n, FIRST + n - 1),
+        "get-membership, the last ten": lambda n: b"4 108 %d %d 10 0 0" % (FIRST + n, n - 9 - hidden),
+        "get-membership, the first ten": lambda n: b"4 108 %d 0 10 0 0" % (FIRST + n),
+        "get-person-stat": lambda n: b"4 49 %d" % (FIRST + n),
+    }
+    if marks:
+        calls["mark-as-read of one text"] = lambda n: b"4 27 %d 1 { 1 }" % (FIRST + n - 1)
+    for name, call in calls.items():
+        tell(f"{name}, by {who}", few.each(call(FEW)), many.each(call(MANY)), MANY)
+
+
+def compare_conferences(program, who, secret):
+    few, many = (Prepared(program, conference_stream(members, secret)) for members in (FEW, MEMBERS))
+    hidden = 1 if secret else 0
+    calls = {
+        "get-members, the last ten": lambda n: b"4 101 %d %d 10" % (FIRST, n - 10 - hidden),
+        "get-members, the first ten": lambda n: b"4 101 %d 0 10" % FIRST,
+        "get-conf-stat": lambda n: b"4 91 %d" % FIRST,
+    }
+    for name, call in calls.items():
+        tell(f"{name}, by {who}", few.each(call(FEW)), many.each(call(MEMBERS)), MEMBERS)
 
 
 def main(words):
     program = words[0] if words else ROOT / "crates" / "komd" / "out" / "komd"
-    calls = {
-        "query-read-texts of the last": lambda memberships: b"4 107 5 %d 0 0" % (5 + memberships),
-        "get-membership, the last ten": lambda memberships: b"4 108 5 %d 10 0 0" % (memberships - 9),
-        "get-membership, the first ten": lambda memberships: b"4 108 5 0 10 0 0",
-    }
-    for name, call in calls.items():
-        few, many = (each(program, memberships, call(memberships)) for memberships in (FEW, MANY))
-        print(f"{name}: {few:.0f} instructions with {FEW} memberships, {many:.0f} with {MANY}, {many / few:.2f} times")
+    compare_persons(program, "the person", False, 0, True)
+    compare_persons(program, "a stranger", False, 1, False)
+    compare_persons(program, "a stranger from whom one is hidden", True, 1, False)
+    compare_conferences(program, "a member", False)
+    compare_conferences(program, "a member from whom one is hidden", True)
 
 
 if __name__ == "__main__":
