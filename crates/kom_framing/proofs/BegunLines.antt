@@ -297,12 +297,12 @@ module _ (side : Side) where
   next_fits step.Unfit text rest byte spans lexer fit begun stuck = absurd (fit refl)
 
   pub fault_unfit : (place : ℕ) (text rest : List ℕ) (spans : List Span) (lexer : Lexer) → 0 < length rest
-      → IsBegun side text spans lexer → Does side step.Unfit lexer (text ++ take 0 rest) (drop 0 rest)
+      → IsBegun side text spans lexer → Does side step.Unfit lexer (text ++ take 0 (take 1 rest)) (drop 0 (take 1 rest))
       → FailsAt side place text rest (found.Malformed place)
   fault_unfit place text [] spans lexer some begun stuck = absurd (omega arith)
   fault_unfit place text (byte ∷ rest) spans lexer some begun stuck =
       let unfit =
-      unfit_in text (byte ∷ rest) 0 spans lexer some (begun_start text (byte ∷ rest) spans lexer begun) stuck in
+      unfit_in text (byte ∷ []) 0 spans lexer (omega arith) (begun_start text (byte ∷ []) spans lexer begun) stuck in
       record {
         rest = text;
         split =
@@ -316,7 +316,8 @@ module _ (side : Side) where
       record { rest = text; split = line_late side place text byte rest late }
 
   pub fault_long : (s : Step) (place : ℕ) (text rest : List ℕ) (spans : List Span) (lexer : Lexer) → 0 < length rest
-      → (s ≡ step.Unfit → ⊥) → IsBegun side text spans lexer → Does side s lexer (text ++ take 0 rest) (drop 0 rest)
+      → (s ≡ step.Unfit → ⊥) → IsBegun side text spans lexer
+      → Does side s lexer (text ++ take 0 (take 1 rest)) (drop 0 (take 1 rest))
       → place < longest_stream → longest_line side ≤ length text
       → FailsAt side place text rest (found.LineTooLong place)
   fault_long s place text [] spans lexer some fit begun does early long = absurd (omega arith)
@@ -324,7 +325,7 @@ module _ (side : Side) where
       record {
         rest = text;
         split = line_too_long side place text byte rest early (omega (arith, length-append text (byte ∷ [])))
-            (next_fits s text rest byte spans lexer fit begun does);
+            (next_fits s text [] byte spans lexer fit begun does);
       }
 
   -- ---- a piece, of which a window was read

@@ -1,10 +1,10 @@
-ghost use Rattle.std.specs.Prelude.{◌≡◌, ◌+◌, ◌-◌, ◌≤◌, ◌++◌, IfOk, option_to_list};
+ghost use Rattle.std.specs.Prelude.{◌≡◌, ◌+◌, ◌-◌, ◌≤◌, [], ◌++◌, IfOk, option_to_list};
 ghost use Rattle.std.specs.VecDeque.{deque_len, deque_capacity};
 ghost use Rattle.kom_types.specs.Stream as stream;
 ghost use Rattle.kom_framing.specs.WholeLines.{AreLines};
 ghost use Rattle.kom_framing.specs.Advancing.{IsBegunUnit, IsMark, Restores, ScansUnit};
 ghost use Rattle.kom_framing.specs.Advancing.{units_ended, CanEnd, Advances, Follows};
-ghost use Rattle.kom_framing.specs.Room.{HasRoom};
+ghost use Rattle.kom_framing.specs.Room.{HasRoom, HasRoomFor};
 
 use crate::fault::Fault;
 use crate::greeting::{Greeting, Phase};
@@ -105,7 +105,7 @@ fn advance(
     }
 }
 
-// The lines after the end of a unit, with room for them and for the unit.
+// The lines after the end of a unit, with room for the unit before them.
 fn lines_after(
     side: Side,
     units: &mut VecDeque<Unit>,
@@ -114,13 +114,29 @@ fn lines_after(
 ) -> Result<Lines, Memory>
     requires { place ≤ stream.longest_stream }
     ensures lines { IfOk result (λ lines. AreLines side lines place rest.now) }
-    ensures room { IfOk result
-        (λ lines. deque_len units.new + (deque_len lines.whole + 1) ≤ deque_capacity units.new) }
+    ensures room { IfOk result (λ lines. HasRoomFor (deque_len units.new) (deque_capacity units.new)
+        (deque_len lines.whole) (deque_capacity lines.whole)) }
     ensures units { units.new.items ≡ units.old.items }
 {
-    let lines = lines_of(*units.allocator(), side, place, rest)?;
-    units.reserve(lines.whole.len() + 1)?;
+    let mut lines = lines_of(spare_queue(units), side, place, rest)?;
+    lines.whole.reserve(1)?;
+    if !units.is_empty() {
+        units.reserve(lines.whole.len() + 1)?;
+    }
     Ok(lines)
+}
+
+// An empty queue: the one of the units, with its memory, where that is empty.
+fn spare_queue(units: &mut VecDeque<Unit>) -> VecDeque<Unit>
+    ensures empty { result.items ≡ [] }
+    ensures units { units.new.items ≡ units.old.items }
+{
+    let other = VecDeque::new(*units.allocator());
+    if units.is_empty() {
+        mem::replace(units, other)
+    } else {
+        other
+    }
 }
 
 impl BegunUnit {
@@ -186,13 +202,22 @@ impl BegunUnit {
     }
 }
 
-// Adds the units, for which there is room.
-fn store(units: &mut VecDeque<Unit>, unit: Option<Unit>, mut lines: VecDeque<Unit>)
-    requires { deque_len units.old + (deque_len lines + 1) ≤ deque_capacity units.old }
+// Adds the units, for which there is room. Where no other waits, no line is moved.
+fn store(units: &mut VecDeque<Unit>, unit: Option<Unit>, lines: VecDeque<Unit>)
+    requires { HasRoomFor (deque_len units.old) (deque_capacity units.old) (deque_len lines)
+        (deque_capacity lines) }
     ensures { units.new.items ≡ units.old.items ++ option_to_list unit ++ lines.items }
 {
-    if let Some(unit) = unit {
-        let _ = units.push_back(unit);
+    let mut lines = lines;
+    if units.is_empty() {
+        if let Some(unit) = unit {
+            let _ = lines.push_front(unit);
+        }
+        *units = lines;
+    } else {
+        if let Some(unit) = unit {
+            let _ = units.push_back(unit);
+        }
+        let _ = units.append(&mut lines);
     }
-    let _ = units.append(&mut lines);
 }

@@ -8,13 +8,19 @@ use kom_types::{ByteKind, Side, kind_of_byte};
 /// A token, by the bytes of its line that it has: the first, and the first after it.
 #[derive(Clone, Copy, Debug)]
 pub enum Span {
-    Digits(usize, usize),
-    Text(usize, usize),
+    Digits(u32, u32),
+    Text(u32, u32),
     Open,
     Close,
     Star,
     /// From the sign on.
-    Signed(usize, usize),
+    Signed(u32, u32),
+}
+
+impl Default for Span {
+    fn default() -> Span {
+        Span::Open
+    }
 }
 
 /// How far a line has come.
@@ -46,10 +52,11 @@ pub enum Step {
 impl Lexer {
     /// Looks at the bytes of a window from `at` on, after the bytes of the line that came before
     /// the window.
+    #[inline(always)]
     pub fn step(self, side: Side, text: &[u8], window: &[u8], at: usize) -> Step
         requires lexer { IsLexer self (text.now ++ take at window.now) }
         requires some { at < length window.now }
-        requires room { length text.now + length window.now < 2 ^ 64 }
+        requires room { length text.now + length window.now < 2 ^ 32 }
         ensures { Does side result self (text.now ++ take at window.now) (drop at window.now) }
     {
         let place = text.len() + at;
@@ -66,6 +73,7 @@ impl Lexer {
 }
 
 // A byte after a token, or after the digits that it ends.
+#[inline(always)]
 fn step_after(span: Option<Span>, byte: u8) -> Step
     ensures { result ≡ step_by span (kind_of byte) }
 {
@@ -77,6 +85,7 @@ fn step_after(span: Option<Span>, byte: u8) -> Step
 }
 
 // A byte where a token may begin, after so many bytes.
+#[inline(always)]
 fn step_between(side: Side, place: usize, byte: u8) -> Step
     ensures { (bytes : List ℕ) → length bytes ≡ place
         → IsMove side result Lexer.Between bytes byte }
@@ -104,11 +113,12 @@ fn step_between(side: Side, place: usize, byte: u8) -> Step
 }
 
 // A byte after digits, after so many bytes.
+#[inline(always)]
 fn step_in_run(start: usize, number: u64, place: usize, byte: u8) -> Step
     requires begun { start < place }
     requires short { place ≤ start + 16 }
     requires small { number < 10 ^ (place - start) }
-    requires room { place + 1 < 2 ^ 64 }
+    requires room { place + 1 < 2 ^ 32 }
     ensures { (side : Side) (bytes : List ℕ) → length bytes ≡ place → IsRun start number bytes
         → IsMove side result (Lexer.Run start number) bytes byte }
 {
@@ -128,7 +138,7 @@ fn step_in_run(start: usize, number: u64, place: usize, byte: u8) -> Step
                 Step::Unfit
             }
         }
-        _ => step_after(Some(Span::Digits(start, place)), byte),
+        _ => step_after(Some(Span::Digits(start as u32, place as u32)), byte),
     }
 }
 
@@ -136,6 +146,7 @@ fn step_in_run(start: usize, number: u64, place: usize, byte: u8) -> Step
 fn step_after_sign(start: usize, place: usize, byte: u8) -> Step
     requires begun { start < place }
     requires short { place ≤ start + 17 }
+    requires room { place + 1 < 2 ^ 32 }
     ensures { (side : Side) (bytes : List ℕ) → length bytes ≡ place → IsAfterSign start bytes
         → IsMove side result (Lexer.AfterSign start) bytes byte }
 {
@@ -152,36 +163,40 @@ fn step_after_sign(start: usize, place: usize, byte: u8) -> Step
             if digits == 0 {
                 Step::Unfit
             } else {
-                step_after(Some(Span::Signed(start, place)), byte)
+                step_after(Some(Span::Signed(start as u32, place as u32)), byte)
             }
         }
     }
 }
 
 // The `H` before a string of that many bytes.
+#[inline(always)]
 fn step_into(start: usize, lacking: usize) -> Step
+    requires room { start < 2 ^ 32 }
     ensures none { lacking ≡ 0 → result ≡ Step.Goes 1 (Some (Span.Text start start)) Lexer.Past }
     ensures some { 0 < lacking → result ≡ Step.Goes 1 None (Lexer.Inside start lacking) }
 {
     if lacking == 0 {
-        Step::Goes(1, Some(Span::Text(start, start)), Lexer::Past)
+        Step::Goes(1, Some(Span::Text(start as u32, start as u32)), Lexer::Past)
     } else {
         Step::Goes(1, None, Lexer::Inside { start, lacking })
     }
 }
 
 // The bytes of a string, of which so many are left in the window.
+#[inline(always)]
 fn step_inside(start: usize, lacking: usize, place: usize, left: usize) -> Step
+    requires begun { start ≤ place }
     requires lacks { 1 ≤ lacking }
     requires some { 1 ≤ left }
-    requires room { place + left < 2 ^ 64 }
+    requires room { place + left < 2 ^ 32 }
     ensures { (side : Side) (bytes tail : List ℕ) → length bytes ≡ place → length tail ≡ left
-        → start ≤ place → Does side result (Lexer.Inside start lacking) bytes tail }
+        → Does side result (Lexer.Inside start lacking) bytes tail }
 {
     if lacking <= left {
         Step::Goes(
             lacking,
-            Some(Span::Text(start, place + lacking)),
+            Some(Span::Text(start as u32, (place + lacking) as u32)),
             Lexer::Past,
         )
     } else {
@@ -191,6 +206,7 @@ fn step_inside(start: usize, lacking: usize, place: usize, left: usize) -> Step
 }
 
 // The number that a digit spells.
+#[inline(always)]
 fn digit_of(byte: u8) -> u64
     requires { 48 ≤ byte }
     ensures { result ≡ byte - 48 }

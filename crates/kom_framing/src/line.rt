@@ -2,14 +2,15 @@ ghost use Rattle.std.specs.Prelude.{◌≡◌, ◌<◌, ◌↔◌, [], length, I
 ghost use Rattle.kom_framing.specs.Spans.{token_seen, token_of, tokens_of, IsWithin, AreWithin};
 
 use crate::lexer::Span;
+use crate::lines::{LineSpans, LineText};
 use crate::token::Token;
 use std::marker::Model;
 
 /// A line of a stream that is not blank.
 #[derive(Debug, Drop)]
 pub struct Line {
-    text: Vec<u8>,
-    spans: Vec<Span>,
+    text: LineText,
+    spans: LineSpans,
     end: u64,
 }
 
@@ -44,7 +45,7 @@ impl Line {
         requires { index < length self.now.tokens }
         ensures { slice_get self.now.tokens index ≡ Some (token_seen result) }
     {
-        token_in(self.text.as_slice(), self.spans[index])
+        token_in(self.text.as_slice(), self.spans.as_slice()[index])
     }
 
     /// The place of the line feed in the stream.
@@ -55,7 +56,7 @@ impl Line {
     }
 
     /// The line that has these bytes and these tokens in them.
-    pub(crate) fn of(text: Vec<u8>, spans: Vec<Span>, end: u64) -> Line
+    pub(crate) fn of(text: LineText, spans: LineSpans, end: u64) -> Line
         requires { AreWithin (length text.items) spans.items }
         ensures { result ≡ record { tokens = tokens_of text.items spans.items; end = end } }
     {
@@ -69,11 +70,14 @@ fn token_in(text: &[u8], span: Span) -> Token<'_>
     ensures { token_seen result ≡ token_of text.now span }
 {
     match span {
-        Span::Digits(start, end) => Token::Digits(&text[start..end]),
-        Span::Text(start, end) => Token::Text(&text[start..end]),
+        Span::Digits(start, end) => Token::Digits(&text[start as usize..end as usize]),
+        Span::Text(start, end) => Token::Text(&text[start as usize..end as usize]),
         Span::Open => Token::Open,
         Span::Close => Token::Close,
         Span::Star => Token::Star,
-        Span::Signed(start, end) => Token::Signed(text[start], &text[start + 1..end]),
+        Span::Signed(start, end) => Token::Signed(
+            text[start as usize],
+            &text[start as usize + 1..end as usize],
+        ),
     }
 }

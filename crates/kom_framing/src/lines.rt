@@ -13,15 +13,22 @@ use crate::line::Line;
 use crate::units::Unit;
 use kom_types::limits::{LONGEST_CLIENT_LINE, LONGEST_SERVER_LINE, LONGEST_STREAM};
 use kom_types::{Memory, Side};
+use smallvec::SmallVec;
 use std::alloc::Global;
 use std::collections::VecDeque;
 use std::mem;
 
+/// The bytes of a line. Up to 24 take no memory of their own.
+pub type LineText = SmallVec<u8, 24>;
+
+/// The tokens of a line. Up to four take no memory of their own.
+pub type LineSpans = SmallVec<Span, 4>;
+
 /// A line that has begun: its bytes so far, the tokens that are whole, and how far the last one is.
 #[derive(Debug, Drop)]
 pub struct BegunLine {
-    pub text: Vec<u8>,
-    pub spans: Vec<Span>,
+    pub text: LineText,
+    pub spans: LineSpans,
     pub lexer: Lexer,
 }
 
@@ -59,8 +66,8 @@ impl BegunLine {
         ensures line { (side : Side) → IsLine side result }
     {
         BegunLine {
-            text: Vec::new(alloc),
-            spans: Vec::new(alloc),
+            text: SmallVec::new(alloc),
+            spans: SmallVec::new(alloc),
             lexer: Lexer::Between,
         }
     }
@@ -140,7 +147,7 @@ impl BegunLine {
             → stream.longest_line side ≤ length self.now.text.items }
         ensures { FailsAt side place self.now.text.items rest.now result }
     {
-        match self.lexer.step(side, self.text.as_slice(), rest, 0) {
+        match self.lexer.step(side, self.text.as_slice(), &rest[..1], 0) {
             Step::Unfit => Fault::Malformed(place),
             _ if place < LONGEST_STREAM => Fault::LineTooLong(place),
             _ => Fault::Malformed(place),
@@ -198,7 +205,7 @@ fn read_window(
     text: &[u8],
     lexer: Lexer,
     window: &[u8],
-    spans: &mut Vec<Span>,
+    spans: &mut LineSpans,
 ) -> Result<Reading, Memory>
     requires begun { IsBegun side text.now spans.old.items lexer }
     requires room { length text.now + length window.now ≤ stream.longest_line side }
@@ -225,7 +232,8 @@ fn read_window(
 }
 
 // Adds the token that has ended, if one has.
-fn keep(spans: &mut Vec<Span>, span: Option<Span>) -> Result<(), Memory>
+#[inline(always)]
+fn keep(spans: &mut LineSpans, span: Option<Span>) -> Result<(), Memory>
     ensures ok { OnOk result (spans.new.items ≡ spans.old.items ++ option_to_list span) }
     ensures err { OnErr result (spans.new.items ≡ spans.old.items) }
 {
@@ -238,12 +246,20 @@ fn keep(spans: &mut Vec<Span>, span: Option<Span>) -> Result<(), Memory>
     }
 }
 
-/// The lines of a piece of the stream that begins with a line, at this place.
-pub fn lines_of(alloc: Global, side: Side, place: u64, piece: &[u8]) -> Result<Lines, Memory>
-    requires { place ≤ stream.longest_stream }
+/// The lines of a piece of the stream that begins with a line, at this place. An empty queue is
+/// used for them.
+pub fn lines_of(
+    empty: VecDeque<Unit>,
+    side: Side,
+    place: u64,
+    piece: &[u8],
+) -> Result<Lines, Memory>
+    requires empty { empty.items ≡ [] }
+    requires early { place ≤ stream.longest_stream }
     ensures { IfOk result (λ lines. AreLines side lines place piece.now) }
 {
-    let mut whole = VecDeque::new(alloc);
+    let alloc = *empty.allocator();
+    let mut whole = empty;
     let mut begun = BegunLine::new(alloc);
     let mut at = 0;
     while at < piece.len() {

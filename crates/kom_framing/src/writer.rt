@@ -70,7 +70,7 @@ impl Writer {
     {
         let mut buffer = Buffer::new();
         let length = buffer.format(text.len()).as_bytes();
-        append_string(&mut self.out, space_before(self.joined), length, text)?;
+        append_string(&mut self.out, self.joined, length, text)?;
         self.joined = false;
         Ok(())
     }
@@ -80,7 +80,7 @@ impl Writer {
         ensures ok { OnOk result (self.new ≡ put (byte ∷ []) (is_sign byte) self.old) }
         ensures err { OnErr result (self.new ≡ self.old) }
     {
-        append(&mut self.out, space_before(self.joined), &[byte])?;
+        append(&mut self.out, self.joined, &[byte])?;
         self.joined = byte == b'=' || byte == b'%' || byte == b':';
         Ok(())
     }
@@ -90,7 +90,7 @@ impl Writer {
         ensures ok { OnOk result (self.new ≡ put_word word.now self.old) }
         ensures err { OnErr result (self.new ≡ self.old) }
     {
-        append(&mut self.out, space_before(self.joined), word)?;
+        append(&mut self.out, self.joined, word)?;
         self.joined = false;
         Ok(())
     }
@@ -148,13 +148,6 @@ impl Writer {
     }
 }
 
-// What stands before a word.
-fn space_before(joined: bool) -> &'static [u8]
-    ensures { result.now ≡ (if joined then [] else 32 ∷ []) }
-{
-    if joined { b"" } else { b" " }
-}
-
 // The last `width` bits of a number as digits, and anything after them.
 fn digits_of(bits: u16, width: u8) -> [u8; 16]
     requires { width ≤ 16 }
@@ -168,29 +161,44 @@ fn digits_of(bits: u16, width: u8) -> [u8; 16]
     digits
 }
 
-// Adds both parts at the end, or nothing.
-fn append(out: &mut Vec<u8>, prefix: &[u8], back: &[u8]) -> Result<(), Memory>
-    ensures ok { OnOk result (out.new.items ≡ out.old.items ++ prefix.now ++ back.now) }
+// Adds a word at the end, with a space before it unless it is joined, or nothing.
+fn append(out: &mut Vec<u8>, joined: bool, word: &[u8]) -> Result<(), Memory>
+    ensures ok { OnOk result
+        (out.new.items ≡ out.old.items ++ (if joined then [] else 32 ∷ []) ++ word.now) }
+    ensures err { OnErr result (out.new.items ≡ out.old.items) }
+{
+    if joined {
+        out.extend_from_slice(word)?;
+        Ok(())
+    } else {
+        append_after(out, b' ', word)
+    }
+}
+
+// Adds a byte and a word at the end, or nothing.
+fn append_after(out: &mut Vec<u8>, byte: u8, word: &[u8]) -> Result<(), Memory>
+    ensures ok { OnOk result (out.new.items ≡ out.old.items ++ byte ∷ word.now) }
     ensures err { OnErr result (out.new.items ≡ out.old.items) }
 {
     let start = out.len();
-    out.extend_from_slice(prefix)?;
-    if out.extend_from_slice(back).is_err() {
+    out.push(byte)?;
+    if out.extend_from_slice(word).is_err() {
         out.truncate(start);
         return Err(Memory);
     }
     Ok(())
 }
 
-// Adds what stands before a string, its length, an `H` and its bytes at the end, or nothing.
-fn append_string(out: &mut Vec<u8>, space: &[u8], length: &[u8], text: &[u8]) -> Result<(), Memory>
-    ensures ok { OnOk result
-        (out.new.items ≡ out.old.items ++ space.now ++ (length.now ++ 72 ∷ text.now)) }
+// Adds the length of a string, an `H` and its bytes at the end, with a space before unless they are
+// joined, or nothing.
+fn append_string(out: &mut Vec<u8>, joined: bool, length: &[u8], text: &[u8]) -> Result<(), Memory>
+    ensures ok { OnOk result (out.new.items
+        ≡ out.old.items ++ (if joined then [] else 32 ∷ []) ++ (length.now ++ 72 ∷ text.now)) }
     ensures err { OnErr result (out.new.items ≡ out.old.items) }
 {
     let start = out.len();
-    append(out, space, length)?;
-    if append(out, b"H", text).is_err() {
+    append(out, joined, length)?;
+    if append_after(out, b'H', text).is_err() {
         out.truncate(start);
         return Err(Memory);
     }

@@ -1,8 +1,9 @@
-use Rattle.std.proofs.Common.{◌<◌, List, ℕ, length, Some, ap, sym, ◌∙◌, arith}
+use Rattle.std.proofs.Common.{◌<◌, List, ℕ, length, get_or, Some, ap, sym, ◌∙◌, arith}
 use Rattle.std.specs.Prelude.{slice_get}
 use Rattle.std.proofs.lemmas.List.{length-map}
 use Rattle.kom_types.specs.Stream as stream
 use Rattle.kom_framing.specs.declared.lexer.Span.{Span}
+use Rattle.kom_framing.specs.declared.lexer.Span.TheVariants as span
 use Rattle.kom_framing.specs.Spans.{token_of}
 use Rattle.kom_framing.proofs.Spans.{within_at, token_at_index}
 use Rattle.kom_framing.proofs.line.Line.token.Goals as goal
@@ -17,8 +18,8 @@ token_in-requires c =
       ap (λ (l : stream.Line). length l.tokens) c.self.view_is,
       length-map spans (token_of c.self.inside.text.items),
     ) in
-    rw (c.as_slice.ensures.value, c.index.ensures)
-    (within_at (length c.self.inside.text.items) spans c.args.index c.index.result.now c.self.invariant below)
+    rw (c.as_slice.ensures, c.as_slice-2.ensures)
+    (within_at (length c.self.inside.text.items) spans c.args.index (span.Digits 0 0) c.self.invariant below)
 
 pub returns : goal.returns
 returns c =
@@ -32,7 +33,9 @@ returns c =
     ) in
     let seen = c.token_in.ensures in
     sym (ap (λ (l : stream.Line). slice_get l.tokens c.args.index) c.self.view_is)
-    ∙ token_at_index c.self.inside.text.items spans c.args.index c.index.result.now below
-    ∙ ap (λ (s : Span). Some (token_of c.self.inside.text.items s)) (sym c.index.ensures)
-    ∙ ap (λ (t : List ℕ). Some (token_of t c.index.result.now)) (sym c.as_slice.ensures.value)
+    ∙ token_at_index c.self.inside.text.items spans c.args.index (span.Digits 0 0) below
+    ∙ ap (λ (ss : List Span). Some (token_of c.self.inside.text.items (get_or ss c.args.index (span.Digits 0 0))))
+    (sym c.as_slice-2.ensures)
+    ∙ ap (λ (t : List ℕ). Some (token_of t (get_or c.as_slice-2.result.now c.args.index (span.Digits 0 0))))
+    (sym c.as_slice.ensures)
     ∙ ap Some (sym seen)
