@@ -1,105 +1,54 @@
--- Whether a person is in a secret conference is found by the secret conferences as by its memberships.
-use Rattle.std.proofs.Common.{◌≡◌, ℕ, Bool, true, false, cond, ◌&&◌, ◌||◌, eqb, ltb, nat_eq, List, [], ◌∷◌, map, filter, find, Some, None, is_some, refl, sym, ap, subst, ◌∙◌, inl, inr, arith}
-use Rattle.std.specs.List.{list_any, fold}
-use Rattle.std.proofs.lemmas.Bool.{cases_Bool, cond_both, eqb-true, ne_eqb, or_left}
+-- A person's memberships in secret conferences are found by these conferences.
+use Rattle.std.proofs.Common.{◌≡◌, ℕ, ◌+◌, Bool, true, false, cond, ◌&&◌, ◌||◌, eqb, nat_eq, List, [], ◌∷◌, map, filter, find, Option, Some, None, is_some, refl, sym, ap, subst, ◌∙◌, inl, inr, arith}
+use Rattle.std.specs.List.{AllByRecursion, IsDistinct, list_any}
 use Rattle.std.specs.Cmp.{nat_eq_equiv}
+use Rattle.std.proofs.lemmas.Bool.{cases_Bool, eqb-true, eq-eqb, ne_eqb, or_left, and_parts, and_from, true≢false}
+use Rattle.std.proofs.lemmas.List.Sums.{length-filter}
+use Rattle.std.proofs.lemmas.Map.Keys.{IsDistinct-head, IsDistinct-tail}
 use Rattle.row_table.specs.Tables.{row_of, AllAbove, IsByNumber}
 use Rattle.kom_types.specs.declared.conferences.ConferenceRow.{ConferenceRow}
 use Rattle.kom_types.specs.declared.memberships.MembershipRow.{MembershipRow}
 use Rattle.kom_types.specs.tables.Conferences.{number_of_conference, is_secret_conference}
 use Rattle.kom_types.specs.tables.Memberships as Memberships
-use Rattle.kom_types.specs.tables.Memberships.{by_position, is_membership, is_secret_membership}
+use Rattle.kom_types.specs.tables.Memberships.{is_membership}
+use Rattle.memberships.specs.Entries.{same_key}
+use Rattle.memberships.specs.Secrets.{one_if}
+use Rattle.memberships.specs.Table.{IsOrderly}
+use Rattle.memberships.proofs.Counting.{passing, passing-cons, passing-memberships_of}
 use Rattle.kom_model.specs.Db.{Db, conference_of, membership_of, memberships_of}
-use Rattle.kom_state.specs.Secrecy.{is_secret_in, may_be_hidden}
+use Rattle.kom_state.specs.Secrecy.{AreFoundBySecret}
 
--- ---- some of a list
-or_turned : (a b c d : Bool) → ((a || b) || (c || d)) ≡ ((a || c) || (b || d))
-or_turned true b c d = refl
-or_turned false true true d = refl
-or_turned false true false d = refl
-or_turned false false c d = refl
-
-or_swapped : (a b c : Bool) → (a || (b || c)) ≡ (b || (a || c))
-or_swapped true true c = refl
-or_swapped true false c = refl
-or_swapped false b c = refl
-
+-- ---- counts
 module _ {X : Type 0} where
-  any-none : (xs : List X) → list_any (λ (x : X). false) xs ≡ false
-  any-none [] = refl
-  any-none (x ∷ xs) = any-none xs
+  passing-none : (xs : List X) → passing (λ (x : X). false) xs ≡ 0
+  passing-none [] = refl
+  passing-none (x ∷ xs) = passing-none xs
 
-  any-or : (p q : X → Bool) (xs : List X) → list_any (λ x. p x || q x) xs ≡ (list_any p xs || list_any q xs)
-  any-or p q [] = refl
-  any-or p q (x ∷ xs) =
-      ap (λ b. (p x || q x) || b) (any-or p q xs) ∙ or_turned (p x) (q x) (list_any p xs) (list_any q xs)
+  passing-same : (p q : X → Bool) → ((x : X) → p x ≡ q x) → (xs : List X) → passing p xs ≡ passing q xs
+  passing-same p q same xs = λ i. passing (λ x. same x i) xs
 
-  any-filter : (p q : X → Bool) (xs : List X) → list_any q (filter p xs) ≡ list_any (λ x. p x && q x) xs
-  any-filter p q [] = refl
-  any-filter p q (x ∷ xs) = elim (cases_Bool (p x)) [
-    | inl is ↦ rw is (ap (λ b. q x || b) (any-filter p q xs))
-    | inr is ↦ rw is (any-filter p q xs)
-  ]
-
-  any-find : (p : X → Bool) (xs : List X) → is_some (find p xs) ≡ list_any p xs
-  any-find p [] = refl
-  any-find p (x ∷ xs) = elim (cases_Bool (p x)) [
-    | inl is ↦ rw is refl
-    | inr is ↦ rw is (any-find p xs)
-  ]
-
-  any-same : (p q : X → Bool) → ((x : X) → p x ≡ q x) → (xs : List X) → list_any p xs ≡ list_any q xs
-  any-same p q same [] = refl
-  any-same p q same (x ∷ xs) = λ i. same x i || any-same p q same xs i
-
-module _ {X Y : Type 0} where
-  any-map : (f : X → Y) (p : Y → Bool) (xs : List X) → list_any p (map f xs) ≡ list_any (λ x. p (f x)) xs
-  any-map f p [] = refl
-  any-map f p (x ∷ xs) = ap (λ b. p (f x) || b) (any-map f p xs)
-
-  -- a pair of two lists may be looked for in either order
-  any-turned : (r : X → Y → Bool) (xs : List X) (ys : List Y) →
-      list_any (λ x. list_any (r x) ys) xs ≡ list_any (λ y. list_any (λ x. r x y) xs) ys
-  any-turned r xs [] = any-none xs
-  any-turned r xs (y ∷ ys) =
-      any-or (λ x. r x y) (λ x. list_any (r x) ys) xs
-      ∙ ap (λ b. list_any (λ x. r x y) xs || b) (any-turned r xs ys)
-
--- ---- the memberships of a person, in the order of their places
-module _ (p : MembershipRow → Bool) where
-  any-by_position : (row : MembershipRow) (rows : List MembershipRow) →
-      list_any p (by_position row rows) ≡ (p row || list_any p rows)
-  any-by_position row [] = refl
-  any-by_position row (first ∷ rows) =
-      cond_both (ltb row.position first.position) (row ∷ first ∷ rows) (first ∷ by_position row rows)
-      (λ l. list_any p l ≡ (p row || (p first || list_any p rows))) (λ _. refl)
-      (λ _. ap (λ b. p first || b) (any-by_position row rows) ∙ or_swapped (p first) (p row) (list_any p rows))
-
-  any-sorted : (sorted rows : List MembershipRow) →
-      list_any p (fold (λ sorted row. by_position row sorted) sorted rows) ≡ (list_any p sorted || list_any p rows)
-  any-sorted sorted [] = or_none (list_any p sorted)
+  -- what passes one of two tests of which none passes both
+  passing-either : (p q also : X → Bool) → ((x : X) → p x ≡ true → q x ≡ false) → (xs : List X) →
+      passing (λ x. (p x || q x) && also x) xs ≡ passing (λ x. p x && also x) xs + passing (λ x. q x && also x) xs
+  passing-either p q also apart [] = refl
+  passing-either p q also apart (x ∷ xs) =
+      omega (
+        arith,
+        passing-cons (λ x. (p x || q x) && also x) x xs,
+        passing-cons (λ x. p x && also x) x xs,
+        passing-cons (λ x. q x && also x) x xs,
+        passing-either p q also apart xs,
+        one (p x) (q x) (also x) (apart x),
+      )
     where
-      or_none : (b : Bool) → b ≡ (b || false)
-      or_none true = refl
-      or_none false = refl
-  any-sorted sorted (row ∷ rows) =
-      any-sorted (by_position row sorted) rows
-      ∙ ap (λ b. b || list_any p rows) (any-by_position row sorted)
-      ∙ moved (p row) (list_any p sorted) (list_any p rows)
-    where
-      moved : (a b c : Bool) → ((a || b) || c) ≡ (b || (a || c))
-      moved true true c = refl
-      moved true false c = refl
-      moved false b c = refl
-
-  any-own : (person : ℕ) (rows : List MembershipRow) →
-      list_any p (Memberships.memberships_of person rows) ≡ list_any (λ row. eqb row.person person && p row) rows
-  any-own person rows = any-sorted [] (filter (λ row. eqb row.person person) rows)
-      ∙ any-filter (λ row. eqb row.person person) p rows
+      one : (a b c : Bool) → (a ≡ true → b ≡ false) → one_if ((a || b) && c) ≡ one_if (a && c) + one_if (b && c)
+      one true true c apart = absurd (true≢false (apart refl))
+      one true false c apart = omega arith
+      one false b c apart = omega arith
 
 -- ---- the secret conferences
-abbrev pub secret_numbers : List ConferenceRow → List ℕ
-secret_numbers rows = map number_of_conference (filter (λ row. is_secret_conference row.kind) rows)
+abbrev numbers_of_secret : List ConferenceRow → List ℕ
+numbers_of_secret rows = map number_of_conference (filter (λ row. is_secret_conference row.kind) rows)
 
 abbrev is_secret_among : List ConferenceRow → ℕ → Bool
 is_secret_among rows number =
@@ -107,7 +56,7 @@ is_secret_among rows number =
 
 -- no conference above a number has it
 none_above : (number : ℕ) (rows : List ConferenceRow) → AllAbove number_of_conference number rows →
-    list_any (nat_eq number) (secret_numbers rows) ≡ false
+    list_any (nat_eq number) (numbers_of_secret rows) ≡ false
 none_above number [] above = refl
 none_above number (row ∷ rows) above = elim (cases_Bool (is_secret_conference row.kind)) [
   | inl secret ↦ rw (secret, ne_eqb number row.number (λ same. absurd (omega (arith, same, above.0))))
@@ -130,13 +79,13 @@ among_first number row rows =
 -- a number is among those of the secret conferences where its conference is secret
 secret_first : (number : ℕ) (row : ConferenceRow) (rows : List ConferenceRow) →
     AllAbove number_of_conference row.number rows →
-    list_any (nat_eq number) (secret_numbers rows) ≡ is_secret_among rows number →
-    list_any (nat_eq number) (secret_numbers (row ∷ rows))
+    list_any (nat_eq number) (numbers_of_secret rows) ≡ is_secret_among rows number →
+    list_any (nat_eq number) (numbers_of_secret (row ∷ rows))
     ≡ cond (eqb row.number number) (is_secret_conference row.kind) (is_secret_among rows number)
 secret_first number row rows above later = elim (cases_Bool (is_secret_conference row.kind)) [
   | inl secret ↦ elim (cases_Bool (eqb row.number number)) [
     | inl is ↦ rw (secret, is)
-        (or_left (eqb number row.number) (list_any (nat_eq number) (secret_numbers rows))
+        (or_left (eqb number row.number) (list_any (nat_eq number) (numbers_of_secret rows))
         (nat_eq_equiv.symm number row.number ∙ is))
     | inr other ↦ rw (secret, other, nat_eq_equiv.symm number row.number ∙ other) later
   ]
@@ -149,48 +98,120 @@ secret_first number row rows above later = elim (cases_Bool (is_secret_conferenc
 ]
 
 secret_found : (number : ℕ) (rows : List ConferenceRow) → IsByNumber number_of_conference rows →
-    list_any (nat_eq number) (secret_numbers rows) ≡ is_secret_among rows number
+    list_any (nat_eq number) (numbers_of_secret rows) ≡ is_secret_among rows number
 secret_found number [] rises = refl
 secret_found number (row ∷ rows) rises =
     secret_first number row rows rises.0 (secret_found number rows rises.1) ∙ sym (among_first number row rows)
 
--- whether some of the secret conferences has the person, and whether some of the person's memberships is in one
-pub secret_either_way : (db : Db) (person : ℕ) → IsByNumber number_of_conference db.conferences →
-    list_any (λ conference. is_some (membership_of db person conference)) (secret_numbers db.conferences)
-    ≡ list_any (λ row. is_secret_in db row.conference) (memberships_of db person)
+-- as often as a number is among them it passes a test
+count_own : (number : ℕ) (test : ℕ → Bool) (rows : List ConferenceRow) → IsByNumber number_of_conference rows →
+    passing (λ n. nat_eq number n && test n) (numbers_of_secret rows)
+    ≡ one_if (list_any (nat_eq number) (numbers_of_secret rows) && test number)
+count_own number test [] rises = refl
+count_own number test (row ∷ rows) rises = elim (cases_Bool (is_secret_conference row.kind)) [
+  | inl secret ↦ rw secret
+      (elim (cases_Bool (nat_eq number row.number)) [
+        | inl is ↦
+            let same : number ≡ row.number = eqb-true number row.number is in
+            let none : list_any (nat_eq number) (numbers_of_secret rows) ≡ false =
+            none_above number rows (subst (λ n. AllAbove number_of_conference n rows) (sym same) rises.0) in
+            omega (
+              arith,
+              passing-cons (λ n. nat_eq number n && test n) row.number (numbers_of_secret rows),
+              count_own number test rows rises.1,
+              ap (λ b. one_if (b && test number)) none,
+              ap (λ b. one_if (b && test row.number)) is,
+              ap (λ b. one_if ((b || list_any (nat_eq number) (numbers_of_secret rows)) && test number)) is,
+              ap (λ n. one_if (test n)) same,
+            )
+        | inr other ↦
+            omega (
+              arith,
+              passing-cons (λ n. nat_eq number n && test n) row.number (numbers_of_secret rows),
+              count_own number test rows rises.1,
+              ap (λ b. one_if (b && test row.number)) other,
+              ap (λ b. one_if ((b || list_any (nat_eq number) (numbers_of_secret rows)) && test number)) other,
+            )
+      ])
+  | inr plain ↦ rw plain (count_own number test rows rises.1)
+]
+
+-- ---- the memberships of a person
+-- after a membership none is of the same person and conference
+pub none_after : (p c : ℕ) (row : MembershipRow) (rows : List MembershipRow) → is_membership p c row ≡ true →
+    AllByRecursion (λ key. same_key (row.person, row.conference) key ≡ false)
+    (map (λ r. (r.person, r.conference)) rows) → is_some (find (is_membership p c) rows) ≡ false
+none_after p c row [] is all = refl
+none_after p c row (r ∷ rows) is all = elim (cases_Bool (is_membership p c r)) [
+  | inl its ↦
+      let one = and_parts _ _ is in
+      let two = and_parts _ _ its in
+      absurd (true≢false
+      (sym (and_from _ _
+      (eq-eqb row.person r.person (eqb-true row.person p one.0 ∙ sym (eqb-true r.person p two.0)))
+      (eq-eqb row.conference r.conference (eqb-true row.conference c one.1 ∙ sym (eqb-true r.conference c two.1))))
+      ∙ all.0))
+  | inr other ↦ rw other (none_after p c row rows is all.1)
+]
+
+some_first : (found : Bool) (row : MembershipRow) (later : Option MembershipRow) →
+    is_some (cond found (Some row) later) ≡ (found || is_some later)
+some_first true row later = refl
+some_first false row later = refl
+
+module _ (conferences : List ConferenceRow) (rises : IsByNumber number_of_conference conferences) (p : ℕ)
+    (test : ℕ → Bool) where
+  abbrev is_told : MembershipRow → Bool
+  is_told row = is_secret_among conferences row.conference && test row.conference
+
+  of_one : (row : MembershipRow) →
+      passing (λ c. is_membership p c row && test c) (numbers_of_secret conferences)
+      ≡ one_if (eqb row.person p && is_told row)
+  of_one row = by (eqb row.person p)
+    where
+      by : (own : Bool) →
+          passing (λ c. (own && eqb row.conference c) && test c) (numbers_of_secret conferences)
+          ≡ one_if (own && is_told row)
+      by true = count_own row.conference test conferences rises
+          ∙ ap (λ b. one_if (b && test row.conference)) (secret_found row.conference conferences rises)
+      by false = passing-none (numbers_of_secret conferences)
+
+  of_all : (rows : List MembershipRow) →
+      IsDistinct same_key (map (λ row. (row.person, row.conference)) rows) →
+      passing (λ c. is_some (Memberships.membership_of p c rows) && test c) (numbers_of_secret conferences)
+      ≡ passing (λ row. eqb row.person p && is_told row) rows
+  of_all [] once = passing-none (numbers_of_secret conferences)
+  of_all (row ∷ rows) once =
+      let later : ℕ → Bool = λ c. is_some (Memberships.membership_of p c rows) in
+      omega (
+        arith,
+        passing-same (λ c. is_some (Memberships.membership_of p c (row ∷ rows)) && test c)
+            (λ c. (is_membership p c row || later c) && test c)
+            (λ c. ap (λ b. b && test c) (some_first (is_membership p c row) row (Memberships.membership_of p c rows)))
+            (numbers_of_secret conferences),
+        passing-either (λ c. is_membership p c row) later test
+            (λ c is. none_after p c row rows is
+            (IsDistinct-head same_key (row.person, row.conference) (map (λ r. (r.person, r.conference)) rows) once))
+            (numbers_of_secret conferences),
+        of_one row,
+        of_all rows
+            (IsDistinct-tail same_key (row.person, row.conference) (map (λ r. (r.person, r.conference)) rows) once),
+        passing-cons (λ row. eqb row.person p && is_told row) row rows,
+      )
+
+pub found_by_secret : (db : Db) (person : ℕ) → IsByNumber number_of_conference db.conferences →
+    IsOrderly db.memberships → AreFoundBySecret db person
 unfolding conference_of membership_of memberships_of
-secret_either_way db person rises =
-    any-same (λ conference. is_some (Memberships.membership_of person conference db.memberships))
-    (λ conference. list_any (is_membership person conference) db.memberships)
-    (λ conference. any-find (is_membership person conference) db.memberships) (secret_numbers db.conferences)
-    ∙ any-turned (λ conference row. is_membership person conference row) (secret_numbers db.conferences) db.memberships
-    ∙ any-same (λ row. list_any (λ conference. is_membership person conference row) (secret_numbers db.conferences))
-    (λ row. eqb row.person person && is_secret_among db.conferences row.conference)
-    (λ row. of_one row (eqb row.person person)) db.memberships
-    ∙ sym (any-own (λ row. is_secret_among db.conferences row.conference) person db.memberships)
-  where
-    of_one : (row : MembershipRow) (own : Bool) →
-        list_any (λ conference. own && nat_eq row.conference conference) (secret_numbers db.conferences)
-        ≡ (own && is_secret_among db.conferences row.conference)
-    of_one row true = secret_found row.conference db.conferences rises
-    of_one row false = any-none (secret_numbers db.conferences)
-
--- whether a membership is secret, and else whether its conference is
-abbrev pub has_secret : Db → ℕ → Bool
-has_secret db person = list_any (λ row. is_secret_membership row.kind) (memberships_of db person)
-
-hidden_either : (db : Db) (person : ℕ) → list_any (may_be_hidden db) (memberships_of db person)
-    ≡ (has_secret db person || list_any (λ row. is_secret_in db row.conference) (memberships_of db person))
-hidden_either db person =
-    any-or (λ row. is_secret_membership row.kind) (λ row. is_secret_in db row.conference) (memberships_of db person)
-
-pub hidden_first : (db : Db) (person : ℕ) → has_secret db person ≡ true →
-    list_any (may_be_hidden db) (memberships_of db person) ≡ true
-hidden_first db person first = hidden_either db person ∙ or_left _ _ first
-
-pub hidden_then : (db : Db) (person : ℕ) → has_secret db person ≡ false →
-    list_any (may_be_hidden db) (memberships_of db person)
-    ≡ list_any (λ row. is_secret_in db row.conference) (memberships_of db person)
-hidden_then db person none =
-    hidden_either db person
-    ∙ ap (λ b. b || list_any (λ row. is_secret_in db row.conference) (memberships_of db person)) none
+found_by_secret db person rises orderly =
+    λ test.
+    omega (
+      arith,
+      length-filter (λ c. is_some (Memberships.membership_of person c db.memberships) && test c)
+          (numbers_of_secret db.conferences),
+      of_all db.conferences rises person test db.memberships orderly.once,
+      passing-memberships_of (λ row. is_secret_among db.conferences row.conference && test row.conference) person
+          db.memberships,
+      length-filter
+          (λ (row : MembershipRow). is_secret_among db.conferences row.conference && test row.conference)
+          (Memberships.memberships_of person db.memberships),
+    )

@@ -9,7 +9,8 @@ ghost use Rattle.kom_model.specs.Db.{read_of, memberships_at};
 ghost use Rattle.kom_types.specs.tables.Memberships.{member_of};
 ghost use Rattle.read_ranges.specs.Numbers.{ranges_of};
 ghost use Rattle.kom_state.specs.Keeping.{AreBelow};
-ghost use Rattle.kom_state.specs.Placed.{AreThere, AreInPlace};
+ghost use Rattle.kom_state.specs.Placed.{AreThere, AreInPlace, AreFound};
+ghost use Rattle.kom_state.specs.Secrecy.{AreFoundBySecret};
 
 mod item_rows;
 mod secrecy;
@@ -67,6 +68,8 @@ impl State {
         ensures count { result ≡ length (memberships_of self.now.db person) }
         ensures there { AreThere self.now.db person }
         ensures in_place { AreInPlace self.now.db person }
+        ensures found { AreFound self.now.db person }
+        ensures by_secret { AreFoundBySecret self.now.db person }
     {
         self.memberships.count_of_person(person)
     }

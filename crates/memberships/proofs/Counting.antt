@@ -1,7 +1,7 @@
 -- How many rows pass a test of their persons, conferences and kinds, after each change of a table.
-use Rattle.std.proofs.Common.{◌≡◌, ℕ, ◌+◌, ◌-◌, min, Bool, true, false, cond, not, ◌&&◌, ◌||◌, eqb, ltb, leb, List, [], ◌∷◌, ◌++◌, length, map, filter, fold, Option, Some, None, refl, sym, ◌∙◌, ap, arith}
-use Rattle.std.specs.List.{AllByRecursion, IsDistinct, list_any}
-use Rattle.std.proofs.lemmas.Bool.{eqb-true, lt-ltb, and_parts}
+use Rattle.std.proofs.Common.{◌≡◌, ℕ, ◌+◌, ◌-◌, min, Bool, true, false, cond, not, ◌&&◌, eqb, ltb, leb, List, [], ◌∷◌, ◌++◌, length, map, filter, fold, Option, Some, None, refl, sym, ◌∙◌, ap, arith}
+use Rattle.std.specs.List.{AllByRecursion, IsDistinct}
+use Rattle.std.proofs.lemmas.Bool.{eqb-true, and_parts}
 use Rattle.std.proofs.lemmas.List.{length-append}
 use Rattle.std.proofs.lemmas.List.Elements.{filter-append}
 use Rattle.std.proofs.lemmas.Map.Keys.{IsDistinct-head, IsDistinct-tail}
@@ -10,7 +10,7 @@ use Rattle.kom_types.specs.declared.memberships.MembershipRow.{MembershipRow}
 use Rattle.kom_types.specs.tables.Memberships.{is_membership, membership_of, by_position, memberships_of, count_of, at_place, closed_up, opened, without_membership, with_new, set_again, with_membership}
 use Rattle.read_ranges.specs.Reads.{read_at}
 use Rattle.memberships.specs.Entries.{same_key}
-use Rattle.memberships.specs.Tallies.{one_if}
+use Rattle.memberships.specs.Secrets.{one_if}
 use Rattle.memberships.proofs.Pairs.{filter-map}
 use Rattle.memberships.proofs.Places.{flip_eqb}
 use Rattle.memberships.proofs.Rows.{open_row, close_row}
@@ -30,7 +30,7 @@ module _ {X : Type 0} where
     passing xs = length (filter test xs)
 
     -- by the first, by the last, and when each becomes what passes alike
-    passing-cons : (x : X) (xs : List X) → passing (x ∷ xs) ≡ one_if (test x) + passing xs
+    pub passing-cons : (x : X) (xs : List X) → passing (x ∷ xs) ≡ one_if (test x) + passing xs
     passing-cons x xs =
         elim (test x) as (λ b. length (cond b (x ∷ filter test xs) (filter test xs)) ≡ cond b 1 0 + passing xs) [
           | true ↦ omega arith
@@ -123,26 +123,21 @@ module _ {X : Type 0} where
           passing-cons given [],
         )
 
-    -- whether any passes
-    pub any_passing : (xs : List X) → ltb 0 (passing xs) ≡ list_any test xs
-    any_passing [] = refl
-    any_passing (x ∷ xs) =
-        elim (test x) as
-        (λ b. ltb 0 (length (cond b (x ∷ filter test xs) (filter test xs))) ≡ (b || list_any test xs)) [
-          | true ↦ lt-ltb 0 (length (x ∷ filter test xs)) (omega arith)
-          | false ↦ any_passing xs
-        ]
-
     -- of those that pass another test
-    pub any-filter : (other : X → Bool) (xs : List X) →
-        list_any test (filter other xs) ≡ list_any (λ x. other x && test x) xs
-    any-filter other [] = refl
-    any-filter other (x ∷ xs) =
+    pub passing-filter : (other : X → Bool) (xs : List X) →
+        passing (filter other xs) ≡ length (filter (λ x. other x && test x) xs)
+    passing-filter other [] = refl
+    passing-filter other (x ∷ xs) =
         elim (other x) as
-        (λ b. list_any test (cond b (x ∷ filter other xs) (filter other xs))
-        ≡ (b && test x || list_any (λ y. other y && test y) xs)) [
-          | true ↦ ap (λ b. test x || b) (any-filter other xs)
-          | false ↦ any-filter other xs
+        (λ b. passing (cond b (x ∷ filter other xs) (filter other xs))
+        ≡ length (cond (b && test x) (x ∷ filter (λ y. other y && test y) xs) (filter (λ y. other y && test y) xs))) [
+          | true ↦ elim (test x) as
+              (λ b. length (cond b (x ∷ filter test (filter other xs)) (filter test (filter other xs)))
+              ≡ length (cond b (x ∷ filter (λ y. other y && test y) xs) (filter (λ y. other y && test y) xs))) [
+                | true ↦ omega (arith, passing-filter other xs)
+                | false ↦ passing-filter other xs
+              ]
+          | false ↦ passing-filter other xs
         ]
 
 -- ---- the row of a person and a conference
@@ -225,7 +220,8 @@ module _ (of : ℕ → ℕ → ℕ → Bool) where
   pub passing-again : (given old : MembershipRow) (rows : List MembershipRow) →
       IsDistinct same_key (map (λ r. (r.person, r.conference)) rows) →
       membership_of given.person given.conference rows ≡ Some old →
-      passing (tells of) (with_membership given rows) + one_if (tells of old) ≡ passing (tells of) rows + one_if (tells of given)
+      passing (tells of) (with_membership given rows) + one_if (tells of old)
+      ≡ passing (tells of) rows + one_if (tells of given)
   passing-again given old rows once there =
       let p : ℕ = given.person in
       let c : ℕ = given.conference in
@@ -271,52 +267,48 @@ module _ (of : ℕ → ℕ → ℕ → Bool) where
       passing-map (tells of) (λ row. cond (is_membership p c row) (record row { last_time_read = at }) row)
       (λ row. at_any_moment (is_membership p c row) row) rows
     where
-      at_any_moment : (b : Bool) (row : MembershipRow) → tells of (cond b (record row { last_time_read = at }) row) ≡ tells of row
+      at_any_moment : (b : Bool) (row : MembershipRow) →
+          tells of (cond b (record row { last_time_read = at }) row) ≡ tells of row
       at_any_moment true row = refl
       at_any_moment false row = refl
 
--- ---- whether any membership of a person passes
+-- ---- how many memberships of a person pass
 
 -- with one more in its place
-any-by_position : (test : MembershipRow → Bool) (row : MembershipRow) (rows : List MembershipRow) →
-    list_any test (by_position row rows) ≡ (test row || list_any test rows)
-any-by_position test row [] = refl
-any-by_position test row (first ∷ rows) =
+passing-by_position : (test : MembershipRow → Bool) (row : MembershipRow) (rows : List MembershipRow) →
+    passing test (by_position row rows) ≡ one_if (test row) + passing test rows
+passing-by_position test row [] = passing-cons test row []
+passing-by_position test row (first ∷ rows) =
     elim (ltb row.position first.position) as
-    (λ b. list_any test (cond b (row ∷ first ∷ rows) (first ∷ by_position row rows))
-    ≡ (test row || (test first || list_any test rows))) [
-      | true ↦ refl
-      | false ↦ ap (λ b. test first || b) (any-by_position test row rows) ∙ swapped (test first) (test row) (list_any test rows)
+    (λ b. passing test (cond b (row ∷ first ∷ rows) (first ∷ by_position row rows))
+    ≡ one_if (test row) + passing test (first ∷ rows)) [
+      | true ↦ passing-cons test row (first ∷ rows)
+      | false ↦ omega (
+        arith,
+        passing-cons test first (by_position row rows),
+        passing-cons test first rows,
+        passing-by_position test row rows,
+      )
     ]
-  where
-    swapped : (a b c : Bool) → (a || (b || c)) ≡ (b || (a || c))
-    swapped true true c = refl
-    swapped true false c = refl
-    swapped false true c = refl
-    swapped false false c = refl
 
 -- and with all of them
-any-sorted : (test : MembershipRow → Bool) (sorted rows : List MembershipRow) →
-    list_any test (fold (λ done row. by_position row done) sorted rows) ≡ (list_any test sorted || list_any test rows)
-any-sorted test sorted [] = sym (or_false (list_any test sorted))
-  where
-    or_false : (b : Bool) → (b || false) ≡ b
-    or_false true = refl
-    or_false false = refl
-any-sorted test sorted (row ∷ rows) =
-    any-sorted test (by_position row sorted) rows
-    ∙ ap (λ b. b || list_any test rows) (any-by_position test row sorted)
-    ∙ moved (test row) (list_any test sorted) (list_any test rows)
-  where
-    moved : (a b c : Bool) → ((a || b) || c) ≡ (b || (a || c))
-    moved true true c = refl
-    moved true false c = refl
-    moved false true c = refl
-    moved false false c = refl
+passing-sorted : (test : MembershipRow → Bool) (sorted rows : List MembershipRow) →
+    passing test (fold (λ done row. by_position row done) sorted rows) ≡ passing test sorted + passing test rows
+passing-sorted test sorted [] = omega arith
+passing-sorted test sorted (row ∷ rows) =
+    omega (
+      arith,
+      passing-sorted test (by_position row sorted) rows,
+      passing-by_position test row sorted,
+      passing-cons test row rows,
+    )
 
 -- the order of a person's memberships is no matter
-pub any-memberships_of : (test : MembershipRow → Bool) (p : ℕ) (rows : List MembershipRow) →
-    list_any test (memberships_of p rows) ≡ list_any (λ row. eqb row.person p && test row) rows
-any-memberships_of test p rows =
-    any-sorted test [] (filter (λ (row : MembershipRow). eqb row.person p) rows)
-    ∙ any-filter test (λ (row : MembershipRow). eqb row.person p) rows
+pub passing-memberships_of : (test : MembershipRow → Bool) (p : ℕ) (rows : List MembershipRow) →
+    passing test (memberships_of p rows) ≡ passing (λ row. eqb row.person p && test row) rows
+passing-memberships_of test p rows =
+    omega (
+      arith,
+      passing-sorted test [] (filter (λ (row : MembershipRow). eqb row.person p) rows),
+      passing-filter test (λ (row : MembershipRow). eqb row.person p) rows,
+    )

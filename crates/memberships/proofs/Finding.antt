@@ -110,7 +110,7 @@ module _ (es : List Entry) (next : ℕ) (conferences persons : ℕ → List ℕ)
       ap (λ l. slice_get l place) (members es next conferences persons table c)
       ∙ slice_get-map (row_of conferences) (in_conference c) place
 
-  persons_place : (c place : ℕ) →
+  pub persons_place : (c place : ℕ) →
       slice_get (persons c) place ≡ option_map (λ e. e.0.0) (slice_get (in_conference c) place)
   persons_place c place =
       ap (λ l. slice_get l place) (table.in_order c) ∙ slice_get-map (λ (e : Entry). e.0.0) (in_conference c) place
@@ -125,7 +125,7 @@ module _ (es : List Entry) (next : ℕ) (conferences persons : ℕ → List ℕ)
       by (Some entry) e = absurd
           (none-some entry.0.0 (sym none ∙ persons_place c place ∙ ap (option_map (λ (x : Entry). x.0.0)) e))
 
-  entry_kept : (c place : ℕ) (e : Entry) → slice_get (in_conference c) place ≡ Some e → kept_at e.0 es ≡ Some e.1
+  pub entry_kept : (c place : ℕ) (e : Entry) → slice_get (in_conference c) place ≡ Some e → kept_at e.0 es ≡ Some e.1
   entry_kept c place e at =
       all_at (λ (x : Entry). kept_at x.0 es ≡ Some x.1) (in_conference c) place e
       (all_filter (λ (x : Entry). kept_at x.0 es ≡ Some x.1) (λ (x : Entry). eqb x.0.1 c) (in_turn es)
@@ -138,7 +138,7 @@ module _ (es : List Entry) (next : ℕ) (conferences persons : ℕ → List ℕ)
       ap (λ l. is_member nat_eq l p) (table.in_order c)
       ∙ is_person p c (in_turn es) (ap is_some (turns.found (p, c) ∙ there))
 
-  entry_in : (c place : ℕ) (e : Entry) → slice_get (in_conference c) place ≡ Some e → e.0.1 ≡ c
+  pub entry_in : (c place : ℕ) (e : Entry) → slice_get (in_conference c) place ≡ Some e → e.0.1 ≡ c
   entry_in c place e at =
       eqb-true e.0.1 c (all_at (λ (x : Entry). eqb x.0.1 c ≡ true) (in_conference c) place e
       (filter_passes (λ (x : Entry). eqb x.0.1 c) (in_turn es)) at)

@@ -1,5 +1,6 @@
 pub mod Counting
 pub mod Finding
+pub mod Joined
 pub mod JoinedRows
 pub mod Joining
 pub mod Keys
@@ -13,7 +14,7 @@ pub mod RenewedRows
 pub mod Renewing
 pub mod Rooms
 pub mod Rows
-pub mod TalliedRows
-pub mod Tallies
+pub mod SecretRows
+pub mod Secrets
 pub mod Turns
 pub mod Viewing

@@ -1,54 +1,78 @@
 -- Lists after a change of one of them.
-use Rattle.std.proofs.Common.{◌≡◌, ℕ, ◌≤◌, false, ◌||◌, eqb, nat_eq, List, [], ◌∷◌, ◌++◌, insert, Option, Some, None, is_some, true, MutBor, refl, ◌∙◌, ap, arith}
+use Rattle.std.proofs.Common.{◌≡◌, ℕ, ◌+◌, ◌≤◌, min, Bool, true, false, nat_eq, List, [], ◌∷◌, map, Option, Some, None, is_some, option_map, unwrap_or, MutBor, inl, inr, refl, sym, ap, ◌∙◌, arith}
+use Rattle.std.specs.Map.{lookup}
 use Rattle.std.specs.Option.{option_copied_mut}
-use Rattle.std.specs.Set.{is_member}
-use Rattle.std.proofs.lemmas.Bool.{eq-eqb, or_left, or_right}
-use Rattle.std.proofs.lemmas.List.Folds.{list_any-append}
+use Rattle.std.proofs.lemmas.Bool.{cases_Bool, eqb-true}
 use Rattle.row_slots.specs.declared.lists.Lists.{Lists}
-use Rattle.row_slots.specs.Lists.{list_of, room_of, HasList, HasOnlyChanged, HasOnlyTallied}
-use Rattle.row_slots.proofs.Rooms.{kept_with_number}
-use Rattle.memberships.proofs.Places.{is_member-insert}
+use Rattle.row_slots.specs.Lists.{list_of, room_of, rooms_of, room_in, HasOnlyChanged}
+use Rattle.row_slots.proofs.Rooms.{room_in-rooms_of}
+use Rattle.memberships.specs.Secrets.{one_if, rooms_of_both}
 use Rattle.memberships.proofs.Turns.{Sets}
 
 pub sets_list : (old new : Lists) (key : ℕ) (list : List ℕ) → HasOnlyChanged old new key → list_of new key ≡ list →
     Sets (list_of old) (list_of new) key list
 sets_list old new key list only here = record { here = here; others = only.lists }
 
--- what was set stays set where a tally alone has changed since
-pub still_sets : (old : ℕ → List ℕ) (between new : Lists) (key : ℕ) (list : List ℕ) → Sets old (list_of between) key list →
-    HasOnlyTallied between new key → Sets old (list_of new) key list
-still_sets old between new key list sets tallied = record {
-  here = tallied.lists key ∙ sets.here;
-  others = λ other unlike. tallied.lists other ∙ sets.others other unlike;
-}
-
--- all lists stay then
-pub same_lists : (old new : Lists) (key : ℕ) → HasOnlyTallied old new key → list_of new ≡ list_of old
-same_lists old new key tallied = λ i other. tallied.lists other i
-
--- and no room falls
-pub rooms_tallied : (old between new : Lists) (key : ℕ) → ((other : ℕ) → room_of old other ≤ room_of between other) →
-    HasOnlyTallied between new key → (other : ℕ) → room_of old other ≤ room_of new other
-rooms_tallied old between new key stay tallied other = omega (arith, tallied.rooms other, stay other)
-
--- a list is kept where a number was put into it
-pub kept_inserted : (lists : Lists) (key : ℕ) (list : List ℕ) (place number : ℕ) →
-    list_of lists key ≡ insert list place number → HasList lists key
-kept_inserted lists key list place number is =
-    kept_with_number lists key number
-    (ap (λ l. is_member nat_eq l number) is ∙ is_member-insert list place number number
-    ∙ ap (λ b. b || is_member nat_eq list number) (eq-eqb number number refl))
-
--- or at its end
-pub kept_pushed : (lists : Lists) (key : ℕ) (list : List ℕ) (number : ℕ) → list_of lists key ≡ list ++ number ∷ [] →
-    HasList lists key
-kept_pushed lists key list number is =
-    kept_with_number lists key number
-    (ap (λ l. is_member nat_eq l number) is ∙ list_any-append (nat_eq number) list (number ∷ [])
-    ∙ or_right (is_member nat_eq list number) (eqb number number || false)
-    (or_left (eqb number number) false (eq-eqb number number refl)))
-
 -- there is a reference where there is what it refers to
 pub is_some_copied : {X : Type 0} (o : Option (MutBor X)) → is_some (option_copied_mut o) ≡ true → is_some o ≡ true
 is_some_copied None there = there
 is_some_copied (Some r) there = refl
+
+-- ---- rooms of two lists
+
+-- the room of a key is the lesser of both
+pub room_in-both : (lists secret : Lists) (key : ℕ) →
+    room_in (rooms_of_both lists secret) key ≡ min (room_of lists key) (room_of secret key)
+room_in-both lists secret key =
+    ap (λ o. unwrap_or o 0) (lesser (rooms_of lists)) ∙ by (lookup (nat_eq key) (rooms_of lists))
+    ∙ ap (λ n. min n (room_of secret key)) (room_in-rooms_of lists key)
+  where
+    lesser : (rooms : List (ℕ × ℕ)) →
+        lookup (nat_eq key) (map {B = ℕ × ℕ} (λ room. (room.0, min room.1 (room_of secret room.0))) rooms)
+        ≡ option_map (λ n. min n (room_of secret key)) (lookup (nat_eq key) rooms)
+    lesser [] = refl
+    lesser (room ∷ rooms) = elim (cases_Bool (nat_eq key room.0)) [
+      | inl is ↦ rw is (ap (λ k. Some (min room.1 (room_of secret k))) (sym (eqb-true key room.0 is)))
+      | inr other ↦ rw other (lesser rooms)
+    ]
+
+    by : (o : Option ℕ) →
+        unwrap_or (option_map (λ n. min n (room_of secret key)) o) 0 ≡ min (unwrap_or o 0) (room_of secret key)
+    by None = omega arith
+    by (Some n) = refl
+
+module _ (one one_now other other_now : Lists) where
+  abbrev room_before : ℕ → ℕ
+  room_before key = room_in (rooms_of_both one other) key
+
+  abbrev room_after : ℕ → ℕ
+  room_after key = room_in (rooms_of_both one_now other_now) key
+
+  -- no room falls where neither list's does
+  pub both_stay : ((key : ℕ) → room_of one key ≤ room_of one_now key) →
+      ((key : ℕ) → room_of other key ≤ room_of other_now key) → (key : ℕ) → room_before key ≤ room_after key
+  both_stay ones others key =
+      omega (arith, room_in-both one other key, room_in-both one_now other_now key, ones key, others key)
+
+  -- and by one at most where each falls by one at most
+  pub both_fall : (key : ℕ) → room_of one key ≤ room_of one_now key + 1 →
+      room_of other key ≤ room_of other_now key + 1 → room_before key ≤ room_after key + 1
+  both_fall key ones others =
+      omega (arith, room_in-both one other key, room_in-both one_now other_now key, ones, others)
+
+  -- nor at the keys at which none has changed
+  pub both_same : (key : ℕ) → room_of one_now key ≡ room_of one key → room_of other_now key ≡ room_of other key →
+      room_before key ≤ room_after key
+  both_same key ones others =
+      omega (arith, room_in-both one other key, room_in-both one_now other_now key, ones, others)
+
+-- one more number takes the room of one at most, and one less none
+pub falls_by_one : (room room_now : ℕ) (was is : Bool) → room + one_if was ≤ room_now + one_if is → room ≤ room_now + 1
+falls_by_one room room_now true true less = omega (arith, less)
+falls_by_one room room_now true false less = omega (arith, less)
+falls_by_one room room_now false true less = omega (arith, less)
+falls_by_one room room_now false false less = omega (arith, less)
+
+pub no_fall : (room room_now : ℕ) (was : Bool) → room + one_if was ≤ room_now + 0 → room ≤ room_now
+no_fall room room_now true less = omega (arith, less)
+no_fall room room_now false less = omega (arith, less)

@@ -10,7 +10,7 @@ use Rattle.memberships.specs.Entries.{Key, same_key}
 
 -- The rows in the order of joining; what was read in each, in the same order; how many more there
 -- are turns for, and room without memory; and the persons and the conferences that a list is kept
--- for, each with the room in its list.
+-- for, each with the room for memberships, were they secret.
 pub record Table : Type 0 where
   pub rows : List MembershipRow
   pub reads : List ReadRow

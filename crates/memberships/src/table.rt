@@ -1,6 +1,7 @@
-ghost use Rattle.std.specs.Prelude.{◌≡◌, ◌≤◌, ◌<◌, ◌+◌, [], None, length, slice_get, option_map};
+ghost use Rattle.std.specs.Prelude.{◌≡◌, ◌≤◌, ◌<◌, ◌+◌, ◌==◌, [], None, length, take, slice_get};
+ghost use Rattle.std.specs.Prelude.{option_map};
 ghost use Rattle.std.specs.Prelude.{nat_eq, is_some, IsNone, IsSome, IfSome, IsOk, OnOk, OnErr};
-ghost use Rattle.std.specs.List.{IsDistinct};
+ghost use Rattle.std.specs.List.{IsDistinct, list_any};
 ghost use Rattle.kom_types.specs.tables.Memberships.{membership_of, members_of, memberships_of};
 ghost use Rattle.kom_types.specs.tables.Memberships.{count_of, with_membership, without_membership};
 ghost use Rattle.memberships.specs.Table.{room_of_person, room_of_conference};
@@ -14,10 +15,10 @@ ghost use Rattle.read_ranges.specs.Reads.{read_of, with_reader, without_reader};
 ghost use Rattle.read_ranges.specs.Reads.{with_read, read_at};
 
 mod keys;
-mod tallies;
+mod secrets;
 
 use crate::kept::Kept;
-use crate::table::tallies::{is_secret, retally};
+use crate::table::secrets::{is_secret, relist};
 use indexmap::IndexMap;
 use kom_types::{Member, MembershipRow, Memory, Moment, ReadRange};
 use read_ranges::Ranges;
@@ -30,10 +31,14 @@ use std::marker::Model;
 pub struct Memberships {
     /// What is kept of each membership, by its person and its conference.
     entries: IndexMap<(u32, u32), Kept>,
-    /// The conferences of each person, by position, with how many of the memberships are secret.
+    /// The conferences of each person, by position.
     conferences: Lists,
-    /// The persons in each conference, in the order of joining, with the same.
+    /// The persons in each conference, in the order of joining.
     persons: Lists,
+    /// The conferences in which each person's membership is secret.
+    secret_conferences: Lists,
+    /// The persons whose membership in each conference is secret.
+    secret_persons: Lists,
     next_turn: u64,
 }
 
@@ -45,9 +50,12 @@ impl Drop for Memberships {
             entries,
             conferences,
             persons,
+            secret_conferences,
+            secret_persons,
             next_turn: _,
         } = self;
         drop((entries, conferences, persons));
+        drop((secret_conferences, secret_persons));
     }
 }
 
@@ -56,9 +64,9 @@ impl Model for Memberships {
     ghost use Rattle.indexmap.specs.IndexMap.{spare};
     ghost use Rattle.memberships.specs.Entries.{rows_of, reads_of};
     ghost use Rattle.memberships.specs.Keeping.{IsTable};
-    ghost use Rattle.row_slots.specs.Lists.{list_of, tally_of, rooms_of};
+    ghost use Rattle.row_slots.specs.Lists.{list_of};
+    ghost use Rattle.memberships.specs.Secrets.{AreSecrets, rooms_of_both};
     ghost use Rattle.memberships.specs.Table.{Table};
-    ghost use Rattle.memberships.specs.Tallies.{AreTallied};
 
     ghost Value = { Table };
 
@@ -66,14 +74,14 @@ impl Model for Memberships {
       rows = rows_of (list_of a.conferences) a.entries.entries;
       reads = reads_of a.entries.entries;
       spare = min (spare a.entries) (18446744073709551615 - a.next_turn);
-      person_rooms = rooms_of a.conferences;
-      conference_rooms = rooms_of a.persons;
+      person_rooms = rooms_of_both a.conferences a.secret_conferences;
+      conference_rooms = rooms_of_both a.persons a.secret_persons;
     } };
 
     ghost invariant = { λ a. IsTable a.entries.entries a.next_turn
         (list_of a.conferences) (list_of a.persons)
-        × AreTallied (rows_of (list_of a.conferences) a.entries.entries)
-        (tally_of a.conferences) (tally_of a.persons) };
+        × AreSecrets (rows_of (list_of a.conferences) a.entries.entries)
+        (list_of a.secret_conferences) (list_of a.secret_persons) };
 }
 
 impl Memberships {
@@ -86,6 +94,8 @@ impl Memberships {
             entries: IndexMap::new(alloc),
             conferences: Lists::new(alloc),
             persons: Lists::new(alloc),
+            secret_conferences: Lists::new(alloc),
+            secret_persons: Lists::new(alloc),
             next_turn: 0,
         }
     }
@@ -170,6 +180,23 @@ impl Memberships {
         Some(kept.member(person))
     }
 
+    /// Whether a person is among so many who joined a conference first, in constant time.
+    pub fn is_among_first(&self, person: u32, conference: u32, count: usize) -> bool
+        ensures { result ≡ list_any (λ row. row.person == person)
+            (take count (members_of conference self.now.rows)) }
+    {
+        let Some(kept) = self.entries.get(&(person, conference)) else {
+            return false;
+        };
+        let Some(next) = self.persons.list(conference).get(count) else {
+            return true;
+        };
+        match self.entries.get(&(*next, conference)) {
+            None => unreachable!(),
+            Some(other) => kept.turn < other.turn,
+        }
+    }
+
     /// What a person has read of a conference, in constant time.
     pub fn read(&self, person: u32, conference: u32) -> Option<&Ranges>
         ensures there { is_some result
@@ -194,15 +221,11 @@ impl Memberships {
             → 0 < room_of_conference self.old row.conference → IsOk result }
         ensures room { UsesRoom self.old self.new row.person row.conference }
         ensures err_room { OnErr result (KeepsRoom self.old self.new) }
-
-        // It takes no memory for a membership that is there, and no room is used.
-        ensures again { IsSome (membership_of row.person row.conference self.old.rows)
-            → IsOk result × KeepsRoom self.old self.new }
     {
+        self.reserve(row.person, row.conference, 1)?;
         if self.contains(row.person, row.conference) {
             self.set_again(&row);
         } else {
-            self.reserve(row.person, row.conference, 1)?;
             self.join(&row);
         }
         Ok(())
@@ -226,17 +249,19 @@ impl Memberships {
             .insert(person, row.position as usize, conference);
         self.persons.push(conference, person);
         let is = is_secret(row.kind);
-        retally(&mut self.conferences, person, false, is);
-        retally(&mut self.persons, conference, false, is);
+        relist(&mut self.secret_conferences, person, conference, false, is);
+        relist(&mut self.secret_persons, conference, person, false, is);
     }
 
     /// Sets a membership that is there. Takes no memory.
     fn set_again(&mut self, row: &MembershipRow)
-        requires { IsSome (membership_of row.now.person row.now.conference self.old.rows) }
+        requires there { IsSome
+            (membership_of row.now.person row.now.conference self.old.rows) }
+        requires room { HasRoom self.old row.now.person row.now.conference 1 }
         ensures rows { self.new.rows ≡ with_membership row.now self.old.rows }
         ensures reads { self.new.reads
             ≡ with_reader row.now.person row.now.conference self.old.reads }
-        ensures room { KeepsRoom self.old self.new }
+        ensures room { UsesRoom self.old self.new row.now.person row.now.conference }
     {
         let (person, conference) = (row.person, row.conference);
         let kept = self.entries.get_mut(&(person, conference)).unwrap();
@@ -246,8 +271,8 @@ impl Memberships {
         self.conferences
             .insert(person, row.position as usize, conference);
         let is = is_secret(row.kind);
-        retally(&mut self.conferences, person, was, is);
-        retally(&mut self.persons, conference, was, is);
+        relist(&mut self.secret_conferences, person, conference, was, is);
+        relist(&mut self.secret_persons, conference, person, was, is);
     }
 
     /// Sets what a person has read of a conference, which was told at a moment. Ranges that touch
@@ -278,8 +303,8 @@ impl Memberships {
         self.conferences.remove(person, conference);
         self.persons.remove(conference, person);
         let was = is_secret(kept.kind);
-        retally(&mut self.conferences, person, was, false);
-        retally(&mut self.persons, conference, was, false);
+        relist(&mut self.secret_conferences, person, conference, was, false);
+        relist(&mut self.secret_persons, conference, person, was, false);
         true
     }
 
@@ -297,6 +322,8 @@ impl Memberships {
         self.entries.reserve(additional)?;
         self.conferences.reserve(person, additional)?;
         self.persons.reserve(conference, additional)?;
+        self.secret_conferences.reserve(person, additional)?;
+        self.secret_persons.reserve(conference, additional)?;
         Ok(())
     }
 }

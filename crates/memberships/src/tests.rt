@@ -246,40 +246,49 @@ fn of_kind(person: u32, conference: u32, kind: u8) -> MembershipRow {
     row
 }
 
-// Whether persons 5 and 6, and conferences 1 and 2, have a secret membership.
-fn secrets(table: &Memberships) -> [bool; 4] {
-    [
-        table.has_secret_of_person(5),
-        table.has_secret_of_person(6),
-        table.has_secret_in_conference(1),
-        table.has_secret_in_conference(2),
-    ]
+// Whether these are the conferences in which person 5's membership is secret, and these the persons
+// whose membership in conference 1 is.
+fn are_secret(table: &Memberships, conferences: &[u32], persons: &[u32]) -> bool {
+    table.secret_of_person(5) == conferences && table.secret_in_conference(1) == persons
 }
 
 #[test]
 fn a_membership_becomes_secret_and_is_shown_again(rt: HostRuntime) -> Result<(), Fail> {
     let mut table = Memberships::new(rt.alloc());
     fill(&mut table)?;
-    assert_eq!(rt; secrets(&table), [false, false, false, false]);
+    assert!(rt; are_secret(&table, &[], &[]));
     table.set(of_kind(5, 1, SECRET_MEMBERSHIP))?;
-    assert_eq!(rt; secrets(&table), [true, false, true, false]);
+    assert!(rt; are_secret(&table, &[1], &[5]));
     table.set(of_kind(5, 1, SECRET_MEMBERSHIP))?;
-    assert_eq!(rt; secrets(&table), [true, false, true, false]);
+    assert!(rt; are_secret(&table, &[1], &[5]));
     table.set(of_kind(5, 1, 0))?;
-    assert_eq!(rt; secrets(&table), [false, false, false, false]);
+    assert!(rt; are_secret(&table, &[], &[]));
     Ok(())
 }
 
 #[test]
-fn a_second_secret_membership_counts_too(rt: HostRuntime) -> Result<(), Fail> {
+fn secret_memberships_are_listed_until_they_end(rt: HostRuntime) -> Result<(), Fail> {
     let mut table = Memberships::new(rt.alloc());
     table.set(of_kind(5, 1, SECRET_MEMBERSHIP))?;
     table.set(of_kind(5, 2, SECRET_MEMBERSHIP))?;
-    table.set(of_kind(6, 2, 0))?;
-    assert_eq!(rt; secrets(&table), [true, false, true, true]);
+    table.set(of_kind(6, 1, SECRET_MEMBERSHIP))?;
+    assert!(rt; are_secret(&table, &[1, 2], &[5, 6]));
     assert!(rt; table.remove(5, 1));
-    assert_eq!(rt; secrets(&table), [true, false, false, true]);
-    assert!(rt; table.remove(5, 2));
-    assert_eq!(rt; secrets(&table), [false, false, false, false]);
+    assert!(rt; are_secret(&table, &[2], &[6]));
+    Ok(())
+}
+
+#[test]
+fn first_members_are_those_who_joined_first(rt: HostRuntime) -> Result<(), Fail> {
+    let mut table = Memberships::new(rt.alloc());
+    table.set(of_kind(6, 1, 0))?;
+    table.set(of_kind(5, 1, 0))?;
+    let first = [
+        table.is_among_first(6, 1, 1),
+        table.is_among_first(5, 1, 1),
+        table.is_among_first(5, 1, 2),
+        table.is_among_first(7, 1, 2),
+    ];
+    assert_eq!(rt; first, [true, false, true, false]);
     Ok(())
 }

@@ -1,7 +1,8 @@
-mod AllShown
+mod HiddenRows
 mod AlongNumbers
 mod Bits
 mod Memberships
 mod NextShown
 mod Shown
+mod ShownToFew
 mod ToldCounts

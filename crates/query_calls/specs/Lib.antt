@@ -1,3 +1,4 @@
+pub mod Hidden
 pub mod Nearest
 pub mod Shown
 pub mod Walks

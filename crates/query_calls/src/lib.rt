@@ -2,6 +2,7 @@
 #![tactic(auto)]
 
 mod created;
+mod hidden;
 mod lookup;
 mod nearest;
 mod on_aux_items;

@@ -3,7 +3,7 @@ ghost use Rattle.std.specs.Prelude.{◌≡◌, ◌||◌, ◌&&◌, ◌<◌, ◌^
 ghost use Rattle.std.specs.Prelude.{[], length, map, filter, IfOk};
 ghost use Rattle.read_ranges.specs.Changed as Changed;
 ghost use Rattle.read_ranges.specs.Numbers.{ranges_of as ranges_in};
-ghost use Rattle.kom_model.specs.Db.{memberships_of, members_of, read_of};
+ghost use Rattle.kom_model.specs.Db.{memberships_of, read_of};
 ghost use Rattle.kom_model.specs.Shown as Shown;
 ghost use Rattle.kom_model.specs.Shown.{is_reserved as is_reserved_by};
 ghost use Rattle.kom_types.specs.tables.Memberships.{is_passive, member_of};
@@ -11,8 +11,9 @@ ghost use Rattle.kom_model.specs.Rights.{supervises as supervises_by};
 ghost use Rattle.kom_model.specs.calls.Call.{Meets};
 ghost use Rattle.kom_model.specs.calls.Guards.{caller as caller_of};
 ghost use Rattle.kom_model.specs.calls.Memberships as Calls;
-ghost use Rattle.query_calls.specs.Walks.{sees_all, sees_members, LeadsTo};
+ghost use Rattle.query_calls.specs.Hidden.{hidden_members, hidden_memberships};
 
+use crate::hidden::{hidden_members, hidden_memberships};
 use access_rights::{
     conference_guard, is_reserved, login_guard, row_guard, shows_membership, shows_reads,
     supervises, unless,
@@ -104,8 +105,8 @@ fn has_unread(read: &Ranges, first: u32, last: u32) -> bool
 }
 
 /// Call 101, get-members: those that are shown to the caller, in the order of joining. The time
-/// grows with how many are asked for, and, where a membership in the conference is secret and the
-/// caller does not see all, with the places before.
+/// grows with how many are asked for, and with how many secret memberships there are in the
+/// conference if the caller does not see all.
 pub fn get_members(
     asked: &Asked<'_>,
     conference: u32,
@@ -117,77 +118,64 @@ pub fn get_members(
     let caller = asked.caller();
     login_guard(&caller)?;
     conference_guard(asked.rows(), &caller, conference)?;
+    let passed = hidden_members(asked.rows(), &caller, conference, first as usize);
     unless(
-        first == 0 || has_member_at(asked, &caller, conference, first),
+        first == 0 || has_member_at(asked, &caller, conference, first, passed),
         19,
         first,
     )?;
-    let members = members_from(asked, &caller, conference, first, count)?;
+    let members = members_from(asked, &caller, conference, first, passed, count)?;
     let members = Boxed::new(asked.allocator(), members)?;
     Ok(asked.answer(Reply::Members(members)))
 }
 
-/// Whether there is a member at a place among those that are shown to the caller.
-fn has_member_at(asked: &Asked<'_>, caller: &Viewer, conference: u32, place: u32) -> bool
-    requires { caller.now ≡ caller_of asked.now }
+/// Whether there is a member at a place among those that are shown to the caller: from that place
+/// among all on, as many are passed over as before it are hidden.
+fn has_member_at(
+    asked: &Asked<'_>,
+    caller: &Viewer,
+    conference: u32,
+    place: u32,
+    passed: usize,
+) -> bool
+    requires caller { caller.now ≡ caller_of asked.now }
+    requires passed { passed ≡ hidden_members asked.now.db caller.now conference place }
     ensures { result ≡ nat_lt place (length (Calls.shown_members asked.now conference)) }
 {
     let rows = asked.rows();
-    let begin = member_begin(rows, caller, conference, place);
     let mut shown = rows
-        .members_from(conference, begin)
+        .members_from(conference, place as usize)
         .filter(|member| shows_member(rows, caller, conference, member));
-    shown.nth(place as usize - begin).is_some()
+    shown.nth(passed).is_some()
 }
 
-/// Where a walk over the members of a conference begins that is to come to a place among those that
-/// are shown to the caller: at that place if all are shown, or none is, else at the first.
-fn member_begin(rows: &State, caller: &Viewer, conference: u32, place: u32) -> usize
-    ensures { LeadsTo
-        (λ row. Shown.shows_membership rows.now.db caller.now row.person conference row.kind)
-        (members_of rows.now.db conference) place result }
-{
-    if sees_members(rows, caller, conference) {
-        place as usize
-    } else {
-        0
-    }
-}
-
-/// Whether all members of a conference that is seen are shown to who looks.
-pub(crate) fn sees_members(rows: &State, viewer: &Viewer, conference: u32) -> bool
-    ensures { result ≡ sees_members rows.now.db viewer.now conference }
-{
-    viewer.strong
-        || supervises(rows, viewer.person, conference)
-        || !rows.may_hide_member(conference)
-}
-
-/// The members at some places among those that are shown to the caller.
+/// The members at some places among those that are shown to the caller: from the first place among
+/// all on, as many are passed over as before it are hidden.
 fn members_from(
     asked: &Asked<'_>,
     caller: &Viewer,
     conference: u32,
     first: u32,
+    passed: usize,
     count: u32,
 ) -> Result<Members, Memory>
-    requires { caller.now ≡ caller_of asked.now }
+    requires caller { caller.now ≡ caller_of asked.now }
+    requires passed { passed ≡ hidden_members asked.now.db caller.now conference first }
     ensures { IfOk result (λ members. members ≡ map member_of
         (Calls.part first count (Calls.shown_members asked.now conference))) }
 {
     let rows = asked.rows();
-    let begin = member_begin(rows, caller, conference, first);
     let members = rows
-        .members_from(conference, begin)
+        .members_from(conference, first as usize)
         .filter(|member| shows_member(rows, caller, conference, member))
-        .skip(first as usize - begin)
+        .skip(passed)
         .take(count as usize)
         .collect(asked.allocator())?;
     Ok(Sequence::of(members))
 }
 
 /// Whether a member of a conference is shown to who looks.
-pub(crate) fn shows_member(rows: &State, viewer: &Viewer, conference: u32, member: &Member) -> bool
+fn shows_member(rows: &State, viewer: &Viewer, conference: u32, member: &Member) -> bool
     ensures { result ≡ Shown.shows_membership rows.now.db viewer.now member.now.person conference
         member.now.kind }
 {
@@ -195,8 +183,8 @@ pub(crate) fn shows_member(rows: &State, viewer: &Viewer, conference: u32, membe
 }
 
 /// Call 107, query-read-texts. The time grows with the ranges that are told; with the person's
-/// memberships by little, since the list of their conferences is searched, unless one may be
-/// hidden from somebody and the caller does not see all: then it looks at each.
+/// memberships by little, since the list of their conferences is searched; and as
+/// `hidden_memberships` tells.
 pub fn query_read_texts(
     asked: &Asked<'_>,
     person: u32,
@@ -225,49 +213,14 @@ pub fn query_read_texts(
     Ok(asked.answer(Reply::Membership(told)))
 }
 
-/// The place of a membership among those of its person that are shown to the caller. Where it is
-/// known that all are shown it is the place that is kept; else the time grows with the person's
-/// memberships.
+/// The place of a membership among those of its person that are shown to the caller: its place
+/// among all, less the hidden ones before it.
 fn place_of(asked: &Asked<'_>, row: &MembershipRow) -> usize
     ensures { result ≡ Calls.place_of asked.now row.now }
 {
-    if sees_all(asked.rows(), &asked.caller(), row.person) {
-        let count = asked.rows().membership_count(row.person);
-        count.min(row.position as usize)
-    } else {
-        count_before(asked, row)
-    }
-}
-
-/// Whether all memberships of a person are shown to who looks.
-pub(crate) fn sees_all(rows: &State, viewer: &Viewer, person: u32) -> bool
-    ensures { result ≡ sees_all rows.now.db viewer.now person }
-{
-    viewer.strong || viewer.person == person || !rows.may_hide_membership(person)
-}
-
-/// How many memberships of a person are shown to the caller before this one.
-fn count_before(asked: &Asked<'_>, row: &MembershipRow) -> usize
-    ensures { result ≡ Calls.place_of asked.now row.now }
-{
     let rows = asked.rows();
-    let mut before = 0;
-    for place in 0..rows.membership_count(row.person) {
-        if let Some(other) = rows.nth_membership(row.person, place) {
-            if is_shown_before(asked, row, &other) {
-                before += 1;
-            }
-        }
-    }
-    before
-}
-
-/// Whether another membership is shown to the caller and has an earlier place.
-fn is_shown_before(asked: &Asked<'_>, row: &MembershipRow, other: &MembershipRow) -> bool
-    ensures { result ≡ (nat_lt other.now.position row.now.position
-        && Calls.is_shown asked.now other.now) }
-{
-    other.position < row.position && is_shown(asked, other)
+    let place = rows.membership_count(row.person).min(row.position as usize);
+    place - hidden_memberships(rows, &asked.caller(), row.person, place)
 }
 
 /// A membership as it is told, at a place among those that are shown to the caller.
@@ -346,8 +299,7 @@ fn at_most(most: u32, ranges: &[ReadRange]) -> &[ReadRange]
 }
 
 /// Call 108, get-membership: those that are shown to the caller, by their places. The time grows
-/// with how many are asked for, and, where one may be hidden from somebody and the caller does not
-/// see all, with the places before.
+/// with how many are asked for, and as `hidden_memberships` tells.
 pub fn get_membership(
     asked: &Asked<'_>,
     person: u32,
@@ -362,60 +314,51 @@ pub fn get_membership(
     let rows = asked.rows();
     login_guard(&asked.caller())?;
     rows.person_guard(person)?;
+    let passed = hidden_memberships(rows, &asked.caller(), person, first as usize);
     unless(
-        first == 0 || has_membership_at(asked, person, first),
+        first == 0 || has_membership_at(asked, person, first, passed),
         19,
         first,
     )?;
-    let told = memberships_from(asked, person, first, count, want_ranges, most)?;
+    let told = memberships_from(asked, person, first, passed, count, want_ranges, most)?;
     let told = Boxed::new(asked.allocator(), told)?;
     Ok(asked.answer(Reply::Memberships(told)))
 }
 
-/// Whether there is a membership at a place among those that are shown to the caller.
-fn has_membership_at(asked: &Asked<'_>, person: u32, place: u32) -> bool
+/// Whether there is a membership at a place among those that are shown to the caller: from that
+/// place among all on, as many are passed over as before it are hidden.
+fn has_membership_at(asked: &Asked<'_>, person: u32, place: u32, passed: usize) -> bool
+    requires { passed ≡ hidden_memberships asked.now.db (caller_of asked.now) person place }
     ensures { result ≡ nat_lt place (length (Calls.shown_memberships asked.now person)) }
 {
-    let begin = walk_begin(asked, person, place);
     let mut shown = asked
         .rows()
-        .memberships_from(person, begin)
+        .memberships_from(person, place as usize)
         .filter(|row| is_shown(asked, row));
-    shown.nth(place as usize - begin).is_some()
+    shown.nth(passed).is_some()
 }
 
-/// Where a walk over the memberships of a person begins that is to come to a place among those that
-/// are shown to the caller: at that place if all are shown, else at the first.
-fn walk_begin(asked: &Asked<'_>, person: u32, place: u32) -> usize
-    ensures { LeadsTo (Calls.is_shown asked.now) (memberships_of asked.now.db person) place result }
-{
-    if sees_all(asked.rows(), &asked.caller(), person) {
-        let count = asked.rows().membership_count(person);
-        count.min(place as usize)
-    } else {
-        0
-    }
-}
-
-/// The memberships at some places among those that are shown to the caller.
+/// The memberships at some places among those that are shown to the caller: from the first place
+/// among all on, as many are passed over as before it are hidden.
 fn memberships_from(
     asked: &Asked<'_>,
     person: u32,
     first: u32,
+    passed: usize,
     count: u32,
     want_ranges: bool,
     most: u32,
 ) -> Result<Memberships, Memory>
+    requires { passed ≡ hidden_memberships asked.now.db (caller_of asked.now) person first }
     ensures { IfOk result (λ told. told ≡ Calls.all_told asked.now want_ranges most first
         (Calls.part first count (Calls.shown_memberships asked.now person))) }
 {
-    let begin = walk_begin(asked, person, first);
     let mut told = Sequence::new(asked.allocator());
     let shown = asked
         .rows()
-        .memberships_from(person, begin)
+        .memberships_from(person, first as usize)
         .filter(|row| is_shown(asked, row))
-        .skip(first as usize - begin)
+        .skip(passed)
         .take(count as usize);
     for row in shown {
         let place = first as usize + told.len();

@@ -1,29 +1,25 @@
--- The lists that are kept, their rooms, and those after a change of one list.
-use Rattle.std.proofs.Common.{◌≡◌, ℕ, ◌-◌, ◌<◌, ◌≤◌, true, [], Option, Some, None, option_map, nat_eq, unwrap_or, inl, inr, refl, sym, ◌∙◌, ap, subst, arith}
+-- The rooms of lists, and those after a change of one list.
+use Rattle.std.proofs.Common.{◌≡◌, ℕ, ◌-◌, ◌≤◌, Option, Some, None, option_map, nat_eq, unwrap_or, inl, inr, refl, sym, ◌∙◌, ap, subst, arith}
 use Rattle.std.specs.Option.{option_map_or}
-use Rattle.std.specs.Prelude.{IsSome}
-use Rattle.std.specs.Set.{is_member}
-use Rattle.std.proofs.lemmas.Bool.{cases_eq, false≢true}
+use Rattle.std.proofs.lemmas.Bool.{cases_eq}
 use Rattle.std.proofs.lemmas.Map.Made.{lookup-map_values}
 use Rattle.indexmap.specs.IndexMap.{get}
-use Rattle.smallvec.specs.SmallVec.{small_vec_len}
+use Rattle.smallvec.specs.SmallVec.{SmallVec, small_vec_len}
 use Rattle.row_slots.specs.declared.lists.Lists.{Lists}
-use Rattle.row_slots.specs.declared.lists.TalliedList.{TalliedList}
-use Rattle.row_slots.specs.Lists.{list_of, room_of, HasList, rooms_of, room_in, HasOnlyChanged}
+use Rattle.row_slots.specs.Lists.{room_of, rooms_of, room_in, HasOnlyChanged}
 
 -- the room of a key by the rooms of all
 pub room_in-rooms_of : (lists : Lists) (key : ℕ) → room_in (rooms_of lists) key ≡ room_of lists key
 room_in-rooms_of lists key =
     ap (λ o. unwrap_or o 0)
-    (lookup-map_values (λ (kept : TalliedList). kept.list.capacity - small_vec_len kept.list) (nat_eq key)
-    lists.map.entries)
+    (lookup-map_values (λ (list : SmallVec ℕ). list.capacity - small_vec_len list) (nat_eq key) lists.map.entries)
     ∙ by (get nat_eq lists.map key)
   where
-    by : (o : Option TalliedList) →
-        unwrap_or (option_map (λ kept. kept.list.capacity - small_vec_len kept.list) o) 0
-        ≡ option_map_or (λ kept. kept.list.capacity - small_vec_len kept.list) o 0
+    by : (o : Option (SmallVec ℕ)) →
+        unwrap_or (option_map (λ list. list.capacity - small_vec_len list) o) 0
+        ≡ option_map_or (λ list. list.capacity - small_vec_len list) o 0
     by None = refl
-    by (Some kept) = refl
+    by (Some list) = refl
 
 pub rooms_stay : (old new : Lists) → ((key : ℕ) → room_of old key ≤ room_of new key) → (key : ℕ) →
     room_in (rooms_of old) key ≤ room_in (rooms_of new) key
@@ -36,24 +32,3 @@ no_room_falls old new key only le other = elim (cases_eq other key) [
   | inl is ↦ subst (λ k. room_of old k ≤ room_of new k) (sym is) le
   | inr unlike ↦ omega (arith, only.rooms other unlike)
 ]
-
--- ---- a list is kept
-
--- where it has room
-pub kept_with_room : (lists : Lists) (key : ℕ) → 0 < room_of lists key → HasList lists key
-kept_with_room lists key room = by (get nat_eq lists.map key) room
-  where
-    by : (o : Option TalliedList) →
-        0 < option_map_or (λ kept. kept.list.capacity - small_vec_len kept.list) o 0 → IsSome o
-    by None room = absurd (omega (arith, room))
-    by (Some kept) room = refl
-
--- where it has a number
-pub kept_with_number : (lists : Lists) (key number : ℕ) → is_member nat_eq (list_of lists key) number ≡ true →
-    HasList lists key
-kept_with_number lists key number there = by (get nat_eq lists.map key) there
-  where
-    by : (o : Option TalliedList) → is_member nat_eq (option_map_or (λ kept. kept.list.items) o []) number ≡ true →
-        IsSome o
-    by None there = absurd (false≢true there)
-    by (Some kept) there = refl

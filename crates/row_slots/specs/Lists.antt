@@ -8,16 +8,12 @@ use Rattle.row_slots.specs.declared.lists.Lists.{Lists}
 
 -- the list of a key, empty where none is kept
 abbrev pub list_of : Lists → ℕ → List ℕ
-list_of lists key = option_map_or (λ kept. kept.list.items) (get nat_eq lists.map key) []
-
--- the tally of a key: how many of its numbers the caller counts as special, 0 where no list is kept
-abbrev pub tally_of : Lists → ℕ → ℕ
-tally_of lists key = option_map_or (λ kept. kept.tally) (get nat_eq lists.map key) 0
+list_of lists key = option_map_or (λ list. list.items) (get nat_eq lists.map key) []
 
 -- how many more numbers fit into the list of a key without memory
 abbrev pub room_of : Lists → ℕ → ℕ
 room_of lists key =
-    option_map_or (λ kept. kept.list.capacity - small_vec_len kept.list) (get nat_eq lists.map key) 0
+    option_map_or (λ list. list.capacity - small_vec_len list) (get nat_eq lists.map key) 0
 
 -- a list is kept for the key
 abbrev pub HasList : Lists → ℕ → Type 0
@@ -28,16 +24,9 @@ pub record HasOnlyChanged (old new : Lists) (key : ℕ) : Type 0 where
   pub lists : (other : ℕ) → other ≢ key → list_of new other ≡ list_of old other
   pub rooms : (other : ℕ) → other ≢ key → room_of new other ≡ room_of old other
 
--- all lists and rooms, and the tallies of all other keys, are as they were
-pub record HasOnlyTallied (old new : Lists) (key : ℕ) : Type 0 where
-  pub lists : (other : ℕ) → list_of new other ≡ list_of old other
-  pub rooms : (other : ℕ) → room_of new other ≡ room_of old other
-  pub tallies : (other : ℕ) → other ≢ key → tally_of new other ≡ tally_of old other
-
 -- the keys that a list is kept for, each with its room
 abbrev pub rooms_of : Lists → List (ℕ × ℕ)
-rooms_of lists =
-    map (λ e. (e.0, e.1.list.capacity - small_vec_len e.1.list)) lists.map.entries
+rooms_of lists = map (λ e. (e.0, e.1.capacity - small_vec_len e.1)) lists.map.entries
 
 -- the room of a key among such rooms, 0 where it has none
 abbrev pub room_in : List (ℕ × ℕ) → ℕ → ℕ

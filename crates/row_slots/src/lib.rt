@@ -10,7 +10,4 @@ mod tests;
 
 pub use dense_lists::DenseLists;
 pub use lists::Lists;
-// A crate can name the lists in a contract only if the types of their fields are exported.
-#[doc(hidden)]
-pub use lists::TalliedList;
 pub use slots::Slots;

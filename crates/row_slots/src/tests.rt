@@ -87,48 +87,6 @@ fn each_key_has_its_list(rt: HostRuntime) -> Result<(), Fail> {
     Ok(())
 }
 
-// Puts a number at the end of the list of a key, and raises the tally of the key.
-#[tactic(auto, using(crate::proofs::Rooms::kept_with_room))]
-fn put_tallied(lists: &mut Lists, key: u32, number: u32) -> Result<(), AllocError> {
-    lists.reserve(key, 1)?;
-    if lists.tally(key) < usize::MAX {
-        lists.raise(key);
-    }
-    lists.push(key, number);
-    Ok(())
-}
-
-// Lowers the tally of a key, and says whether it was more than 0.
-fn lower(lists: &mut Lists, key: u32) -> bool {
-    if lists.tally(key) == 0 {
-        return false;
-    }
-    lists.lower(key);
-    true
-}
-
-#[test]
-fn each_list_has_its_tally(rt: HostRuntime) -> Result<(), Fail> {
-    let mut lists = Lists::new(rt.alloc());
-    fill_lists(&mut lists)?;
-    assert_eq!(rt; lists.tally(5), 0);
-    put_tallied(&mut lists, 5, 80)?;
-    put_tallied(&mut lists, 5, 90)?;
-    put_tallied(&mut lists, 6, 80)?;
-    assert_eq!(rt; lists.tally(5), 2);
-    assert_eq!(rt; lists.tally(6), 1);
-    assert_eq!(rt; lists.tally(7), 0);
-    assert_eq!(rt; lists.tally(8), 0);
-    assert_eq!(rt; lists.list(5), [10, 20, 30, 40, 50, 60, 80, 90].as_slice());
-    assert!(rt; lower(&mut lists, 5));
-    assert!(rt; lower(&mut lists, 6));
-    assert!(rt; !lower(&mut lists, 6));
-    assert_eq!(rt; lists.tally(5), 1);
-    assert_eq!(rt; lists.tally(6), 0);
-    assert_eq!(rt; lists.list(6), [80].as_slice());
-    Ok(())
-}
-
 // Puts a number at the end of the list of a key, with room for it.
 fn put_dense(lists: &mut DenseLists, key: u32, number: u32) -> Result<(), AllocError> {
     lists.reserve(key, 1)?;

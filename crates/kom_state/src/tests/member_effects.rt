@@ -96,36 +96,28 @@ fn set_kind(state: &mut State, number: u32, kind: u8) -> Result<bool, Memory> {
     make(state, Effect::ConfField { number, field })
 }
 
-// Whether some membership of the administrator, and whether one in a conference, may be hidden.
-fn may_hide(state: &State, conference: u32) -> (bool, bool) {
-    (
-        state.may_hide_membership(5),
-        state.may_hide_member(conference),
-    )
+// Whether these are the persons whose membership in conference 4 is secret, and these the secret
+// conferences.
+fn are_secret(state: &State, persons: &[u32], conferences: &[u32]) -> bool {
+    state.secret_members(4) == persons && state.secret_conferences() == conferences
 }
 
 #[test]
-fn what_may_be_hidden_is_told(rt: HostRuntime) -> Result<(), Fail> {
-    check_hidden(&rt, &mut State::empty(rt.alloc()))
+fn what_is_secret_is_told(rt: HostRuntime) -> Result<(), Fail> {
+    check_secret(&rt, &mut State::empty(rt.alloc()))
 }
 
-// A membership may be hidden where it is secret, or its conference is; a member only in the first.
-fn check_hidden(rt: &impl Abort, state: &mut State) -> Result<(), Fail> {
+fn check_secret(rt: &impl Abort, state: &mut State) -> Result<(), Fail> {
     open_all(rt, state)?;
-    assert!(rt; join(state, 5, 4)?);
-    assert_eq!(rt; may_hide(state, 4), (false, false));
-    assert!(rt; set_kind(state, 4, 160)?);
-    assert_eq!(rt; may_hide(state, 4), (true, false));
-    assert!(rt; join(state, 5, 3)?);
-    assert_eq!(rt; may_hide(state, 4), (true, false));
+    assert!(rt; join(state, 5, 4)? && state.is_among_first(5, 4, 1));
+    assert!(rt; are_secret(state, &[], &[]));
+    assert!(rt; set_kind(state, 4, 160)? && are_secret(state, &[], &[4]));
     check_secret_membership(rt, state)
 }
 
 fn check_secret_membership(rt: &impl Abort, state: &mut State) -> Result<(), Fail> {
     assert!(rt; set_kind(state, 4, 8)? && join_as(state, 4, 32)?);
-    assert_eq!(rt; may_hide(state, 4), (true, true));
-    assert_eq!(rt; may_hide(state, 3), (true, false));
-    assert!(rt; leave(state, 4)?);
-    assert_eq!(rt; may_hide(state, 4), (false, false));
+    assert!(rt; are_secret(state, &[5], &[]) && state.secret_memberships(5) == [4].as_slice());
+    assert!(rt; leave(state, 4)? && are_secret(state, &[], &[]));
     Ok(())
 }

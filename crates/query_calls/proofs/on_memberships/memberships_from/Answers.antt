@@ -1,4 +1,4 @@
-use Rattle.std.proofs.Common.{◌≡◌, ◌+◌, ◌-◌, ◌<◌, List, ◌∷◌, ◌++◌, [], length, take, drop, filter, get_or, subst, sym, ap, ◌∙◌, rules, tests, arith}
+use Rattle.std.proofs.Common.{◌≡◌, ◌+◌, ◌<◌, List, ◌∷◌, ◌++◌, [], length, take, drop, filter, get_or, subst, sym, ap, ◌∙◌, rules, tests, arith}
 use Rattle.std.proofs.lemmas.Iterator.{YieldsList-from_take}
 use Rattle.std.proofs.lemmas.Iterator.Adapters.{YieldsList-from_skip}
 use Rattle.std.proofs.lemmas.Iterator.Consumers.{YieldsList-at, YieldsList-from_filter, YieldsList-from_first}
@@ -7,6 +7,8 @@ use Rattle.std.proofs.lemmas.List.{length_push}
 use Rattle.kom_types.specs.declared.memberships.MembershipRow.{MembershipRow}
 use Rattle.kom_model.specs.Db.{memberships_of}
 use Rattle.kom_model.specs.calls.Memberships.{is_shown, part, shown_memberships, membership_told}
+use Rattle.query_calls.specs.Walks.{LeadsTo}
+use Rattle.query_calls.proofs.HiddenRows.{leads}
 use Rattle.query_calls.proofs.Memberships.{AreTold, told-more, told-all}
 use Rattle.query_calls.proofs.on_memberships.memberships_from.Goals as goal
 
@@ -17,20 +19,21 @@ loop-row-preserved c =
     let most = c.args.most in
     let first = c.args.first in
     let rows = memberships_of asked.db c.args.person in
-    let begin = c.walk_begin-begin.result in
+    let passed = c.args.passed in
     let given = part first c.args.count (shown_memberships asked c.args.person) in
-    let walked : take c.args.count (drop (first - begin) (filter (is_shown asked) (drop begin rows))) ≡ given =
-    ap (take c.args.count) c.walk_begin-begin.ensures.same in
+    let walked : take c.args.count (drop passed (filter (is_shown asked) (drop first rows))) ≡ given =
+    ap (take c.args.count)
+    (subst (LeadsTo (is_shown asked) rows first) (sym c.requires) (leads (is_shown asked) rows first)).same in
     let yielded = c.loop-row.yielded in
     let row = c.in-Some.row in
     let told = c.loop-row.told in
     let turn = YieldsList-turn (YieldsList-at c.into_iter-row-iterator.ensures.into_iter_gives
     (YieldsList-from_take c.args.count (YieldsList-at c.take-shown.ensures.source
-    (YieldsList-from_skip (first - begin) (YieldsList-at c.skip.ensures.source
+    (YieldsList-from_skip passed (YieldsList-at c.skip.ensures.source
     (YieldsList-from_filter _ (is_shown asked)
-    (YieldsList-from_first (λ x. x) (λ s. s) (drop begin rows)
+    (YieldsList-from_first (λ x. x) (λ s. s) (drop first rows)
     (c.filter.ensures.source ∙ c.memberships_from.ensures
-    ∙ ap (λ db. drop begin (memberships_of db c.args.person)) c.rows.ensures))
+    ∙ ap (λ db. drop first (memberships_of db c.args.person)) c.rows.ensures))
     c.filter.ensures.closure (λ x b q k. search (rules, tests))))
     c.skip.ensures.count))
     c.take-shown.ensures.count))
@@ -46,17 +49,18 @@ returns c =
     let asked = c.args.asked.now in
     let first = c.args.first in
     let rows = memberships_of asked.db c.args.person in
-    let begin = c.walk_begin-begin.result in
+    let passed = c.args.passed in
     let given = part first c.args.count (shown_memberships asked c.args.person) in
-    let walked : take c.args.count (drop (first - begin) (filter (is_shown asked) (drop begin rows))) ≡ given =
-    ap (take c.args.count) c.walk_begin-begin.ensures.same in
+    let walked : take c.args.count (drop passed (filter (is_shown asked) (drop first rows))) ≡ given =
+    ap (take c.args.count)
+    (subst (LeadsTo (is_shown asked) rows first) (sym c.requires) (leads (is_shown asked) rows first)).same in
     let end = YieldsList-end (YieldsList-at c.into_iter-row-iterator.ensures.into_iter_gives
     (YieldsList-from_take c.args.count (YieldsList-at c.take-shown.ensures.source
-    (YieldsList-from_skip (first - begin) (YieldsList-at c.skip.ensures.source
+    (YieldsList-from_skip passed (YieldsList-at c.skip.ensures.source
     (YieldsList-from_filter _ (is_shown asked)
-    (YieldsList-from_first (λ x. x) (λ s. s) (drop begin rows)
+    (YieldsList-from_first (λ x. x) (λ s. s) (drop first rows)
     (c.filter.ensures.source ∙ c.memberships_from.ensures
-    ∙ ap (λ db. drop begin (memberships_of db c.args.person)) c.rows.ensures))
+    ∙ ap (λ db. drop first (memberships_of db c.args.person)) c.rows.ensures))
     c.filter.ensures.closure (λ x b q k. search (rules, tests))))
     c.skip.ensures.count))
     c.take-shown.ensures.count))

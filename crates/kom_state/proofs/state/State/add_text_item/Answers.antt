@@ -1,4 +1,4 @@
-use Rattle.std.proofs.Common.{refl, ap, arith, true, false}
+use Rattle.std.proofs.Common.{refl, ap, arith, true}
 use Rattle.kom_types.specs.declared.effects.Effect.TheVariants as effect
 use Rattle.kom_model.specs.Effects.{made}
 use Rattle.kom_state.proofs.Drawing.{AreDrawn-item}

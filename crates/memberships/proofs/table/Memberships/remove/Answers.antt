@@ -1,20 +1,20 @@
-use Rattle.std.proofs.Common.{◌≡◌, nat_eq, Some, is_some, false, sym, ap, ◌∙◌, arith}
+use Rattle.std.proofs.Common.{◌≡◌, nat_eq, Some, is_some, false, refl, sym, ap, ◌∙◌, arith}
 use Rattle.std.specs.Bool.{⊤}
 use Rattle.std.specs.Set.{remove_key}
 use Rattle.std.proofs.lemmas.Option.{MatchOption-at_none}
-use Rattle.kom_types.specs.tables.Memberships.{without_membership}
+use Rattle.kom_types.specs.tables.Memberships.{is_secret_membership, without_membership}
 use Rattle.read_ranges.specs.Reads.{without_reader}
 use Rattle.row_slots.specs.Lists.{list_of}
-use Rattle.row_slots.proofs.Rooms.{rooms_stay, no_room_falls}
-use Rattle.memberships.specs.Entries.{kept_at}
+use Rattle.row_slots.proofs.Rooms.{no_room_falls}
+use Rattle.memberships.specs.Entries.{rows_of, kept_at}
 use Rattle.memberships.specs.Table.{Table}
-use Rattle.memberships.proofs.Finding.{is_there, person_there}
+use Rattle.memberships.proofs.Finding.{is_there, person_there as person_listed}
 use Rattle.memberships.proofs.Leaving.{Leaves, IsTable-left}
-use Rattle.memberships.proofs.Rooms.{sets_list, still_sets, rooms_tallied}
+use Rattle.memberships.proofs.Rooms.{sets_list, both_stay, no_fall}
 use Rattle.memberships.proofs.LeftRows.{without_left, without_none}
 use Rattle.memberships.proofs.ReadRows.{reads_left, reads_none}
-use Rattle.memberships.proofs.Tallies.{AreTallied-after, person_above, conference_above, tally_follows}
-use Rattle.memberships.proofs.TalliedRows.{changes_removed}
+use Rattle.memberships.proofs.Secrets.{Changes, AreSecrets-after, person_there, conference_there, relisted}
+use Rattle.memberships.proofs.SecretRows.{changes_removed}
 use Rattle.memberships.proofs.Turns.{Sets}
 use Rattle.memberships.proofs.table.Memberships.remove.Goals as goal
 use Rattle.memberships.proofs.table.Memberships.remove.Goals.{After-remove-2}
@@ -42,7 +42,7 @@ returns-in_default-clause-reads c =
 -- the person is in the list of the conference
 pub remove-requires-2 : goal.remove-requires-2
 remove-requires-2 c =
-    person_there _ _ _ _ c.self.invariant.0 c.args.person c.args.conference c.in-Some.kept
+    person_listed _ _ _ _ c.self.invariant.0 c.args.person c.args.conference c.in-Some.kept
     (sym c.swap_remove.ensures.value ∙ c.in-Some.is)
 
 there : (c : After-remove-2) →
@@ -59,44 +59,36 @@ takes : (c : After-remove-2) →
     (remove_key (nat_eq c.args.conference) (list_of c.self.inside.conferences c.args.person))
 takes c = sets_list _ _ _ _ c.remove.ensures.others c.remove.ensures.list
 
-pub retally-requires-clause-above : goal.retally-requires-clause-above
-retally-requires-clause-above c =
-    λ secret none.
-    let at = (goal.at.retally-requires-clause-above c).After-remove-2 in
-    omega (
-      arith,
-      c.remove.ensures.tallies c.args.person,
-      person_above _ _ _ _ c.self.invariant.1 _ _ c.is_secret-was.result false
-          (changes_removed _ _ _ _ _ _ c.self.invariant.0 _ _ _ _ c.is_secret-was.ensures (there at) (leaves at)
-          (takes at)) secret none,
-    )
+changes : (c : After-remove-2) →
+    Changes (rows_of (list_of c.self.inside.conferences) c.self.inside.entries.entries)
+    (rows_of (list_of c.remove.new.self) c.swap_remove.new.self.entries) c.args.person c.args.conference
+    (is_secret_membership c.in-Some.kept.kind) false
+changes c = changes_removed _ _ _ _ _ _ c.self.invariant.0 _ _ _ _ refl (there c) (leaves c) (takes c)
 
-pub retally-requires-2-clause-above : goal.retally-requires-2-clause-above
-retally-requires-2-clause-above c =
+pub relist-requires-clause-there : goal.relist-requires-clause-there
+relist-requires-clause-there c =
     λ secret none.
-    let at = (goal.at.retally-requires-2-clause-above c).After-remove-2 in
-    omega (
-      arith,
-      c.remove-2.ensures.tallies c.args.conference,
-      conference_above _ _ _ _ c.self.invariant.1 _ _ c.is_secret-was.result false
-          (changes_removed _ _ _ _ _ _ c.self.invariant.0 _ _ _ _ c.is_secret-was.ensures (there at) (leaves at)
-          (takes at)) secret none,
-    )
+    person_there _ _ _ _ c.self.invariant.1 _ _ (is_secret_membership c.in-Some.kept.kind) false
+    (changes (goal.at.relist-requires-clause-there c).After-remove-2) (sym c.is_secret-was.ensures ∙ secret) none
+
+pub relist-requires-2-clause-there : goal.relist-requires-2-clause-there
+relist-requires-2-clause-there c =
+    λ secret none.
+    conference_there _ _ _ _ c.self.invariant.1 _ _ (is_secret_membership c.in-Some.kept.kind) false
+    (changes (goal.at.relist-requires-2-clause-there c).After-remove-2) (sym c.is_secret-was.ensures ∙ secret) none
 
 pub invariant_of-self-2 : goal.invariant_of-self-2
 invariant_of-self-2 c =
-    let at = (goal.at.invariant_of-self-2 c).After-remove-2 in
-    let takes_now = still_sets _ _ _ _ _ (takes at) c.retally.ensures.others in (
-      IsTable-left _ _ _ _ _ c.args.person c.args.conference c.self.invariant.0 (leaves at) _ _ takes_now
-          (still_sets _ _ _ _ _ (sets_list _ _ _ _ c.remove-2.ensures.others c.remove-2.ensures.list)
-          c.retally-2.ensures.others),
-      AreTallied-after _ _ _ _ c.self.invariant.1 _ _ c.is_secret-was.result false
-          (changes_removed _ _ _ _ _ _ c.self.invariant.0 _ _ _ _ c.is_secret-was.ensures (there at) (leaves at)
-          takes_now) _ _
-          (tally_follows c.self.inside.conferences c.remove.new.self c.retally.new.lists _ _ false c.remove.ensures.tallies c.retally.ensures.tally
-          c.retally.ensures.others)
-          (tally_follows c.self.inside.persons c.remove-2.new.self c.retally-2.new.lists _ _ false c.remove-2.ensures.tallies c.retally-2.ensures.tally
-          c.retally-2.ensures.others),
+    let at = (goal.at.invariant_of-self-2 c).After-remove-2 in (
+      IsTable-left _ _ _ _ _ c.args.person c.args.conference c.self.invariant.0 (leaves at) _ _ (takes at)
+          (sets_list _ _ _ _ c.remove-2.ensures.others c.remove-2.ensures.list),
+      AreSecrets-after _ _ _ _ c.self.invariant.1 _ _ (is_secret_membership c.in-Some.kept.kind) false (changes at) _ _
+          (rw (← c.is_secret-was.ensures)
+          (relisted c.self.inside.secret_conferences c.relist.new.lists _ _ c.is_secret-was.result false
+          c.relist.ensures.list c.relist.ensures.others))
+          (rw (← c.is_secret-was.ensures)
+          (relisted c.self.inside.secret_persons c.relist-2.new.lists _ _ c.is_secret-was.result false
+          c.relist-2.ensures.list c.relist-2.ensures.others)),
     )
 
 pub returns-clause-there : goal.returns-clause-there
@@ -109,7 +101,7 @@ pub returns-clause-rows : goal.returns-clause-rows
 returns-clause-rows c =
     let at = (goal.at.returns-clause-rows c).After-remove-2 in
     without_left _ _ _ _ _ _ c.args.person c.args.conference c.in-Some.kept c.self.invariant.0 (there at) (leaves at)
-    (still_sets _ _ _ _ _ (takes at) c.retally.ensures.others)
+    (takes at)
     ∙ ap (λ (t : Table). without_membership c.args.person c.args.conference t.rows) c.self.view_is
 
 pub returns-clause-reads : goal.returns-clause-reads
@@ -123,12 +115,14 @@ returns-clause-room c =
     rw (← c.self.view_is)
     (record {
       spare = omega (arith, c.swap_remove.ensures.room.0);
-      persons = rooms_stay c.self.inside.conferences c.retally.new.lists
-          (rooms_tallied c.self.inside.conferences c.remove.new.self c.retally.new.lists c.args.person
+      persons = both_stay c.self.inside.conferences c.remove.new.self c.self.inside.secret_conferences
+          c.relist.new.lists
           (no_room_falls _ _ c.args.person c.remove.ensures.others (omega (arith, c.remove.ensures.room)))
-          c.retally.ensures.others);
-      conferences = rooms_stay c.self.inside.persons c.retally-2.new.lists
-          (rooms_tallied c.self.inside.persons c.remove-2.new.self c.retally-2.new.lists c.args.conference
+          (no_room_falls _ _ c.args.person c.relist.ensures.others
+          (no_fall _ _ c.is_secret-was.result c.relist.ensures.room));
+      conferences = both_stay c.self.inside.persons c.remove-2.new.self c.self.inside.secret_persons
+          c.relist-2.new.lists
           (no_room_falls _ _ c.args.conference c.remove-2.ensures.others (omega (arith, c.remove-2.ensures.room)))
-          c.retally-2.ensures.others);
+          (no_room_falls _ _ c.args.conference c.relist-2.ensures.others
+          (no_fall _ _ c.is_secret-was.result c.relist-2.ensures.room));
     })

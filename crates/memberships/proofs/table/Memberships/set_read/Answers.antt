@@ -6,7 +6,7 @@ use Rattle.memberships.specs.Entries.{Key, same_key, kept_with_read, reads_of, k
 use Rattle.memberships.specs.Table.{Table}
 use Rattle.memberships.proofs.Renewing.{Renews, IsTable-kept}
 use Rattle.memberships.proofs.ReadRows.{rows_none, unread_none, rows_read, reads_set}
-use Rattle.memberships.proofs.Tallies.{AreTallied-read}
+use Rattle.memberships.proofs.Secrets.{AreSecrets-read}
 use Rattle.memberships.proofs.table.Memberships.set_read.Goals as goal
 
 absent : (c : goal.After-drop-ranges) →
@@ -43,7 +43,7 @@ renews c =
 pub invariant_of-self-2 : goal.invariant_of-self-2
 invariant_of-self-2 c = (
   IsTable-kept _ _ _ _ _ _ _ _ _ c.self.invariant.0 (renews c),
-  AreTallied-read _ _ _ _ c.self.invariant.1 c.args.person c.args.conference c.args.at
+  AreSecrets-read _ _ _ _ c.self.invariant.1 c.args.person c.args.conference c.args.at
       (rows_read _ _ _ _ c.self.invariant.0 c.args.person c.args.conference _ _ _ _ (renews c)),
 )
 

@@ -1,7 +1,0 @@
-use Rattle.std.proofs.Common.{ltb, ap, ◌∙◌}
-use Rattle.memberships.proofs.Tallies.{has_secret_in}
-use Rattle.memberships.proofs.table.Memberships.has_secret_in_conference.Goals as goal
-
-pub returns : goal.returns
-returns c =
-    rw (← c.self.view_is) (ap (ltb 0) c.tally.ensures ∙ has_secret_in _ _ _ c.self.invariant.1 c.args.conference)
