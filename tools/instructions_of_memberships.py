@@ -5,9 +5,9 @@ usage: tools/instructions_of_memberships.py [KOMD]      (KOMD: the built program
 
 A person has 20 memberships, or 1,990, and a conference 20 members, or 10,000. The person itself, and one from whom nothing is
 hidden though it supervises neither, ask for the last of them, for the last ten and the first ten, without ranges, and for how many
-they are; and the person marks a text as read. Where one membership is secret, a stranger's calls are counted too: the shown
-ones before the asked part are then walked. Counted by callgrind, so the figures are nearly the same in each run, whatever else
-the machine does: the instructions of a run with so many calls less those of the same run without them.
+they are; and the person marks a text as read. Where one membership is secret, a stranger's calls are counted too. Counted by
+callgrind, so the figures are nearly the same in each run, whatever else the machine does: the instructions of a run with so
+many calls less those of the same run without them.
 """
 import pathlib
 import re
