@@ -18,7 +18,7 @@ use Rattle.kom_model.specs.Shown.{shows_membership}
 use Rattle.kom_state.specs.Placed.{AreThere, AreInPlace, AreFound}
 use Rattle.kom_state.specs.Secrecy.{is_secret_in}
 use Rattle.kom_state.proofs.TableRows.{all_weaker, all_both}
-use Rattle.query_calls.specs.Hidden.{is_hidden, hidden_members, hidden_memberships, is_before, is_plain_member}
+use Rattle.query_calls.specs.Hidden.{is_hidden, hidden_members, hidden_memberships, is_before, is_plain_member, is_unseen}
 use Rattle.query_calls.specs.Walks.{LeadsTo}
 use Rattle.query_calls.proofs.ShownToFew.{shows-strong, shows-supervised, shows-plain, sees-plain, are_own, IsKnown, all_known, shown_strong, shown_own}
 
@@ -366,6 +366,28 @@ module _ (db : Db) (viewer : Viewer) (person : ℕ) where
   hidden-short first =
       omega (arith, count_by-le-length (is_hidden db viewer) (take first rows), length-take first rows)
 
+  -- there are as many numbers of which every test says what it says of secret memberships
+  pub secret_counted : (numbers : List ℕ) →
+      ((test : ℕ → Bool) → count_by test numbers
+      ≡ count_by (λ row. is_secret_membership row.kind && test row.conference) rows) →
+      length numbers ≡ count_by (λ row. is_secret_membership row.kind) rows
+  secret_counted numbers counted =
+      omega (
+        arith,
+        counted (λ number. true),
+        length-filter (λ number. true) numbers,
+        passing-all (λ number. true) numbers (all_of (λ number. true ≡ true) (λ number. refl) numbers),
+        length-filter (λ row. is_secret_membership row.kind && true) rows,
+        length-filter (λ row. is_secret_membership row.kind) rows,
+        passing-alike (λ row. is_secret_membership row.kind && true) (λ row. is_secret_membership row.kind) rows
+            (all_of (λ row. (is_secret_membership row.kind && true) ≡ is_secret_membership row.kind)
+            (λ row. and_true (is_secret_membership row.kind)) rows),
+      )
+    where
+      and_true : (b : Bool) → (b && true) ≡ b
+      and_true true = refl
+      and_true false = refl
+
   -- the hidden ones are secret or not
   pub both_kinds : (first : ℕ) →
       count_by (λ row. is_secret_membership row.kind && is_hidden db viewer row) (take first rows)
@@ -435,14 +457,12 @@ module _ (db : Db) (viewer : Viewer) (person : ℕ) where
 
     pub hidden_plain : (first : ℕ) → AreThere db person →
         count_by (λ row. is_secret_in db row.conference
-        && (is_plain_member db person row.conference && not (sees db viewer row.conference)
-        && is_before db person first row.conference)) rows
+        && (is_unseen db viewer person row.conference && is_before db person first row.conference)) rows
         ≡ count_by (λ row. not (is_secret_membership row.kind) && is_hidden db viewer row) (take first rows)
     hidden_plain first there =
         let before : MembershipRow → Bool = λ row. is_before db person first row.conference in
         let tells : MembershipRow → Bool =
-        λ row. is_secret_in db row.conference
-        && (is_plain_member db person row.conference && not (sees db viewer row.conference) && before row) in
+        λ row. is_secret_in db row.conference && (is_unseen db viewer person row.conference && before row) in
         let hidden : MembershipRow → Bool = λ row. not (is_secret_membership row.kind) && is_hidden db viewer row in
         omega (
           arith,

@@ -1,11 +1,13 @@
 -- Which memberships are hidden from who looks, and how many of the first are.
-use Rattle.std.specs.Prelude.{ℕ, Bool, false, not, nat_lt, take, None, Some}
+use Rattle.std.specs.Prelude.{ℕ, Bool, false, not, nat_lt, ◌&&◌, ◌||◌, take, None, Some}
 use Rattle.std.specs.List.{count_by}
 use Rattle.kom_types.specs.declared.memberships.MembershipRow.{MembershipRow}
 use Rattle.kom_types.specs.tables.Memberships.{is_secret_membership}
 use Rattle.kom_model.specs.declared.viewers.Viewer.{Viewer}
 use Rattle.kom_model.specs.Db.{Db, membership_of, memberships_of, members_of}
+use Rattle.kom_model.specs.Rights.{sees}
 use Rattle.kom_model.specs.Shown.{shows_membership}
+use Rattle.kom_state.specs.Secrecy.{secret_numbers}
 
 abbrev pub is_hidden : Db → Viewer → MembershipRow → Bool
 is_hidden db viewer row = not (shows_membership db viewer row.person row.conference row.kind)
@@ -34,3 +36,19 @@ is_plain_member db person conference = elim (membership_of db person conference)
   | None ↦ false
   | Some row ↦ not (is_secret_membership row.kind)
 ]
+
+-- a person is in a conference that who looks does not see, and its membership is not secret
+abbrev pub is_unseen : Db → Viewer → ℕ → ℕ → Bool
+is_unseen db viewer person conference =
+    is_plain_member db person conference && not (sees db viewer conference)
+
+-- how many such conferences there are
+abbrev pub unseen_count : Db → Viewer → ℕ → ℕ
+unseen_count db viewer person = count_by (is_unseen db viewer person) (secret_numbers db)
+
+-- More than so many of a person's memberships are secret, or more others are in conferences that who
+-- looks does not see.
+abbrev pub needs_more_searches : Db → Viewer → ℕ → ℕ → Bool
+needs_more_searches db viewer person searches =
+    nat_lt searches (count_by (λ row. is_secret_membership row.kind) (memberships_of db person))
+    || nat_lt searches (unseen_count db viewer person)

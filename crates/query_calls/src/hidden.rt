@@ -9,13 +9,20 @@ ghost use Rattle.kom_model.specs.Shown as Shown;
 ghost use Rattle.kom_state.specs.Placed.{AreThere, AreInPlace, AreFound};
 ghost use Rattle.kom_state.specs.Secrecy.{AreFoundBySecret};
 ghost use Rattle.query_calls.specs.Hidden.{hidden_members, hidden_memberships, is_hidden};
-ghost use Rattle.query_calls.specs.Hidden.{is_before, is_plain_member};
+ghost use Rattle.query_calls.specs.Hidden.{is_before, is_plain_member, is_unseen};
+ghost use Rattle.query_calls.specs.Hidden.{needs_more_searches, unseen_count};
 
 use access_rights::{sees, shows_membership, supervises};
 use kom_model::{Rows, Viewer};
 use kom_state::State;
 use kom_types::MembershipRow;
 use kom_types::bits::SECRET_MEMBERSHIP;
+
+/// Looking at a membership takes about as long as passing so many entries of a person's list,
+const ENTRIES_A_LOOK: usize = 80;
+
+/// and as asking of so many conferences whether a person is in them.
+const CONFERENCES_A_LOOK: usize = 4;
 
 /// How many of the first members of a conference are hidden from who looks. The time grows with the
 /// secret memberships in it; it is constant for who sees all or none.
@@ -55,9 +62,10 @@ fn is_hidden_member(
         && rows.is_among_first(person, conference, first)
 }
 
-/// How many of the first memberships of a person are hidden from who looks. The time grows with the
-/// person's secret memberships and with the secret conferences that there are, or with the person's
-/// memberships if those are fewer; it is constant for the person itself.
+/// How many of the first memberships of a person are hidden from who looks. Of each secret conference
+/// it is asked whether the person is in it, and each membership that may be hidden is searched for in
+/// the person's list; where that would take longer, each of the first is looked at instead. The time
+/// is constant for the person itself.
 pub(crate) fn hidden_memberships(rows: &State, viewer: &Viewer, person: u32, first: usize) -> usize
     ensures { result ≡ hidden_memberships rows.now.db viewer.now person first }
 {
@@ -68,7 +76,11 @@ pub(crate) fn hidden_memberships(rows: &State, viewer: &Viewer, person: u32, fir
     if viewer.strong || viewer.person == person {
         return 0;
     }
-    if count <= rows.secret_conferences().len() {
+    let looks = first.min(count);
+    let searches = looks / (1 + count / ENTRIES_A_LOOK);
+    if looks <= rows.secret_conferences().len() / CONFERENCES_A_LOOK
+        || needs_more_searches(rows, viewer, person, searches)
+    {
         return rows
             .memberships(person)
             .take(first)
@@ -76,6 +88,32 @@ pub(crate) fn hidden_memberships(rows: &State, viewer: &Viewer, person: u32, fir
             .count();
     }
     hidden_secret(rows, viewer, person, first) + hidden_plain(rows, viewer, person, first)
+}
+
+/// Whether more than so many of a person's memberships are secret, or more others are in conferences
+/// that who looks does not see.
+fn needs_more_searches(rows: &State, viewer: &Viewer, person: u32, searches: usize) -> bool
+    ensures { result ≡ needs_more_searches rows.now.db viewer.now person searches }
+{
+    searches < rows.secret_memberships(person).len()
+        || searches < unseen_count(rows, viewer, person)
+}
+
+/// How many secret conferences a person is in by a membership that is not secret, while who looks
+/// does not see them.
+fn unseen_count(rows: &State, viewer: &Viewer, person: u32) -> usize
+    ensures { result ≡ unseen_count rows.now.db viewer.now person }
+{
+    rows.secret_conferences()
+        .iter()
+        .filter(|conference| is_unseen(rows, viewer, person, **conference))
+        .count()
+}
+
+fn is_unseen(rows: &State, viewer: &Viewer, person: u32, conference: u32) -> bool
+    ensures { result ≡ is_unseen rows.now.db viewer.now person conference }
+{
+    is_plain_member(rows, person, conference) && !sees(rows, viewer, conference)
 }
 
 fn is_hidden(rows: &State, viewer: &Viewer, row: &MembershipRow) -> bool
@@ -140,13 +178,10 @@ fn is_hidden_plain(
     conference: u32,
 ) -> bool
     ensures { result ≡ (is_some (membership_of rows.now.db person conference)
-        && (is_plain_member rows.now.db person conference
-        && not (sees_by rows.now.db viewer.now conference)
+        && (is_unseen rows.now.db viewer.now person conference
         && is_before rows.now.db person first conference)) }
 {
-    is_plain_member(rows, person, conference)
-        && !sees(rows, viewer, conference)
-        && is_before(rows, person, first, conference)
+    is_unseen(rows, viewer, person, conference) && is_before(rows, person, first, conference)
 }
 
 /// Whether a person has a membership in a conference that is not secret, in constant time.
@@ -160,7 +195,7 @@ fn is_plain_member(rows: &State, person: u32, conference: u32) -> bool
 }
 
 /// Whether a person's membership in a conference is among its first. The time grows with the
-/// person's memberships, unless all are among them.
+/// person's memberships.
 fn is_before(rows: &State, person: u32, first: usize, conference: u32) -> bool
     ensures { result ≡ is_before rows.now.db person first conference }
 {

@@ -26,8 +26,8 @@ returns-then-viewer c =
           (eq-eqb c.args.viewer.now.person c.args.person w.if-viewer-person.true)
     ]
 
-pub returns-then-count-secret_conferences : goal.returns-then-count-secret_conferences
-returns-then-count-secret_conferences c =
+pub returns-then-looks-secret_conferences : goal.returns-then-looks-secret_conferences
+returns-then-looks-secret_conferences c =
     let db = c.args.rows.now.db in
     let rows = memberships_of db c.args.person in
     count_from_yields_List c.filter.result c.count.result c.count.ensures.ran

@@ -1,12 +1,11 @@
-use Rattle.std.proofs.Common.{◌&&◌, ℕ, Bool, List, not, is_some, ap, ◌∙◌, rules, tests}
+use Rattle.std.proofs.Common.{◌&&◌, ℕ, Bool, List, is_some, ap, ◌∙◌, rules, tests}
 use Rattle.std.specs.List.{count_by}
 use Rattle.std.proofs.lemmas.Iterator.{YieldsList-from_slice}
 use Rattle.std.proofs.lemmas.Iterator.Consumers.{YieldsList-at, YieldsList-from_filter}
 use Rattle.std.proofs.lemmas.Iterator.Consumers.{count_from_yields_List}
 use Rattle.std.proofs.lemmas.List.Sums.{length-filter}
 use Rattle.kom_model.specs.Db.{membership_of}
-use Rattle.kom_model.specs.Rights.{sees}
-use Rattle.query_calls.specs.Hidden.{is_before, is_plain_member}
+use Rattle.query_calls.specs.Hidden.{is_before, is_unseen}
 use Rattle.query_calls.proofs.HiddenRows.{hidden_plain}
 use Rattle.query_calls.proofs.hidden.hidden_plain.Goals as goal
 
@@ -16,8 +15,7 @@ returns c =
     let viewer = c.args.viewer.now in
     let person = c.args.person in
     let test : ℕ → Bool =
-    λ conference. is_plain_member db person conference && not (sees db viewer conference)
-    && is_before db person c.args.first conference in
+    λ conference. is_unseen db viewer person conference && is_before db person c.args.first conference in
     let found : ℕ → Bool = λ conference. is_some (membership_of db person conference) && test conference in
     count_from_yields_List c.filter.result c.count.result c.count.ensures.ran
     (YieldsList-from_filter _ found
