@@ -204,6 +204,19 @@ first_counted g (x ∷ rows) distinct (suc count) =
       others rest all.1,
     )
 
+-- what a test says of the first of what is made of rows, it says of the first rows
+pub first_made : {X Y : Type 0} (made : X → Y) (test : Y → Bool) (count : ℕ) (xs : List X) →
+    passing test (take count (map made xs)) ≡ passing (λ x. test (made x)) (take count xs)
+first_made made test zero xs = refl
+first_made made test (suc count) [] = refl
+first_made made test (suc count) (x ∷ xs) =
+    omega (
+      arith,
+      passing-cons test (made x) (take count (map made xs)),
+      passing-cons (λ x. test (made x)) x (take count xs),
+      first_made made test count xs,
+    )
+
 module _ (db : Db) (viewer : Viewer) (conference : ℕ) where
   abbrev members : List MembershipRow
   members = members_of db conference

@@ -15,8 +15,8 @@ ghost use Rattle.query_calls.specs.Hidden.{needs_more_searches, unseen_count};
 use access_rights::{sees, shows_membership, supervises};
 use kom_model::{Rows, Viewer};
 use kom_state::State;
-use kom_types::MembershipRow;
 use kom_types::bits::SECRET_MEMBERSHIP;
+use kom_types::{Member, MembershipRow};
 
 /// Looking at a membership takes about as long as passing so many entries of a person's list,
 const ENTRIES_A_LOOK: usize = 80;
@@ -25,7 +25,8 @@ const ENTRIES_A_LOOK: usize = 80;
 const CONFERENCES_A_LOOK: usize = 4;
 
 /// How many of the first members of a conference are hidden from who looks. The time grows with the
-/// secret memberships in it; it is constant for who sees all or none.
+/// secret memberships in it, or with the first members where those are fewer; it is constant for who
+/// sees all or none.
 pub(crate) fn hidden_members(rows: &State, viewer: &Viewer, conference: u32, first: usize) -> usize
     ensures { result ≡ hidden_members rows.now.db viewer.now conference first }
 {
@@ -38,10 +39,26 @@ pub(crate) fn hidden_members(rows: &State, viewer: &Viewer, conference: u32, fir
     if viewer.strong || supervises(rows, viewer.person, conference) {
         return 0;
     }
-    rows.secret_members(conference)
+    let secret = rows.secret_members(conference);
+    if first < secret.len() {
+        return rows
+            .members(conference)
+            .take(first)
+            .filter(|member| !shows_member(rows, viewer, conference, member))
+            .count();
+    }
+    secret
         .iter()
         .filter(|person| is_hidden_member(rows, viewer, conference, first, **person))
         .count()
+}
+
+/// Whether a member of a conference is shown to who looks.
+pub(crate) fn shows_member(rows: &State, viewer: &Viewer, conference: u32, member: &Member) -> bool
+    ensures { result ≡ Shown.shows_membership rows.now.db viewer.now member.now.person conference
+        member.now.kind }
+{
+    shows_membership(rows, viewer, member.person, conference, member.kind)
 }
 
 /// Whether a person whose membership in a conference is secret is hidden from who looks, and is

@@ -13,7 +13,7 @@ ghost use Rattle.kom_model.specs.calls.Guards.{caller as caller_of};
 ghost use Rattle.kom_model.specs.calls.Memberships as Calls;
 ghost use Rattle.query_calls.specs.Hidden.{hidden_members, hidden_memberships};
 
-use crate::hidden::{hidden_members, hidden_memberships};
+use crate::hidden::{hidden_members, hidden_memberships, shows_member};
 use access_rights::{
     conference_guard, is_reserved, login_guard, row_guard, shows_membership, shows_reads,
     supervises, unless,
@@ -22,8 +22,8 @@ use kom_model::{CallError, Refused, Viewer};
 use kom_state::{Asked, State};
 use kom_types::bits::PASSIVE_MEMBERSHIP;
 use kom_types::{
-    Boxed, Decision, Member, Members, Membership, MembershipRow, Memberships, Memory, Moment,
-    Numbers, RangesShown, ReadRange, Reply, Sequence,
+    Boxed, Decision, Members, Membership, MembershipRow, Memberships, Memory, Moment, Numbers,
+    RangesShown, ReadRange, Reply, Sequence,
 };
 use read_ranges::Ranges;
 
@@ -105,8 +105,7 @@ fn has_unread(read: &Ranges, first: u32, last: u32) -> bool
 }
 
 /// Call 101, get-members: those that are shown to the caller, in the order of joining. The time
-/// grows with how many are asked for, and with how many secret memberships there are in the
-/// conference if the caller does not see all.
+/// grows with how many are asked for, and as `hidden_members` tells.
 pub fn get_members(
     asked: &Asked<'_>,
     conference: u32,
@@ -172,14 +171,6 @@ fn members_from(
         .take(count as usize)
         .collect(asked.allocator())?;
     Ok(Sequence::of(members))
-}
-
-/// Whether a member of a conference is shown to who looks.
-fn shows_member(rows: &State, viewer: &Viewer, conference: u32, member: &Member) -> bool
-    ensures { result ≡ Shown.shows_membership rows.now.db viewer.now member.now.person conference
-        member.now.kind }
-{
-    shows_membership(rows, viewer, member.person, conference, member.kind)
 }
 
 /// Call 107, query-read-texts. The time grows with the ranges that are told; with the person's
