@@ -1,21 +1,22 @@
 #!/usr/bin/env python3
-"""Measures what the calls about what was read cost by a person's memberships and their ranges, as ratios taken in one run.
+"""Counts the instructions that the calls about what was read take by a person's memberships and their ranges, and prints ratios.
 
 usage: tools/bench_memberships.py [KOMD]      (KOMD: the built program, crates/komd/out/komd if left out)
 
 A stream makes a person's memberships, texts in their conferences, and sets every second local number of each as read, so that
-each membership has so many ranges; then it asks a call many times. What the same stream takes with a quarter of these calls is
-taken off. The program reads a file and writes to /dev/null; each stream is run three times, and the least processor times in
-user mode are compared with those of a person of few memberships and few ranges.
+each membership has so many ranges; then it asks a call many times. Counted by callgrind: what the same stream takes without
+these calls is taken off, and what is left, for each call, is compared with that of a person of few memberships and few ranges.
+The runs of a size go on side by side, one a processor; those of the largest take some twenty minutes.
 """
+import concurrent.futures
 import os
+import re
 import subprocess
 import sys
 import tempfile
 
 # Memberships, and ranges of each.
 SIZES = ((20, 10), (20, 1_000), (2_000, 10), (2_000, 1_000))
-TURNS = 3
 MOST_RECIPIENTS = 100
 FIRST = 6
 
@@ -42,48 +43,45 @@ def stream(memberships, ranges, call, times):
 
 
 def calls(memberships):
-    """The calls that are measured, with how many times each is asked."""
+    """The calls that are counted, with how many times each is asked."""
     last = FIRST + memberships - 2
-    yield "query-read-texts, of the last membership", f"107 5 {last} 1 0", 4_000
-    yield "query-read-texts, without the ranges", f"107 5 {last} 0 0", 4_000
-    yield "mark-as-read, of one text", f"27 {last} 1 {{ 2 }}", 4_000
-    yield "get-unread-confs", "52 5", 400
-    yield "get-membership, the first ten without the ranges", "108 5 0 10 0 0", 4_000
-    yield "get-members, the first ten", f"101 {last} 0 10", 4_000
+    yield "query-read-texts, of the last membership", f"107 5 {last} 1 0", 400
+    yield "query-read-texts, without the ranges", f"107 5 {last} 0 0", 400
+    yield "mark-as-read, of one text", f"27 {last} 1 {{ 2 }}", 400
+    yield "get-unread-confs", "52 5", 40
 
 
-def run(program, path):
-    """The processor time in user mode that a run takes, in seconds."""
-    with open(path, "rb") as given:
-        running = subprocess.Popen([program, "once"], stdin=given, stdout=subprocess.DEVNULL)
-        _, status, used = os.wait4(running.pid, 0)
-    if status:
-        sys.exit(f"{program} ended with {status}")
-    return used.ru_utime
-
-
-def measure(program, size, work):
-    """What each call takes at a size, in microseconds."""
+def instructions(program, size, call, times):
+    """What a run takes in which a call is asked so many times."""
     memberships, ranges = size
-    taken = {}
-    for name, call, times in calls(memberships):
-        for part in (1, 4):
-            path = os.path.join(work, "stream")
-            with open(path, "w", encoding="ascii") as out:
-                out.writelines(stream(memberships, ranges, call, times * part // 4))
-            taken[name, part] = min(run(program, path) for _ in range(TURNS))
-    return {name: (taken[name, 4] - taken[name, 1]) / (times * 3 / 4) * 1e6 for name, _, times in calls(memberships)}
+    with tempfile.NamedTemporaryFile("w+", encoding="ascii") as given:
+        given.writelines(stream(memberships, ranges, call, times))
+        given.flush()
+        given.seek(0)
+        words = ["valgrind", "--tool=callgrind", "--callgrind-out-file=/dev/null", program, "once"]
+        done = subprocess.run(words, stdin=given, stdout=subprocess.DEVNULL, stderr=subprocess.PIPE, check=True)
+    return int(re.search(rb"Collected : (\d+)", done.stderr).group(1))
+
+
+def count(program, size):
+    """What each call takes at a size."""
+    asked = list(calls(size[0]))
+    with concurrent.futures.ThreadPoolExecutor(os.cpu_count()) as runs:
+        none = runs.submit(instructions, program, size, "", 0)
+        ran = [runs.submit(instructions, program, size, call, times) for _, call, times in asked]
+        return {name: (run.result() - none.result()) / times for run, (name, _, times) in zip(ran, asked)}
 
 
 def main(words):
     here = os.path.dirname(os.path.abspath(__file__))
     program = os.path.abspath(words[0] if words else os.path.join(here, "..", "crates", "komd", "out", "komd"))
     base = {}
-    with tempfile.TemporaryDirectory() as work:
-        for size in SIZES:
-            for name, time in measure(program, size, work).items():
-                base.setdefault(name, time)
-                print(f"{name}, {size[0]} memberships of {size[1]} ranges: {time:.1f} us, {time / base[name]:.1f} times the first")
+    for size in SIZES:
+        for name, taken in count(program, size).items():
+            base.setdefault(name, taken)
+            of = f"{size[0]} memberships of {size[1]} ranges"
+            print(f"{name}, {of}: {taken:.0f} instructions, {taken / base[name]:.1f} times the first", flush=True)
 
 
-main(sys.argv[1:])
+if __name__ == "__main__":
+    main(sys.argv[1:])
