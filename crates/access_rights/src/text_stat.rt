@@ -10,7 +10,7 @@ use crate::items::{items_shown, text_adder};
 use crate::texts::{BLIND, shows_recipient};
 use kom_model::{Rows, TextHead, Viewer};
 use kom_types::{
-    Link, Memory, MiscInfo, MiscInfos, Moment, Recipient, Sequence, TextRow, TextStat,
+    Memory, MiscInfo, MiscInfos, Moment, Recipient, Sequence, TextLink, TextRow, TextStat,
 };
 use std::alloc::Global;
 
@@ -183,7 +183,7 @@ fn push_from<R: Rows>(
     Ok(())
 }
 
-fn push_link(infos: &mut MiscInfos, row: &Link) -> Result<(), Memory>
+fn push_link(infos: &mut MiscInfos, row: &TextLink) -> Result<(), Memory>
     ensures { IfOk result (λ done. infos.new ≡ infos.old ++ from_infos row.now) }
 {
     infos.push(if row.footnote {
@@ -212,7 +212,7 @@ fn push_into<R: Rows>(
     Ok(())
 }
 
-fn into_info(row: &Link) -> MiscInfo
+fn into_info(row: &TextLink) -> MiscInfo
     ensures { result ≡ into_info row.now }
 {
     if row.footnote {

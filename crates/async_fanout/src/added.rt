@@ -4,13 +4,13 @@ ghost use Rattle.kom_model.specs.ToWhom.{text_added, recipient_added, link_added
 ghost use Rattle.async_fanout.specs.Added.{is_text, is_recipient_of, is_from, is_into, is_item};
 
 use kom_model::Rows;
-use kom_state::State;
-use kom_types::{AuxRow, ConferenceHead, Effect, Link, Recipient};
+use kom_state::StoredRows;
+use kom_types::{AuxRow, ConferenceHead, Effect, Recipient, TextLink};
 
 /// The stored rows with the texts that effects make as the only texts. Nothing is copied.
 #[derive(Clone, Copy)]
 pub(crate) struct Added<'a> {
-    pub(crate) rows: &'a State,
+    pub(crate) rows: &'a StoredRows,
     pub(crate) effects: &'a [Effect],
 }
 
@@ -71,7 +71,7 @@ impl<'a> Rows for Added<'a> {
     }
 
     #[tactic(auto, unfolding(kom_model::specs::Db::links_from))]
-    fn link_from(&self, text: u32, footnote: bool, place: usize) -> Option<Link> {
+    fn link_from(&self, text: u32, footnote: bool, place: usize) -> Option<TextLink> {
         let effect = self
             .effects
             .iter()
@@ -89,7 +89,7 @@ impl<'a> Rows for Added<'a> {
     }
 
     #[tactic(auto, unfolding(kom_model::specs::Db::links_into))]
-    fn link_into(&self, text: u32, footnote: bool, place: usize) -> Option<Link> {
+    fn link_into(&self, text: u32, footnote: bool, place: usize) -> Option<TextLink> {
         let effect = self
             .effects
             .iter()
@@ -180,7 +180,7 @@ fn is_into(effect: &Effect, text: u32, footnote: bool) -> bool
     }
 }
 
-fn link_in(effect: &Effect) -> Option<Link>
+fn link_in(effect: &Effect) -> Option<TextLink>
     ensures { result ≡ link_added effect.now }
 {
     match effect {

@@ -11,7 +11,7 @@ use crate::added::item_in;
 use crate::deliveries::{Delivery, Tells, deliver};
 use access_rights::{gets_text, push_item, text_adder};
 use kom_model::Viewer;
-use kom_state::{Asked, State};
+use kom_state::{Asked, StoredRows};
 use kom_types::{
     Adder, AuxChange, AuxRow, AuxRows, Boxed, ChangedItems, Decision, Effect, Memory, Message,
     Sequence,
@@ -22,7 +22,7 @@ use std::alloc::Global;
 /// items of which it is told, if there are any.
 #[derive(Clone, Copy)]
 pub(crate) struct TextAuxChanged<'a> {
-    pub(crate) rows: &'a State,
+    pub(crate) rows: &'a StoredRows,
     pub(crate) text: u32,
     /// The numbers of the items that go.
     pub(crate) deleted: &'a [u32],
@@ -63,7 +63,7 @@ impl<'a> Tells for TextAuxChanged<'a> {
 /// The items of a text that have these numbers, as they are told to who looks.
 fn named_shown(
     alloc: Global,
-    rows: &State,
+    rows: &StoredRows,
     text: u32,
     numbers: &[u32],
     by: &Adder,
@@ -81,7 +81,7 @@ fn named_shown(
 }
 
 /// The item of a text that has this number: the time grows with its items.
-fn item_of(rows: &State, text: u32, number: u32) -> Option<&AuxRow>
+fn item_of(rows: &StoredRows, text: u32, number: u32) -> Option<&AuxRow>
     ensures { option_copied result
         ≡ find (λ item. item.number == number) (items_of rows.now.db true text) }
 {

@@ -8,14 +8,14 @@ ghost use Rattle.async_fanout.specs.Delivered.{all_brought};
 use crate::deliveries::{Delivery, Tells, deliver};
 use access_rights::sees;
 use kom_model::Viewer;
-use kom_state::{Asked, State};
+use kom_state::{Asked, StoredRows};
 use kom_types::{Boxed, Bytes, Memory, Message, NewName as Names};
 use std::alloc::Global;
 
 /// Message 5, new-name: to who sees the conference.
 #[derive(Clone, Copy)]
 pub(crate) struct NewName<'a> {
-    pub(crate) rows: &'a State,
+    pub(crate) rows: &'a StoredRows,
     pub(crate) conference: u32,
     pub(crate) old_name: &'a Bytes,
     pub(crate) name: &'a Bytes,
@@ -47,7 +47,7 @@ impl<'a> Tells for NewName<'a> {
 /// Message 20, new-presentation: to who sees the conference.
 #[derive(Clone, Copy)]
 pub(crate) struct NewPresentation<'a> {
-    pub(crate) rows: &'a State,
+    pub(crate) rows: &'a StoredRows,
     pub(crate) conference: u32,
     pub(crate) old_text: u32,
     pub(crate) new_text: u32,
@@ -78,7 +78,7 @@ impl<'a> Tells for NewPresentation<'a> {
 /// Message 21, new-motd: to who sees the conference.
 #[derive(Clone, Copy)]
 pub(crate) struct NewMotd<'a> {
-    pub(crate) rows: &'a State,
+    pub(crate) rows: &'a StoredRows,
     pub(crate) conference: u32,
     pub(crate) old_text: u32,
     pub(crate) new_text: u32,

@@ -8,7 +8,7 @@ ghost use Rattle.async_fanout.specs.Delivered.{all_brought};
 use crate::deliveries::{Delivery, Tells, deliver};
 use access_rights::hears;
 use kom_model::Viewer;
-use kom_state::{Asked, State};
+use kom_state::{Asked, StoredRows};
 use kom_types::{Boxed, Bytes, Memory, Message, SentMessage};
 use std::alloc::Global;
 
@@ -63,7 +63,7 @@ impl Tells for Logout {
 /// Message 12, send-message: to who hears what is sent to the conference, or to all.
 #[derive(Clone, Copy)]
 pub(crate) struct SendMessage<'a> {
-    pub(crate) rows: &'a State,
+    pub(crate) rows: &'a StoredRows,
     pub(crate) recipient: u32,
     pub(crate) sender: u32,
     pub(crate) text: &'a Bytes,

@@ -11,7 +11,7 @@ use crate::added::Added;
 use crate::deliveries::{Delivery, Tells, deliver};
 use access_rights::{gets_text, shown_stat, stat_of, takes};
 use kom_model::{TextHead, Viewer};
-use kom_state::{Asked, State};
+use kom_state::{Asked, StoredRows};
 use kom_types::{Boxed, Bytes, Effect, Memory, Message, TextRow};
 use std::alloc::Global;
 
@@ -19,7 +19,7 @@ use std::alloc::Global;
 /// told of it to that person.
 #[derive(Clone, Copy)]
 pub(crate) struct DeletedText<'a> {
-    pub(crate) rows: &'a State,
+    pub(crate) rows: &'a StoredRows,
     pub(crate) text: &'a TextRow,
 }
 
@@ -78,7 +78,7 @@ impl<'a> Tells for NewText<'a> {
 /// Message 16, new-recipient: to who takes the conference's texts.
 #[derive(Clone, Copy)]
 pub(crate) struct NewRecipient<'a> {
-    pub(crate) rows: &'a State,
+    pub(crate) rows: &'a StoredRows,
     pub(crate) text: u32,
     pub(crate) conference: u32,
     pub(crate) kind: u32,
@@ -108,7 +108,7 @@ impl<'a> Tells for NewRecipient<'a> {
 /// Message 17, sub-recipient: to who takes the conference's texts.
 #[derive(Clone, Copy)]
 pub(crate) struct SubRecipient<'a> {
-    pub(crate) rows: &'a State,
+    pub(crate) rows: &'a StoredRows,
     pub(crate) text: u32,
     pub(crate) conference: u32,
     pub(crate) kind: u32,

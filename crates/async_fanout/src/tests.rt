@@ -3,7 +3,7 @@ ghost use Rattle.std.specs.Prelude.{◌≡◌, false, IfOk};
 ghost use Rattle.kom_types.specs.Sessions.{changed_session, is_stop};
 
 use crate::{Delivery, fan_out, is_silent};
-use kom_state::{Asked, State};
+use kom_state::{Asked, StoredRows};
 use kom_types::{
     Bytes, Call, Decision, Item, Memory, Message, Moment, Reply, Sequence, SessionChange,
 };
@@ -126,11 +126,11 @@ fn check_found(rt: &impl Abort, found: &[Delivery], sent: &[(u32, u32)]) -> Resu
 
 #[test]
 fn a_message_goes_to_who_accepts_it_and_is_logged_in(rt: HostRuntime) -> Result<(), Fail> {
-    let rows = State::initial(rt.alloc(), b"", Moment::at_most(0))?;
+    let rows = StoredRows::initial(rt.alloc(), b"", Moment::at_most(0))?;
     send(&rt, rt.alloc(), &rows)
 }
 
-fn send(rt: &impl Abort, alloc: Global, rows: &State) -> Result<(), Fail> {
+fn send(rt: &impl Abort, alloc: Global, rows: &StoredRows) -> Result<(), Fail> {
     let sessions = seated(alloc)?;
     send_over(rt, &Asked::new(rows, &sessions, Moment::at_most(0), 1, 0))
 }
@@ -144,11 +144,11 @@ fn send_over(rt: &impl Abort, asked: &Asked<'_>) -> Result<(), Fail> {
 
 #[test]
 fn who_logs_in_or_out_is_told(rt: HostRuntime) -> Result<(), Fail> {
-    let rows = State::initial(rt.alloc(), b"", Moment::at_most(0))?;
+    let rows = StoredRows::initial(rt.alloc(), b"", Moment::at_most(0))?;
     log(&rt, rt.alloc(), &rows)
 }
 
-fn log(rt: &impl Abort, alloc: Global, rows: &State) -> Result<(), Fail> {
+fn log(rt: &impl Abort, alloc: Global, rows: &StoredRows) -> Result<(), Fail> {
     let sessions = seated(alloc)?;
     log_over(rt, &Asked::new(rows, &sessions, Moment::at_most(0), 3, 0))
 }

@@ -2,7 +2,7 @@
 ghost use Rattle.std.specs.Prelude.{◌≡◌, None, IfOk};
 ghost use Rattle.kom_state.specs.Room.{IsOrderly, name_given};
 
-use kom_state::State;
+use kom_state::StoredRows;
 use kom_types::bits::LETTERBOX_TYPE;
 use kom_types::{Bytes, Effect, EffectList, Memory, Moment, Sequence};
 use std::alloc::Global;
@@ -19,8 +19,8 @@ pub(crate) fn person_of(session: u32) -> u32 {
 }
 
 /// The rows of a new server with a person for each of so many sessions.
-pub(crate) fn filled(alloc: Global, sessions: u32) -> Result<State, Memory> {
-    let mut state = State::initial(alloc, b"", Moment::at_most(0))?;
+pub(crate) fn filled(alloc: Global, sessions: u32) -> Result<StoredRows, Memory> {
+    let mut state = StoredRows::initial(alloc, b"", Moment::at_most(0))?;
     for session in 1..=sessions {
         add(&mut state, alloc, person_of(session))?;
     }
@@ -28,7 +28,7 @@ pub(crate) fn filled(alloc: Global, sessions: u32) -> Result<State, Memory> {
 }
 
 /// Adds a person that is a member of the conference, if it is the next one.
-fn add(state: &mut State, alloc: Global, person: u32) -> Result<(), Memory> {
+fn add(state: &mut StoredRows, alloc: Global, person: u32) -> Result<(), Memory> {
     let effects = added(alloc, person)?;
     state.reserve(effects.as_slice())?;
     state.apply_all(effects);

@@ -11,7 +11,7 @@ mod writing;
 
 use bench_watch::{Counts, Request, Told};
 use kom_framing::Writer;
-use kom_state::{Asked, State};
+use kom_state::{Asked, StoredRows};
 use measures::{Finding, Measured, Printing, repeat};
 use std::alloc::Global;
 use std::io;
@@ -49,7 +49,7 @@ fn measure_over<R: Print + Clock>(
     rt: &R,
     alloc: Global,
     request: Request,
-    rows: &State,
+    rows: &StoredRows,
 ) -> io::Result<()>
     requires { 0 < request.count }
 {
@@ -62,7 +62,7 @@ fn measure_messages<R: Print + Clock>(
     rt: &R,
     alloc: Global,
     request: Request,
-    rows: &State,
+    rows: &StoredRows,
     written: &Written,
 ) -> io::Result<()>
     requires { 0 < request.count }
@@ -77,7 +77,7 @@ fn measure_all<R: Print + Clock>(
     rt: &R,
     alloc: Global,
     request: Request,
-    rows: &State,
+    rows: &StoredRows,
     written: &Written,
 ) -> io::Result<Measured>
     requires { 0 < request.count }
@@ -110,7 +110,7 @@ fn measure_alone<R: Print + Clock>(
     rt: &R,
     alloc: Global,
     request: Request,
-    rows: &State,
+    rows: &StoredRows,
     written: &Written,
 ) -> io::Result<Measured>
     requires { 0 < request.count }

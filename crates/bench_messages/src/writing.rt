@@ -2,7 +2,7 @@
 use crate::filling::CONFERENCE;
 use crate::seating::seated;
 use async_fanout::{Delivery, fan_out};
-use kom_state::{Asked, State};
+use kom_state::{Asked, StoredRows};
 use kom_types::{Boxed, Bytes, Call, Decision, Memory, MiscInput, Moment, NewText, Sequence};
 use sessions::Sessions;
 use std::alloc::Global;
@@ -31,7 +31,7 @@ impl Written {
 
 /// The call by which the first session writes to the conference. What it comes to is the same with
 /// however many sessions.
-pub(crate) fn write(alloc: Global, rows: &State) -> io::Result<Written> {
+pub(crate) fn write(alloc: Global, rows: &StoredRows) -> io::Result<Written> {
     let Ok(sessions) = seated(alloc, 1, 1) else {
         return Err(io::ErrorKind::OutOfMemory.into());
     };
@@ -53,7 +53,7 @@ fn decided(alloc: Global, asked: &Asked<'_>) -> io::Result<Written> {
 }
 
 /// All that the call may read.
-pub(crate) fn asked<'a>(rows: &'a State, sessions: &'a Sessions) -> Asked<'a> {
+pub(crate) fn asked<'a>(rows: &'a StoredRows, sessions: &'a Sessions) -> Asked<'a> {
     Asked::new(rows, sessions, Moment::at_most(0), AUTHOR, 0)
 }
 

@@ -2,7 +2,7 @@ ghost use Rattle.std.specs.Prelude.{[], ◌∷◌, IfOk};
 ghost use Rattle.kom_types.specs.declared.effects.Effect.{Effect as Change};
 ghost use Rattle.kom_state.specs.Room.{IsOrderly};
 
-use kom_state::State;
+use kom_state::StoredRows;
 use kom_types::{Bytes, Effect, EffectList, Memory, Moment, Recipient, Sequence};
 use std::alloc::Global;
 
@@ -12,8 +12,8 @@ const CONFERENCE: u32 = 4;
 const AUTHOR: u32 = 5;
 
 /// The rows of a new server with so many texts.
-pub(crate) fn filled(alloc: Global, texts: u32) -> Result<State, Memory> {
-    let mut state = State::initial(alloc, b"", Moment::at_most(0))?;
+pub(crate) fn filled(alloc: Global, texts: u32) -> Result<StoredRows, Memory> {
+    let mut state = StoredRows::initial(alloc, b"", Moment::at_most(0))?;
     for number in 1..=texts {
         write(&mut state, alloc, number)?;
     }
@@ -21,7 +21,7 @@ pub(crate) fn filled(alloc: Global, texts: u32) -> Result<State, Memory> {
 }
 
 /// Adds a text to the conference, if it is the next one.
-fn write(state: &mut State, alloc: Global, number: u32) -> Result<(), Memory> {
+fn write(state: &mut StoredRows, alloc: Global, number: u32) -> Result<(), Memory> {
     let effects = written(alloc, number)?;
     state.reserve(effects.as_slice())?;
     state.apply_all(effects);
@@ -56,12 +56,12 @@ fn written(alloc: Global, number: u32) -> Result<EffectList, Memory>
 }
 
 /// How many texts were made.
-pub(crate) fn made(state: &State) -> u64 {
+pub(crate) fn made(state: &StoredRows) -> u64 {
     u64::from(state.next_text().saturating_sub(1))
 }
 
 /// The lines of all texts.
-pub(crate) fn lines(state: &State) -> u64 {
+pub(crate) fn lines(state: &StoredRows) -> u64 {
     let mut sum = 0u64;
     for number in 1..state.next_text() {
         if let Some(row) = state.text(number) {
@@ -72,7 +72,7 @@ pub(crate) fn lines(state: &State) -> u64 {
 }
 
 /// The recipients of all texts.
-pub(crate) fn recipients(state: &State) -> u64 {
+pub(crate) fn recipients(state: &StoredRows) -> u64 {
     let mut sum = 0u64;
     for number in 1..state.next_text() {
         sum = sum.wrapping_add(state.recipient_count(number) as u64);

@@ -5,7 +5,7 @@
 mod filling;
 
 use bench_watch::{Counts, Request, Watch};
-use kom_state::State;
+use kom_state::StoredRows;
 use std::alloc::Global;
 use std::io;
 use std::process::ExitCode;

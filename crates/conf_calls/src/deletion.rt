@@ -8,7 +8,7 @@ ghost use Rattle.kom_model.specs.calls.Sessions.{all_left, seat_left};
 
 use crate::owning::owner_guards;
 use kom_model::CallError;
-use kom_state::{Asked, State, push_count, push_items_gone};
+use kom_state::{Asked, StoredRows, push_count, push_items_gone};
 use kom_types::{
     ChangeList, Counter, Decision, Effect, EffectList, Memory, Reply, Seat, Sequence, SessionChange,
 };
@@ -76,7 +76,11 @@ fn push_left(
 }
 
 /// No text has the conference as a recipient any more.
-fn push_recipients(effects: &mut EffectList, rows: &State, conference: u32) -> Result<(), Memory>
+fn push_recipients(
+    effects: &mut EffectList,
+    rows: &StoredRows,
+    conference: u32,
+) -> Result<(), Memory>
     ensures { OnOk result (effects.new ≡ effects.old
         ++ map (λ pair. Effect.RecipientGone pair.text conference)
         (locals_of rows.now.db conference)) }
@@ -94,7 +98,7 @@ fn push_recipients(effects: &mut EffectList, rows: &State, conference: u32) -> R
 }
 
 /// A person's marks go.
-fn push_marks(effects: &mut EffectList, rows: &State, person: u32) -> Result<(), Memory>
+fn push_marks(effects: &mut EffectList, rows: &StoredRows, person: u32) -> Result<(), Memory>
     ensures { OnOk result (effects.new ≡ effects.old
         ++ map (λ row. Effect.MarkGone person row.text) (marks_of rows.now.db person)) }
 {
@@ -109,7 +113,7 @@ fn push_marks(effects: &mut EffectList, rows: &State, person: u32) -> Result<(),
 }
 
 /// The memberships in a conference go, and those of the person whose letterbox it is.
-fn push_memberships(effects: &mut EffectList, rows: &State, number: u32) -> Result<(), Memory>
+fn push_memberships(effects: &mut EffectList, rows: &StoredRows, number: u32) -> Result<(), Memory>
     ensures { OnOk result (effects.new ≡ effects.old
         ++ map (λ row. Effect.MemberGone row.person row.conference)
         (memberships_at rows.now.db number)) }
@@ -125,7 +129,7 @@ fn push_memberships(effects: &mut EffectList, rows: &State, number: u32) -> Resu
 }
 
 /// The person goes whose letterbox goes.
-fn push_person(effects: &mut EffectList, rows: &State, number: u32) -> Result<(), Memory>
+fn push_person(effects: &mut EffectList, rows: &StoredRows, number: u32) -> Result<(), Memory>
     ensures { OnOk result (effects.new ≡ effects.old ++ Calls.gone_person rows.now.db number) }
 {
     if rows.person(number).is_some() {

@@ -4,7 +4,7 @@ ghost use Rattle.kom_model.specs.calls.Call.{Meets};
 
 use access_rights::{conference_adder, conference_guard, items_guard, login_guard};
 use kom_model::CallError;
-use kom_state::{Asked, State, item_effects};
+use kom_state::{Asked, StoredRows, item_effects};
 use kom_types::bits::is_letterbox;
 use kom_types::{AuxChange, Decision, Object, Reply, Sequence};
 
@@ -36,7 +36,7 @@ pub fn modify_conf_info(asked: &Asked<'_>, change: &AuxChange) -> Result<Decisio
 }
 
 /// What a conference is to aux-items.
-fn object_of(rows: &State, conference: u32) -> Object
+fn object_of(rows: &StoredRows, conference: u32) -> Object
     ensures { result ≡ AuxItems.object_of rows.now.db conference }
 {
     match rows.conference(conference) {

@@ -10,7 +10,7 @@ ghost use Rattle.kom_model.specs.calls.Sessions.{counts};
 use crate::owning::owner_guards;
 use access_rights::{login_guard, name_guard, new_items_guard, type_guard, unless};
 use kom_model::{CallError, Refused, Viewer};
-use kom_state::{Asked, State, new_items, push_items};
+use kom_state::{Asked, StoredRows, new_items, push_items};
 use kom_types::bits::{CREATES_CONFERENCES, is_letterbox};
 use kom_types::{
     Bytes, Counter, Decision, Effect, EffectList, Memory, NewConference, Object, Reply, Sequence,
@@ -54,7 +54,7 @@ pub fn create_conf(asked: &Asked<'_>, given: &NewConference) -> Result<Decision,
 }
 
 /// The caller may make conferences, or its session is strong.
-fn create_conf_guard(rows: &State, caller: &Viewer) -> Result<(), Refused>
+fn create_conf_guard(rows: &StoredRows, caller: &Viewer) -> Result<(), Refused>
     ensures { Guards (Conferences.create_conf_guard rows.now.db caller.now) result }
 {
     unless(
@@ -64,7 +64,7 @@ fn create_conf_guard(rows: &State, caller: &Viewer) -> Result<(), Refused>
     )
 }
 
-fn may_make_conferences(rows: &State, person: u32) -> bool
+fn may_make_conferences(rows: &StoredRows, person: u32) -> bool
     ensures { result ≡ Conferences.may_make_conferences rows.now.db person }
 {
     match rows.person(person) {

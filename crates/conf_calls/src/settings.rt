@@ -7,7 +7,7 @@ ghost use Rattle.kom_model.specs.calls.Conferences as Calls;
 use crate::owning::owner_guards;
 use access_rights::{conference_or_none_guard, text_or_none_guard, type_guard, unless};
 use kom_model::CallError;
-use kom_state::{Asked, State};
+use kom_state::{Asked, StoredRows};
 use kom_types::bits::{is_letterbox, is_secret_conference};
 use kom_types::{ConfField, Decision, Effect};
 
@@ -87,7 +87,7 @@ pub fn set_conf_type(asked: &Asked<'_>, conference: u32, kind: u8) -> Result<Dec
 
 /// Whether a conference may get a type: a letterbox stays one and is not secret, and no other
 /// becomes one.
-fn may_become(rows: &State, conference: u32, kind: u8) -> bool
+fn may_become(rows: &StoredRows, conference: u32, kind: u8) -> bool
     ensures { result ≡ Calls.may_become rows.now.db conference kind }
 {
     match rows.conference(conference) {

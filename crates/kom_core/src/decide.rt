@@ -6,7 +6,7 @@ ghost use Rattle.kom_model.specs.Decide.{definition_of, is_firm, limited as limi
 ghost use Rattle.kom_core.specs.Deciding.{IsCall, Defines, Decides, DecidesFirm, IsReply, HasBody};
 
 use crate::calls;
-use crate::server_state::State;
+use crate::server_state::ServerState;
 use kom_model::{CallError, Refused};
 use kom_replies::printed_len;
 use kom_state::Asked;
@@ -16,7 +16,7 @@ use std::alloc::Global;
 
 /// What the call of an entry comes to. A firm call takes no memory.
 #[tactic(auto, unfolding(kom_model::specs::Decide::decision_of))]
-pub(crate) fn decide(state: &State, entry: &Entry) -> Result<Decision, Memory>
+pub(crate) fn decide(state: &ServerState, entry: &Entry) -> Result<Decision, Memory>
     requires { IsCall entry.now.act }
     ensures decided { IfOk result (Decides state.now entry.now) }
     ensures firm { DecidesFirm state.now entry.now → IsOk result }

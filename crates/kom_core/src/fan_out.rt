@@ -1,14 +1,14 @@
 ghost use Rattle.std.specs.Prelude.{◌≡◌, IfOk, IsOk};
 ghost use Rattle.kom_core.specs.Deciding.{IsCall, Decides, SendsMessages, DecidesFirm};
 
-use crate::server_state::State;
+use crate::server_state::ServerState;
 use async_fanout::Delivery;
 use kom_types::{Act, Decision, Entry, Memory};
 
 /// The messages of an entry's call that came to this decision, for whom they are. A firm call takes
 /// no memory.
 pub(crate) fn fan_out(
-    state: &State,
+    state: &ServerState,
     entry: &Entry,
     decision: &Decision,
 ) -> Result<Vec<Delivery>, Memory>

@@ -7,7 +7,7 @@ ghost use Rattle.kom_core.specs.Acts.{items_of, Answered, Kinded, IsUnchanged, T
 
 use crate::answer_kind::AnswerKind;
 use crate::keeper::{Keeper, Unkept};
-use crate::server_state::State;
+use crate::server_state::ServerState;
 use arrayvec::ArrayVec;
 use kom_types::{Answer, Entry, Item, Memory, Moment, Record};
 use std::alloc::Global;
@@ -16,7 +16,7 @@ use std::marker::Model;
 /// The state of the server, and the record of its last act until that is handed out.
 #[derive(Drop)]
 pub struct Core {
-    server: State,
+    server: ServerState,
     last: Option<Record>,
 }
 
@@ -38,18 +38,18 @@ impl Core {
             ≡ record { state = opening (initial password.now moment); last = None }) }
         ensures sound { IfOk result (λ core. IsSound core.state) }
     {
-        let rows = kom_state::State::initial(alloc, password, moment)?;
+        let rows = kom_state::StoredRows::initial(alloc, password, moment)?;
         Ok(Core::of(alloc, rows))
     }
 
     /// A core before its first act, with these stored rows.
-    pub fn of(alloc: Global, rows: kom_state::State) -> Core
+    pub fn of(alloc: Global, rows: kom_state::StoredRows) -> Core
         requires { IsProtected rows.db }
         ensures value { result ≡ record { state = opening rows.db; last = None } }
         ensures sound { IsSound result.state }
     {
         Core {
-            server: State::opening(alloc, rows),
+            server: ServerState::opening(alloc, rows),
             last: None,
         }
     }

@@ -24,8 +24,8 @@ use std::marker::Model;
 /// entries its history has, the moment of the last one, whether it was shut down, and whether its
 /// store refused a flush.
 #[derive(Drop)]
-pub(crate) struct State {
-    rows: kom_state::State,
+pub(crate) struct ServerState {
+    rows: kom_state::StoredRows,
     sessions: Sessions,
     connects: u32,
     stable: u64,
@@ -36,7 +36,7 @@ pub(crate) struct State {
     alloc: Global,
 }
 
-impl Model for State {
+impl Model for ServerState {
     ghost use Rattle.kom_model.specs.State.{State as Server};
 
     ghost Value = { Server };
@@ -61,12 +61,12 @@ pub(crate) struct Made {
     pub(crate) short: bool,
 }
 
-impl State {
+impl ServerState {
     /// A server before its first entry, with these stored rows.
-    pub(crate) fn opening(alloc: Global, rows: kom_state::State) -> State
+    pub(crate) fn opening(alloc: Global, rows: kom_state::StoredRows) -> ServerState
         ensures { result ≡ opening_state rows.db }
     {
-        State {
+        ServerState {
             rows,
             sessions: Sessions::new(alloc),
             connects: 0,
@@ -81,10 +81,14 @@ impl State {
 
     /// A server whose sessions have all gone, after so many connects, with these stored rows.
     #[cfg(test)]
-    pub(crate) fn after_connects(alloc: Global, rows: kom_state::State, connects: u32) -> State
+    pub(crate) fn after_connects(
+        alloc: Global,
+        rows: kom_state::StoredRows,
+        connects: u32,
+    ) -> ServerState
         ensures { result ≡ record (opening_state rows.db) { connects = connects } }
     {
-        let mut server = State::opening(alloc, rows);
+        let mut server = ServerState::opening(alloc, rows);
         server.connects = connects;
         server
     }

@@ -16,7 +16,7 @@ use Rattle.kom_framing.specs.declared.lexer.Step.{Step}
 use Rattle.kom_framing.specs.declared.lexer.Step.TheVariants as step
 use Rattle.kom_framing.specs.declared.fault.Fault.TheVariants as found
 use Rattle.kom_framing.specs.Spans.{tokens_of, AreWithin}
-use Rattle.kom_framing.specs.Lexing.{Between, State, Going, Ended, Stuck, next, onward, walk}
+use Rattle.kom_framing.specs.Lexing.{Between, LexerState, Going, Ended, Stuck, next, onward, walk}
 use Rattle.kom_framing.specs.Scanning.{mode_of, IsLexer, tokens_ended, LeadsOn, EndsLine, Does, IsBegun}
 use Rattle.kom_framing.specs.declared.fault.Fault.{Fault as CodeFault}
 use Rattle.kom_framing.specs.declared.lines.BegunLine.{BegunLine}
@@ -26,7 +26,7 @@ use Rattle.kom_framing.proofs.Lexing.{form_of, line_form-walk, onward-stuck}
 use Rattle.kom_framing.proofs.Streams.{Fits, line_goes_on, line_ends, line_unfit, line_late, line_too_long}
 use Rattle.kom_framing.proofs.Spans.{are_within_more, are_within-append, tokens_stay, tokens_of-append}
 
-going_prefix : (state : State) → IsGoing state → form_of state ≡ Prefix
+going_prefix : (state : LexerState) → IsGoing state → form_of state ≡ Prefix
 going_prefix (Going tokens mode) going = refl
 going_prefix (Ended tokens) going = absurd going
 going_prefix Stuck going = absurd going
@@ -76,18 +76,18 @@ module _ (side : Side) where
   ended_stuck tokens byte bytes = onward-stuck side bytes
 
   -- a state from which a line goes on, or which is reached from one, is that of a line that goes on
-  pub goes_on_before : (state : State) (bytes : List ℕ) → IsGoing (onward side state bytes) → IsGoing state
+  pub goes_on_before : (state : LexerState) (bytes : List ℕ) → IsGoing (onward side state bytes) → IsGoing state
   goes_on_before (Going tokens mode) bytes going = tt
   goes_on_before (Ended tokens) [] going = going
   goes_on_before (Ended tokens) (byte ∷ bytes) going = subst IsGoing (ended_stuck tokens byte bytes) going
   goes_on_before Stuck bytes going = subst IsGoing (onward-stuck side bytes) going
 
-  pub ends_from : (state : State) (byte : ℕ) (tokens : List Token) → next side state byte ≡ Ended tokens → IsGoing state
+  pub ends_from : (state : LexerState) (byte : ℕ) (tokens : List Token) → next side state byte ≡ Ended tokens → IsGoing state
   ends_from (Going more mode) byte tokens e = tt
   ends_from (Ended more) byte tokens e = absurd cc
   ends_from Stuck byte tokens e = absurd cc
 
-  form_is : (bytes : List ℕ) (state : State) → walk side bytes ≡ state → line_form side bytes ≡ form_of state
+  form_is : (bytes : List ℕ) (state : LexerState) → walk side bytes ≡ state → line_form side bytes ≡ form_of state
   form_is bytes state e = line_form-walk side bytes ∙ ap form_of e
 
   form_goes_on : (bytes : List ℕ) → IsGoing (walk side bytes) → line_form side bytes ≡ Prefix
@@ -190,7 +190,7 @@ module _ (side : Side) where
       → IsLexer after (bytes ++ more) → AreWithin (length (bytes ++ more)) (option_to_list ended)
       → IsBegun side (bytes ++ more) (spans ++ option_to_list ended) after
   leads bytes more spans lexer after ended begun goes sound within = record {
-    walked = walk-append bytes more ∙ ap (λ (s : State). onward side s more) begun.walked ∙ goes (tokens_of bytes spans)
+    walked = walk-append bytes more ∙ ap (λ (s : LexerState). onward side s more) begun.walked ∙ goes (tokens_of bytes spans)
         ∙ ap (λ (t : List Token). Going (t ++ tokens_ended (bytes ++ more) ended) (mode_of after (bytes ++ more)))
         (sym (tokens_stay bytes more spans begun.within))
         ∙ ap (λ (t : List Token). Going t (mode_of after (bytes ++ more)))
@@ -233,7 +233,7 @@ module _ (side : Side) where
       length-append text (take at window)
       ∙ ap (λ (n : ℕ). length text + n) (length-take-le at window (omega arith)) in
       let grown : walk side (bytes ++ more) ≡ Ended (tokens_of (bytes ++ more) (spans ++ option_to_list ended)) =
-      walk-append bytes more ∙ ap (λ (s : State). onward side s more) begun.walked
+      walk-append bytes more ∙ ap (λ (s : LexerState). onward side s more) begun.walked
       ∙ ends.onward_is (tokens_of bytes spans)
       ∙ ap (λ (t : List Token). Ended (t ++ tokens_ended (bytes ++ more) ended))
       (sym (tokens_stay bytes more spans begun.within))
@@ -266,7 +266,7 @@ module _ (side : Side) where
         within = inside;
         going = begun_goes bytes spans lexer begun;
         stuck = sym (ap (walk side) regrouped) ∙ walk-append bytes more
-            ∙ ap (λ (s : State). onward side s more) begun.walked
+            ∙ ap (λ (s : LexerState). onward side s more) begun.walked
             ∙ stuck (tokens_of bytes spans);
       }
 

@@ -17,7 +17,7 @@ use Rattle.kom_types.specs.Grammar.{signed_run_at, signed_at}
 use Rattle.kom_types.specs.Grammar.{may_follow, ended, with_token, tokens_at, line_form}
 use Rattle.kom_framing.specs.Lexing.{Mode, Between, Run, Past, AfterSign, Move, Goes, Ends, Unfits, string_from, move}
 use Rattle.kom_framing.specs.Lexing.{move_past, move_to_sign, move_past_sign, move_after_sign}
-use Rattle.kom_framing.specs.Lexing.{move_between, move_in_run, State, Going, Ended, Stuck, reached, next, onward, walk}
+use Rattle.kom_framing.specs.Lexing.{move_between, move_in_run, LexerState, Going, Ended, Stuck, reached, next, onward, walk}
 use Rattle.kom_framing.proofs.Looks.{look, blank, feed, digit, hollerith, open_brace, close_brace, star, sign_byte}
 use Rattle.kom_framing.proofs.Looks.{other}
 use Rattle.kom_framing.proofs.Looks.{follows}
@@ -29,13 +29,13 @@ abbrev choice : {X : Type 0} → Bool → X → X → X
 choice b x y = elim b [ true ↦ x | false ↦ y ]
 
 -- what a state says of the bytes that led to it
-abbrev pub form_of : State → Form (List Token)
+abbrev pub form_of : LexerState → Form (List Token)
 form_of (Going tokens mode) = Prefix
 form_of (Ended tokens) = Whole tokens
 form_of Stuck = Unfit
 
 -- the state with these tokens before its own
-abbrev prefixed : List Token → State → State
+abbrev prefixed : List Token → LexerState → LexerState
 prefixed prefix (Going tokens mode) = Going (prefix ++ tokens) mode
 prefixed prefix (Ended tokens) = Ended (prefix ++ tokens)
 prefixed prefix Stuck = Stuck
@@ -47,13 +47,13 @@ reached-prefixed prefix tokens (Ends more) = ap Ended (append_assoc prefix token
 reached-prefixed prefix tokens Unfits = refl
 
 module _ (side : Side) where
-  next-prefixed : (prefix : List Token) (state : State) (byte : ℕ)
+  next-prefixed : (prefix : List Token) (state : LexerState) (byte : ℕ)
       → next side (prefixed prefix state) byte ≡ prefixed prefix (next side state byte)
   next-prefixed prefix (Going tokens mode) byte = reached-prefixed prefix tokens (move side mode byte)
   next-prefixed prefix (Ended tokens) byte = refl
   next-prefixed prefix Stuck byte = refl
 
-  onward-prefixed : (prefix : List Token) (state : State) (bytes : List ℕ)
+  onward-prefixed : (prefix : List Token) (state : LexerState) (bytes : List ℕ)
       → onward side (prefixed prefix state) bytes ≡ prefixed prefix (onward side state bytes)
   onward-prefixed prefix state [] = refl
   onward-prefixed prefix state (byte ∷ bytes) =
@@ -64,7 +64,7 @@ module _ (side : Side) where
   onward-stuck [] = refl
   onward-stuck (byte ∷ bytes) = onward-stuck bytes
 
-  form_of-prefixed : (token : Token) (state : State)
+  form_of-prefixed : (token : Token) (state : LexerState)
       → form_of (prefixed (token ∷ []) state) ≡ with_token token (form_of state)
   form_of-prefixed token (Going tokens mode) = refl
   form_of-prefixed token (Ended tokens) = refl
@@ -271,7 +271,7 @@ module _ (side : Side) where
       ≡ cut_then line_after (run_from run_at digits (byte ∷ bytes))
   run_ends digits byte bytes sort e same h d short =
       ap form_of (run_kind digits byte bytes sort e)
-      ∙ ap (λ (s : State). form_of (onward side s bytes)) same
+      ∙ ap (λ (s : LexerState). form_of (onward side s bytes)) same
       ∙ sym (ap (λ (k : ByteKind). form_of (onward side (reached (Digits digits ∷ []) (move_past [] k)) bytes)) e)
       ∙ token_then (Digits digits) (byte ∷ bytes)
       ∙ sym (ap (cut_then line_after) (run_from-ended run_at digits byte bytes d ∙ run_cut digits byte bytes h short))
@@ -375,7 +375,7 @@ module _ (side : Side) where
   signed_past mark [] byte bytes sort e short = stuck_form bytes
   signed_past mark (first ∷ digits) byte bytes sort e short =
       let token : Token = Signed mark (first ∷ digits) in
-      ap (λ (s : State). form_of (onward side s bytes)) (past_reached token sort)
+      ap (λ (s : LexerState). form_of (onward side s bytes)) (past_reached token sort)
       ∙ sym (ap (λ (k : ByteKind). form_of (onward side (reached (token ∷ []) (move_past [] k)) bytes)) e)
       ∙ token_then token (byte ∷ bytes)
       ∙ sym (ap (cut_then line_after) (signed_cut mark (first ∷ digits) byte bytes (omega arith) short))

@@ -16,7 +16,7 @@ use Rattle.kom_framing.specs.declared.lines.Scan.TheVariants as scan
 use Rattle.kom_framing.specs.declared.units.Unit.{Unit as StreamUnit}
 use Rattle.kom_framing.specs.declared.units.Unit.TheVariants as unit
 use Rattle.kom_framing.specs.Spans.{tokens_of, AreWithin}
-use Rattle.kom_framing.specs.Lexing.{State, Going, Ended, Stuck, walk}
+use Rattle.kom_framing.specs.Lexing.{LexerState, Going, Ended, Stuck, walk}
 use Rattle.kom_framing.specs.Scanning.{IsBegun}
 
 abbrev pub fault_seen : Fault → stream.Fault
@@ -28,7 +28,7 @@ pub record IsLine (side : Side) (line : BegunLine) : Type 0 where
   pub begun : IsBegun side line.text.items line.spans.items line.lexer
   pub short : length line.text.items ≤ stream.longest_line side
 
-abbrev pub IsGoing : State → Type 0
+abbrev pub IsGoing : LexerState → Type 0
 IsGoing (Going tokens mode) = Unit {0}
 IsGoing (Ended tokens) = ⊥
 IsGoing Stuck = ⊥

@@ -105,24 +105,24 @@ move side Past byte = move_past [] (kind_of byte)
 move side (AfterSign sign digits) byte = move_after_sign sign digits byte (kind_of byte)
 
 -- a line's bytes so far: they go on with these tokens whole, they are a line, or no line begins so
-pub data State : Type 0 where
-  Going : List Token → Mode → State
-  Ended : List Token → State
-  Stuck : State
+pub data LexerState : Type 0 where
+  Going : List Token → Mode → LexerState
+  Ended : List Token → LexerState
+  Stuck : LexerState
 
-abbrev pub reached : List Token → Move → State
+abbrev pub reached : List Token → Move → LexerState
 reached tokens (Goes more mode) = Going (tokens ++ more) mode
 reached tokens (Ends more) = Ended (tokens ++ more)
 reached tokens Unfits = Stuck
 
-abbrev pub next : Side → State → ℕ → State
+abbrev pub next : Side → LexerState → ℕ → LexerState
 next side (Going tokens mode) byte = reached tokens (move side mode byte)
 next side (Ended tokens) byte = Stuck
 next side Stuck byte = Stuck
 
-abbrev pub onward : Side → State → List ℕ → State
+abbrev pub onward : Side → LexerState → List ℕ → LexerState
 onward side state bytes = fold (next side) state bytes
 
 -- these bytes of a line
-abbrev pub walk : Side → List ℕ → State
+abbrev pub walk : Side → List ℕ → LexerState
 walk side bytes = onward side (Going [] Between) bytes

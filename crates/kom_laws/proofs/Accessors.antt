@@ -12,7 +12,7 @@ use Rattle.kom_types.specs.declared.conferences.ConferenceHead.{ConferenceHead}
 use Rattle.kom_types.specs.declared.memberships.MembershipRow.{MembershipRow}
 use Rattle.kom_types.specs.declared.memberships.ReadRange.{ReadRange}
 use Rattle.kom_types.specs.declared.persons.PersonRow.{PersonRow}
-use Rattle.kom_types.specs.declared.texts.Link.{Link}
+use Rattle.kom_types.specs.declared.texts.TextLink.{TextLink}
 use Rattle.kom_types.specs.declared.texts.LocalText.{LocalText}
 use Rattle.kom_types.specs.declared.texts.Recipient.{Recipient}
 use Rattle.kom_types.specs.declared.texts.TextRow.{TextRow}
@@ -237,7 +237,7 @@ pub links_from-read : (group : Group) (db : Db) (text : ℕ) (footnote : Bool) �
     links_from (erased_db group db) text footnote ≡ links_from db text footnote
 unfolding links_from
 links_from-read group db text footnote read =
-    let test : Link → Bool = λ row. row.child == text && alike row.footnote footnote in
+    let test : TextLink → Bool = λ row. row.child == text && alike row.footnote footnote in
     filter-thinned test (keeps_link group db) (λ row here. not_from_false _ (and_left _ _
     (not-hidden (is_unread group db) row.child text (and_parts _ _ here).0 read))) db.links
 
@@ -245,7 +245,7 @@ pub links_into-read : (group : Group) (db : Db) (text : ℕ) (footnote : Bool) �
     links_into (erased_db group db) text footnote ≡ links_into db text footnote
 unfolding links_into
 links_into-read group db text footnote read =
-    let test : Link → Bool = λ row. row.parent == text && alike row.footnote footnote in
+    let test : TextLink → Bool = λ row. row.parent == text && alike row.footnote footnote in
     filter-thinned test (keeps_link group db) (λ row here. not_from_false _ (and_right _ _
     (not-hidden (is_unread group db) row.parent text (and_parts _ _ here).0 read))) db.links
 

@@ -5,7 +5,7 @@ use Rattle.kom_types.specs.declared.aux_items.ItemRow.{ItemRow}
 use Rattle.kom_types.specs.declared.conferences.ConferenceRow.{ConferenceRow}
 use Rattle.kom_types.specs.declared.memberships.MembershipRow.{MembershipRow}
 use Rattle.kom_types.specs.declared.persons.PersonRow.{PersonRow}
-use Rattle.kom_types.specs.declared.texts.Link.{Link}
+use Rattle.kom_types.specs.declared.texts.TextLink.{TextLink}
 use Rattle.kom_types.specs.declared.texts.Recipient.{Recipient}
 use Rattle.kom_types.specs.declared.texts.TextRow.{TextRow}
 use Rattle.kom_types.specs.Sessions.{Session}
@@ -33,7 +33,7 @@ keeps_recipient group db row =
     not (is_unread group db row.text && is_unseen group db row.conference)
 
 -- a link stays if one of the two texts is read
-abbrev pub keeps_link : Group → Db → Link → Bool
+abbrev pub keeps_link : Group → Db → TextLink → Bool
 keeps_link group db row = not (is_unread group db row.child && is_unread group db row.parent)
 
 -- an aux-item stays of a text that is read, and of a conference that is seen

@@ -2,7 +2,7 @@
 use Rattle.std.specs.Prelude.{◌≡◌, ℕ, ◌+◌, ◌≤◌, ◌||◌, Bool, true, false, List, [], ◌∷◌, ◌++◌}
 use Rattle.std.specs.Prelude.{length, take, Option, Some, None, option_map, IfSome, Result, Ok, Err}
 use Rattle.std.specs.Prelude.{OnOk, OnErr}
-use Rattle.kom_links.specs.declared.asked.Asked.{Asked}
+use Rattle.kom_links.specs.declared.world_counts.WorldCounts.{WorldCounts}
 use Rattle.kom_links.specs.declared.gate.Next.{Next}
 use Rattle.kom_links.specs.declared.gate.Next.TheVariants as next
 use Rattle.kom_links.specs.declared.served.Served.{Served}
@@ -27,7 +27,7 @@ pub record SinkView : Type 0 where
 
 -- what contracts see of a world: how often it was asked for what it has, and how often it failed
 pub record WorldView : Type 0 where
-  pub asked : Asked
+  pub counts : WorldCounts
   pub faults : ℕ
 
 -- a fact of the link that a gate gives, if it gives one

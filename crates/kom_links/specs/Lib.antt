@@ -4,4 +4,4 @@ pub mod Records
 pub mod DeskCalls
 pub mod Streams
 pub mod Talk
-pub mod Asking
+pub mod WorldCounts

@@ -2,7 +2,6 @@
 //! adapters over standard input, standard output and the system's clock.
 #![tactic(auto)]
 
-mod asked;
 mod clock;
 mod desk;
 mod gate;
@@ -21,8 +20,8 @@ mod system_clock;
 #[cfg(test)]
 mod tests;
 mod world;
+mod world_counts;
 
-pub use asked::Asked;
 pub use clock::Clock;
 pub use desk::{Desk, DeskFault};
 pub use gate::{Gate, Next};
@@ -36,3 +35,4 @@ pub use std_sink::StdSink;
 pub use std_world::StdWorld;
 pub use system_clock::SystemClock;
 pub use world::{World, WorldFault};
+pub use world_counts::WorldCounts;

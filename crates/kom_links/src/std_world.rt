@@ -1,8 +1,8 @@
-use crate::asked::Asked;
 use crate::std_gate::StdGate;
 use crate::std_sink::StdSink;
 use crate::system_clock::SystemClock;
 use crate::world::{World, WorldFault};
+use crate::world_counts::WorldCounts;
 use kom_types::Memory;
 use std::io;
 use std::io::{Input, Printer};
@@ -12,7 +12,7 @@ use std::rt::Clock as Time;
 #[derive(Drop)]
 pub struct StdWorld<'a, R: Input + Print + Time> {
     rt: &'a R,
-    asked: Asked,
+    counts: WorldCounts,
 }
 
 impl<'a, R: Input + Print + Time> StdWorld<'a, R> {
@@ -20,7 +20,7 @@ impl<'a, R: Input + Print + Time> StdWorld<'a, R> {
     pub fn new(rt: &'a R) -> StdWorld<'a, R> {
         StdWorld {
             rt,
-            asked: Asked::nothing(),
+            counts: WorldCounts::nothing(),
         }
     }
 }
@@ -32,24 +32,24 @@ impl<'a, R: Input + Print + Time> World for StdWorld<'a, R> {
 
     type Sink = StdSink<Printer<'a, R>>;
 
-    ghost view = { λ world. record { asked = world.asked; faults = 0 } };
+    ghost view = { λ world. record { counts = world.counts; faults = 0 } };
 
     fn faults(&self) -> u64 {
         0
     }
 
     fn std_gate(&mut self) -> Result<StdGate<'a, R>, WorldFault> {
-        self.asked.count_gate(true);
+        self.counts.count_gate(true);
         Ok(StdGate::new(self.rt))
     }
 
     fn clock(&mut self) -> Result<SystemClock<&'a R>, Memory> {
-        self.asked.count_clock();
+        self.counts.count_clock();
         Ok(SystemClock::new(self.rt))
     }
 
     fn out(&mut self) -> StdSink<Printer<'a, R>> {
-        self.asked.count_sink();
+        self.counts.count_sink();
         StdSink::new(io::writer(self.rt))
     }
 }

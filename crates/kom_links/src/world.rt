@@ -1,7 +1,7 @@
 ghost use Rattle.std.specs.Prelude.{◌≡◌, ◌≤◌, is_ok, IfOk};
 ghost use Rattle.kom_links.specs.Outside.{IsNothing};
 ghost use Rattle.kom_links.specs.Doors.{WorldView, MayRefuse, IsNewGate, IsNewSink};
-ghost use Rattle.kom_links.specs.Asking.{with_gate, with_clock, with_sink};
+ghost use Rattle.kom_links.specs.WorldCounts.{with_gate, with_clock, with_sink};
 
 use crate::clock::Clock;
 use crate::gate::Gate;
@@ -35,18 +35,18 @@ pub trait World {
     fn std_gate(&mut self) -> Result<Self::Gate, WorldFault>
         ensures may { MayRefuse (view self.old).faults (view self.new).faults result }
         ensures fresh { IfOk result (λ gate. IsNewGate (Self.Gate.view gate)) }
-        ensures asked { (view self.new).asked ≡ with_gate (is_ok result) (view self.old).asked }
+        ensures counts { (view self.new).counts ≡ with_gate (is_ok result) (view self.old).counts }
         ensures faults { (view self.old).faults ≤ (view self.new).faults };
 
     /// A clock that has given no moment yet.
     fn clock(&mut self) -> Result<Self::Clock, Memory>
         ensures fresh { IfOk result (λ clock. IsNothing (Self.Clock.gave clock)) }
-        ensures asked { (view self.new).asked ≡ with_clock (view self.old).asked }
+        ensures counts { (view self.new).counts ≡ with_clock (view self.old).counts }
         ensures faults { (view self.old).faults ≤ (view self.new).faults };
 
     /// The sink of the program's report. Nothing was put to it yet.
     fn out(&mut self) -> Self::Sink
         ensures fresh { IsNewSink (Self.Sink.view result) }
-        ensures asked { (view self.new).asked ≡ with_sink (view self.old).asked }
+        ensures counts { (view self.new).counts ≡ with_sink (view self.old).counts }
         ensures faults { (view self.old).faults ≤ (view self.new).faults };
 }

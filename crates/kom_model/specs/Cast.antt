@@ -15,7 +15,7 @@ use Rattle.kom_types.specs.declared.persons.NewPerson.{NewPerson}
 use Rattle.kom_types.specs.declared.replies.Reply.{Reply}
 use Rattle.kom_types.specs.declared.seats.Seat.{Seat}
 use Rattle.kom_types.specs.declared.session_changes.SessionChange.{SessionChange}
-use Rattle.kom_types.specs.declared.texts.Link.{Link}
+use Rattle.kom_types.specs.declared.texts.TextLink.{TextLink}
 use Rattle.kom_types.specs.declared.texts.MiscInput.{MiscInput}
 use Rattle.kom_types.specs.declared.texts.NewText.{NewText}
 use Rattle.kom_types.specs.declared.texts.Recipient.{Recipient}
@@ -90,7 +90,7 @@ abbrev pub sends : ℕ → ℕ → ℕ → ℕ → Effect
 sends text conference tag local = effect.RecipientAdded (sent text conference tag local)
 
 -- a comment, or a footnote, to a text: by whom it was linked later, or 0, and when
-abbrev pub link : ℕ → ℕ → Bool → ℕ → ℕ → Link
+abbrev pub link : ℕ → ℕ → Bool → ℕ → ℕ → TextLink
 link child parent footnote sender at = record {
   child = child;
   parent = parent;

@@ -9,7 +9,7 @@ use Rattle.kom_types.specs.declared.conferences.ConferenceRow.{ConferenceRow}
 use Rattle.kom_types.specs.declared.memberships.MembershipRow.{MembershipRow}
 use Rattle.kom_types.specs.declared.memberships.ReadRange.{ReadRange}
 use Rattle.kom_types.specs.declared.persons.PersonRow.{PersonRow}
-use Rattle.kom_types.specs.declared.texts.Link.{Link}
+use Rattle.kom_types.specs.declared.texts.TextLink.{TextLink}
 use Rattle.kom_types.specs.declared.texts.LocalText.{LocalText}
 use Rattle.kom_types.specs.declared.texts.MarkRow.{MarkRow}
 use Rattle.kom_types.specs.declared.texts.Recipient.{Recipient}
@@ -33,7 +33,7 @@ pub record Db : Type 0 where
   pub reads : List ReadRow
   pub texts : List TextRow
   pub recipients : List Recipient
-  pub links : List Link
+  pub links : List TextLink
   pub marks : List MarkRow
   pub items : List ItemRow
   pub next_conference : ℕ
@@ -136,17 +136,17 @@ recipients_of db text = Texts.recipients_of text db.recipients
 
 -- the link of a comment, or a footnote, to a text; the links from a text to those that it comments,
 -- or is a footnote to; and those of the comments, or the footnotes, to it
-unfoldable pub link_of : Db → ℕ → ℕ → Bool → Option Link
+unfoldable pub link_of : Db → ℕ → ℕ → Bool → Option TextLink
 link_of db child parent footnote = Texts.link_of child parent footnote db.links
 
-unfoldable pub links_from : Db → ℕ → Bool → List Link
+unfoldable pub links_from : Db → ℕ → Bool → List TextLink
 links_from db text footnote = Texts.links_from text footnote db.links
 
-unfoldable pub links_into : Db → ℕ → Bool → List Link
+unfoldable pub links_into : Db → ℕ → Bool → List TextLink
 links_into db text footnote = Texts.links_into text footnote db.links
 
 -- the links from a text and into it, in the order of adding
-unfoldable pub links_of : Db → ℕ → List Link
+unfoldable pub links_of : Db → ℕ → List TextLink
 links_of db text = filter (λ row. row.child == text || row.parent == text) db.links
 
 -- the local numbers of a conference with their texts, rising

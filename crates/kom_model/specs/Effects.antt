@@ -14,7 +14,7 @@ use Rattle.kom_types.specs.declared.effects.Effect.{Effect}
 use Rattle.kom_types.specs.declared.effects.Effect.TheVariants as effect
 use Rattle.kom_types.specs.declared.memberships.MembershipRow.{MembershipRow}
 use Rattle.kom_types.specs.declared.persons.PersonRow.{PersonRow}
-use Rattle.kom_types.specs.declared.texts.Link.{Link}
+use Rattle.kom_types.specs.declared.texts.TextLink.{TextLink}
 use Rattle.kom_types.specs.declared.texts.Recipient.{Recipient}
 use Rattle.kom_types.specs.declared.texts.TextRow.{TextRow}
 use Rattle.kom_types.specs.Bits.{alike}
@@ -162,7 +162,7 @@ may_add_recipient db given =
     && nat_lt (length (recipients_of db given.text)) most_recipients
 
 -- two texts may be linked
-abbrev pub may_link : Db → Link → Bool
+abbrev pub may_link : Db → TextLink → Bool
 may_link db given =
     is_some (text_of db given.child) && is_some (text_of db given.parent)
     && is_none (link_of db given.child given.parent given.footnote)

@@ -15,7 +15,7 @@ use Rattle.kom_types.specs.declared.memberships.ReadRange.{ReadRange}
 use Rattle.kom_types.specs.declared.persons.Person.{Person}
 use Rattle.kom_types.specs.declared.persons.PersonRow.{PersonRow}
 use Rattle.kom_types.specs.declared.seats.Seat.{Seat}
-use Rattle.kom_types.specs.declared.texts.Link.{Link}
+use Rattle.kom_types.specs.declared.texts.TextLink.{TextLink}
 use Rattle.kom_types.specs.declared.texts.MiscInfo.{MiscInfo}
 use Rattle.kom_types.specs.declared.texts.MiscInfo.TheVariants as misc
 use Rattle.kom_types.specs.declared.texts.Recipient.{Recipient}
@@ -176,12 +176,12 @@ recipient_infos row =
     recipient_info row.tag row.conference ∷ misc.Local row.local ∷ sent_infos row.sender row.at
 
 -- what is told of a link from a text, and of one into it
-abbrev pub from_infos : Link → List MiscInfo
+abbrev pub from_infos : TextLink → List MiscInfo
 from_infos row =
     (if row.footnote then misc.FootnoteTo row.parent else misc.CommentTo row.parent)
     ∷ sent_infos row.sender row.at
 
-abbrev pub into_info : Link → MiscInfo
+abbrev pub into_info : TextLink → MiscInfo
 into_info row = if row.footnote then misc.FootnoteIn row.child else misc.CommentIn row.child
 
 -- the recipients of a text of this author that are shown to who looks

@@ -7,7 +7,7 @@ use Rattle.kom_types.specs.declared.effects.Effect.{Effect}
 use Rattle.kom_types.specs.declared.effects.Effect.TheVariants as effect
 use Rattle.kom_types.specs.declared.replies.Reply.TheVariants as reply
 use Rattle.kom_types.specs.declared.texts.Block.TheVariants.{Sparse, Dense}
-use Rattle.kom_types.specs.declared.texts.Link.{Link}
+use Rattle.kom_types.specs.declared.texts.TextLink.{TextLink}
 use Rattle.kom_types.specs.declared.texts.LocalText.{LocalText}
 use Rattle.kom_types.specs.declared.texts.MarkRow.{MarkRow}
 use Rattle.kom_types.specs.declared.texts.MiscInput.{MiscInput}
@@ -84,7 +84,7 @@ bo_at next = record bo { db = record rows { next_text = next } }
 abbrev pub with_recipients : Asked → List Recipient → Asked
 with_recipients asked list = record asked { db = record rows { recipients = list } }
 
-abbrev pub with_links : Asked → List Link → Asked
+abbrev pub with_links : Asked → List TextLink → Asked
 with_links asked list = record asked { db = record rows { links = list } }
 
 -- as many marks of Bo's on texts from 4 on, the greatest first

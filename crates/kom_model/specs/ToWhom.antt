@@ -14,7 +14,7 @@ use Rattle.kom_types.specs.declared.replies.Reply.{Reply}
 use Rattle.kom_types.specs.declared.replies.Reply.TheVariants as reply
 use Rattle.kom_types.specs.declared.session_changes.SessionChange.{SessionChange}
 use Rattle.kom_types.specs.declared.session_changes.SessionChange.TheVariants as change
-use Rattle.kom_types.specs.declared.texts.Link.{Link}
+use Rattle.kom_types.specs.declared.texts.TextLink.{TextLink}
 use Rattle.kom_types.specs.declared.texts.Recipient.{Recipient}
 use Rattle.kom_types.specs.declared.texts.TextRow.{TextRow}
 use Rattle.kom_types.specs.tables.Texts.{fresh_text}
@@ -65,7 +65,7 @@ abbrev pub recipient_added : Effect → Option Recipient
 recipient_added (effect.RecipientAdded recipient) = Some recipient
 recipient_added other = None
 
-abbrev pub link_added : Effect → Option Link
+abbrev pub link_added : Effect → Option TextLink
 link_added (effect.LinkAdded link) = Some link
 link_added other = None
 

@@ -3,7 +3,7 @@ ghost use Rattle.kom_model.specs.Db.{Db, conference_head_of, membership_kind_of,
 ghost use Rattle.kom_model.specs.Db.{person_flags_of, recipients_of, links_from};
 ghost use Rattle.kom_model.specs.Db.{links_into, items_of, marks_on};
 
-use kom_types::{AuxRow, ConferenceHead, Link, Recipient};
+use kom_types::{AuxRow, ConferenceHead, Recipient, TextLink};
 
 /// How the rights of persons read the stored rows. `None` comes exactly if there is no such row.
 pub trait Rows {
@@ -38,7 +38,7 @@ pub trait Rows {
         ensures { result ≡ length (links_from (db self.now) text footnote) };
 
     /// The link at a place among those of a text to others, in the order of adding.
-    fn link_from(&self, text: u32, footnote: bool, place: usize) -> Option<Link>
+    fn link_from(&self, text: u32, footnote: bool, place: usize) -> Option<TextLink>
         ensures { result ≡ slice_get (links_from (db self.now) text footnote) place };
 
     /// How many comments, or footnotes, a text has.
@@ -47,7 +47,7 @@ pub trait Rows {
 
     /// The link at a place among those of the comments, or the footnotes, to a text, in the order
     /// of adding.
-    fn link_into(&self, text: u32, footnote: bool, place: usize) -> Option<Link>
+    fn link_into(&self, text: u32, footnote: bool, place: usize) -> Option<TextLink>
         ensures { result ≡ slice_get (links_into (db self.now) text footnote) place };
 
     /// How many aux-items a text, or a conference, has.

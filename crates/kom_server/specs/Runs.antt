@@ -7,8 +7,8 @@ use Rattle.kom_types.specs.declared.acts.Act.TheVariants as act
 use Rattle.kom_types.specs.declared.acts.Record.{Record}
 use Rattle.kom_types.specs.declared.items.Item.{Item}
 use Rattle.kom_types.specs.Reading.{fault_of}
-use Rattle.kom_links.specs.declared.asked.Asked.{Asked}
-use Rattle.kom_links.specs.Asking.{with_gate, with_clock}
+use Rattle.kom_links.specs.declared.world_counts.WorldCounts.{WorldCounts}
+use Rattle.kom_links.specs.WorldCounts.{with_gate, with_clock}
 use Rattle.kom_links.specs.declared.served.Served.{Served}
 use Rattle.kom_links.specs.declared.served.SessionEnd.{SessionEnd}
 use Rattle.kom_links.specs.declared.served.SessionEnd.TheVariants as end
@@ -151,7 +151,7 @@ HasFailed (gate ∷ gates) = (gate.faults ≢ 0) ⊎ HasFailed gates
 -- What a run that serves asks its world for, beside a sink: a clock, and then its gate. What it was
 -- given is left to be closed (`true`), or the clock, the gate or memory for them or for the rows of
 -- a new server was refused.
-abbrev pub Opens : Bool → Asked → Asked → Type 0
+abbrev pub Opens : Bool → WorldCounts → WorldCounts → Type 0
 Opens true old new = new ≡ with_gate true (with_clock old)
 Opens false old new =
     (new ≡ old) ⊎ ((new ≡ with_clock old) ⊎ (new ≡ with_gate false (with_clock old)))

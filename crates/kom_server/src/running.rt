@@ -2,7 +2,7 @@ ghost use Rattle.std.specs.Prelude.{◌≡◌, ◌⊎◌, ◌↔◌, [], ◌∷�
 ghost use Rattle.std.specs.Prelude.{codes, IsTrue, IsNone, IsSome, IfSome, IsSomeAnd, is_some};
 ghost use Rattle.std.specs.List.{AllByRecursion};
 ghost use Rattle.kom_links.specs.Outside.{IsNothing, Rose};
-ghost use Rattle.kom_links.specs.Asking.{with_sink};
+ghost use Rattle.kom_links.specs.WorldCounts.{with_sink};
 ghost use Rattle.kom_server.specs.Passes.{start_of};
 ghost use Rattle.kom_server.specs.Runs.{IsRefused, HasUsage, Opens, IsRun, IsFirstReading};
 ghost use Rattle.kom_server.specs.Runs.{HasFailed};
@@ -32,13 +32,13 @@ pub fn run<R: Threads + Wait + Sync, W: World>(
     ensures refused { (result.status ≡ 2) ↔ IsRefused words.now }
     ensures usage { IsRefused words.now → HasUsage (W.Sink.view result.sink) × IsNone result.end }
     ensures asks_alone { IsRefused words.now →
-        (W.view world.new).asked ≡ with_sink (W.view world.old).asked }
+        (W.view world.new).counts ≡ with_sink (W.view world.old).counts }
     ensures accepted { ¬ IsRefused words.now → IsNothing (W.Sink.view result.sink).put }
 
     // Else the world is asked for one sink, one clock and one gate at most, and a gate that it gave
     // is left to be closed.
     ensures opens { ¬ IsRefused words.now →
-        Opens (is_some result.end) (with_sink (W.view world.old).asked) (W.view world.new).asked }
+        Opens (is_some result.end) (with_sink (W.view world.old).counts) (W.view world.new).counts }
 
     // Status 5 says that the world or a gate failed; 6 that memory ran out and no gate was given; 0
     // that each gate has ended.
@@ -108,7 +108,7 @@ fn command_of(words: &Words) -> Option<Command>
 /// ends or fails, and says whether it failed. Nothing is served where the gate, the clock, or
 /// memory for them or for the server's rows is refused.
 fn once<R: Wait, W: World>(rt: &R, alloc: Global, world: &mut W) -> (bool, Option<Closing<W>>)
-    ensures opens { Opens (is_some result.1) (W.view world.old).asked (W.view world.new).asked }
+    ensures opens { Opens (is_some result.1) (W.view world.old).counts (W.view world.new).counts }
     ensures failed { IsTrue result.0 ↔ IsSomeAnd result.1 (λ closing.
         HasFailed (map (λ gate. W.Gate.view gate) closing.gates.items)) }
     ensures ended { result.0 ≡ false → IfSome result.1 (λ closing.

@@ -14,7 +14,7 @@ use Rattle.kom_types.specs.declared.effects.Counter.TheVariants as counter
 use Rattle.kom_types.specs.declared.effects.PersonField.{PersonField}
 use Rattle.kom_types.specs.declared.effects.PersonField.TheVariants as person_field
 use Rattle.kom_types.specs.declared.persons.PersonRow.{PersonRow}
-use Rattle.kom_types.specs.declared.texts.Link.{Link}
+use Rattle.kom_types.specs.declared.texts.TextLink.{TextLink}
 use Rattle.kom_types.specs.declared.texts.MarkRow.{MarkRow}
 use Rattle.kom_types.specs.declared.texts.Recipient.{Recipient}
 use Rattle.kom_types.specs.declared.texts.TextRow.{TextRow}
@@ -269,7 +269,7 @@ module _ (conferences : List ConferenceRow) (persons : List PersonRow) (texts : 
   })
 
   -- links and marks are changed alone
-  pub AreDrawn-tied : (links : List Link) (marks : List MarkRow) (new : TextRows) →
+  pub AreDrawn-tied : (links : List TextLink) (marks : List MarkRow) (new : TextRows) →
       new ≡ record texts { links = links; marks = marks } → AreDrawn conferences persons new next
   AreDrawn-tied links marks new is = rw is (record {
     locals = drawn.locals;

@@ -5,7 +5,7 @@ use Rattle.std.specs.Prelude.{is_none}
 use Rattle.std.proofs.lemmas.Bool.{and_parts, leb-true, eqb-true}
 use Rattle.row_table.specs.Tables.{row_of}
 use Rattle.kom_types.specs.declared.effects.Effect.TheVariants as effect
-use Rattle.kom_types.specs.declared.texts.Link.{Link}
+use Rattle.kom_types.specs.declared.texts.TextLink.{TextLink}
 use Rattle.kom_types.specs.declared.texts.Recipient.{Recipient}
 use Rattle.kom_types.specs.declared.texts.TextRow.{TextRow}
 use Rattle.kom_types.specs.tables.AuxItems as Items
@@ -113,7 +113,7 @@ recipient-fits db given fits' =
       last = leb-true _ _ drawn.1;
     }
 
-pub link-fits : (db : Db) (given : Link) → fits (effect.LinkAdded given) db ≡ true →
+pub link-fits : (db : Db) (given : TextLink) → fits (effect.LinkAdded given) db ≡ true →
     Texts.link_of given.child given.parent given.footnote db.links ≡ None
 unfolding fits link_of
 link-fits db given fits' = none_from _ (and_parts _ _ (and_parts _ _ (and_parts _ _ fits').0).0).1

@@ -6,14 +6,14 @@ ghost use Rattle.kom_state.specs.Room.{HasRoom, IsPossible, IsMade, is_of_person
 mod item_effects;
 mod text_effects;
 
-use crate::state::State;
+use crate::stored_rows::StoredRows;
 use conferences::fresh_conference;
 use kom_types::{
     Bytes, ConfField, Counter, Effect, EffectList, MembershipRow, Moment, PersonField, ReadRanges,
 };
 use persons::fresh_person;
 
-impl State {
+impl StoredRows {
     /// Makes those of the effects that fit, in their order; there is room for all. It takes no
     /// memory.
     pub fn apply_all(&mut self, effects: EffectList)

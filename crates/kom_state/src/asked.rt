@@ -4,7 +4,7 @@ ghost use Rattle.kom_model.specs.calls.Call.{seat_of, answer, done};
 ghost use Rattle.kom_model.specs.calls.Guards.{caller as caller_of};
 ghost use Rattle.kom_model.specs.calls.Sessions.{counts};
 
-use crate::state::State;
+use crate::stored_rows::StoredRows;
 use kom_model::Viewer;
 use kom_types::{
     Counter, Decision, Effect, EffectList, Memory, Moment, Reply, Seat, Sequence, SessionChange,
@@ -17,7 +17,7 @@ use std::marker::Model;
 /// caller's session.
 #[derive(Drop)]
 pub struct Asked<'a> {
-    rows: &'a State,
+    rows: &'a StoredRows,
     sessions: &'a Sessions,
     moment: Moment,
     session: u32,
@@ -42,7 +42,7 @@ impl<'a> Model for Asked<'a> {
 impl<'a> Asked<'a> {
     /// The digits of the reference count in the length of the reply's line.
     pub fn new(
-        rows: &'a State,
+        rows: &'a StoredRows,
         sessions: &'a Sessions,
         moment: Moment,
         session: u32,
@@ -66,7 +66,7 @@ impl<'a> Asked<'a> {
     }
 
     /// The stored rows.
-    pub fn rows(&self) -> &State
+    pub fn rows(&self) -> &StoredRows
         ensures { result.now.db ≡ self.now.db }
     {
         self.rows

@@ -8,14 +8,14 @@ ghost use Rattle.kom_types.specs.tables.Conferences.{is_secret_protected};
 mod item_effects;
 mod text_effects;
 
-use crate::state::State;
+use crate::stored_rows::StoredRows;
 use kom_types::bits::{READ_PROTECTED, SECRET_CONFERENCE, is_letterbox};
 use kom_types::limits::{LAST_CONFERENCE, LONGEST_NAME, LONGEST_USER_NAME, MOST_MEMBERSHIPS};
 use kom_types::{ConfField, ConferenceRow, Effect};
 use read_ranges::rise;
 pub use text_effects::{is_recipient_tag, most_links};
 
-impl State {
+impl StoredRows {
     /// Whether an effect fits: what it changes is there, what it adds is not, numbers were never
     /// used, and the limits hold.
     #[tactic(auto, unfolding(kom_model::specs::Effects::fits))]

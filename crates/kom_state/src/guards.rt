@@ -6,13 +6,13 @@ ghost use Rattle.kom_model.specs.calls.Guards as Guard;
 ghost use Rattle.kom_model.specs.Viewers.{has_might as has_might_in};
 ghost use Rattle.kom_model.specs.calls.Guards.{Guards};
 
-use crate::state::State;
+use crate::stored_rows::StoredRows;
 use kom_model::{Refused, Viewer};
 use kom_types::AuxChange;
 use kom_types::bits::WHEEL_AND_ADMIN;
 use kom_types::limits::LAST_CONFERENCE;
 
-impl State {
+impl StoredRows {
     /// Whether a person's privileges let its sessions be strong.
     pub fn has_might(&self, person: u32) -> bool
         ensures { result ≡ has_might_in self.now.db person }

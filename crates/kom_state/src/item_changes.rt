@@ -6,7 +6,7 @@ ghost use Rattle.kom_model.specs.Effects.{last_drawn};
 ghost use Rattle.kom_model.specs.calls.AuxItems as AuxItems;
 
 use crate::asked::Asked;
-use crate::state::State;
+use crate::stored_rows::StoredRows;
 use kom_types::{
     Adder, AuxChange, AuxInput, AuxRow, AuxRows, Bytes, Effect, EffectList, Memory, Moment,
     Sequence,
@@ -78,7 +78,7 @@ pub fn push_items(
 /// Adds to effects that all aux-items of a text, or a conference, go.
 pub fn push_items_gone(
     effects: &mut EffectList,
-    rows: &State,
+    rows: &StoredRows,
     on_text: bool,
     object: u32,
 ) -> Result<(), Memory>

@@ -11,7 +11,7 @@ mod opening;
 mod reading;
 mod reserving;
 mod rights;
-mod state;
+mod stored_rows;
 #[cfg(test)]
 mod tests;
 mod walks;
@@ -20,5 +20,5 @@ pub use asked::{Asked, push_count};
 pub use fitting::{is_recipient_tag, most_links};
 pub use item_changes::{item_effects, new_items, push_items, push_items_gone};
 pub use opening::initial_effects;
-pub use state::State;
+pub use stored_rows::StoredRows;
 pub use walks::{MemberWalk, MembershipWalk};

@@ -3,7 +3,7 @@ ghost use Rattle.kom_model.specs.Initial.{initial, initial_effects as effects_at
 ghost use Rattle.kom_model.specs.Initial.{initial_conference as conference_at_first};
 ghost use Rattle.kom_model.specs.Effects.{apply, apply_all};
 
-use crate::state::State;
+use crate::stored_rows::StoredRows;
 use kom_types::bits::{ALL_PRIVILEGES, LETTERBOX_TYPE, TYPE_FOR_ALL};
 use kom_types::{Bytes, Effect, EffectList, Memory, Moment, Sequence};
 use std::alloc::Global;
@@ -12,14 +12,14 @@ use std::slice;
 /// The number of the person that a new server has, and of its letterbox.
 const ADMINISTRATOR: u32 = 5;
 
-impl State {
+impl StoredRows {
     /// The rows of a new server, whose administrator has this password.
     #[tactic(auto, unfolding(kom_model::specs::Initial::initial))]
-    pub fn initial(alloc: Global, password: &[u8], moment: Moment) -> Result<State, Memory>
+    pub fn initial(alloc: Global, password: &[u8], moment: Moment) -> Result<StoredRows, Memory>
         ensures { IfOk result (λ state. state.db ≡ initial password.now moment) }
     {
         let effects = initial_effects(alloc, password, moment)?;
-        let mut state = State::empty(alloc);
+        let mut state = StoredRows::empty(alloc);
         match state.make_all(effects) {
             Ok(()) => Ok(state),
             Err(memory) => Err(memory),

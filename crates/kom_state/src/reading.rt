@@ -16,11 +16,11 @@ mod item_rows;
 mod secrecy;
 mod text_rows;
 
-use crate::state::State;
+use crate::stored_rows::StoredRows;
 use kom_types::{ConferenceRow, Member, MembershipRow, Memory, Numbers, PersonRow};
 use read_ranges::Ranges;
 
-impl State {
+impl StoredRows {
     /// The conference of a number, in constant time.
     #[tactic(auto, unfolding(kom_model::specs::Db::conference_of))]
     pub fn conference(&self, number: u32) -> Option<&ConferenceRow>

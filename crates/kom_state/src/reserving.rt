@@ -9,14 +9,14 @@ ghost use Rattle.kom_state.specs.Room.{sets_membership, name_given};
 mod items;
 
 use crate::reserving::items::reserve_items;
-use crate::state::State;
+use crate::stored_rows::StoredRows;
 use kom_types::{Effect, Memory};
 use memberships::Memberships;
 use name_lookup::Names;
 use std::alloc::Global;
 use texts::{Need, Texts};
 
-impl State {
+impl StoredRows {
     /// Takes the room that effects need, of which one at most gives a name.
     pub fn reserve(&mut self, effects: &[Effect]) -> Result<(), Memory>
         requires { IsOrderly effects.now }

@@ -1,13 +1,13 @@
-use crate::state::State;
+use crate::stored_rows::StoredRows;
 use kom_model::Rows;
-use kom_types::{AuxRow, ConferenceHead, Link, Recipient};
+use kom_types::{AuxRow, ConferenceHead, Recipient, TextLink};
 
-impl Rows for State {
+impl Rows for StoredRows {
     ghost db = { λ state. state.db };
 
     #[tactic(auto, unfolding(kom_model::specs::Db::conference_head_of))]
     fn conference(&self, number: u32) -> Option<ConferenceHead> {
-        let row = State::conference(self, number)?;
+        let row = StoredRows::conference(self, number)?;
         Some(ConferenceHead {
             kind: row.kind,
             supervisor: row.supervisor,
@@ -33,7 +33,7 @@ impl Rows for State {
     }
 
     fn recipient_count(&self, text: u32) -> usize {
-        State::recipient_count(self, text)
+        StoredRows::recipient_count(self, text)
     }
 
     fn recipient(&self, text: u32, place: usize) -> Option<Recipient> {
@@ -41,23 +41,23 @@ impl Rows for State {
     }
 
     fn count_from(&self, text: u32, footnote: bool) -> usize {
-        State::count_from(self, text, footnote)
+        StoredRows::count_from(self, text, footnote)
     }
 
-    fn link_from(&self, text: u32, footnote: bool, place: usize) -> Option<Link> {
+    fn link_from(&self, text: u32, footnote: bool, place: usize) -> Option<TextLink> {
         self.nth_from(text, footnote, place).copied()
     }
 
     fn count_into(&self, text: u32, footnote: bool) -> usize {
-        State::count_into(self, text, footnote)
+        StoredRows::count_into(self, text, footnote)
     }
 
-    fn link_into(&self, text: u32, footnote: bool, place: usize) -> Option<Link> {
+    fn link_into(&self, text: u32, footnote: bool, place: usize) -> Option<TextLink> {
         self.nth_into(text, footnote, place).copied()
     }
 
     fn item_count(&self, on_text: bool, object: u32) -> usize {
-        State::item_count(self, on_text, object)
+        StoredRows::item_count(self, on_text, object)
     }
 
     fn item(&self, on_text: bool, object: u32, place: usize) -> Option<&AuxRow> {

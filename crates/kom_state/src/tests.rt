@@ -11,7 +11,7 @@ use std::slice;
 use std::test::Fail;
 
 // Makes an effect if it fits, and says whether it did.
-fn make(state: &mut State, effect: Effect) -> Result<bool, Memory> {
+fn make(state: &mut StoredRows, effect: Effect) -> Result<bool, Memory> {
     if !state.fits(&effect) {
         return Ok(false);
     }
@@ -20,7 +20,7 @@ fn make(state: &mut State, effect: Effect) -> Result<bool, Memory> {
     Ok(true)
 }
 
-fn add(state: &mut State, number: u32, name: &[u8], kind: u8) -> Result<bool, Memory> {
+fn add(state: &mut StoredRows, number: u32, name: &[u8], kind: u8) -> Result<bool, Memory> {
     let name = Bytes::copy_of(state.alloc, name)?;
     let effect = Effect::ConfAdded {
         number,
@@ -33,12 +33,12 @@ fn add(state: &mut State, number: u32, name: &[u8], kind: u8) -> Result<bool, Me
     make(state, effect)
 }
 
-fn rename(state: &mut State, number: u32, name: &[u8]) -> Result<bool, Memory> {
+fn rename(state: &mut StoredRows, number: u32, name: &[u8]) -> Result<bool, Memory> {
     let name = Bytes::copy_of(state.alloc, name)?;
     make(state, Effect::ConfNamed { number, name })
 }
 
-fn join(state: &mut State, person: u32, conference: u32) -> Result<bool, Memory> {
+fn join(state: &mut StoredRows, person: u32, conference: u32) -> Result<bool, Memory> {
     let effect = Effect::MemberSet {
         person,
         conference,
@@ -52,7 +52,7 @@ fn join(state: &mut State, person: u32, conference: u32) -> Result<bool, Memory>
 }
 
 // Makes the conferences of a new server, and says whether each effect fitted.
-fn open(state: &mut State) -> Result<bool, Memory> {
+fn open(state: &mut StoredRows) -> Result<bool, Memory> {
     let rows: [(u32, &[u8], u8); 5] = [
         (1, b"Presentations of conferences", 8),
         (2, b"Presentations of persons", 8),
@@ -68,7 +68,7 @@ fn open(state: &mut State) -> Result<bool, Memory> {
 }
 
 // Makes the person of a new server.
-fn add_administrator(state: &mut State) -> Result<bool, Memory> {
+fn add_administrator(state: &mut StoredRows) -> Result<bool, Memory> {
     let effect = Effect::PersonAdded {
         number: 5,
         privileges: 64512,
@@ -79,7 +79,7 @@ fn add_administrator(state: &mut State) -> Result<bool, Memory> {
 }
 
 // Makes the rows of a new server.
-fn open_all(rt: &impl Abort, state: &mut State) -> Result<(), Fail> {
+fn open_all(rt: &impl Abort, state: &mut StoredRows) -> Result<(), Fail> {
     assert!(rt; open(state)?);
     assert!(rt; add_administrator(state)?);
     Ok(())
@@ -88,7 +88,7 @@ fn open_all(rt: &impl Abort, state: &mut State) -> Result<(), Fail> {
 // A pattern finds these conferences.
 fn check_found(
     rt: &impl Abort,
-    state: &State,
+    state: &StoredRows,
     pattern: &[u8],
     numbers: &[u32],
 ) -> Result<(), Fail> {
@@ -99,10 +99,10 @@ fn check_found(
 
 #[test]
 fn the_opening_state_is_made(rt: HostRuntime) -> Result<(), Fail> {
-    check_opened(&rt, &mut State::empty(rt.alloc()))
+    check_opened(&rt, &mut StoredRows::empty(rt.alloc()))
 }
 
-fn check_opened(rt: &impl Abort, state: &mut State) -> Result<(), Fail> {
+fn check_opened(rt: &impl Abort, state: &mut StoredRows) -> Result<(), Fail> {
     open_all(rt, state)?;
     assert_eq!(rt; state.next_conference(), 6);
     assert_eq!(rt; kind_of(state, 5), Some(152));
@@ -110,28 +110,28 @@ fn check_opened(rt: &impl Abort, state: &mut State) -> Result<(), Fail> {
     check_found(rt, state, b"pres of p", &[2])
 }
 
-fn kind_of(state: &State, number: u32) -> Option<u8> {
+fn kind_of(state: &StoredRows, number: u32) -> Option<u8> {
     Some(state.conference(number)?.kind)
 }
 
-fn privileges_of(state: &State, number: u32) -> Option<u16> {
+fn privileges_of(state: &StoredRows, number: u32) -> Option<u16> {
     Some(state.person(number)?.privileges)
 }
 
 #[test]
 fn names_that_clash_do_not_fit(rt: HostRuntime) -> Result<(), Fail> {
-    give_names(&rt, &mut State::empty(rt.alloc()))
+    give_names(&rt, &mut StoredRows::empty(rt.alloc()))
 }
 
 // A name that clashes does not fit.
-fn give_names(rt: &impl Abort, state: &mut State) -> Result<(), Fail> {
+fn give_names(rt: &impl Abort, state: &mut StoredRows) -> Result<(), Fail> {
     assert!(rt; add(state, 4, b"News", 8)?);
     assert!(rt; !add(state, 6, b"nEWS", 8)?);
     give_names_up(rt, state)
 }
 
 // A name that is given up is free.
-fn give_names_up(rt: &impl Abort, state: &mut State) -> Result<(), Fail> {
+fn give_names_up(rt: &impl Abort, state: &mut StoredRows) -> Result<(), Fail> {
     assert!(rt; rename(state, 4, b"NEWS of old")?);
     assert!(rt; add(state, 8, b"News", 8)?);
     check_found(rt, state, b"news", &[4, 8])?;
@@ -140,11 +140,11 @@ fn give_names_up(rt: &impl Abort, state: &mut State) -> Result<(), Fail> {
 
 #[test]
 fn members_join(rt: HostRuntime) -> Result<(), Fail> {
-    join_two(&rt, &mut State::empty(rt.alloc()))
+    join_two(&rt, &mut StoredRows::empty(rt.alloc()))
 }
 
 // The administrator joins two conferences that are there, and none that is not.
-fn join_two(rt: &impl Abort, state: &mut State) -> Result<(), Fail> {
+fn join_two(rt: &impl Abort, state: &mut StoredRows) -> Result<(), Fail> {
     open_all(rt, state)?;
     assert!(rt; !join(state, 5, 9)?);
     assert!(rt; join(state, 5, 4)?);
@@ -152,7 +152,7 @@ fn join_two(rt: &impl Abort, state: &mut State) -> Result<(), Fail> {
     check_members(rt, state)
 }
 
-fn check_members(rt: &impl Abort, state: &State) -> Result<(), Fail> {
+fn check_members(rt: &impl Abort, state: &StoredRows) -> Result<(), Fail> {
     assert_eq!(rt; place_of(state, 5, 1), Some(1));
     assert_eq!(rt; state.membership_count(5), 2);
     assert_eq!(rt; state.member_count(4), 1);
@@ -160,23 +160,23 @@ fn check_members(rt: &impl Abort, state: &State) -> Result<(), Fail> {
     Ok(())
 }
 
-fn place_of(state: &State, person: u32, conference: u32) -> Option<u32> {
+fn place_of(state: &StoredRows, person: u32, conference: u32) -> Option<u32> {
     Some(state.membership(person, conference)?.position)
 }
 
 #[test]
 fn rows_are_changed(rt: HostRuntime) -> Result<(), Fail> {
-    change_rows(&rt, &mut State::empty(rt.alloc()))
+    change_rows(&rt, &mut StoredRows::empty(rt.alloc()))
 }
 
-fn change_rows(rt: &impl Abort, state: &mut State) -> Result<(), Fail> {
+fn change_rows(rt: &impl Abort, state: &mut StoredRows) -> Result<(), Fail> {
     open_all(rt, state)?;
     change_person(rt, state)?;
     log_in(rt, state)?;
     change_conference(rt, state)
 }
 
-fn change_person(rt: &impl Abort, state: &mut State) -> Result<(), Fail> {
+fn change_person(rt: &impl Abort, state: &mut StoredRows) -> Result<(), Fail> {
     let number = 5;
     let hash = [7; 32];
     assert!(rt; make(state, Effect::Password { number, hash })?);
@@ -200,7 +200,7 @@ fn change_person(rt: &impl Abort, state: &mut State) -> Result<(), Fail> {
     Ok(())
 }
 
-fn log_in(rt: &impl Abort, state: &mut State) -> Result<(), Fail> {
+fn log_in(rt: &impl Abort, state: &mut StoredRows) -> Result<(), Fail> {
     let user = Bytes::copy_of(state.alloc, b"ceder")?;
     let number = 5;
     let at = Moment(12);
@@ -210,7 +210,7 @@ fn log_in(rt: &impl Abort, state: &mut State) -> Result<(), Fail> {
     Ok(())
 }
 
-fn change_conference(rt: &impl Abort, state: &mut State) -> Result<(), Fail> {
+fn change_conference(rt: &impl Abort, state: &mut StoredRows) -> Result<(), Fail> {
     let number = 4;
     let field = ConfField::Motd(17);
     assert!(rt; make(state, Effect::ConfField { number, field })?);

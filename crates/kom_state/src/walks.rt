@@ -3,14 +3,14 @@ ghost use Rattle.std.specs.Prelude.{◌≡◌, drop, map};
 ghost use Rattle.kom_model.specs.Db.{memberships_of, members_of};
 ghost use Rattle.kom_types.specs.tables.Memberships.{member_of};
 
-use crate::state::State;
+use crate::stored_rows::StoredRows;
 use kom_types::{Member, MembershipRow};
 use std::marker::Model;
 
 /// The memberships of a person from a place on, by their places.
 #[derive(Drop)]
 pub struct MembershipWalk<'a> {
-    rows: &'a State,
+    rows: &'a StoredRows,
     person: u32,
     place: usize,
 }
@@ -47,7 +47,7 @@ impl<'a> Iterator for MembershipWalk<'a> {
 /// The members of a conference from a place on, in the order of joining.
 #[derive(Drop)]
 pub struct MemberWalk<'a> {
-    rows: &'a State,
+    rows: &'a StoredRows,
     conference: u32,
     place: usize,
 }
@@ -83,7 +83,7 @@ impl<'a> Iterator for MemberWalk<'a> {
     }
 }
 
-impl State {
+impl StoredRows {
     /// The memberships of a person, by their places.
     pub fn memberships(&self, person: u32) -> MembershipWalk<'_>
         ensures { result ≡ memberships_of self.now.db person }

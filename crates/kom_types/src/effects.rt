@@ -1,7 +1,7 @@
 use crate::aux_items::AuxRow;
 use crate::lists::Bytes;
 use crate::memberships::ReadRanges;
-use crate::texts::{Link, Recipient};
+use crate::texts::{Recipient, TextLink};
 use crate::times::Moment;
 
 /// One change of the stored rows: rows are added, set or removed. That the server's state changes
@@ -80,7 +80,7 @@ pub enum Effect {
         text: u32,
         conference: u32,
     },
-    LinkAdded(Link),
+    LinkAdded(TextLink),
     LinkGone {
         child: u32,
         parent: u32,

@@ -59,7 +59,7 @@ pub use sessions::{ClientVersion, DynamicSession, DynamicSessions, StaticSession
 pub use shortage::Memory;
 pub use side::Side;
 pub use texts::{
-    Block, Link, LocalText, Mapping, Mark, MarkRow, Marks, MiscInfo, MiscInfos, MiscInput,
-    MiscInputs, NewText, Recipient, TextRow, TextStat,
+    Block, LocalText, Mapping, Mark, MarkRow, Marks, MiscInfo, MiscInfos, MiscInput, MiscInputs,
+    NewText, Recipient, TextLink, TextRow, TextStat,
 };
 pub use times::{Moment, Time};

@@ -88,7 +88,7 @@ pub struct Recipient {
 /// A comment's or a footnote's link to the text that it is to: a row of the store. (Protocol A,
 /// "Misc-Info".)
 #[derive(Clone, Copy, Debug)]
-pub struct Link {
+pub struct TextLink {
     pub child: u32,
     pub parent: u32,
     /// Whether it is a footnote; else it is a comment.

@@ -9,7 +9,7 @@ use access_rights::{
     unless,
 };
 use kom_model::{CallError, Refused, Rows, Viewer};
-use kom_state::{Asked, State};
+use kom_state::{Asked, StoredRows};
 use kom_types::bits::{FORBIDS_SECRET, INVITATION, READ_PROTECTED, SECRET_MEMBERSHIP};
 use kom_types::limits::MOST_MEMBERSHIPS;
 use kom_types::{
@@ -32,7 +32,7 @@ pub fn sub_member(asked: &Asked<'_>, conference: u32, person: u32) -> Result<Dec
 }
 
 /// Whether the caller may end a membership.
-fn may_end(rows: &State, caller: &Viewer, conference: u32, person: u32) -> bool
+fn may_end(rows: &StoredRows, caller: &Viewer, conference: u32, person: u32) -> bool
     ensures { result ≡ Calls.may_end rows.now.db caller.now conference person }
 {
     person != conference
@@ -104,7 +104,7 @@ pub fn add_member(
 }
 
 /// The conference takes memberships of this type.
-fn secret_guard(rows: &State, conference: u32, kind: u8) -> Result<(), Refused>
+fn secret_guard(rows: &StoredRows, conference: u32, kind: u8) -> Result<(), Refused>
     ensures { Guards (Calls.secret_guard rows.now.db conference kind) result }
 {
     unless(
@@ -114,7 +114,7 @@ fn secret_guard(rows: &State, conference: u32, kind: u8) -> Result<(), Refused>
     )
 }
 
-fn refuses_secret(rows: &State, conference: u32) -> bool
+fn refuses_secret(rows: &StoredRows, conference: u32) -> bool
     ensures { result ≡ Calls.refuses_secret rows.now.db conference }
 {
     match rows.conference(conference) {
@@ -124,7 +124,12 @@ fn refuses_secret(rows: &State, conference: u32) -> bool
 }
 
 /// A membership that is not there may begin, and there is room for it.
-fn joins_guard(rows: &State, caller: &Viewer, person: u32, conference: u32) -> Result<(), Refused>
+fn joins_guard(
+    rows: &StoredRows,
+    caller: &Viewer,
+    person: u32,
+    conference: u32,
+) -> Result<(), Refused>
     ensures { Guards
         (first_refusal (Calls.joins_guards rows.now.db caller.now person conference)) result }
 {
@@ -136,7 +141,7 @@ fn joins_guard(rows: &State, caller: &Viewer, person: u32, conference: u32) -> R
 }
 
 /// Whether a person may become a member through the caller.
-fn may_join(rows: &State, caller: &Viewer, person: u32, conference: u32) -> bool
+fn may_join(rows: &StoredRows, caller: &Viewer, person: u32, conference: u32) -> bool
     ensures { result ≡ Calls.may_join rows.now.db caller.now person conference }
 {
     if is_near(rows, caller, person) {
@@ -149,14 +154,14 @@ fn may_join(rows: &State, caller: &Viewer, person: u32, conference: u32) -> bool
 }
 
 /// Whether the caller is the person, supervises it, or has a strong session.
-fn is_near(rows: &State, caller: &Viewer, person: u32) -> bool
+fn is_near(rows: &StoredRows, caller: &Viewer, person: u32) -> bool
     ensures { result ≡ Calls.is_near rows.now.db caller.now person }
 {
     caller.person == person || supervises(rows, caller.person, person) || caller.strong
 }
 
 /// Whether a person reads a conference, however strong its sessions are.
-fn reads_itself(rows: &State, person: u32, conference: u32) -> bool
+fn reads_itself(rows: &StoredRows, person: u32, conference: u32) -> bool
     ensures { result ≡ Calls.reads_itself rows.now.db person conference }
 {
     let viewer = Viewer {
@@ -166,7 +171,7 @@ fn reads_itself(rows: &State, person: u32, conference: u32) -> bool
     reads_conference(rows, &viewer, conference)
 }
 
-fn is_open(rows: &State, conference: u32) -> bool
+fn is_open(rows: &StoredRows, conference: u32) -> bool
     ensures { result ≡ Calls.is_open rows.now.db conference }
 {
     match rows.conference(conference) {

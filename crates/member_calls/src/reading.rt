@@ -7,12 +7,12 @@ ghost use Rattle.kom_model.specs.calls.Memberships as Calls;
 
 use access_rights::unless;
 use kom_model::Refused;
-use kom_state::{Asked, State};
+use kom_state::{Asked, StoredRows};
 use kom_types::{Memory, ReadRange};
 use read_ranges::{Marked, Ranges};
 
 /// The highest local number that was drawn in a conference: 0 if none was.
-pub(crate) fn highest_of(rows: &State, conference: u32) -> u32
+pub(crate) fn highest_of(rows: &StoredRows, conference: u32) -> u32
     ensures { result ≡ Calls.highest_of rows.now.db conference }
 {
     rows.next_local(conference).saturating_sub(1)

@@ -2,7 +2,7 @@
 use Rattle.std.specs.Prelude.{ℕ, zero, suc, ◌-◌, ◌==◌, min, if◌then◌else◌, Bool, IsTrue, ◌&&◌, not}
 use Rattle.std.specs.Prelude.{List, [], ◌∷◌, ◌++◌, length, slice_index}
 use Rattle.std.specs.List.{list_any}
-use Rattle.kom_links.specs.Asking.{next_call}
+use Rattle.kom_links.specs.WorldCounts.{next_call}
 use Rattle.memory_links.specs.declared.memory_link.Script.{Script}
 
 -- the count of faults after a call, by whether it failed and by the count before it; the count

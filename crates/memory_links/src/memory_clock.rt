@@ -1,7 +1,7 @@
 ghost use Rattle.std.specs.Prelude.{◌≡◌, ◌<◌, ℕ, [], Some, None, IfSome, length, vec_len};
 ghost use Rattle.std.specs.Prelude.{if◌then◌else◌, ◌==◌, ◌^◌, ◌-◌};
 ghost use Rattle.kom_links.specs.Doors.{Gains};
-ghost use Rattle.kom_links.specs.Asking.{next_call};
+ghost use Rattle.kom_links.specs.WorldCounts.{next_call};
 ghost use Rattle.memory_links.specs.Script.{moment_at, readings};
 
 use kom_links::Clock;

@@ -3,7 +3,7 @@ ghost use Rattle.std.specs.Prelude.{◌≡◌, ◌-◌, ◌≤◌, ◌<◌, ◌�
 ghost use Rattle.std.specs.Prelude.{length, vec_capacity, IfOk, IfSome, if◌then◌else◌};
 ghost use Rattle.kom_links.specs.Outside.{IsFresh};
 ghost use Rattle.kom_links.specs.Doors.{IfLink, Admits, TakesBack};
-ghost use Rattle.kom_links.specs.Asking.{next_call};
+ghost use Rattle.kom_links.specs.WorldCounts.{next_call};
 ghost use Rattle.memory_links.specs.Script.{faults_after, Fails, Waits};
 
 use crate::memory_link::{LinkPlan, MemoryLink, Script};

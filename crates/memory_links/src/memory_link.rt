@@ -3,7 +3,7 @@ ghost use Rattle.std.specs.Prelude.{is_some, take, drop, length, vec_len, codes}
 ghost use Rattle.std.specs.List.{list_any};
 ghost use Rattle.std.specs.Option.{ForSome};
 ghost use Rattle.kom_links.specs.Outside.{Reads, Writes, read_bytes};
-ghost use Rattle.kom_links.specs.Asking.{next_call};
+ghost use Rattle.kom_links.specs.WorldCounts.{next_call};
 ghost use Rattle.memory_links.specs.Script.{faults_after, Fails, Waits};
 
 use crate::read_log::{ReadLog, ReadMark};

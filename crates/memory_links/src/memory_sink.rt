@@ -1,6 +1,6 @@
 ghost use Rattle.std.specs.Prelude.{◌≡◌, [], Some, IsErr, is_err};
 ghost use Rattle.kom_links.specs.Doors.{Puts};
-ghost use Rattle.kom_links.specs.Asking.{next_call};
+ghost use Rattle.kom_links.specs.WorldCounts.{next_call};
 ghost use Rattle.memory_links.specs.Script.{faults_after, Fails};
 ghost use Rattle.memory_links.specs.Memories.{fails_of, sink_writes_of};
 

@@ -1,14 +1,14 @@
 ghost use Rattle.std.specs.Prelude.{◌≡◌, ◌<◌, ◌≤◌, ◌↔◌, [], None, is_ok, IfOk, IfSome, vec_len};
 ghost use Rattle.kom_links.specs.Outside.{IsNothing};
 ghost use Rattle.kom_links.specs.Doors.{MayRefuse, has_failed, IsNewGate, IsNewSink};
-ghost use Rattle.kom_links.specs.Asking.{with_gate, with_clock, with_sink};
+ghost use Rattle.kom_links.specs.WorldCounts.{with_gate, with_clock, with_sink};
 ghost use Rattle.memory_links.specs.Script.{faults_after};
 
 use crate::memory_clock::MemoryClock;
 use crate::memory_gate::{Client, MemoryGate};
 use crate::memory_link::Script;
 use crate::memory_sink::MemorySink;
-use kom_links::{Asked, Clock, Gate, Sink, World, WorldFault};
+use kom_links::{Clock, Gate, Sink, World, WorldCounts, WorldFault};
 use kom_types::{Memory, Moment};
 use std::alloc::Global;
 use std::collections::VecDeque;
@@ -29,7 +29,7 @@ pub struct MemoryWorld {
     gate: Option<GatePlan>,
     moments: Vec<Moment>,
     sink_fails: Vec<u64>,
-    asked: Asked,
+    counts: WorldCounts,
     faults: u64,
     ghost some: { 0 < vec_len moments },
 }
@@ -56,7 +56,7 @@ impl MemoryWorld {
             gate,
             moments,
             sink_fails,
-            asked: Asked::nothing(),
+            counts: WorldCounts::nothing(),
             faults: 0,
         }
     }
@@ -73,7 +73,7 @@ impl World for MemoryWorld {
 
     type Sink = MemorySink;
 
-    ghost view = { λ world. record { asked = world.asked; faults = world.faults } };
+    ghost view = { λ world. record { counts = world.counts; faults = world.faults } };
 
     fn faults(&self) -> u64 {
         self.faults
@@ -83,8 +83,8 @@ impl World for MemoryWorld {
         ensures may { MayRefuse (⟦<MemoryWorld as World>⟧.view self.old).faults
             (⟦<MemoryWorld as World>⟧.view self.new).faults result }
         ensures fresh { IfOk result (λ gate. IsNewGate (⟦<MemoryGate as Gate>⟧.view gate)) }
-        ensures asked { (⟦<MemoryWorld as World>⟧.view self.new).asked
-            ≡ with_gate (is_ok result) (⟦<MemoryWorld as World>⟧.view self.old).asked }
+        ensures counts { (⟦<MemoryWorld as World>⟧.view self.new).counts
+            ≡ with_gate (is_ok result) (⟦<MemoryWorld as World>⟧.view self.old).counts }
         ensures faults { (⟦<MemoryWorld as World>⟧.view self.old).faults
             ≤ (⟦<MemoryWorld as World>⟧.view self.new).faults }
 
@@ -115,14 +115,14 @@ impl World for MemoryWorld {
                 Err(WorldFault::Failed)
             }
         };
-        self.asked.count_gate(opened.is_ok());
+        self.counts.count_gate(opened.is_ok());
         opened
     }
 
     fn clock(&mut self) -> Result<MemoryClock, Memory>
         ensures fresh { IfOk result (λ clock. IsNothing (⟦<MemoryClock as Clock>⟧.gave clock)) }
-        ensures asked { (⟦<MemoryWorld as World>⟧.view self.new).asked
-            ≡ with_clock (⟦<MemoryWorld as World>⟧.view self.old).asked }
+        ensures counts { (⟦<MemoryWorld as World>⟧.view self.new).counts
+            ≡ with_clock (⟦<MemoryWorld as World>⟧.view self.old).counts }
         ensures faults { (⟦<MemoryWorld as World>⟧.view self.old).faults
             ≤ (⟦<MemoryWorld as World>⟧.view self.new).faults }
         ensures no_more { (⟦<MemoryWorld as World>⟧.view self.new).faults
@@ -137,14 +137,14 @@ impl World for MemoryWorld {
         ensures moments { world_moments_of self.new ≡ world_moments_of self.old }
         ensures sink_fails { sink_fails_of self.new ≡ sink_fails_of self.old }
     {
-        self.asked.count_clock();
+        self.counts.count_clock();
         Ok(MemoryClock::new(Vec::from_slice(self.alloc, self.moments.as_slice())?))
     }
 
     fn out(&mut self) -> MemorySink
         ensures fresh { IsNewSink (⟦<MemorySink as Sink>⟧.view result) }
-        ensures asked { (⟦<MemoryWorld as World>⟧.view self.new).asked
-            ≡ with_sink (⟦<MemoryWorld as World>⟧.view self.old).asked }
+        ensures counts { (⟦<MemoryWorld as World>⟧.view self.new).counts
+            ≡ with_sink (⟦<MemoryWorld as World>⟧.view self.old).counts }
         ensures faults { (⟦<MemoryWorld as World>⟧.view self.old).faults
             ≤ (⟦<MemoryWorld as World>⟧.view self.new).faults }
         ensures no_more { (⟦<MemoryWorld as World>⟧.view self.new).faults
@@ -159,7 +159,7 @@ impl World for MemoryWorld {
         ensures moments { world_moments_of self.new ≡ world_moments_of self.old }
         ensures sink_fails { sink_fails_of self.new ≡ [] }
     {
-        self.asked.count_sink();
+        self.counts.count_sink();
         MemorySink::new(
             self.alloc,
             mem::replace(&mut self.sink_fails, Vec::new(self.alloc)),

@@ -3,7 +3,7 @@ use Rattle.std.proofs.Common.{◌≡◌, ℕ, Bool, true, false, ◌&&◌, eqb, 
 use Rattle.std.specs.Option.{option_flatten}
 use Rattle.std.proofs.lemmas.Bool.{and_parts, eqb-true, false≢true}
 use Rattle.kom_types.specs.Bits.{alike}
-use Rattle.kom_types.specs.declared.texts.Link.{Link}
+use Rattle.kom_types.specs.declared.texts.TextLink.{TextLink}
 use Rattle.kom_types.specs.tables.Texts.{is_link, link_of}
 use Rattle.row_slots.specs.Slots.{rows_in}
 use Rattle.row_slots.proofs.Places.{row_at}
@@ -22,7 +22,7 @@ alike_same false true same = absurd (false≢true same)
 alike_same false false same = refl
 
 -- what a link is of
-pub link_parts : (child parent : ℕ) (footnote : Bool) (row : Link) → is_link child parent footnote row ≡ true →
+pub link_parts : (child parent : ℕ) (footnote : Bool) (row : TextLink) → is_link child parent footnote row ≡ true →
     (row.child ≡ child) × (row.parent ≡ parent) × (row.footnote ≡ footnote)
 link_parts child parent footnote row is =
     let kind = and_parts (eqb row.child child && eqb row.parent parent) (alike row.footnote footnote) is in
@@ -32,9 +32,9 @@ link_parts child parent footnote row is =
       alike_same row.footnote footnote kind.1,
     )
 
-module _ (slots : List (Option Link)) (from into : ℕ → Bool → List ℕ) (kept : IsKept slots from into)
+module _ (slots : List (Option TextLink)) (from into : ℕ → Bool → List ℕ) (kept : IsKept slots from into)
     (child parent : ℕ) (footnote : Bool) (places : List ℕ) (are : places ≡ from child footnote) where
-  same : (row : Link) → is_link child parent footnote row ≡ (is_from child footnote row && eqb row.parent parent)
+  same : (row : TextLink) → is_link child parent footnote row ≡ (is_from child footnote row && eqb row.parent parent)
   same row = and_swapped (eqb row.child child) (eqb row.parent parent) (alike row.footnote footnote)
 
   -- the link by what is found of its place
@@ -46,7 +46,7 @@ module _ (slots : List (Option Link)) (from into : ℕ → Bool → List ℕ) (k
 
   -- the row at a place that was found
   pub row_found : (place : ℕ) → Some place ≡ find (is_parent_at slots parent) places →
-      (row : Link) × (row_at slots place ≡ Some row) × (link_of child parent footnote (rows_in slots) ≡ Some row)
+      (row : TextLink) × (row_at slots place ≡ Some row) × (link_of child parent footnote (rows_in slots) ≡ Some row)
       × (is_link child parent footnote row ≡ true)
   row_found place is =
       found_row (λ row. eqb row.parent parent) (is_from child footnote) (is_link child parent footnote) same slots

@@ -5,7 +5,7 @@ use Rattle.std.specs.Option.{option_map_or}
 use Rattle.std.proofs.lemmas.Bool.{eq-eqb, ne_eqb}
 use Rattle.std.proofs.lemmas.List.Folds.{list_any-append}
 use Rattle.kom_types.specs.Bits.{alike}
-use Rattle.kom_types.specs.declared.texts.Link.{Link}
+use Rattle.kom_types.specs.declared.texts.TextLink.{TextLink}
 use Rattle.row_slots.specs.Slots.{rows_in, places_from, places_of}
 use Rattle.row_slots.proofs.Places.{row_at, rows-places_of}
 use Rattle.misc_links.specs.Keeping.{is_from, is_into, link_at, IsKept}
@@ -98,14 +98,14 @@ in_lists false true false = refl
 in_lists false false true = refl
 in_lists false false false = refl
 
-passes_in : (text : ℕ) (slot : Option Link) →
+passes_in : (text : ℕ) (slot : Option TextLink) →
     ((option_map_or (is_from text false) slot false || option_map_or (is_from text true) slot false)
     || (option_map_or (is_into text false) slot false || option_map_or (is_into text true) slot false))
     ≡ option_map_or (touches text) slot false
 passes_in text None = refl
 passes_in text (Some row) = in_lists (eqb row.child text) (eqb row.parent text) row.footnote
 
-module _ (slots : List (Option Link)) (from into : ℕ → Bool → List ℕ) (kept : IsKept slots from into) (text : ℕ) where
+module _ (slots : List (Option TextLink)) (from into : ℕ → Bool → List ℕ) (kept : IsKept slots from into) (text : ℕ) where
   pub has_all : (place : ℕ) →
       has ((from text false ++ from text true) ++ (into text false ++ into text true)) place
       ≡ has (places_of (touches text) slots) place
@@ -122,16 +122,16 @@ module _ (slots : List (Option Link)) (from into : ℕ → Bool → List ℕ) (k
 
 -- ---- the links at places
 
-links_through : (slots : List (Option Link)) (places : List ℕ) →
+links_through : (slots : List (Option TextLink)) (places : List ℕ) →
     filter_map (link_at slots) places ≡ filter_map (λ slot. slot) (map (row_at slots) places)
 links_through slots [] = refl
 links_through slots (place ∷ places) = ap (cons_option (link_at slots place)) (links_through slots places)
 
-all_links : (rows : List Link) → filter_map (λ slot. slot) (map Some rows) ≡ rows
+all_links : (rows : List TextLink) → filter_map (λ slot. slot) (map Some rows) ≡ rows
 all_links [] = refl
 all_links (row ∷ rows) = ap (λ rest. row ∷ rest) (all_links rows)
 
-pub links_touching : (text : ℕ) (slots : List (Option Link)) →
+pub links_touching : (text : ℕ) (slots : List (Option TextLink)) →
     filter_map (link_at slots) (places_of (touches text) slots) ≡ touching text (rows_in slots)
 links_touching text slots =
     links_through slots (places_of (touches text) slots)

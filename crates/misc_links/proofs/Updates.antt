@@ -3,7 +3,7 @@ use Rattle.std.proofs.Common.{◌≡◌, ℕ, Bool, true, cond, not, ◌&&◌, e
 use Rattle.std.specs.Set.{remove_key, is_member}
 use Rattle.std.proofs.lemmas.Bool.{and_parts, and_from}
 use Rattle.kom_types.specs.Bits.{alike}
-use Rattle.kom_types.specs.declared.texts.Link.{Link}
+use Rattle.kom_types.specs.declared.texts.TextLink.{TextLink}
 use Rattle.kom_types.specs.tables.Texts.{is_link, link_of, without_link}
 use Rattle.row_slots.specs.Slots.{rows_in, emptied}
 use Rattle.row_slots.proofs.Places.{row_at, places_of-push, places_of-emptied, is_member-places_of, rows_in-emptied}
@@ -14,15 +14,15 @@ use Rattle.misc_links.proofs.Finding.{link_parts}
 use Rattle.row_slots.proofs.Passing.{none_pass, all_stay, fewer_pass, one_passes}
 
 -- without a link that is not there
-pub without_none : (child parent : ℕ) (footnote : Bool) (rows : List Link) → link_of child parent footnote rows ≡ None →
+pub without_none : (child parent : ℕ) (footnote : Bool) (rows : List TextLink) → link_of child parent footnote rows ≡ None →
     without_link child parent footnote rows ≡ rows
 without_none child parent footnote rows none = all_stay (is_link child parent footnote) rows none
 
-module _ (slots : List (Option Link)) (from into : ℕ → Bool → List ℕ) (kept : IsKept slots from into)
+module _ (slots : List (Option TextLink)) (from into : ℕ → Bool → List ℕ) (kept : IsKept slots from into)
     (new_from new_into : ℕ → Bool → List ℕ) where
   -- ---- a link is added
 
-  module _ (link : Link) (absent : link_of link.child link.parent link.footnote (rows_in slots) ≡ None)
+  module _ (link : TextLink) (absent : link_of link.child link.parent link.footnote (rows_in slots) ≡ None)
       (adds_from : (text : ℕ) (kind : Bool) → new_from text kind
       ≡ cond (is_same link.child link.footnote text kind) (from text kind ++ length slots ∷ []) (from text kind))
       (adds_into : (text : ℕ) (kind : Bool) → new_into text kind
@@ -49,8 +49,8 @@ module _ (slots : List (Option Link)) (from into : ℕ → Bool → List ℕ) (k
           (none_like_it child parent footnote));
     }
 
-module _ (slots : List (Option Link)) (from into : ℕ → Bool → List ℕ) (kept : IsKept slots from into)
-    (child parent : ℕ) (footnote : Bool) (place : ℕ) (row : Link) (there : row_at slots place ≡ Some row)
+module _ (slots : List (Option TextLink)) (from into : ℕ → Bool → List ℕ) (kept : IsKept slots from into)
+    (child parent : ℕ) (footnote : Bool) (place : ℕ) (row : TextLink) (there : row_at slots place ≡ Some row)
     (is : is_link child parent footnote row ≡ true) where
   -- ---- a link is taken out
 

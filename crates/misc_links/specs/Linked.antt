@@ -1,13 +1,13 @@
 -- Links, as contracts see them.
 use Rattle.std.specs.Prelude.{ℕ, ◌+◌, ◌≤◌, ◌==◌, ◌||◌, Bool, List, filter, if◌then◌else◌}
-use Rattle.kom_types.specs.declared.texts.Link.{Link}
+use Rattle.kom_types.specs.declared.texts.TextLink.{TextLink}
 use Rattle.row_slots.specs.Lists.{room_in}
 use Rattle.misc_links.specs.Kinds.{is_same}
 
 -- The links in the order of adding; how many more fit without memory; and, for each kind, the texts
 -- that a list is kept for of the links from them, and into them, each with the room in its list.
 pub record Linked : Type 0 where
-  pub links : List Link
+  pub links : List TextLink
   pub spare : ℕ
   pub comments_from : List (ℕ × ℕ)
   pub footnotes_from : List (ℕ × ℕ)
@@ -15,11 +15,11 @@ pub record Linked : Type 0 where
   pub footnotes_into : List (ℕ × ℕ)
 
 -- whether a link is from a text or into it
-abbrev pub touches : ℕ → Link → Bool
+abbrev pub touches : ℕ → TextLink → Bool
 touches text row = row.child == text || row.parent == text
 
 -- the links from a text and into it, in the order of adding
-abbrev pub touching : ℕ → List Link → List Link
+abbrev pub touching : ℕ → List TextLink → List TextLink
 touching text rows = filter (touches text) rows
 
 -- how many more links from a text its list has room for

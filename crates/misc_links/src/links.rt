@@ -8,7 +8,7 @@ ghost use Rattle.misc_links.specs.Linked.{touching, room_from, room_into};
 ghost use Rattle.misc_links.specs.Linked.{HasRoom, KeepsRoom, UsesRoom};
 
 use crate::kinds::KindLists;
-use kom_types::{Link, Memory};
+use kom_types::{Memory, TextLink};
 use row_slots::Slots;
 use std::alloc::Global;
 use std::marker::Model;
@@ -16,7 +16,7 @@ use std::marker::Model;
 /// The links of comments and of footnotes to the texts that they are to, in the order of adding.
 #[derive(Drop)]
 pub struct Links {
-    rows: Slots<Link>,
+    rows: Slots<TextLink>,
     /// The places of the links from each text.
     from: KindLists,
     /// The places of the links into each text.
@@ -76,7 +76,7 @@ impl Links {
 
     /// The link of a comment, or a footnote, to a text. The time grows with the links from the
     /// child of that kind.
-    pub fn get(&self, child: u32, parent: u32, footnote: bool) -> Option<&Link>
+    pub fn get(&self, child: u32, parent: u32, footnote: bool) -> Option<&TextLink>
         ensures { option_copied result ≡ link_of child parent footnote self.now.links }
     {
         let place = place_into(&self.rows, self.from.list(child, footnote), parent)?;
@@ -99,7 +99,7 @@ impl Links {
 
     /// The link at a place among those of a text to others, in the order of adding, in constant
     /// time.
-    pub fn nth_from(&self, text: u32, footnote: bool, place: usize) -> Option<&Link>
+    pub fn nth_from(&self, text: u32, footnote: bool, place: usize) -> Option<&TextLink>
         ensures { option_copied result
             ≡ slice_get (links_from text footnote self.now.links) place }
     {
@@ -109,7 +109,7 @@ impl Links {
 
     /// The link at a place among those of the comments, or the footnotes, to a text, in the order
     /// of adding, in constant time.
-    pub fn nth_into(&self, text: u32, footnote: bool, place: usize) -> Option<&Link>
+    pub fn nth_into(&self, text: u32, footnote: bool, place: usize) -> Option<&TextLink>
         ensures { option_copied result
             ≡ slice_get (links_into text footnote self.now.links) place }
     {
@@ -119,7 +119,7 @@ impl Links {
 
     /// The links from a text and into it, in the order of adding. The time grows with their number,
     /// times its logarithm.
-    pub fn of_text(&self, text: u32) -> Result<Vec<Link>, Memory>
+    pub fn of_text(&self, text: u32) -> Result<Vec<TextLink>, Memory>
         ensures { IfOk result (λ links. links.items ≡ touching text self.now.links) }
     {
         let mut places = places_touching(&self.from, &self.into, text, self.alloc)?;
@@ -129,7 +129,7 @@ impl Links {
     }
 
     /// Adds a link after the others.
-    pub fn add(&mut self, link: Link) -> Result<(), Memory>
+    pub fn add(&mut self, link: TextLink) -> Result<(), Memory>
         requires { link_of link.child link.parent link.footnote self.old.links ≡ None }
         ensures ok { OnOk result (self.new.links ≡ self.old.links ++ link ∷ []) }
         ensures err { OnErr result (self.new.links ≡ self.old.links) }
@@ -145,7 +145,7 @@ impl Links {
     }
 
     /// Adds a link after the others. Takes no memory.
-    fn put(&mut self, link: Link)
+    fn put(&mut self, link: TextLink)
         requires absent { link_of link.child link.parent link.footnote self.old.links ≡ None }
         requires room { HasRoom self.old link.child link.parent link.footnote }
         ensures links { self.new.links ≡ self.old.links ++ link ∷ [] }
@@ -217,7 +217,7 @@ impl Links {
 }
 
 /// The place of the link into a text, among those at some places.
-fn place_into(rows: &Slots<Link>, places: &[u32], parent: u32) -> Option<u32>
+fn place_into(rows: &Slots<TextLink>, places: &[u32], parent: u32) -> Option<u32>
     ensures { result ≡ find (is_parent_at rows.now.slots parent) places.now }
 {
     places.iter().copied().find(
@@ -243,7 +243,7 @@ fn places_touching(
 }
 
 /// The links at some places.
-fn links_at(rows: &Slots<Link>, places: &[u32], alloc: Global) -> Result<Vec<Link>, Memory>
+fn links_at(rows: &Slots<TextLink>, places: &[u32], alloc: Global) -> Result<Vec<TextLink>, Memory>
     ensures { IfOk result (λ links. links.items ≡ filter_map (link_at rows.now.slots) places.now) }
 {
     let links = places
@@ -254,7 +254,7 @@ fn links_at(rows: &Slots<Link>, places: &[u32], alloc: Global) -> Result<Vec<Lin
 }
 
 /// The link at a place.
-fn link_in(rows: &Slots<Link>, place: u32) -> Option<Link>
+fn link_in(rows: &Slots<TextLink>, place: u32) -> Option<TextLink>
     ensures { result ≡ link_at rows.now.slots place }
 {
     rows.get(place).copied()

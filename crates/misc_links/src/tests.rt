@@ -1,10 +1,10 @@
 use crate::{Links, Recipients};
-use kom_types::{Link, Memory, Moment, Recipient};
+use kom_types::{Memory, Moment, Recipient, TextLink};
 use std::test::Fail;
 
 // A link that was made with its child.
-fn link(child: u32, parent: u32, footnote: bool) -> Link {
-    Link {
+fn link(child: u32, parent: u32, footnote: bool) -> TextLink {
+    TextLink {
         child,
         parent,
         footnote,
@@ -14,7 +14,7 @@ fn link(child: u32, parent: u32, footnote: bool) -> Link {
 }
 
 // Adds a link if it is not there.
-fn put(links: &mut Links, link: Link) -> Result<(), Memory> {
+fn put(links: &mut Links, link: TextLink) -> Result<(), Memory> {
     match links.get(link.child, link.parent, link.footnote) {
         Some(_) => Ok(()),
         None => links.add(link),
@@ -156,7 +156,7 @@ fn fill_in_turn(links: &mut Links) -> Result<(), Memory> {
 }
 
 // The text at the other end of the link at a place, or 0 where there is none.
-fn other_end(links: &[Link], text: u32, place: usize) -> u32 {
+fn other_end(links: &[TextLink], text: u32, place: usize) -> u32 {
     match links.get(place) {
         Some(link) if link.child == text => link.parent,
         Some(link) => link.child,

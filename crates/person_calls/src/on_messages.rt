@@ -6,7 +6,7 @@ ghost use Rattle.kom_model.specs.calls.Sessions as Sessions;
 
 use access_rights::{conference_or_none_guard, hears, login_guard, size_guard, unless};
 use kom_model::CallError;
-use kom_state::{Asked, State};
+use kom_state::{Asked, StoredRows};
 use kom_types::limits::LONGEST_MESSAGE;
 use kom_types::{Bytes, Decision, Reply, Seat};
 
@@ -44,7 +44,7 @@ fn is_sent(asked: &Asked<'_>, recipient: u32) -> bool
 }
 
 /// Whether somebody is logged in at a seat who hears what is sent to a conference.
-fn is_heard(rows: &State, seat: &Seat, recipient: u32) -> bool
+fn is_heard(rows: &StoredRows, seat: &Seat, recipient: u32) -> bool
     ensures { result ≡ (not (seat.now.person == 0)
         && Messages.hears rows.now.db seat.now.person recipient) }
 {

@@ -10,7 +10,7 @@ use access_rights::{
     text_or_none_guard, unless,
 };
 use kom_model::{CallError, Refused, Viewer};
-use kom_state::{Asked, State, new_items, push_items};
+use kom_state::{Asked, StoredRows, new_items, push_items};
 use kom_types::bits::{CREATES_PERSONS, FIRST_PRIVILEGES, LETTERBOX_TYPE};
 use kom_types::limits::LONGEST_PASSWORD;
 use kom_types::{
@@ -71,7 +71,7 @@ pub fn create_person(asked: &Asked<'_>, given: &NewPerson) -> Result<Decision, C
 }
 
 /// The caller may make persons.
-fn create_person_guard(rows: &State, caller: &Viewer) -> Result<(), Refused>
+fn create_person_guard(rows: &StoredRows, caller: &Viewer) -> Result<(), Refused>
     ensures { Guards (Persons.create_person_guard rows.now.db caller.now) result }
 {
     unless(
@@ -82,7 +82,7 @@ fn create_person_guard(rows: &State, caller: &Viewer) -> Result<(), Refused>
 }
 
 /// Whether nobody is logged in, or a person that may make persons.
-fn may_make_persons(rows: &State, person: u32) -> bool
+fn may_make_persons(rows: &StoredRows, person: u32) -> bool
     ensures { result ≡ Persons.may_make_persons rows.now.db person }
 {
     match rows.person(person) {

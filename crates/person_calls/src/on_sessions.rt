@@ -10,7 +10,7 @@ use access_rights::{
     conference_guard, login_guard, member_guard, session_guard, size_guard, supervises, unless,
 };
 use kom_model::CallError;
-use kom_state::{Asked, State};
+use kom_state::{Asked, StoredRows};
 use kom_types::limits::LONGEST_NAME;
 use kom_types::{
     Bytes, ClientVersion, Decision, Effect, MESSAGE_NUMBERS, Memory, Numbers, Reply, Seat,
@@ -95,7 +95,7 @@ fn may_disconnect(asked: &Asked<'_>, session: u32) -> bool
 }
 
 /// Whether somebody is logged in at a seat that this person supervises.
-fn supervises_at(rows: &State, person: u32, seat: &Seat) -> bool
+fn supervises_at(rows: &StoredRows, person: u32, seat: &Seat) -> bool
     ensures { result ≡ (not (seat.now.person == 0)
         && supervises_by rows.now.db person seat.now.person) }
 {

@@ -46,8 +46,8 @@ is_unseen db viewer person conference =
 abbrev pub unseen_count : Db → Viewer → ℕ → ℕ
 unseen_count db viewer person = count_by (is_unseen db viewer person) (secret_numbers db)
 
--- More than so many of a person's memberships are secret, or more others are in conferences that who
--- looks does not see.
+-- More than so many of a person's memberships are secret, or more others are in conferences that
+-- who looks does not see.
 abbrev pub needs_more_searches : Db → Viewer → ℕ → ℕ → Bool
 needs_more_searches db viewer person searches =
     nat_lt searches (count_by (λ row. is_secret_membership row.kind) (memberships_of db person))

@@ -14,7 +14,7 @@ ghost use Rattle.query_calls.specs.Hidden.{needs_more_searches, unseen_count};
 
 use access_rights::{sees, shows_membership, supervises};
 use kom_model::{Rows, Viewer};
-use kom_state::State;
+use kom_state::StoredRows;
 use kom_types::bits::SECRET_MEMBERSHIP;
 use kom_types::{Member, MembershipRow};
 
@@ -25,9 +25,14 @@ const ENTRIES_A_LOOK: usize = 80;
 const CONFERENCES_A_LOOK: usize = 4;
 
 /// How many of the first members of a conference are hidden from who looks. The time grows with the
-/// secret memberships in it, or with the first members where those are fewer; it is constant for who
-/// sees all or none.
-pub(crate) fn hidden_members(rows: &State, viewer: &Viewer, conference: u32, first: usize) -> usize
+/// secret memberships in it, or with the first members where those are fewer; it is constant for
+/// who sees all or none.
+pub(crate) fn hidden_members(
+    rows: &StoredRows,
+    viewer: &Viewer,
+    conference: u32,
+    first: usize,
+) -> usize
     ensures { result ≡ hidden_members rows.now.db viewer.now conference first }
 {
     if first == 0 {
@@ -54,7 +59,12 @@ pub(crate) fn hidden_members(rows: &State, viewer: &Viewer, conference: u32, fir
 }
 
 /// Whether a member of a conference is shown to who looks.
-pub(crate) fn shows_member(rows: &State, viewer: &Viewer, conference: u32, member: &Member) -> bool
+pub(crate) fn shows_member(
+    rows: &StoredRows,
+    viewer: &Viewer,
+    conference: u32,
+    member: &Member,
+) -> bool
     ensures { result ≡ Shown.shows_membership rows.now.db viewer.now member.now.person conference
         member.now.kind }
 {
@@ -64,7 +74,7 @@ pub(crate) fn shows_member(rows: &State, viewer: &Viewer, conference: u32, membe
 /// Whether a person whose membership in a conference is secret is hidden from who looks, and is
 /// among the first members. Who looks is not strong, and does not supervise the conference.
 fn is_hidden_member(
-    rows: &State,
+    rows: &StoredRows,
     viewer: &Viewer,
     conference: u32,
     first: usize,
@@ -79,11 +89,16 @@ fn is_hidden_member(
         && rows.is_among_first(person, conference, first)
 }
 
-/// How many of the first memberships of a person are hidden from who looks. Of each secret conference
-/// it is asked whether the person is in it, and each membership that may be hidden is searched for in
-/// the person's list; where that would take longer, each of the first is looked at instead. The time
-/// is constant for the person itself.
-pub(crate) fn hidden_memberships(rows: &State, viewer: &Viewer, person: u32, first: usize) -> usize
+/// How many of the first memberships of a person are hidden from who looks. Of each secret
+/// conference it is asked whether the person is in it, and each membership that may be hidden is
+/// searched for in the person's list; where that would take longer, each of the first is looked at
+/// instead. The time is constant for the person itself.
+pub(crate) fn hidden_memberships(
+    rows: &StoredRows,
+    viewer: &Viewer,
+    person: u32,
+    first: usize,
+) -> usize
     ensures { result ≡ hidden_memberships rows.now.db viewer.now person first }
 {
     if first == 0 {
@@ -107,9 +122,9 @@ pub(crate) fn hidden_memberships(rows: &State, viewer: &Viewer, person: u32, fir
     hidden_secret(rows, viewer, person, first) + hidden_plain(rows, viewer, person, first)
 }
 
-/// Whether more than so many of a person's memberships are secret, or more others are in conferences
-/// that who looks does not see.
-fn needs_more_searches(rows: &State, viewer: &Viewer, person: u32, searches: usize) -> bool
+/// Whether more than so many of a person's memberships are secret, or more others are in
+/// conferences that who looks does not see.
+fn needs_more_searches(rows: &StoredRows, viewer: &Viewer, person: u32, searches: usize) -> bool
     ensures { result ≡ needs_more_searches rows.now.db viewer.now person searches }
 {
     searches < rows.secret_memberships(person).len()
@@ -118,7 +133,7 @@ fn needs_more_searches(rows: &State, viewer: &Viewer, person: u32, searches: usi
 
 /// How many secret conferences a person is in by a membership that is not secret, while who looks
 /// does not see them.
-fn unseen_count(rows: &State, viewer: &Viewer, person: u32) -> usize
+fn unseen_count(rows: &StoredRows, viewer: &Viewer, person: u32) -> usize
     ensures { result ≡ unseen_count rows.now.db viewer.now person }
 {
     rows.secret_conferences()
@@ -127,20 +142,20 @@ fn unseen_count(rows: &State, viewer: &Viewer, person: u32) -> usize
         .count()
 }
 
-fn is_unseen(rows: &State, viewer: &Viewer, person: u32, conference: u32) -> bool
+fn is_unseen(rows: &StoredRows, viewer: &Viewer, person: u32, conference: u32) -> bool
     ensures { result ≡ is_unseen rows.now.db viewer.now person conference }
 {
     is_plain_member(rows, person, conference) && !sees(rows, viewer, conference)
 }
 
-fn is_hidden(rows: &State, viewer: &Viewer, row: &MembershipRow) -> bool
+fn is_hidden(rows: &StoredRows, viewer: &Viewer, row: &MembershipRow) -> bool
     ensures { result ≡ is_hidden rows.now.db viewer.now row.now }
 {
     !shows_membership(rows, viewer, row.person, row.conference, row.kind)
 }
 
 /// How many of the first memberships of a person are secret, and hidden from who looks.
-fn hidden_secret(rows: &State, viewer: &Viewer, person: u32, first: usize) -> usize
+fn hidden_secret(rows: &StoredRows, viewer: &Viewer, person: u32, first: usize) -> usize
     requires in_place { AreInPlace rows.now.db person }
     requires found { AreFound rows.now.db person }
     ensures { result ≡ count_by
@@ -155,7 +170,7 @@ fn hidden_secret(rows: &State, viewer: &Viewer, person: u32, first: usize) -> us
 
 /// Whether a secret membership is hidden from who looks, and is among the person's first.
 fn is_hidden_secret(
-    rows: &State,
+    rows: &StoredRows,
     viewer: &Viewer,
     person: u32,
     first: usize,
@@ -170,7 +185,7 @@ fn is_hidden_secret(
 
 /// How many of the first memberships of a person are not secret, and hidden from who looks: those
 /// in conferences that it does not see.
-fn hidden_plain(rows: &State, viewer: &Viewer, person: u32, first: usize) -> usize
+fn hidden_plain(rows: &StoredRows, viewer: &Viewer, person: u32, first: usize) -> usize
     requires there { AreThere rows.now.db person }
     requires in_place { AreInPlace rows.now.db person }
     requires found { AreFound rows.now.db person }
@@ -188,7 +203,7 @@ fn hidden_plain(rows: &State, viewer: &Viewer, person: u32, first: usize) -> usi
 /// Whether a person has a membership in a conference that is not secret, among its first, and who
 /// looks does not see the conference.
 fn is_hidden_plain(
-    rows: &State,
+    rows: &StoredRows,
     viewer: &Viewer,
     person: u32,
     first: usize,
@@ -202,7 +217,7 @@ fn is_hidden_plain(
 }
 
 /// Whether a person has a membership in a conference that is not secret, in constant time.
-fn is_plain_member(rows: &State, person: u32, conference: u32) -> bool
+fn is_plain_member(rows: &StoredRows, person: u32, conference: u32) -> bool
     ensures { result ≡ is_plain_member rows.now.db person conference }
 {
     match rows.membership_kind(person, conference) {
@@ -213,7 +228,7 @@ fn is_plain_member(rows: &State, person: u32, conference: u32) -> bool
 
 /// Whether a person's membership in a conference is among its first. The time grows with the
 /// person's memberships.
-fn is_before(rows: &State, person: u32, first: usize, conference: u32) -> bool
+fn is_before(rows: &StoredRows, person: u32, first: usize, conference: u32) -> bool
     ensures { result ≡ is_before rows.now.db person first conference }
 {
     match rows.membership(person, conference) {

@@ -9,7 +9,7 @@ ghost use Rattle.query_calls.specs.Shown.{shown_of};
 
 use access_rights::sees;
 use kom_model::Viewer;
-use kom_state::{Asked, State};
+use kom_state::{Asked, StoredRows};
 use kom_types::bits::{FIRST_CONFERENCE_BITS, LETTERBOX};
 use kom_types::{Bytes, ConferenceName, ConferenceNames, ConferenceRow, Memory, Sequence};
 use std::alloc::Global;
@@ -42,7 +42,7 @@ pub(crate) fn shown_names(
 
 /// The row of a conference, if it is wanted and shown to who looks.
 fn shown<'a>(
-    rows: &'a State,
+    rows: &'a StoredRows,
     viewer: &Viewer,
     number: u32,
     persons: bool,

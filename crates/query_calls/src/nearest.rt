@@ -4,7 +4,7 @@ ghost use Rattle.query_calls.specs.Nearest as Nearest;
 
 use access_rights::{reads, sees};
 use kom_model::Viewer;
-use kom_state::{Asked, State};
+use kom_state::{Asked, StoredRows};
 
 /// What is looked for: a conference that the caller sees, or a text that it reads.
 #[derive(Clone, Copy)]
@@ -42,7 +42,7 @@ pub(crate) fn previous_shown(asked: &Asked<'_>, wanted: Wanted, start: u32) -> O
 }
 
 /// The least number that the next one may get.
-fn end_of(rows: &State, wanted: Wanted) -> u32
+fn end_of(rows: &StoredRows, wanted: Wanted) -> u32
     ensures { Nearest.EndsAt rows.now.db wanted result }
 {
     match wanted {
@@ -51,7 +51,7 @@ fn end_of(rows: &State, wanted: Wanted) -> u32
     }
 }
 
-fn shows(rows: &State, caller: &Viewer, wanted: Wanted, number: u32) -> bool
+fn shows(rows: &StoredRows, caller: &Viewer, wanted: Wanted, number: u32) -> bool
     ensures { result ≡ Nearest.shows rows.now.db caller.now wanted number }
 {
     match wanted {

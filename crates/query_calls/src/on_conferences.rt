@@ -10,7 +10,7 @@ use crate::nearest::{Wanted, next_shown, previous_shown};
 use crate::told_counts::members_told;
 use access_rights::{conference_adder, conference_guard, items_shown, login_guard, size_guard};
 use kom_model::{CallError, Refused, Viewer};
-use kom_state::{Asked, State};
+use kom_state::{Asked, StoredRows};
 use kom_types::limits::LONGEST_NAME;
 use kom_types::{Boxed, Bytes, Conference, ConferenceRow, Decision, Memory, Reply, UConference};
 use name_lookup::fold_byte;
@@ -46,7 +46,7 @@ pub fn get_uconf_stat(asked: &Asked<'_>, conference: u32) -> Result<Decision, Ca
 
 /// What a conference is said to be to most clients.
 #[tactic(auto, unfolding(kom_model::specs::Db::next_local_of))]
-fn uconference_of(alloc: Global, rows: &State, conference: u32) -> Result<Reply, Memory>
+fn uconference_of(alloc: Global, rows: &StoredRows, conference: u32) -> Result<Reply, Memory>
     ensures { IfOk result
         (λ reply. reply ≡ Conferences.uconference_of rows.now.db conference) }
 {
@@ -87,7 +87,7 @@ pub fn get_conf_stat(asked: &Asked<'_>, number: u32) -> Result<Decision, CallErr
 
 fn conference_reply(
     alloc: Global,
-    rows: &State,
+    rows: &StoredRows,
     caller: &Viewer,
     number: u32,
 ) -> Result<Reply, Memory>
@@ -106,7 +106,7 @@ fn conference_reply(
 /// A conference, as it is told to who looks.
 fn conference_told(
     alloc: Global,
-    rows: &State,
+    rows: &StoredRows,
     viewer: &Viewer,
     row: &ConferenceRow,
 ) -> Result<Conference, Memory>

@@ -19,7 +19,7 @@ use access_rights::{
     supervises, unless,
 };
 use kom_model::{CallError, Refused, Viewer};
-use kom_state::{Asked, State};
+use kom_state::{Asked, StoredRows};
 use kom_types::bits::PASSIVE_MEMBERSHIP;
 use kom_types::{
     Boxed, Decision, Members, Membership, MembershipRow, Memberships, Memory, Moment, Numbers,
@@ -42,7 +42,7 @@ pub fn get_unread_confs(asked: &Asked<'_>, person: u32) -> Result<Decision, Call
 }
 
 /// Whether the caller may ask where a person has something unread.
-fn tells_unread(rows: &State, caller: &Viewer, person: u32) -> bool
+fn tells_unread(rows: &StoredRows, caller: &Viewer, person: u32) -> bool
     ensures { result ≡ (not (is_reserved_by rows.now.db person)
         || supervises_by rows.now.db caller.now.person person || caller.now.strong) }
 {
@@ -86,7 +86,7 @@ fn is_shown(asked: &Asked<'_>, row: &MembershipRow) -> bool
 }
 
 /// Whether a member has not read all texts of the conference that are there.
-fn is_unread(rows: &State, row: &MembershipRow) -> bool
+fn is_unread(rows: &StoredRows, row: &MembershipRow) -> bool
     ensures { result ≡ Calls.is_unread rows.now.db row.now }
 {
     let first = rows.first_local(row.conference);
@@ -264,7 +264,7 @@ fn ranges_told(
 }
 
 /// What a member has read, if that is told.
-fn ranges_of<'a>(rows: &'a State, is_told: bool, row: &MembershipRow) -> &'a [ReadRange]
+fn ranges_of<'a>(rows: &'a StoredRows, is_told: bool, row: &MembershipRow) -> &'a [ReadRange]
     ensures ranges { result.now
         ≡ (if is_told then read_of rows.now.db row.now.person row.now.conference else []) }
     ensures few { length result.now < 2 ^ 32 }

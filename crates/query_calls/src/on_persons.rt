@@ -6,7 +6,7 @@ ghost use Rattle.kom_model.specs.calls.Persons as Persons;
 use crate::told_counts::{memberships_told, own_count};
 use access_rights::{login_guard, told_count};
 use kom_model::{CallError, Viewer};
-use kom_state::{Asked, State};
+use kom_state::{Asked, StoredRows};
 use kom_types::{Boxed, Bytes, Decision, Memory, Person, PersonRow, Reply};
 use std::alloc::Global;
 
@@ -23,7 +23,12 @@ pub fn get_person_stat(asked: &Asked<'_>, person: u32) -> Result<Decision, CallE
     Ok(asked.answer(reply))
 }
 
-fn person_reply(alloc: Global, rows: &State, caller: &Viewer, person: u32) -> Result<Reply, Memory>
+fn person_reply(
+    alloc: Global,
+    rows: &StoredRows,
+    caller: &Viewer,
+    person: u32,
+) -> Result<Reply, Memory>
     ensures { IfOk result (λ reply. reply ≡ Persons.person_reply rows.now.db caller.now person) }
 {
     match rows.person(person) {
@@ -38,7 +43,7 @@ fn person_reply(alloc: Global, rows: &State, caller: &Viewer, person: u32) -> Re
 /// A person, as it is told to who looks.
 fn person_told(
     alloc: Global,
-    rows: &State,
+    rows: &StoredRows,
     viewer: &Viewer,
     row: &PersonRow,
 ) -> Result<Person, Memory>

@@ -9,7 +9,7 @@ use crate::created::created_up;
 use crate::nearest::{Wanted, next_shown, previous_shown};
 use access_rights::{conference_guard, login_guard, reads_guard, shown_stat, text_guard, unless};
 use kom_model::{CallError, Refused, Viewer};
-use kom_state::{Asked, State};
+use kom_state::{Asked, StoredRows};
 use kom_types::limits::MOST_MAPPED;
 use kom_types::{Boxed, Decision, Mapping, Memory, Reply};
 use std::alloc::Global;
@@ -37,7 +37,7 @@ pub fn get_text_stat(asked: &Asked<'_>, text: u32) -> Result<Decision, CallError
     Ok(asked.answer(reply))
 }
 
-fn text_reply(alloc: Global, rows: &State, caller: &Viewer, text: u32) -> Result<Reply, Memory>
+fn text_reply(alloc: Global, rows: &StoredRows, caller: &Viewer, text: u32) -> Result<Reply, Memory>
     ensures { IfOk result (λ reply. reply ≡ Texts.text_reply rows.now.db caller.now text) }
 {
     match rows.text(text) {

@@ -5,10 +5,10 @@ ghost use Rattle.kom_model.specs.Shown as Shown;
 use crate::hidden::{hidden_members, hidden_memberships};
 use access_rights::told_count;
 use kom_model::Viewer;
-use kom_state::State;
+use kom_state::StoredRows;
 
 /// How many members of a conference are shown to who looks.
-pub(crate) fn members_told(rows: &State, viewer: &Viewer, conference: u32) -> u32
+pub(crate) fn members_told(rows: &StoredRows, viewer: &Viewer, conference: u32) -> u32
     ensures { result ≡ Shown.told_count
         (length (Shown.members_shown rows.now.db viewer.now conference)) }
 {
@@ -17,7 +17,7 @@ pub(crate) fn members_told(rows: &State, viewer: &Viewer, conference: u32) -> u3
 }
 
 /// How many memberships of a person are shown to who looks.
-pub(crate) fn memberships_told(rows: &State, viewer: &Viewer, person: u32) -> u32
+pub(crate) fn memberships_told(rows: &StoredRows, viewer: &Viewer, person: u32) -> u32
     ensures { result ≡ Shown.told_count
         (length (Shown.memberships_shown rows.now.db viewer.now person)) }
 {

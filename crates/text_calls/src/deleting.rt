@@ -3,12 +3,12 @@ ghost use Rattle.std.specs.Prelude.{◌≡◌, ◌++◌, map, IfOk};
 ghost use Rattle.kom_model.specs.Db.{links_of, recipients_of, marks_on};
 ghost use Rattle.kom_model.specs.calls.Texts as Texts;
 
-use kom_state::{State, push_items_gone};
+use kom_state::{StoredRows, push_items_gone};
 use kom_types::{Effect, EffectList, Memory, Sequence};
 use std::alloc::Global;
 
 /// What hangs on a text goes before it: links, recipients, marks, aux-items.
-pub(crate) fn gone_text(alloc: Global, rows: &State, text: u32) -> Result<EffectList, Memory>
+pub(crate) fn gone_text(alloc: Global, rows: &StoredRows, text: u32) -> Result<EffectList, Memory>
     ensures { IfOk result (λ effects. effects ≡ Texts.gone_text rows.now.db text) }
 {
     let mut effects = Sequence::new(alloc);
@@ -20,7 +20,7 @@ pub(crate) fn gone_text(alloc: Global, rows: &State, text: u32) -> Result<Effect
     Ok(effects)
 }
 
-fn push_links(effects: &mut EffectList, rows: &State, text: u32) -> Result<(), Memory>
+fn push_links(effects: &mut EffectList, rows: &StoredRows, text: u32) -> Result<(), Memory>
     ensures { IfOk result (λ done. effects.new ≡ effects.old
         ++ map (λ link. Effect.LinkGone link.child link.parent link.footnote)
         (links_of rows.now.db text)) }
@@ -36,7 +36,7 @@ fn push_links(effects: &mut EffectList, rows: &State, text: u32) -> Result<(), M
     Ok(())
 }
 
-fn push_recipients(effects: &mut EffectList, rows: &State, text: u32) -> Result<(), Memory>
+fn push_recipients(effects: &mut EffectList, rows: &StoredRows, text: u32) -> Result<(), Memory>
     ensures { IfOk result (λ done. effects.new ≡ effects.old
         ++ map (λ row. Effect.RecipientGone row.text row.conference)
         (recipients_of rows.now.db text)) }
@@ -52,7 +52,7 @@ fn push_recipients(effects: &mut EffectList, rows: &State, text: u32) -> Result<
     Ok(())
 }
 
-fn push_marks(effects: &mut EffectList, rows: &State, text: u32) -> Result<(), Memory>
+fn push_marks(effects: &mut EffectList, rows: &StoredRows, text: u32) -> Result<(), Memory>
     ensures { IfOk result (λ done. effects.new ≡ effects.old
         ++ map (λ row. Effect.MarkGone row.person row.text) (marks_on rows.now.db text)) }
 {

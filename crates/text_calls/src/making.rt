@@ -13,11 +13,11 @@ use crate::naming::{items_are_good, names_footnote, names_recipient};
 use crate::on_recipients::{new_recipient, written};
 use access_rights::{login_guard, new_items_guard, size_guard, unless};
 use kom_model::CallError;
-use kom_state::{Asked, State, push_count, push_items};
+use kom_state::{Asked, StoredRows, push_count, push_items};
 use kom_types::limits::{LAST_DRAWN, LONGEST_BODY};
 use kom_types::{
-    Bytes, Counter, Decision, Effect, EffectList, Link, Memory, MiscInput, NewText, Object, Reply,
-    Sequence,
+    Bytes, Counter, Decision, Effect, EffectList, Memory, MiscInput, NewText, Object, Reply,
+    Sequence, TextLink,
 };
 
 /// Call 86, create-text.
@@ -64,7 +64,7 @@ fn new_text(asked: &Asked<'_>, anonymous: bool, given: &NewText) -> Result<Decis
 
 /// Whether the next number of a text is left, one in each conference that is named, and one among
 /// the texts of an author.
-fn has_numbers(rows: &State, person: u32, anonymous: bool, items: &[MiscInput]) -> bool
+fn has_numbers(rows: &StoredRows, person: u32, anonymous: bool, items: &[MiscInput]) -> bool
     ensures { result ≡ NewTexts.has_numbers rows.now.db person anonymous items.now }
 {
     rows.next_text() <= LAST_DRAWN
@@ -73,21 +73,21 @@ fn has_numbers(rows: &State, person: u32, anonymous: bool, items: &[MiscInput]) 
 }
 
 /// Whether a local number of each conference that is named is left.
-fn have_locals(rows: &State, items: &[MiscInput]) -> bool
+fn have_locals(rows: &StoredRows, items: &[MiscInput]) -> bool
     ensures { result ≡ list_all (NewTexts.has_local rows.now.db) items.now }
 {
     items.iter().all(|item| has_local(rows, item))
 }
 
 /// Whether a number among the texts of an author is left, where there is one.
-fn has_created(rows: &State, person: u32, anonymous: bool) -> bool
+fn has_created(rows: &StoredRows, person: u32, anonymous: bool) -> bool
     ensures { result ≡ NewTexts.has_created rows.now.db person anonymous }
 {
     anonymous || rows.next_created(person) <= LAST_DRAWN
 }
 
 /// Whether a local number of the conference that an item names is left.
-fn has_local(rows: &State, item: &MiscInput) -> bool
+fn has_local(rows: &StoredRows, item: &MiscInput) -> bool
     ensures { result ≡ NewTexts.has_local rows.now.db item.now }
 {
     !names_recipient(item) || rows.next_local(item.value) <= LAST_DRAWN
@@ -144,7 +144,7 @@ fn item_effect(asked: &Asked<'_>, text: u32, item: &MiscInput) -> Effect
         let tag = item.tag as u8;
         Effect::RecipientAdded(new_recipient(asked, text, item.value, tag, 0))
     } else {
-        Effect::LinkAdded(Link {
+        Effect::LinkAdded(TextLink {
             child: text,
             parent: item.value,
             footnote: names_footnote(item),

@@ -9,7 +9,7 @@ use crate::on_links::into_guard;
 use crate::owning::made_text;
 use access_rights::{conference_guard, submit_guard, text_guard, unless};
 use kom_model::{Refused, Rows, Viewer};
-use kom_state::{Asked, State, is_recipient_tag};
+use kom_state::{Asked, StoredRows, is_recipient_tag};
 use kom_types::MiscInput;
 use kom_types::bits::ALLOWS_ANONYMOUS;
 use kom_types::limits::{MOST_COMMENTS, MOST_FOOTNOTES, MOST_RECIPIENTS};
@@ -109,7 +109,7 @@ fn recipient_guard(
 }
 
 /// A text without an author is taken by the conference.
-fn anonymous_guard(rows: &State, anonymous: bool, conference: u32) -> Result<(), Refused>
+fn anonymous_guard(rows: &StoredRows, anonymous: bool, conference: u32) -> Result<(), Refused>
     ensures { Guards (NewTexts.anonymous_guard rows.now.db anonymous conference) result }
 {
     unless(
@@ -120,7 +120,7 @@ fn anonymous_guard(rows: &State, anonymous: bool, conference: u32) -> Result<(),
 }
 
 /// Whether a conference takes texts without an author.
-fn takes_anonymous(rows: &State, conference: u32) -> bool
+fn takes_anonymous(rows: &StoredRows, conference: u32) -> bool
     ensures { result ≡ NewTexts.takes_anonymous rows.now.db conference }
 {
     match Rows::conference(rows, conference) {
@@ -158,7 +158,12 @@ fn footnote_guard(
 }
 
 /// The caller made the text that gets a footnote, and makes this one not without an author.
-fn author_guard(rows: &State, caller: &Viewer, anonymous: bool, text: u32) -> Result<(), Refused>
+fn author_guard(
+    rows: &StoredRows,
+    caller: &Viewer,
+    anonymous: bool,
+    text: u32,
+) -> Result<(), Refused>
     ensures { Guards (NewTexts.author_guard rows.now.db caller.now anonymous text) result }
 {
     unless(!anonymous && made_text(rows, caller, text), 37, text)

@@ -6,8 +6,8 @@ ghost use Rattle.kom_model.specs.calls.Texts as Texts;
 use crate::owning::{made_text, owns_text};
 use access_rights::{login_guard, text_guard, unless};
 use kom_model::{CallError, Refused};
-use kom_state::{Asked, State, most_links};
-use kom_types::{Decision, Effect, Link};
+use kom_state::{Asked, StoredRows, most_links};
+use kom_types::{Decision, Effect, TextLink};
 
 /// Call 32, add-comment.
 pub fn add_comment(asked: &Asked<'_>, child: u32, parent: u32) -> Result<Decision, CallError>
@@ -84,7 +84,7 @@ pub fn sub_footnote(asked: &Asked<'_>, child: u32, parent: u32) -> Result<Decisi
 fn linked(asked: &Asked<'_>, child: u32, parent: u32, footnote: bool) -> Effect
     ensures { result ≡ Texts.linked asked.now child parent footnote }
 {
-    Effect::LinkAdded(Link {
+    Effect::LinkAdded(TextLink {
         child,
         parent,
         footnote,
@@ -95,7 +95,7 @@ fn linked(asked: &Asked<'_>, child: u32, parent: u32, footnote: bool) -> Effect
 
 /// Two texts are not linked so yet.
 fn unlinked_guard(
-    rows: &State,
+    rows: &StoredRows,
     child: u32,
     parent: u32,
     footnote: bool,
@@ -108,7 +108,7 @@ fn unlinked_guard(
 
 /// Two texts are linked so.
 fn linked_guard(
-    rows: &State,
+    rows: &StoredRows,
     child: u32,
     parent: u32,
     footnote: bool,
@@ -121,7 +121,7 @@ fn linked_guard(
 
 /// One more link is taken into a text.
 pub(crate) fn into_guard(
-    rows: &State,
+    rows: &StoredRows,
     parent: u32,
     footnote: bool,
     code: u32,
@@ -134,7 +134,7 @@ pub(crate) fn into_guard(
 }
 
 /// One more link is taken from a text.
-fn from_guard(rows: &State, child: u32, footnote: bool, code: u32) -> Result<(), Refused>
+fn from_guard(rows: &StoredRows, child: u32, footnote: bool, code: u32) -> Result<(), Refused>
     ensures { Guards (Texts.from_guard rows.now.db child footnote code) result }
 {
     let holds = rows.count_from(child, footnote) < most_links(footnote);
@@ -142,7 +142,7 @@ fn from_guard(rows: &State, child: u32, footnote: bool, code: u32) -> Result<(),
 }
 
 /// Who made a link: 0 if the text was made with it.
-fn linker_of(rows: &State, child: u32, parent: u32, footnote: bool) -> u32
+fn linker_of(rows: &StoredRows, child: u32, parent: u32, footnote: bool) -> u32
     ensures { result ≡ Texts.linker_of rows.now.db child parent footnote }
 {
     match rows.link(child, parent, footnote) {

@@ -9,7 +9,7 @@ use access_rights::{
     conference_guard, login_guard, shows_recipient, submit_guard, supervises, text_guard, unless,
 };
 use kom_model::{CallError, Refused, Viewer};
-use kom_state::{Asked, State, is_recipient_tag};
+use kom_state::{Asked, StoredRows, is_recipient_tag};
 use kom_types::limits::{LAST_DRAWN, MOST_RECIPIENTS};
 use kom_types::{ConfField, Decision, Effect, EffectList, Memory, Recipient, Reply, Sequence};
 
@@ -41,7 +41,7 @@ pub fn add_recipient(
 }
 
 /// A local number of the conference is left.
-fn local_guard(rows: &State, conference: u32) -> Result<(), Refused>
+fn local_guard(rows: &StoredRows, conference: u32) -> Result<(), Refused>
     ensures { Guards (Texts.local_guard rows.now.db conference) result }
 {
     unless(rows.next_local(conference) <= LAST_DRAWN, 45, 0)
@@ -103,7 +103,7 @@ pub fn sub_recipient(asked: &Asked<'_>, text: u32, conference: u32) -> Result<De
 }
 
 /// Whether a recipient is there and shown to the caller.
-fn shows_to(rows: &State, caller: &Viewer, text: u32, conference: u32) -> bool
+fn shows_to(rows: &StoredRows, caller: &Viewer, text: u32, conference: u32) -> bool
     ensures { result ≡ Texts.shows_to rows.now.db caller.now text conference }
 {
     match rows.recipient(text, conference) {
@@ -113,7 +113,7 @@ fn shows_to(rows: &State, caller: &Viewer, text: u32, conference: u32) -> bool
 }
 
 /// Whether the caller may take a recipient away.
-fn may_take(rows: &State, caller: &Viewer, text: u32, conference: u32) -> bool
+fn may_take(rows: &StoredRows, caller: &Viewer, text: u32, conference: u32) -> bool
     ensures { result ≡ Texts.may_take rows.now.db caller.now text conference }
 {
     owns_text(rows, caller, text)
@@ -122,7 +122,7 @@ fn may_take(rows: &State, caller: &Viewer, text: u32, conference: u32) -> bool
 }
 
 /// Who added a recipient: 0 if the text was made with it.
-fn sender_of(rows: &State, text: u32, conference: u32) -> u32
+fn sender_of(rows: &StoredRows, text: u32, conference: u32) -> u32
     ensures { result ≡ Texts.sender_of rows.now.db text conference }
 {
     match rows.recipient(text, conference) {

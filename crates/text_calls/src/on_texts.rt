@@ -6,7 +6,7 @@ use crate::deleting::gone_text;
 use crate::owning::owns_text;
 use access_rights::{login_guard, text_guard, unless};
 use kom_model::CallError;
-use kom_state::{Asked, State};
+use kom_state::{Asked, StoredRows};
 use kom_types::{Boxed, Bytes, Counter, Decision, Effect, Memory, Reply, Sequence};
 use std::alloc::Global;
 
@@ -36,7 +36,7 @@ pub fn get_text(asked: &Asked<'_>, text: u32, start: u32, end: u32) -> Result<De
 }
 
 /// How many bytes a text has.
-fn length_of(rows: &State, text: u32) -> usize
+fn length_of(rows: &StoredRows, text: u32) -> usize
     ensures { result ≡ length (Texts.body_of rows.now.db text) }
 {
     match rows.text(text) {
@@ -48,7 +48,7 @@ fn length_of(rows: &State, text: u32) -> usize
 /// The bytes of a text from one place to another, that one too, as far as there are some.
 fn copy_of_part(
     alloc: Global,
-    rows: &State,
+    rows: &StoredRows,
     text: u32,
     start: u32,
     end: u32,

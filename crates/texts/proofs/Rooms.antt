@@ -2,7 +2,7 @@
 use Rattle.std.proofs.Common.{◌≡◌, ℕ, ◌<◌, ◌≤◌, Bool, true, false, cond, ◌&&◌, eqb, refl, sym, subst, inl, inr, arith}
 use Rattle.std.proofs.lemmas.Bool.{cases_Bool, cases_eq, and_parts, eq-eqb, eqb-true, ne_eqb}
 use Rattle.kom_types.specs.Bits.{alike}
-use Rattle.kom_types.specs.declared.texts.Link.{Link}
+use Rattle.kom_types.specs.declared.texts.TextLink.{TextLink}
 use Rattle.kom_types.specs.declared.texts.MarkRow.{MarkRow}
 use Rattle.kom_types.specs.declared.texts.Recipient.{Recipient}
 use Rattle.local_maps.specs.Maps.{room_of}
@@ -33,7 +33,7 @@ module _ (room : Room) where
   alike_itself true = refl
   alike_itself false = refl
 
-  pub room_for_link : (given : Link) → HasRoom room (link_needs given) →
+  pub room_for_link : (given : TextLink) → HasRoom room (link_needs given) →
       linked.HasRoom room.links given.child given.parent given.footnote
   room_for_link given has =
       let child : eqb given.child given.child ≡ true = eq-eqb _ _ refl in
@@ -102,7 +102,7 @@ module _ (room : Room) where
       omega (arith, room_at given.conference (room_of room.locals) local conference)
   HasRoom-recipient given spare of_text local other = omega arith
 
-  pub HasRoom-link : (given : Link) → 1 ≤ room.links.spare →
+  pub HasRoom-link : (given : TextLink) → 1 ≤ room.links.spare →
       1 ≤ linked.room_from room.links given.child given.footnote →
       1 ≤ linked.room_into room.links given.parent given.footnote → HasRoom room (link_needs given)
   HasRoom-link given spare from into need.Link = spare

@@ -1,7 +1,7 @@
 -- The room that rows need.
 use Rattle.std.specs.Prelude.{ℕ, ◌+◌, ◌≤◌, Bool, false, ◌==◌, ◌&&◌, List, [], ◌∷◌, count_by}
 use Rattle.kom_types.specs.Bits.{alike}
-use Rattle.kom_types.specs.declared.texts.Link.{Link}
+use Rattle.kom_types.specs.declared.texts.TextLink.{TextLink}
 use Rattle.kom_types.specs.declared.texts.MarkRow.{MarkRow}
 use Rattle.kom_types.specs.declared.texts.Recipient.{Recipient}
 use Rattle.local_maps.specs.Maps.{room_of}
@@ -34,7 +34,7 @@ abbrev pub recipient_needs : Recipient → List Need
 recipient_needs given =
     need.Recipient ∷ need.RecipientOf given.text ∷ need.Local given.conference ∷ []
 
-abbrev pub link_needs : Link → List Need
+abbrev pub link_needs : TextLink → List Need
 link_needs given =
     need.Link ∷ need.LinkFrom given.child given.footnote
     ∷ need.LinkInto given.parent given.footnote ∷ []

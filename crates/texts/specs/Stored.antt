@@ -1,6 +1,6 @@
 -- What is kept of texts, as contracts see it.
 use Rattle.std.specs.Prelude.{ℕ, List}
-use Rattle.kom_types.specs.declared.texts.Link.{Link}
+use Rattle.kom_types.specs.declared.texts.TextLink.{TextLink}
 use Rattle.kom_types.specs.declared.texts.MarkRow.{MarkRow}
 use Rattle.kom_types.specs.declared.texts.Recipient.{Recipient}
 use Rattle.kom_types.specs.declared.texts.TextRow.{TextRow}
@@ -13,7 +13,7 @@ use Rattle.misc_links.specs.Received.{Received}
 pub record TextRows : Type 0 where
   pub texts : List TextRow
   pub recipients : List Recipient
-  pub links : List Link
+  pub links : List TextLink
   pub marks : List MarkRow
 
 -- How many more rows fit without memory: into the tables, and into the lists that each of them

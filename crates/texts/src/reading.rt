@@ -10,7 +10,7 @@ ghost use Rattle.misc_links.specs.Linked.{touching};
 ghost use Rattle.texts.specs.Keeping.{IsFrom};
 
 use crate::texts::Texts;
-use kom_types::{Link, Mapping, MarkRow, Marks, Memory, Recipient, TextRow};
+use kom_types::{Mapping, MarkRow, Marks, Memory, Recipient, TextLink, TextRow};
 use local_maps::PairsFrom;
 
 impl Texts {
@@ -45,7 +45,7 @@ impl Texts {
     }
 
     /// The link of a comment, or a footnote, to a text. The time grows with the links from it.
-    pub fn link(&self, child: u32, parent: u32, footnote: bool) -> Option<&Link>
+    pub fn link(&self, child: u32, parent: u32, footnote: bool) -> Option<&TextLink>
         ensures { option_copied result ≡ link_of child parent footnote self.now.rows.links }
     {
         self.links.get(child, parent, footnote)
@@ -67,7 +67,7 @@ impl Texts {
 
     /// The link at a place among those of a text to others, in the order of adding, in constant
     /// time.
-    pub fn nth_from(&self, text: u32, footnote: bool, place: usize) -> Option<&Link>
+    pub fn nth_from(&self, text: u32, footnote: bool, place: usize) -> Option<&TextLink>
         ensures { option_copied result
             ≡ slice_get (links_from text footnote self.now.rows.links) place }
     {
@@ -76,7 +76,7 @@ impl Texts {
 
     /// The link at a place among those of the comments, or the footnotes, to a text, in the order
     /// of adding, in constant time.
-    pub fn nth_into(&self, text: u32, footnote: bool, place: usize) -> Option<&Link>
+    pub fn nth_into(&self, text: u32, footnote: bool, place: usize) -> Option<&TextLink>
         ensures { option_copied result
             ≡ slice_get (links_into text footnote self.now.rows.links) place }
     {
@@ -85,7 +85,7 @@ impl Texts {
 
     /// The links from a text and into it, in the order of adding. The time grows with their number,
     /// times its logarithm.
-    pub fn links_of(&self, text: u32) -> Result<Vec<Link>, Memory>
+    pub fn links_of(&self, text: u32) -> Result<Vec<TextLink>, Memory>
         ensures { IfOk result (λ links. links.items ≡ touching text self.now.rows.links) }
     {
         self.links.of_text(text)

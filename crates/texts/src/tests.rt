@@ -7,7 +7,7 @@ ghost use Rattle.texts.specs.Needs.{HasRoom, text_needs, recipient_needs, link_n
 ghost use Rattle.texts.specs.Needs.{mark_needs, created_needs};
 
 use super::*;
-use kom_types::{Block, Bytes, Link, LocalText, Mapping, MarkRow, Memory, Moment, Recipient};
+use kom_types::{Block, Bytes, LocalText, Mapping, MarkRow, Memory, Moment, Recipient, TextLink};
 use local_maps::PairsFrom;
 use std::alloc::Global;
 use std::test::Fail;
@@ -87,7 +87,7 @@ fn make_room_for_recipient(texts: &mut Texts, given: &Recipient) -> Result<(), M
     texts.reserve(Need::Local(given.conference), 1)
 }
 
-fn make_room_for_link(texts: &mut Texts, given: &Link) -> Result<(), Memory>
+fn make_room_for_link(texts: &mut Texts, given: &TextLink) -> Result<(), Memory>
     ensures rows { texts.new.rows ≡ texts.old.rows }
     ensures room { OnOk result (HasRoom texts.new.room (link_needs given.now)) }
 {
@@ -313,7 +313,7 @@ fn texts_of_a_conference_are_counted_and_told(rt: HostRuntime) -> Result<(), Fai
 
 // Text 8 becomes a comment to 7, if it is none.
 fn comment(texts: &mut Texts) -> Result<(), Memory> {
-    let given = Link {
+    let given = TextLink {
         child: 8,
         parent: 7,
         footnote: false,

@@ -13,7 +13,7 @@ ghost use Rattle.texts.specs.Needs.{recipient_needs, link_needs, mark_needs, cre
 use crate::needs::Need;
 use crate::row::fresh_text;
 use crate::table::TextTable;
-use kom_types::{Bytes, Link, MarkRow, Memory, Moment, Recipient};
+use kom_types::{Bytes, MarkRow, Memory, Moment, Recipient, TextLink};
 use local_maps::LocalMaps;
 use marks::MarkTable;
 use misc_links::{Links, Recipients};
@@ -149,7 +149,7 @@ impl Texts {
     }
 
     /// Adds a link.
-    pub fn add_link(&mut self, given: Link)
+    pub fn add_link(&mut self, given: TextLink)
         requires absent { link_of given.child given.parent given.footnote self.old.rows.links
             ≡ None }
         requires room { HasRoom self.old.room (link_needs given) }

@@ -4,7 +4,9 @@ ghost use Rattle.kom_types.specs.tables.AuxItems.{is_item_of};
 
 use kom_model::Rows;
 use kom_types::bits::{READ_PROTECTED, SECRET_CONFERENCE};
-use kom_types::{AuxRow, Bytes, ConferenceHead, ItemRow, Link, Memory, Moment, Recipient, TextRow};
+use kom_types::{
+    AuxRow, Bytes, ConferenceHead, ItemRow, Memory, Moment, Recipient, TextLink, TextRow,
+};
 use std::alloc::Global;
 
 // The number of the text.
@@ -26,7 +28,7 @@ pub struct Small<'a> {
     pub flags: u8,
     pub text: &'a TextRow,
     pub recipients: [Recipient; 2],
-    pub links: [Link; 4],
+    pub links: [TextLink; 4],
     pub items: &'a [ItemRow],
 }
 
@@ -126,7 +128,7 @@ impl<'a> Rows for Small<'a> {
     }
 
     #[tactic(auto, unfolding(kom_model::specs::Db::links_from))]
-    fn link_from(&self, text: u32, footnote: bool, place: usize) -> Option<Link> {
+    fn link_from(&self, text: u32, footnote: bool, place: usize) -> Option<TextLink> {
         self.links
             .iter()
             .filter(|row| is_from(row, text, footnote))
@@ -143,7 +145,7 @@ impl<'a> Rows for Small<'a> {
     }
 
     #[tactic(auto, unfolding(kom_model::specs::Db::links_into))]
-    fn link_into(&self, text: u32, footnote: bool, place: usize) -> Option<Link> {
+    fn link_into(&self, text: u32, footnote: bool, place: usize) -> Option<TextLink> {
         self.links
             .iter()
             .filter(|row| is_into(row, text, footnote))
@@ -175,13 +177,13 @@ impl<'a> Rows for Small<'a> {
     }
 }
 
-fn is_from(row: &Link, text: u32, footnote: bool) -> bool
+fn is_from(row: &TextLink, text: u32, footnote: bool) -> bool
     ensures { result ≡ (row.now.child == text && alike row.now.footnote footnote) }
 {
     row.child == text && row.footnote == footnote
 }
 
-fn is_into(row: &Link, text: u32, footnote: bool) -> bool
+fn is_into(row: &TextLink, text: u32, footnote: bool) -> bool
     ensures { result ≡ (row.now.parent == text && alike row.now.footnote footnote) }
 {
     row.parent == text && row.footnote == footnote
@@ -219,8 +221,8 @@ pub fn recipient(conference: u32, tag: u8, sender: u32) -> Recipient {
 }
 
 // The comment that a text is to another.
-pub fn comment(child: u32, parent: u32, sender: u32) -> Link {
-    Link {
+pub fn comment(child: u32, parent: u32, sender: u32) -> TextLink {
+    TextLink {
         child,
         parent,
         footnote: false,

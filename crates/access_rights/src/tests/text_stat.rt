@@ -2,7 +2,7 @@ use super::small::{OPEN, Small, comment, recipient, secret, text_by};
 use crate::{shown_stat, told_count};
 use kom_model::Viewer;
 use kom_types::bits::READ_PROTECTED;
-use kom_types::{Link, MiscInfo};
+use kom_types::{MiscInfo, TextLink};
 use std::alloc::Global;
 use std::process::Abort;
 use std::test::Fail;
@@ -76,8 +76,8 @@ fn a_blind_recipient_is_shown_to_its_readers(rt: HostRuntime) -> Result<(), Fail
     check_told(&rt, rt.alloc(), &small, 9, &both)
 }
 
-fn footnote(child: u32, parent: u32) -> Link {
-    Link {
+fn footnote(child: u32, parent: u32) -> TextLink {
+    TextLink {
         footnote: true,
         ..comment(child, parent, 0)
     }

@@ -12,16 +12,16 @@ use std::test::Fail;
 fn nearly_full(alloc: Global) -> Result<Core, Memory>
     ensures { IfOk result (λ core. core.state.entries ≡ 0) }
 {
-    let rows = kom_state::State::initial(alloc, b"", Moment::at_most(0))?;
+    let rows = kom_state::StoredRows::initial(alloc, b"", Moment::at_most(0))?;
     Ok(after_connects(alloc, rows, u32::MAX - 1))
 }
 
-fn after_connects(alloc: Global, rows: kom_state::State, connects: u32) -> Core
+fn after_connects(alloc: Global, rows: kom_state::StoredRows, connects: u32) -> Core
     requires { IsProtected rows.db }
     ensures { result.state.entries ≡ 0 }
 {
     Core {
-        server: State::after_connects(alloc, rows, connects),
+        server: ServerState::after_connects(alloc, rows, connects),
         last: None,
     }
 }

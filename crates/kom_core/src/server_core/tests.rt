@@ -418,7 +418,7 @@ fn make_a_conference(rt: &impl Abort, alloc: Global, core: &mut Core) -> Result<
 
 #[test]
 fn rows_that_are_given_are_taken(rt: HostRuntime) -> Result<(), Fail> {
-    let rows = kom_state::State::empty(rt.alloc());
+    let rows = kom_state::StoredRows::empty(rt.alloc());
     find_no_person(&rt, rt.alloc(), &mut Core::of(rt.alloc(), rows))
 }
 

@@ -7,14 +7,14 @@ ghost use Rattle.kom_core.specs.Acts.{items_of, TakesNone};
 ghost use Rattle.kom_core.specs.Keeping.{appended, effects_made};
 ghost use Rattle.kom_core.specs.Steps.{Changes, ChangesBy, greeting, made_of};
 
-use super::{Made, State, later};
+use super::{Made, ServerState, later};
 use crate::answer_kind::AnswerKind;
 use crate::keeper::Keeper;
 use arrayvec::ArrayVec;
 use kom_types::{Act, Bytes, Entry, Item, Memory, Moment};
 use sessions::SessionRow;
 
-impl State {
+impl ServerState {
     /// Makes the act of an entry that nothing refuses, but for the count of entries and the moment.
     /// A keeper gets the effects of a call.
     pub(super) fn change<K: Keeper>(

@@ -7,7 +7,7 @@ ghost use Rattle.kom_core.specs.Deciding.{IsCall, DecidesFirm};
 ghost use Rattle.kom_core.specs.Keeping.{appended, effects_of};
 ghost use Rattle.kom_core.specs.Steps.{ComesTo, CarriesOut, Answers, IsOf};
 
-use super::{State, later};
+use super::{ServerState, later};
 use crate::decide::decide;
 use crate::fan_out::fan_out;
 use crate::keeper::Keeper;
@@ -16,7 +16,7 @@ use kom_types::{
     ChangeList, Decision, EffectList, Entry, Item, Memory, Moment, Reply, SessionChange,
 };
 
-impl State {
+impl ServerState {
     /// Carries out the call of an entry, sends its messages, and queues its reply; where memory ran
     /// out before, only the reply that says so. Whether it did is returned. A keeper gets the
     /// effects.

@@ -2,12 +2,12 @@ ghost use Rattle.std.specs.Prelude.{◌≡◌};
 ghost use Rattle.kom_types.specs.Sessions.{waiting_limits, queued};
 ghost use Rattle.kom_model.specs.After.{with_session, queue_all};
 
-use super::State;
+use super::ServerState;
 use async_fanout::Delivery;
 use kom_replies::printed_len;
 use kom_types::Item;
 
-impl State {
+impl ServerState {
     /// Queues items one by one for their sessions.
     pub(super) fn queue_all(&mut self, deliveries: Vec<Delivery>)
         ensures { self.new ≡ queue_all waiting_limits deliveries.items self.old }

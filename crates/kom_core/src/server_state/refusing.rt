@@ -3,10 +3,10 @@ ghost use Rattle.kom_model.specs.State.{session_of};
 ghost use Rattle.kom_model.specs.Refusal.{refusal_of, call_refused, drain_refused, close_refused};
 ghost use Rattle.kom_model.specs.Refusal.{connect_refused, unless_store_refused};
 
-use super::State;
+use super::ServerState;
 use kom_types::{Act, Refusal, Why};
 
-impl State {
+impl ServerState {
     /// Why an act is not made, if it is not.
     pub(super) fn refusal(&self, act: &Act) -> Option<Refusal>
         ensures { result ≡ refusal_of self.now act.now }

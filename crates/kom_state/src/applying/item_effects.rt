@@ -3,10 +3,10 @@ ghost use Rattle.std.specs.Prelude.{◌≡◌, true, false};
 ghost use Rattle.kom_types.specs.declared.effects.Effect.{Effect as Change};
 ghost use Rattle.kom_state.specs.Room.{IsPossible, IsMade};
 
-use crate::state::State;
+use crate::stored_rows::StoredRows;
 use kom_types::{AuxRow, Effect, ItemRow};
 
-impl State {
+impl StoredRows {
     pub(crate) fn add_item(&mut self, on_text: bool, object: u32, item: AuxRow)
         requires { IsPossible (Effect.AuxAdded on_text object item) self.old }
         ensures { IsMade (Effect.AuxAdded on_text object item) self.old self.new }

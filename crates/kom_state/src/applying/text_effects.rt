@@ -3,10 +3,10 @@ ghost use Rattle.std.specs.Prelude.{◌≡◌, true};
 ghost use Rattle.kom_types.specs.declared.effects.Effect.{Effect as Change};
 ghost use Rattle.kom_state.specs.Room.{IsPossible, IsMade, is_of_text, mark_set};
 
-use crate::state::State;
-use kom_types::{Bytes, Effect, Link, MarkRow, Moment, Recipient};
+use crate::stored_rows::StoredRows;
+use kom_types::{Bytes, Effect, MarkRow, Moment, Recipient, TextLink};
 
-impl State {
+impl StoredRows {
     /// Makes an effect on texts.
     pub(crate) fn apply_to_texts(&mut self, effect: Effect)
         requires possible { IsPossible effect self.old }
@@ -69,7 +69,7 @@ impl State {
         self.texts.remove_recipient(text, conference);
     }
 
-    fn add_link(&mut self, given: Link)
+    fn add_link(&mut self, given: TextLink)
         requires { IsPossible (Effect.LinkAdded given) self.old }
         ensures { IsMade (Effect.LinkAdded given) self.old self.new }
     {

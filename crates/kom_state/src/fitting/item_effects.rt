@@ -2,12 +2,12 @@
 ghost use Rattle.std.specs.Prelude.{◌≡◌};
 ghost use Rattle.kom_model.specs.Effects.{has_object, may_add_item, has_item};
 
-use crate::state::State;
+use crate::stored_rows::StoredRows;
 use aux_items::is_known;
 use kom_types::AuxRow;
 use kom_types::limits::{LAST_DRAWN, LONGEST_CONTENT, MOST_AUX_ITEMS};
 
-impl State {
+impl StoredRows {
     /// Whether the text, or the conference, is there.
     fn has_object(&self, on_text: bool, object: u32) -> bool
         ensures { result ≡ has_object self.now.db on_text object }

@@ -5,13 +5,13 @@ ghost use Rattle.kom_model.specs.Effects.{may_add_text, is_bare, may_draw, is_re
 ghost use Rattle.kom_model.specs.Effects.{may_add_recipient, most_links, may_link, may_mark};
 ghost use Rattle.kom_model.specs.Effects.{may_number, may_create};
 
-use crate::state::State;
+use crate::stored_rows::StoredRows;
 use kom_types::limits::{
     LAST_DRAWN, LONGEST_BODY, MOST_COMMENTS, MOST_FOOTNOTES, MOST_MARKS, MOST_RECIPIENTS,
 };
-use kom_types::{Link, Recipient, TextRow};
+use kom_types::{Recipient, TextLink, TextRow};
 
-impl State {
+impl StoredRows {
     pub(crate) fn has_text(&self, number: u32) -> bool
         ensures { result ≡ is_some (text_of self.now.db number) }
     {
@@ -58,7 +58,7 @@ impl State {
             && self.recipient_count(given.text) < MOST_RECIPIENTS
     }
 
-    pub(crate) fn may_link(&self, given: &Link) -> bool
+    pub(crate) fn may_link(&self, given: &TextLink) -> bool
         ensures { result ≡ may_link self.now.db given.now }
     {
         self.has_text(given.child)

@@ -2,10 +2,10 @@
 ghost use Rattle.std.specs.Prelude.{◌≡◌, length, slice_get, option_copied};
 ghost use Rattle.kom_model.specs.Db.{items_of, next_item_of};
 
-use crate::state::State;
+use crate::stored_rows::StoredRows;
 use kom_types::AuxRow;
 
-impl State {
+impl StoredRows {
     /// How many aux-items a text, or a conference, has, in constant time.
     #[tactic(auto, unfolding(kom_model::specs::Db::items_of))]
     pub fn item_count(&self, on_text: bool, object: u32) -> usize

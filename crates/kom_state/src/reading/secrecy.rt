@@ -5,9 +5,9 @@ ghost use Rattle.kom_types.specs.tables.Memberships.{is_secret_membership};
 ghost use Rattle.kom_model.specs.Db.{memberships_of, members_of};
 ghost use Rattle.kom_state.specs.Secrecy.{secret_numbers};
 
-use crate::state::State;
+use crate::stored_rows::StoredRows;
 
-impl State {
+impl StoredRows {
     /// The persons whose membership in a conference is secret, each once, in any order. Takes
     /// constant time.
     #[tactic(auto, unfolding(kom_model::specs::Db::members_of))]

@@ -12,11 +12,11 @@ ghost use Rattle.local_maps.specs.Pairs.{AllBelow, IsRising};
 ghost use Rattle.texts.specs.Keeping.{IsFrom};
 ghost use Rattle.kom_state.specs.Keeping.{AreTextsBelow};
 
-use crate::state::State;
-use kom_types::{Link, Mapping, MarkRow, Marks, Memory, Recipient, TextRow};
+use crate::stored_rows::StoredRows;
+use kom_types::{Mapping, MarkRow, Marks, Memory, Recipient, TextLink, TextRow};
 use local_maps::PairsFrom;
 
-impl State {
+impl StoredRows {
     /// The text of a number, in constant time.
     #[tactic(auto, unfolding(kom_model::specs::Db::text_of))]
     pub fn text(&self, number: u32) -> Option<&TextRow>
@@ -61,7 +61,7 @@ impl State {
 
     /// The link of a comment, or a footnote, to a text. The time grows with the links from it.
     #[tactic(auto, unfolding(kom_model::specs::Db::link_of))]
-    pub fn link(&self, child: u32, parent: u32, footnote: bool) -> Option<&Link>
+    pub fn link(&self, child: u32, parent: u32, footnote: bool) -> Option<&TextLink>
         ensures { option_copied result ≡ link_of self.now.db child parent footnote }
     {
         self.texts.link(child, parent, footnote)
@@ -86,7 +86,7 @@ impl State {
     /// The link at a place among those of a text to others, in the order of adding, in constant
     /// time.
     #[tactic(auto, unfolding(kom_model::specs::Db::links_from))]
-    pub fn nth_from(&self, text: u32, footnote: bool, place: usize) -> Option<&Link>
+    pub fn nth_from(&self, text: u32, footnote: bool, place: usize) -> Option<&TextLink>
         ensures { option_copied result ≡ slice_get (links_from self.now.db text footnote) place }
     {
         self.texts.nth_from(text, footnote, place)
@@ -95,7 +95,7 @@ impl State {
     /// The link at a place among those of the comments, or the footnotes, to a text, in the order
     /// of adding, in constant time.
     #[tactic(auto, unfolding(kom_model::specs::Db::links_into))]
-    pub fn nth_into(&self, text: u32, footnote: bool, place: usize) -> Option<&Link>
+    pub fn nth_into(&self, text: u32, footnote: bool, place: usize) -> Option<&TextLink>
         ensures { option_copied result ≡ slice_get (links_into self.now.db text footnote) place }
     {
         self.texts.nth_into(text, footnote, place)
@@ -104,7 +104,7 @@ impl State {
     /// The links from a text and into it, in the order of adding. The time grows with their number,
     /// times its logarithm.
     #[tactic(auto, unfolding(kom_model::specs::Db::links_of))]
-    pub fn links_of(&self, text: u32) -> Result<Vec<Link>, Memory>
+    pub fn links_of(&self, text: u32) -> Result<Vec<TextLink>, Memory>
         ensures { IfOk result (λ links. links.items ≡ links_of self.now.db text) }
     {
         self.texts.links_of(text)

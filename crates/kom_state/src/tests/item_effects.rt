@@ -1,13 +1,13 @@
 //! Tests of the effects on aux-items.
 use super::text_effects::write;
 use super::{make, open_all};
-use crate::State;
+use crate::StoredRows;
 use kom_types::{AuxRow, Bytes, Effect, Memory, Moment};
 use std::process::Abort;
 use std::test::Fail;
 
 // Adds an item of this tag by the administrator.
-fn add(state: &mut State, on_text: bool, number: u32, tag: u32) -> Result<bool, Memory> {
+fn add(state: &mut StoredRows, on_text: bool, number: u32, tag: u32) -> Result<bool, Memory> {
     let item = AuxRow {
         number,
         tag,
@@ -28,7 +28,7 @@ fn add(state: &mut State, on_text: bool, number: u32, tag: u32) -> Result<bool, 
     )
 }
 
-fn remove(state: &mut State, on_text: bool, number: u32) -> Result<bool, Memory> {
+fn remove(state: &mut StoredRows, on_text: bool, number: u32) -> Result<bool, Memory> {
     let object = if on_text { 1 } else { 4 };
     make(
         state,
@@ -42,10 +42,10 @@ fn remove(state: &mut State, on_text: bool, number: u32) -> Result<bool, Memory>
 
 #[test]
 fn items_are_added_and_go(rt: HostRuntime) -> Result<(), Fail> {
-    check_items(&rt, &mut State::empty(rt.alloc()))
+    check_items(&rt, &mut StoredRows::empty(rt.alloc()))
 }
 
-fn check_items(rt: &impl Abort, state: &mut State) -> Result<(), Fail> {
+fn check_items(rt: &impl Abort, state: &mut StoredRows) -> Result<(), Fail> {
     open_all(rt, state)?;
     assert!(rt; write(state, 1)?);
     assert!(rt; add(state, true, 1, 3)? && add(state, true, 3, 2)? && add(state, false, 2, 14)?);
@@ -56,7 +56,7 @@ fn check_items(rt: &impl Abort, state: &mut State) -> Result<(), Fail> {
     check_gone(rt, state)
 }
 
-fn check_gone(rt: &impl Abort, state: &mut State) -> Result<(), Fail> {
+fn check_gone(rt: &impl Abort, state: &mut StoredRows) -> Result<(), Fail> {
     assert!(rt; remove(state, true, 1)? && !remove(state, true, 2)?);
     assert_eq!(rt; state.item_count(true, 1), 1);
     assert_eq!(rt; state.item_count(false, 4), 1);
@@ -66,10 +66,10 @@ fn check_gone(rt: &impl Abort, state: &mut State) -> Result<(), Fail> {
 
 #[test]
 fn item_that_does_not_fit_is_not_added(rt: HostRuntime) -> Result<(), Fail> {
-    check_fit(&rt, &mut State::empty(rt.alloc()))
+    check_fit(&rt, &mut StoredRows::empty(rt.alloc()))
 }
 
-fn check_fit(rt: &impl Abort, state: &mut State) -> Result<(), Fail> {
+fn check_fit(rt: &impl Abort, state: &mut StoredRows) -> Result<(), Fail> {
     open_all(rt, state)?;
     assert!(rt; !add(state, true, 1, 3)?);
     assert!(rt; write(state, 1)?);

@@ -1,12 +1,12 @@
 //! Tests of the effects on texts.
 use super::{make, open_all};
-use crate::State;
-use kom_types::{Bytes, Effect, Link, Memory, Moment, Recipient};
+use crate::StoredRows;
+use kom_types::{Bytes, Effect, Memory, Moment, Recipient, TextLink};
 use std::process::Abort;
 use std::test::Fail;
 
 // Adds a text by the administrator.
-pub(super) fn write(state: &mut State, number: u32) -> Result<bool, Memory> {
+pub(super) fn write(state: &mut StoredRows, number: u32) -> Result<bool, Memory> {
     let body = Bytes::copy_of(state.alloc, b"Hello\n")?;
     let effect = Effect::TextAdded {
         number,
@@ -18,7 +18,7 @@ pub(super) fn write(state: &mut State, number: u32) -> Result<bool, Memory> {
 }
 
 pub(super) fn send(
-    state: &mut State,
+    state: &mut StoredRows,
     text: u32,
     conference: u32,
     local: u32,
@@ -34,8 +34,8 @@ pub(super) fn send(
     make(state, Effect::RecipientAdded(recipient))
 }
 
-fn comment(state: &mut State, child: u32, parent: u32) -> Result<bool, Memory> {
-    let link = Link {
+fn comment(state: &mut StoredRows, child: u32, parent: u32) -> Result<bool, Memory> {
+    let link = TextLink {
         child,
         parent,
         footnote: false,
@@ -45,7 +45,7 @@ fn comment(state: &mut State, child: u32, parent: u32) -> Result<bool, Memory> {
     make(state, Effect::LinkAdded(link))
 }
 
-pub(super) fn number(state: &mut State, text: u32, local: u32) -> Result<bool, Memory> {
+pub(super) fn number(state: &mut StoredRows, text: u32, local: u32) -> Result<bool, Memory> {
     make(
         state,
         Effect::Created {
@@ -57,7 +57,7 @@ pub(super) fn number(state: &mut State, text: u32, local: u32) -> Result<bool, M
 }
 
 // The rows of a new server, text 1 in conference 4, and text 2 as a comment to it, both numbered.
-fn write_two(rt: &impl Abort, state: &mut State) -> Result<(), Fail> {
+fn write_two(rt: &impl Abort, state: &mut StoredRows) -> Result<(), Fail> {
     open_all(rt, state)?;
     assert!(rt; write(state, 1)? && write(state, 2)?);
     assert!(rt; send(state, 1, 4, 1)? && comment(state, 2, 1)?);
@@ -67,10 +67,10 @@ fn write_two(rt: &impl Abort, state: &mut State) -> Result<(), Fail> {
 
 #[test]
 fn texts_are_found_from_each_side(rt: HostRuntime) -> Result<(), Fail> {
-    check_two(&rt, &mut State::empty(rt.alloc()))
+    check_two(&rt, &mut StoredRows::empty(rt.alloc()))
 }
 
-fn check_two(rt: &impl Abort, state: &mut State) -> Result<(), Fail> {
+fn check_two(rt: &impl Abort, state: &mut StoredRows) -> Result<(), Fail> {
     write_two(rt, state)?;
     assert_eq!(rt; state.next_text(), 3);
     assert_eq!(rt; state.next_local(4), 2);
@@ -83,12 +83,12 @@ fn check_two(rt: &impl Abort, state: &mut State) -> Result<(), Fail> {
 
 #[test]
 fn what_does_not_fit_is_not_made(rt: HostRuntime) -> Result<(), Fail> {
-    check_refusals(&rt, &mut State::empty(rt.alloc()))
+    check_refusals(&rt, &mut StoredRows::empty(rt.alloc()))
 }
 
 // A number, a recipient, a local number and a link that are there already, and a text on which
 // something hangs.
-fn check_refusals(rt: &impl Abort, state: &mut State) -> Result<(), Fail> {
+fn check_refusals(rt: &impl Abort, state: &mut StoredRows) -> Result<(), Fail> {
     write_two(rt, state)?;
     assert!(rt; !write(state, 2)? && !send(state, 1, 4, 2)?);
     assert!(rt; !send(state, 2, 4, 1)? && !comment(state, 2, 1)?);
@@ -98,11 +98,11 @@ fn check_refusals(rt: &impl Abort, state: &mut State) -> Result<(), Fail> {
 
 #[test]
 fn a_bare_text_goes(rt: HostRuntime) -> Result<(), Fail> {
-    take_first(&rt, &mut State::empty(rt.alloc()))
+    take_first(&rt, &mut StoredRows::empty(rt.alloc()))
 }
 
 // Text 1 goes after its recipient and its comment, and no number is given again.
-fn take_first(rt: &impl Abort, state: &mut State) -> Result<(), Fail> {
+fn take_first(rt: &impl Abort, state: &mut StoredRows) -> Result<(), Fail> {
     write_two(rt, state)?;
     let unlinked = Effect::LinkGone {
         child: 2,

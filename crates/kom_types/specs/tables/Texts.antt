@@ -4,7 +4,7 @@ use Rattle.std.specs.Prelude.{ℕ, ◌+◌, Bool, ◌==◌, ◌&&◌, not, nat_l
 use Rattle.std.specs.Prelude.{List, [], ◌∷◌, ◌++◌, map, filter, find, fold, Option, is_some}
 use Rattle.std.specs.Prelude.{if◌then◌else◌}
 use Rattle.kom_types.specs.Bits.{alike}
-use Rattle.kom_types.specs.declared.texts.Link.{Link}
+use Rattle.kom_types.specs.declared.texts.TextLink.{TextLink}
 use Rattle.kom_types.specs.declared.texts.LocalText.{LocalText}
 use Rattle.kom_types.specs.declared.texts.Mark.{Mark}
 use Rattle.kom_types.specs.declared.texts.MarkRow.{MarkRow}
@@ -82,25 +82,25 @@ abbrev pub created_by : ℕ → List TextRow → List LocalText
 created_by person rows = rising_locals (map created_pair (filter (is_created_by person) rows))
 
 -- whether this links a comment, or a footnote, to a text
-abbrev pub is_link : ℕ → ℕ → Bool → Link → Bool
+abbrev pub is_link : ℕ → ℕ → Bool → TextLink → Bool
 is_link child parent footnote row =
     row.child == child && row.parent == parent && alike row.footnote footnote
 
-abbrev pub link_of : ℕ → ℕ → Bool → List Link → Option Link
+abbrev pub link_of : ℕ → ℕ → Bool → List TextLink → Option TextLink
 link_of child parent footnote rows = find (is_link child parent footnote) rows
 
 -- the links of a text to those that it comments, or is a footnote to; and of the comments, or the
 -- footnotes, to it
-abbrev pub links_from : ℕ → Bool → List Link → List Link
+abbrev pub links_from : ℕ → Bool → List TextLink → List TextLink
 links_from text footnote rows =
     filter (λ row. row.child == text && alike row.footnote footnote) rows
 
-abbrev pub links_into : ℕ → Bool → List Link → List Link
+abbrev pub links_into : ℕ → Bool → List TextLink → List TextLink
 links_into text footnote rows =
     filter (λ row. row.parent == text && alike row.footnote footnote) rows
 
 -- a link is taken away
-abbrev pub without_link : ℕ → ℕ → Bool → List Link → List Link
+abbrev pub without_link : ℕ → ℕ → Bool → List TextLink → List TextLink
 without_link child parent footnote rows =
     filter (λ row. not (is_link child parent footnote row)) rows
 

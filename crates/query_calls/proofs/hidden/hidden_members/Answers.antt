@@ -66,7 +66,8 @@ returns c =
     && list_any (λ row. eqb row.person person) (take first (members_of db c.args.conference)) in
     count_from_yields_List c.filter-2.result c.count-2.result c.count-2.ensures.ran
     (YieldsList-from_filter _ test
-    (YieldsList-at c.filter-2.ensures.source (YieldsList-from_slice c.secret_members-secret.result.now c.iter.ensures.rest))
+    (YieldsList-at c.filter-2.ensures.source
+    (YieldsList-from_slice c.secret_members-secret.result.now c.iter.ensures.rest))
     c.filter-2.ensures.closure (λ x b q k. search (rules, tests)))
     ∙ length-filter test c.secret_members-secret.result.now
     ∙ c.secret_members-secret.ensures.counted test

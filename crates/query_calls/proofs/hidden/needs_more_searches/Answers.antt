@@ -13,7 +13,8 @@ returns-then-searches-secret_memberships c =
     let many : ltb c.args.searches (length numbers) ≡ true =
     lt-ltb c.args.searches (length numbers) c.if-searches-secret_memberships.true in
     many ∙ ap (λ b. b || unseen) (sym many)
-    ∙ ap (λ n. ltb c.args.searches n || unseen) (secret_counted db viewer c.args.person numbers c.secret_memberships.ensures)
+    ∙ ap (λ n. ltb c.args.searches n || unseen)
+    (secret_counted db viewer c.args.person numbers c.secret_memberships.ensures)
 
 pub returns-else-searches-secret_memberships : goal.returns-else-searches-secret_memberships
 returns-else-searches-secret_memberships c =
@@ -24,4 +25,5 @@ returns-else-searches-secret_memberships c =
     let few : ltb c.args.searches (length numbers) ≡ false =
     le-ltb c.args.searches (length numbers) c.if-searches-secret_memberships.false in
     ap (ltb c.args.searches) c.unseen_count.ensures ∙ ap (λ b. b || unseen) (sym few)
-    ∙ ap (λ n. ltb c.args.searches n || unseen) (secret_counted db viewer c.args.person numbers c.secret_memberships.ensures)
+    ∙ ap (λ n. ltb c.args.searches n || unseen)
+    (secret_counted db viewer c.args.person numbers c.secret_memberships.ensures)

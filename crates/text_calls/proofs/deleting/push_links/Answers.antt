@@ -1,11 +1,11 @@
 use Rattle.std.proofs.Common.{◌++◌, ◌∙◌, map, ap}
 use Rattle.kom_types.specs.declared.effects.Effect.{Effect}
 use Rattle.kom_types.specs.declared.effects.Effect.TheVariants as effect
-use Rattle.kom_types.specs.declared.texts.Link.{Link}
+use Rattle.kom_types.specs.declared.texts.TextLink.{TextLink}
 use Rattle.kom_state.proofs.Pushing.{pushed-item, pushed-none, pushed-all}
 use Rattle.text_calls.proofs.deleting.push_links.Goals as goal
 
-abbrev make : Link → Effect
+abbrev make : TextLink → Effect
 make = λ link. effect.LinkGone link.child link.parent link.footnote
 
 pub loop-link-init : goal.loop-link-init

@@ -1,0 +1,17 @@
+use Rattle.kom_types.specs.declared.acts.Act.TheVariants as act
+use Rattle.kom_core.proofs.Making.{Changes-by}
+use Rattle.kom_core.proofs.server_state.ServerState.change.Goals as goal
+
+pub returns-in-Drain-clause-step : goal.returns-in-Drain-clause-step
+returns-in-Drain-clause-step g c =
+    Changes-by c.args.self.now c.drain.new.self c.args.entry.now (act.Drain c.in-Drain.session) c.drain.result
+    c.in-Drain.is c.drain.ensures.step
+
+pub returns-in-Flush-clause-step : goal.returns-in-Flush-clause-step
+returns-in-Flush-clause-step g c =
+    Changes-by c.args.self.now c.flush.new.self c.args.entry.now act.Flush c.flush.result c.in-Flush.is c.flush.ensures
+
+pub returns-in-Close-clause-step : goal.returns-in-Close-clause-step
+returns-in-Close-clause-step g c =
+    Changes-by c.args.self.now c.close.new.self c.args.entry.now (act.Close c.in-Close.session) c.close.result
+    c.in-Close.is c.close.ensures

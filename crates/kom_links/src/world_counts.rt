@@ -1,0 +1,53 @@
+ghost use Rattle.std.specs.Prelude.{◌≡◌};
+ghost use Rattle.kom_links.specs.WorldCounts.{with_gate, with_clock, with_sink};
+
+/// How often a world was asked for what it has. Each count stands still at 2^64 - 1.
+#[derive(Clone, Copy, Debug, PartialEq, Eq)]
+pub struct WorldCounts {
+    /// For its gate over standard input and output.
+    pub gates: u64,
+    /// For that gate, where it was then given.
+    pub given: u64,
+    /// For a clock.
+    pub clocks: u64,
+    /// For a sink.
+    pub sinks: u64,
+}
+
+impl WorldCounts {
+    /// A world was asked for nothing yet.
+    pub const fn nothing() -> WorldCounts
+        ensures { result ≡ record { gates = 0; given = 0; clocks = 0; sinks = 0 } }
+    {
+        WorldCounts {
+            gates: 0,
+            given: 0,
+            clocks: 0,
+            sinks: 0,
+        }
+    }
+
+    /// Counts that a gate was asked for, and whether it is given.
+    pub fn count_gate(&mut self, is_given: bool)
+        ensures { self.new ≡ with_gate is_given self.old }
+    {
+        self.gates = self.gates.saturating_add(1);
+        if is_given {
+            self.given = self.given.saturating_add(1);
+        }
+    }
+
+    /// Counts that a clock was asked for.
+    pub fn count_clock(&mut self)
+        ensures { self.new ≡ with_clock self.old }
+    {
+        self.clocks = self.clocks.saturating_add(1);
+    }
+
+    /// Counts that a sink was asked for.
+    pub fn count_sink(&mut self)
+        ensures { self.new ≡ with_sink self.old }
+    {
+        self.sinks = self.sinks.saturating_add(1);
+    }
+}

@@ -1,0 +1,45 @@
+use Rattle.std.proofs.Common.{refl, ap, arith, true}
+use Rattle.kom_types.specs.declared.effects.Effect.TheVariants as effect
+use Rattle.kom_model.specs.Effects.{made}
+use Rattle.kom_state.proofs.Drawing.{AreDrawn-item}
+use Rattle.kom_state.proofs.Numbering.{AreNumbered-text_item, absent_item}
+use Rattle.kom_state.proofs.FittedItems.{item-fits}
+use Rattle.kom_state.proofs.ItemRooms.{room_to_add, added_uses_spare, added_uses_objects}
+use Rattle.kom_state.proofs.Making.{IsMade-items}
+use Rattle.kom_state.proofs.stored_rows.StoredRows.add_text_item.Goals as goal
+
+pub draw_item-requires : goal.draw_item-requires
+draw_item-requires c = omega (arith, (item-fits _ true _ _ c.requires.fits).last)
+
+pub add-requires-clause-absent : goal.add-requires-clause-absent
+add-requires-clause-absent c =
+    absent_item _ _ _ c.self.invariant.2 true c.args.object c.args.item.number
+    (item-fits _ true _ _ (rw (← c.self.view_is) at c.requires.fits)).from
+
+pub add-requires-clause-room : goal.add-requires-clause-room
+add-requires-clause-room c =
+    room_to_add _ true c.args.object c.args.item (rw (← c.self.view_is) at c.requires.room).items
+
+pub invariant_of-self : goal.invariant_of-self
+invariant_of-self c =
+    let parts = item-fits _ true c.args.object c.args.item (rw (← c.self.view_is) at c.requires.fits) in (
+      c.self.invariant.0,
+      AreDrawn-item _ _ _ _ c.self.invariant.1 c.args.object c.args.item.number _ c.draw_item.ensures.rows,
+      AreNumbered-text_item _ _ _ c.self.invariant.2 c.args.object c.args.item _ _ parts.there parts.from
+          (ap (λ rows. rows.texts) c.draw_item.ensures.rows) c.add.ensures.rows,
+      c.self.invariant.3,
+    )
+
+pub returns : goal.returns
+unfolding made
+returns c = rw (← c.self.view_is)
+    (IsMade-items (effect.AuxAdded true c.args.object c.args.item) _ _ _ _ c.self.inside.names c.self.inside.texts c.draw_item.new.self
+    c.self.inside.items c.add.new.self _ _ _ _ _ refl (record {
+      conferences = refl;
+      conference_spare = omega arith;
+      texts = c.draw_item.ensures.rows;
+      room = λ need. omega (arith, c.draw_item.ensures.room need);
+      items = c.add.ensures.rows;
+      spare = added_uses_spare _ _ true c.args.object c.args.item c.add.ensures.room;
+      of_objects = added_uses_objects _ _ true c.args.object c.args.item c.add.ensures.room;
+    }))

@@ -1,0 +1,21 @@
+use Rattle.std.proofs.Common.{refl}
+use Rattle.kom_types.specs.tables.Persons.{logged_in}
+use Rattle.kom_model.specs.Effects.{made}
+use Rattle.kom_state.proofs.Making.{IsMade-person}
+use Rattle.kom_state.proofs.Drawing.{AreDrawn-person}
+use Rattle.kom_state.proofs.stored_rows.StoredRows.log_in.Goals as goal
+
+pub invariant_of-self : goal.invariant_of-self
+invariant_of-self c = (
+  c.self.invariant.0,
+  AreDrawn-person _ _ _ _ c.self.invariant.1 c.args.number (logged_in c.args.at c.args.user) _ (λ _. refl) (λ _. refl)
+      c.log_in.ensures.rows,
+  c.self.invariant.2,
+  c.self.invariant.3,
+)
+
+pub returns : goal.returns
+unfolding made
+returns c = rw (← c.self.view_is)
+    (IsMade-person _ c.args.number (logged_in c.args.at c.args.user) _ _ _ _ c.self.inside.names _ _ _ (λ db. refl)
+    c.log_in.ensures.rows c.log_in.ensures.spare)

@@ -1,0 +1,29 @@
+use Rattle.std.proofs.Common.{refl, arith}
+use Rattle.kom_types.specs.declared.effects.Effect.TheVariants as effect
+use Rattle.kom_model.specs.Effects.{made}
+use Rattle.kom_state.proofs.Making.{IsMade-items}
+use Rattle.kom_state.proofs.Numbering.{AreNumbered-item_gone}
+use Rattle.kom_state.proofs.stored_rows.StoredRows.remove_item.Goals as goal
+
+pub invariant_of-self : goal.invariant_of-self
+invariant_of-self c = (
+  c.self.invariant.0,
+  c.self.invariant.1,
+  AreNumbered-item_gone _ _ _ c.self.invariant.2 c.args.on_text c.args.object c.args.number _
+      c.remove.ensures.rows,
+  c.self.invariant.3,
+)
+
+pub returns : goal.returns
+unfolding made
+returns c = rw (← c.self.view_is)
+    (IsMade-items (effect.AuxGone c.args.on_text c.args.object c.args.number) _ _ _ _ c.self.inside.names
+    c.self.inside.texts c.self.inside.texts c.self.inside.items c.remove.new.self _ _ _ _ _ refl (record {
+      conferences = refl;
+      conference_spare = omega arith;
+      texts = refl;
+      room = λ need. omega arith;
+      items = c.remove.ensures.rows;
+      spare = let spare = c.remove.ensures.room.spare in omega (arith, spare);
+      of_objects = λ kind other. let rooms = c.remove.ensures.room.of_objects kind other in omega (arith, rooms);
+    }))
