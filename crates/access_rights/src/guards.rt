@@ -6,6 +6,7 @@ use crate::rights::{reads_conference, sees, supervises};
 use crate::texts::{may_submit, reads};
 use kom_model::{Refused, Rows, Viewer};
 use kom_types::bits::{READ_PROTECTED, SECRET_CONFERENCE};
+use kom_types::errors;
 use kom_types::limits::LONGEST_NAME;
 use sessions::Sessions;
 
@@ -24,7 +25,7 @@ pub fn unless(holds: bool, code: u32, status: u32) -> Result<(), Refused>
 pub fn login_guard(caller: &Viewer) -> Result<(), Refused>
     ensures { Guards (Guard.login_guard caller.now) result }
 {
-    unless(caller.person != 0, 6, 0)
+    unless(caller.person != 0, errors::LOGIN_FIRST, 0)
 }
 
 /// The conference is there and seen.
@@ -32,9 +33,16 @@ pub fn conference_guard<R: Rows>(rows: &R, caller: &Viewer, number: u32) -> Resu
     ensures { Guards (Guard.conference_guard (R.db rows.now) caller.now number) result }
 {
     if number == 0 {
-        Err(Refused { code: 8, status: 0 })
+        Err(Refused {
+            code: errors::CONFERENCE_ZERO,
+            status: 0,
+        })
     } else {
-        unless(sees(rows, caller, number), 9, number)
+        unless(
+            sees(rows, caller, number),
+            errors::UNDEFINED_CONFERENCE,
+            number,
+        )
     }
 }
 
@@ -44,11 +52,11 @@ pub fn text_guard<R: Rows>(rows: &R, caller: &Viewer, number: u32) -> Result<(),
 {
     if number == 0 {
         Err(Refused {
-            code: 15,
+            code: errors::TEXT_ZERO,
             status: 0,
         })
     } else {
-        unless(reads(rows, caller, number), 14, number)
+        unless(reads(rows, caller, number), errors::NO_SUCH_TEXT, number)
     }
 }
 
@@ -82,21 +90,29 @@ pub fn text_or_none_guard<R: Rows>(rows: &R, caller: &Viewer, number: u32) -> Re
 pub fn reads_guard<R: Rows>(rows: &R, caller: &Viewer, conference: u32) -> Result<(), Refused>
     ensures { Guards (Guard.reads_guard (R.db rows.now) caller.now conference) result }
 {
-    unless(reads_conference(rows, caller, conference), 11, conference)
+    unless(
+        reads_conference(rows, caller, conference),
+        errors::ACCESS_DENIED,
+        conference,
+    )
 }
 
 /// The caller may send texts to the conference.
 pub fn submit_guard<R: Rows>(rows: &R, caller: &Viewer, conference: u32) -> Result<(), Refused>
     ensures { Guards (Guard.submit_guard (R.db rows.now) caller.now conference) result }
 {
-    unless(may_submit(rows, caller, conference), 11, conference)
+    unless(
+        may_submit(rows, caller, conference),
+        errors::ACCESS_DENIED,
+        conference,
+    )
 }
 
 /// The caller's session is strong.
 pub fn strong_guard(caller: &Viewer) -> Result<(), Refused>
     ensures { Guards (Guard.strong_guard caller.now) result }
 {
-    unless(caller.strong, 12, 0)
+    unless(caller.strong, errors::PERMISSION_DENIED, 0)
 }
 
 /// The caller supervises the conference.
@@ -105,7 +121,7 @@ pub fn supervisor_guard<R: Rows>(rows: &R, caller: &Viewer, number: u32) -> Resu
 {
     unless(
         supervises(rows, caller.person, number) || caller.strong,
-        12,
+        errors::PERMISSION_DENIED,
         number,
     )
 }
@@ -117,10 +133,10 @@ pub fn session_guard(sessions: &Sessions, number: u32) -> Result<(), Refused>
 {
     match sessions.seat(number) {
         None => Err(Refused {
-            code: 42,
+            code: errors::UNDEFINED_SESSION,
             status: number,
         }),
-        Some(seat) => unless(!seat.ended, 42, number),
+        Some(seat) => unless(!seat.ended, errors::UNDEFINED_SESSION, number),
     }
 }
 
@@ -128,7 +144,7 @@ pub fn session_guard(sessions: &Sessions, number: u32) -> Result<(), Refused>
 pub fn size_guard(bytes: &[u8], most: u32) -> Result<(), Refused>
     ensures { Guards (Guard.size_guard bytes.now most) result }
 {
-    unless(bytes.len() <= most as usize, 5, most)
+    unless(bytes.len() <= most as usize, errors::STRING_TOO_LONG, most)
 }
 
 /// The name is no longer than a name may be, and the bytes may be a name.
@@ -136,7 +152,7 @@ pub fn name_guard(name: &[u8]) -> Result<(), Refused>
     ensures { Guards (Guard.name_guard name.now) result }
 {
     size_guard(name, LONGEST_NAME)?;
-    unless(name_lookup::is_name(name), 18, 0)
+    unless(name_lookup::is_name(name), errors::BAD_NAME, 0)
 }
 
 /// A secret conference is read-protected too.
@@ -145,7 +161,7 @@ pub fn type_guard(kind: u8) -> Result<(), Refused>
 {
     unless(
         kind & SECRET_CONFERENCE == 0 || kind & READ_PROTECTED != 0,
-        22,
+        errors::SECRET_PUBLIC,
         0,
     )
 }

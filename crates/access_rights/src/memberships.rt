@@ -8,6 +8,7 @@ use crate::guards::unless;
 use crate::rights::{is_member, sees, supervises};
 use kom_model::{Refused, Rows, Viewer};
 use kom_types::bits::{SECRET_MEMBERSHIP, UNREAD_IS_SECRET};
+use kom_types::errors;
 
 /// Whether a membership of this type is shown to who looks. (Protocol A, "Security".)
 #[tactic(auto, unfolding(kom_model::specs::Shown::shows_membership))]
@@ -58,7 +59,11 @@ pub fn shows_reads<R: Rows>(rows: &R, viewer: &Viewer, person: u32) -> bool
 pub fn member_guard<R: Rows>(rows: &R, person: u32, conference: u32) -> Result<(), Refused>
     ensures { Guards (Calls.member_guard (R.db rows.now) person conference) result }
 {
-    unless(is_member(rows, person, conference), 13, conference)
+    unless(
+        is_member(rows, person, conference),
+        errors::NOT_MEMBER,
+        conference,
+    )
 }
 
 /// The membership of a person in a conference is there and shown to the caller.
@@ -70,7 +75,11 @@ pub fn row_guard<R: Rows>(
 ) -> Result<(), Refused>
     ensures { Guards (Calls.row_guard (R.db rows.now) caller.now person conference) result }
 {
-    unless(shows_row(rows, caller, person, conference), 13, conference)
+    unless(
+        shows_row(rows, caller, person, conference),
+        errors::NOT_MEMBER,
+        conference,
+    )
 }
 
 fn shows_row<R: Rows>(rows: &R, caller: &Viewer, person: u32, conference: u32) -> bool

@@ -189,88 +189,22 @@ fn push_sent(
 fn may_send(call: &Call) -> bool
     ensures { result ≡ may_send_call call.now }
 {
-    match call {
-        Call::SendMessage { .. }
-        | Call::SyncKom
-        | Call::SetUserArea { .. }
-        | Call::ChangeName { .. }
-        | Call::DeleteConf { .. }
-        | Call::SetPresentation { .. }
-        | Call::SetEtcMotd { .. }
-        | Call::DeleteText { .. }
-        | Call::AddRecipient { .. }
-        | Call::SubRecipient { .. }
-        | Call::CreateText(_)
-        | Call::CreateAnonymousText(_)
-        | Call::SubMember { .. }
-        | Call::AddMember { .. }
-        | Call::ModifyTextInfo(_) => true,
-        Call::Logout
-        | Call::ChangeConference { .. }
-        | Call::ChangeWhatIAmDoing { .. }
-        | Call::Enable { .. }
-        | Call::Disconnect { .. }
-        | Call::WhoAmI
-        | Call::Login { .. }
-        | Call::SetClientVersion(_)
-        | Call::GetClientName { .. }
-        | Call::GetClientVersion { .. }
-        | Call::AcceptAsync { .. }
-        | Call::QueryAsync
-        | Call::UserActive
-        | Call::WhoIsOnDynamic { .. }
-        | Call::GetStaticSessionInfo { .. }
-        | Call::GetTime
-        | Call::ShutdownKom { .. }
-        | Call::GetVersionInfo
-        | Call::GetCollateTable
-        | Call::GetInfo
-        | Call::SetPrivBits { .. }
-        | Call::SetPasswd(_)
-        | Call::GetPersonStat { .. }
-        | Call::CreatePerson(_)
-        | Call::SetPersFlags { .. }
-        | Call::SetSupervisor { .. }
-        | Call::SetPermittedSubmitters { .. }
-        | Call::SetSuperConf { .. }
-        | Call::SetConfType { .. }
-        | Call::SetGarbNice { .. }
-        | Call::LookupZName { .. }
-        | Call::GetUconfStat { .. }
-        | Call::CreateConf(_)
-        | Call::GetConfStat { .. }
-        | Call::SetExpire { .. }
-        | Call::SetKeepCommented { .. }
-        | Call::FirstUnusedConfNo
-        | Call::FindNextConfNo { .. }
-        | Call::FindPreviousConfNo { .. }
-        | Call::GetMarks
-        | Call::GetText { .. }
-        | Call::AddComment { .. }
-        | Call::SubComment { .. }
-        | Call::AddFootnote { .. }
-        | Call::SubFootnote { .. }
-        | Call::FindNextTextNo { .. }
-        | Call::FindPreviousTextNo { .. }
-        | Call::MarkText { .. }
-        | Call::UnmarkText { .. }
-        | Call::GetTextStat { .. }
-        | Call::LocalToGlobal { .. }
-        | Call::MapCreatedTexts { .. }
-        | Call::FirstUnusedTextNo
-        | Call::LocalToGlobalReverse { .. }
-        | Call::MarkAsRead { .. }
-        | Call::SetUnread { .. }
-        | Call::GetUnreadConfs { .. }
-        | Call::SetLastRead { .. }
-        | Call::GetMembers { .. }
-        | Call::SetMembershipType { .. }
-        | Call::QueryReadTexts { .. }
-        | Call::GetMembership { .. }
-        | Call::MarkAsUnread { .. }
-        | Call::SetReadRanges { .. }
-        | Call::ModifyConfInfo(_)
-        | Call::QueryPredefinedAuxItems
-        | Call::Refused(_, _) => false,
-    }
+    matches!(
+        call,
+        Call::ChangeName { .. }
+            | Call::DeleteConf { .. }
+            | Call::SubMember { .. }
+            | Call::SetPresentation { .. }
+            | Call::SetEtcMotd { .. }
+            | Call::DeleteText { .. }
+            | Call::AddRecipient { .. }
+            | Call::SubRecipient { .. }
+            | Call::SyncKom
+            | Call::SendMessage { .. }
+            | Call::SetUserArea { .. }
+            | Call::CreateText(_)
+            | Call::CreateAnonymousText(_)
+            | Call::ModifyTextInfo(_)
+            | Call::AddMember { .. }
+    )
 }

@@ -10,12 +10,7 @@ use crate::list::ItemList;
 use crate::standing::{Standing, is_among};
 use kom_types::bits::{SECRET_ITEM, WRONG_ITEM_FLAGS};
 use kom_types::limits::LONGEST_CONTENT;
-use kom_types::{Adder, AuxInput, AuxRow, Object};
-
-/// The codes illegal-aux-item and aux-item-permission.
-const ILLEGAL_ITEM: u32 = 48;
-
-const ITEM_PERMISSION: u32 = 49;
+use kom_types::{Adder, AuxInput, AuxRow, Object, errors};
 
 /// The tags of read-confirm and creating-software.
 const READ_CONFIRM: u32 = 7;
@@ -57,12 +52,12 @@ fn code_deleted<R: ItemList>(by: &Adder, rows: &R, earlier: &[u32], number: u32)
     ensures { result ≡ Items.code_deleted by.now (R.items rows.now) earlier.now number }
 {
     match find_shown(by, rows, number) {
-        None => Some(ILLEGAL_ITEM),
+        None => Some(errors::ILLEGAL_AUX_ITEM),
         Some(item) => {
             if is_among(earlier, number) {
-                Some(ILLEGAL_ITEM)
+                Some(errors::ILLEGAL_AUX_ITEM)
             } else if stays(item.tag) || !(item.creator == by.person || by.owns) {
-                Some(ITEM_PERMISSION)
+                Some(errors::AUX_ITEM_PERMISSION)
             } else {
                 None
             }
@@ -137,14 +132,14 @@ fn code_added<R: ItemList>(
     ensures { result ≡ Items.code_added on by.now beside.now given.now }
 {
     match kind_of(given.tag) {
-        None => Some(ILLEGAL_ITEM),
+        None => Some(errors::ILLEGAL_AUX_ITEM),
         Some(known) => {
             if !fits(on, by.person, beside, &known, given) {
-                Some(ILLEGAL_ITEM)
+                Some(errors::ILLEGAL_AUX_ITEM)
             } else if known.adding.allows(on, by.owns) {
                 None
             } else {
-                Some(ITEM_PERMISSION)
+                Some(errors::AUX_ITEM_PERMISSION)
             }
         }
     }

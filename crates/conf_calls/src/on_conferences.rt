@@ -14,6 +14,7 @@ use kom_state::{Asked, StoredRows, new_items, push_items};
 use kom_types::bits::{CREATES_CONFERENCES, is_letterbox};
 use kom_types::{
     Bytes, Counter, Decision, Effect, EffectList, Memory, NewConference, Object, Reply, Sequence,
+    errors,
 };
 
 /// Call 3, change-name.
@@ -41,7 +42,7 @@ pub fn create_conf(asked: &Asked<'_>, given: &NewConference) -> Result<Decision,
     login_guard(&caller)?;
     create_conf_guard(rows, &caller)?;
     name_guard(given.name.as_slice())?;
-    unless(!is_letterbox(given.kind), 23, 0)?;
+    unless(!is_letterbox(given.kind), errors::LETTERBOX, 0)?;
     type_guard(given.kind)?;
     rows.free_guard(0, given.name.as_slice())?;
     rows.drawn_guard()?;
@@ -59,7 +60,7 @@ fn create_conf_guard(rows: &StoredRows, caller: &Viewer) -> Result<(), Refused>
 {
     unless(
         may_make_conferences(rows, caller.person) || caller.strong,
-        12,
+        errors::PERMISSION_DENIED,
         0,
     )
 }

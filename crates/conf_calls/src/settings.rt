@@ -9,7 +9,7 @@ use access_rights::{conference_or_none_guard, text_or_none_guard, type_guard, un
 use kom_model::CallError;
 use kom_state::{Asked, StoredRows};
 use kom_types::bits::{is_letterbox, is_secret_conference};
-use kom_types::{ConfField, Decision, Effect};
+use kom_types::{ConfField, Decision, Effect, errors};
 
 /// Call 16, set-presentation: a text, or 0.
 pub fn set_presentation(
@@ -80,7 +80,11 @@ pub fn set_conf_type(asked: &Asked<'_>, conference: u32, kind: u8) -> Result<Dec
 {
     let rows = asked.rows();
     owner_guards(rows, &asked.caller(), conference)?;
-    unless(may_become(rows, conference, kind), 23, conference)?;
+    unless(
+        may_become(rows, conference, kind),
+        errors::LETTERBOX,
+        conference,
+    )?;
     type_guard(kind)?;
     set_field(asked, conference, ConfField::Kind(kind))
 }

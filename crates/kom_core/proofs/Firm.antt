@@ -42,58 +42,10 @@ nearest_text-idle asked start (Some row) what silent = (refl, refl, silent)
 -- of a call that takes no memory
 firm-idle : (asked : Asked) (what : Call) → is_among firm_numbers (number_of_call what) ≡ true →
     IsIdle what (definition_of asked what).rest
-firm-idle asked call.Logout among = cc
-firm-idle asked (call.Login person password invisible) among = cc
-firm-idle asked (call.SetPrivBits person privileges) among = cc
-firm-idle asked (call.SetPasswd given) among = cc
-firm-idle asked (call.CreatePerson given) among = cc
-firm-idle asked (call.SetPersFlags person flags) among = cc
-firm-idle asked (call.ChangeName conference name) among = cc
-firm-idle asked (call.CreateConf given) among = cc
-firm-idle asked (call.DeleteConf conference) among = cc
-firm-idle asked (call.SetPresentation conference text) among = cc
-firm-idle asked (call.SetEtcMotd conference text) among = cc
-firm-idle asked (call.SetSupervisor conference supervisor) among = cc
-firm-idle asked (call.SetPermittedSubmitters conference submitters) among = cc
-firm-idle asked (call.SetSuperConf conference super_conference) among = cc
-firm-idle asked (call.SetConfType conference kind) among = cc
-firm-idle asked (call.SetGarbNice conference days) among = cc
-firm-idle asked (call.SetExpire conference days) among = cc
-firm-idle asked (call.SetKeepCommented conference days) among = cc
-firm-idle asked (call.ModifyTextInfo given) among = cc
-firm-idle asked (call.ModifyConfInfo given) among = cc
-firm-idle asked (call.SetUserArea person text) among = cc
-firm-idle asked (call.GetText text start end) among = cc
-firm-idle asked (call.DeleteText text) among = cc
-firm-idle asked (call.AddRecipient text conference tag) among = cc
-firm-idle asked (call.SubRecipient text conference) among = cc
-firm-idle asked (call.AddComment text parent) among = cc
-firm-idle asked (call.SubComment text parent) among = cc
-firm-idle asked (call.AddFootnote text parent) among = cc
-firm-idle asked (call.SubFootnote text parent) among = cc
-firm-idle asked (call.MarkText text kind) among = cc
-firm-idle asked (call.UnmarkText text) among = cc
-firm-idle asked (call.CreateText given) among = cc
-firm-idle asked (call.CreateAnonymousText given) among = cc
-firm-idle asked (call.ChangeConference conference) among = cc
-firm-idle asked (call.SubMember conference person) among = cc
-firm-idle asked (call.MarkAsRead conference locals) among = cc
-firm-idle asked (call.SetUnread conference count) among = cc
-firm-idle asked (call.SetLastRead conference local) among = cc
-firm-idle asked (call.AddMember conference person priority place kind) among = cc
-firm-idle asked (call.SetMembershipType person conference kind) among = cc
-firm-idle asked (call.MarkAsUnread conference local) among = cc
-firm-idle asked (call.SetReadRanges conference ranges) among = cc
-firm-idle asked (call.ChangeWhatIAmDoing doing) among = cc
-firm-idle asked (call.Enable level) among = cc
-firm-idle asked (call.SetClientVersion version) among = cc
-firm-idle asked (call.AcceptAsync numbers) among = cc
-firm-idle asked call.UserActive among = cc
-firm-idle asked call.SyncKom among = cc
-firm-idle asked (call.ShutdownKom value) among = cc
-firm-idle asked (call.SendMessage recipient text) among = cc
-firm-idle asked (call.Disconnect session) among = cc
-firm-idle asked (call.GetStaticSessionInfo session) among = cc
+firm-idle asked call.GetTime among = (refl, refl, refl)
+firm-idle asked call.WhoAmI among = (refl, refl, refl)
+firm-idle asked call.FirstUnusedConfNo among = (refl, refl, refl)
+firm-idle asked call.FirstUnusedTextNo among = (refl, refl, refl)
 firm-idle asked (call.FindNextTextNo start) among =
     nearest_text-idle asked start _ (call.FindNextTextNo start) refl
 firm-idle asked (call.FindPreviousTextNo start) among =
@@ -102,7 +54,7 @@ firm-idle asked (call.FindNextConfNo start) among =
     nearest-idle asked start _ (call.FindNextConfNo start) refl
 firm-idle asked (call.FindPreviousConfNo start) among =
     nearest-idle asked start _ (call.FindPreviousConfNo start) refl
-firm-idle asked other among = (refl, refl, refl)
+firm-idle asked other among = cc
 
 refused-early : (asked : Asked) (what : Call) → was_refused what ≡ true → (definition_of asked what).early ≡ None → ⊥
 refused-early asked (call.Refused code status) is early = cc

@@ -1,6 +1,7 @@
 -- One step of the server.
 use Rattle.std.specs.Prelude.{◌≡◌, ℕ, ◌+◌, max, not, ◌||◌, Bool, true, false, List, [], ◌∷◌, ◌++◌}
 use Rattle.std.specs.Prelude.{map, filter, if◌then◌else◌}
+use Rattle.kom_types.specs.Errors as error
 use Rattle.kom_types.specs.declared.acts.Act.{Act}
 use Rattle.kom_types.specs.declared.acts.Act.TheVariants as act
 use Rattle.kom_types.specs.declared.acts.Record.{Record}
@@ -76,7 +77,7 @@ reply_to session reference body = record { session = session; item = item.Reply 
 -- the messages of a call, and then its reply; a short one is answered 39 alone, out of memory
 abbrev pub call_deliveries : State → ℕ → ℕ → ℕ → Call → Bool → List Delivery
 call_deliveries state moment session reference call true =
-    reply_to session reference (reply.Refused 39 0) ∷ []
+    reply_to session reference (reply.Refused error.out_of_memory 0) ∷ []
 call_deliveries state moment session reference call false =
     let decision = decision_at state moment session reference call in
     messages_of (asked_in state (moment_of state moment) session reference) call decision

@@ -1,6 +1,7 @@
 -- What a call is answered and changes. (Protocol A, "Protocol Requests".)
 use Rattle.std.specs.Prelude.{ℕ, Bool, true, false, ◌==◌, ◌||◌, ◌&&◌, not, is_some}
 use Rattle.std.specs.Prelude.{length, nat_le, if◌then◌else◌}
+use Rattle.kom_types.specs.Errors as error
 use Rattle.kom_types.specs.declared.calls.Call.{Call}
 use Rattle.kom_types.specs.declared.calls.Call.TheVariants as call
 use Rattle.kom_types.specs.declared.decisions.Decision.{Decision}
@@ -156,7 +157,7 @@ longest_reply = 4194304
 abbrev pub limited : ℕ → Decision → Decision
 limited reference decision =
     if nat_le (length (print_of (item.Reply reference decision.reply))) longest_reply then decision
-    else refuse (record { code = 46; status = 0 })
+    else refuse (record { code = error.long_array; status = 0 })
 
 -- What a session's call comes to.
 unfoldable pub decision_of : Asked → Call → Decision

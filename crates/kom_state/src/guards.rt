@@ -8,9 +8,9 @@ ghost use Rattle.kom_model.specs.calls.Guards.{Guards};
 
 use crate::stored_rows::StoredRows;
 use kom_model::{Refused, Viewer};
-use kom_types::AuxChange;
 use kom_types::bits::WHEEL_AND_ADMIN;
 use kom_types::limits::LAST_CONFERENCE;
+use kom_types::{AuxChange, errors};
 
 impl StoredRows {
     /// Whether a person's privileges let its sessions be strong.
@@ -28,9 +28,9 @@ impl StoredRows {
         ensures { Guards (Guard.person_guard self.now.db number) result }
     {
         if number == 0 {
-            refuse(8, 0)
+            refuse(errors::CONFERENCE_ZERO, 0)
         } else if self.person(number).is_none() {
-            refuse(10, number)
+            refuse(errors::UNDEFINED_PERSON, number)
         } else {
             Ok(())
         }
@@ -46,9 +46,9 @@ impl StoredRows {
                 if other == number {
                     Ok(())
                 } else if self.has_letterbox(other) {
-                    refuse(21, 0)
+                    refuse(errors::PERSON_EXISTS, 0)
                 } else {
-                    refuse(20, 0)
+                    refuse(errors::CONFERENCE_EXISTS, 0)
                 }
             }
         }
@@ -62,7 +62,7 @@ impl StoredRows {
         if self.next_conference <= LAST_CONFERENCE {
             Ok(())
         } else {
-            refuse(45, 0)
+            refuse(errors::TEMPORARY_FAILURE, 0)
         }
     }
 
@@ -77,7 +77,7 @@ impl StoredRows {
         if change.add.len() <= left as usize {
             Ok(())
         } else {
-            refuse(45, 0)
+            refuse(errors::TEMPORARY_FAILURE, 0)
         }
     }
 
@@ -94,7 +94,7 @@ impl StoredRows {
         if caller.strong || self.agrees(person, password) {
             Ok(())
         } else {
-            refuse(4, person)
+            refuse(errors::INVALID_PASSWORD, person)
         }
     }
 

@@ -6,6 +6,7 @@ use Rattle.std.specs.Prelude.{nat_lt, List, [], ◌∷◌, ◌++◌, length, Opt
 use Rattle.std.specs.Prelude.{if◌then◌else◌}
 use Rattle.std.specs.List.{find, filter, list_any}
 use Rattle.std.specs.Option.{option_or}
+use Rattle.kom_types.specs.Errors as error
 use Rattle.kom_types.specs.Bits.{is_on}
 use Rattle.kom_types.specs.declared.aux_items.Adder.{Adder}
 use Rattle.kom_types.specs.declared.aux_items.AuxInput.{AuxInput}
@@ -142,11 +143,11 @@ pub record AuxRefusal : Type 0 where
 -- the code with which one more item is refused, or none
 abbrev pub code_added : Object → Adder → List AuxRow → AuxInput → Option ℕ
 code_added on adder items given = elim (kind_of given.tag) [
-  | None ↦ Some 48
+  | None ↦ Some error.illegal_aux_item
   | Some known ↦
-      if not (fits on items adder.person known given) then Some 48
+      if not (fits on items adder.person known given) then Some error.illegal_aux_item
       else if may_add known.adding on adder.owns then None
-      else Some 49
+      else Some error.aux_item_permission
 ]
 
 -- the first entry that is refused of those that are to be added, beside these items, or none; the
@@ -173,10 +174,11 @@ is_among numbers number = list_any (λ one. one == number) numbers
 abbrev pub code_deleted : Adder → List AuxRow → List ℕ → ℕ → Option ℕ
 code_deleted adder items earlier number =
     elim (find (λ item. item.number == number && is_shown adder item) items) [
-      | None ↦ Some 48
+      | None ↦ Some error.illegal_aux_item
       | Some item ↦
-          if is_among earlier number then Some 48
-          else if stays item.tag || not (item.creator == adder.person || adder.owns) then Some 49
+          if is_among earlier number then Some error.illegal_aux_item
+          else if stays item.tag || not (item.creator == adder.person || adder.owns)
+          then Some error.aux_item_permission
           else None
     ]
 

@@ -1,3 +1,4 @@
+pub mod Errors
 pub mod ByteKind
 pub mod Token
 pub mod Grammar

@@ -12,6 +12,7 @@ mod calls;
 mod conferences;
 mod decisions;
 mod effects;
+pub mod errors;
 mod items;
 pub mod limits;
 mod lists;

@@ -14,7 +14,7 @@ use kom_types::bits::{FORBIDS_SECRET, INVITATION, READ_PROTECTED, SECRET_MEMBERS
 use kom_types::limits::MOST_MEMBERSHIPS;
 use kom_types::{
     ChangeList, Decision, Effect, EffectList, MembershipRow, Memory, Reply, Seat, Sequence,
-    SessionChange,
+    SessionChange, errors,
 };
 
 /// Call 15, sub-member.
@@ -27,7 +27,11 @@ pub fn sub_member(asked: &Asked<'_>, conference: u32, person: u32) -> Result<Dec
     conference_guard(rows, &caller, conference)?;
     rows.person_guard(person)?;
     row_guard(rows, &caller, person, conference)?;
-    unless(may_end(rows, &caller, conference, person), 12, conference)?;
+    unless(
+        may_end(rows, &caller, conference, person),
+        errors::PERMISSION_DENIED,
+        conference,
+    )?;
     Ok(leaves(asked, conference, person)?)
 }
 
@@ -109,7 +113,7 @@ fn secret_guard(rows: &StoredRows, conference: u32, kind: u8) -> Result<(), Refu
 {
     unless(
         !(kind & SECRET_MEMBERSHIP != 0 && refuses_secret(rows, conference)),
-        54,
+        errors::INVALID_MEMBERSHIP_TYPE,
         0,
     )
 }
@@ -136,8 +140,16 @@ fn joins_guard(
     if rows.membership_kind(person, conference).is_some() {
         return Ok(());
     }
-    unless(may_join(rows, caller, person, conference), 11, conference)?;
-    unless(rows.membership_count(person) < MOST_MEMBERSHIPS, 45, person)
+    unless(
+        may_join(rows, caller, person, conference),
+        errors::ACCESS_DENIED,
+        conference,
+    )?;
+    unless(
+        rows.membership_count(person) < MOST_MEMBERSHIPS,
+        errors::TEMPORARY_FAILURE,
+        person,
+    )
 }
 
 /// Whether a person may become a member through the caller.

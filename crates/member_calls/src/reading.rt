@@ -8,7 +8,7 @@ ghost use Rattle.kom_model.specs.calls.Memberships as Calls;
 use access_rights::unless;
 use kom_model::Refused;
 use kom_state::{Asked, StoredRows};
-use kom_types::{Memory, ReadRange};
+use kom_types::{Memory, ReadRange, errors};
 use read_ranges::{Marked, Ranges};
 
 /// The highest local number that was drawn in a conference: 0 if none was.
@@ -22,14 +22,14 @@ pub(crate) fn highest_of(rows: &StoredRows, conference: u32) -> u32
 pub(crate) fn drawn_local_guard(highest: u32, local: u32) -> Result<(), Refused>
     ensures { Guards (Calls.drawn_local_guard highest local) result }
 {
-    unless(local <= highest, 16, local)
+    unless(local <= highest, errors::NO_SUCH_LOCAL_TEXT, local)
 }
 
 /// The local number was drawn.
 pub(crate) fn local_guard(highest: u32, local: u32) -> Result<(), Refused>
     ensures { Guards (first_refusal (Calls.local_guards highest local)) result }
 {
-    unless(local != 0, 17, 0)?;
+    unless(local != 0, errors::LOCAL_TEXT_ZERO, 0)?;
     drawn_local_guard(highest, local)
 }
 
@@ -62,8 +62,12 @@ fn range_guard(highest: u32, place: usize, end: u32, range: &ReadRange) -> Resul
     ensures { Guards (first_refusal (Calls.range_guards highest place end range.now)) result }
 {
     let status = place.min(u32::MAX as usize) as u32;
-    unless(range.first != 0 && range.first <= range.last, 55, status)?;
-    unless(end < range.first, 56, status)?;
+    unless(
+        range.first != 0 && range.first <= range.last,
+        errors::INVALID_RANGE,
+        status,
+    )?;
+    unless(end < range.first, errors::INVALID_RANGE_LIST, status)?;
     drawn_local_guard(highest, range.last)
 }
 

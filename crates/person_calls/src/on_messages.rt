@@ -8,7 +8,7 @@ use access_rights::{conference_or_none_guard, hears, login_guard, size_guard, un
 use kom_model::CallError;
 use kom_state::{Asked, StoredRows};
 use kom_types::limits::LONGEST_MESSAGE;
-use kom_types::{Bytes, Decision, Reply, Seat};
+use kom_types::{Bytes, Decision, Reply, Seat, errors};
 
 /// The number of the message that is sent.
 const SEND_MESSAGE: u32 = 12;
@@ -21,7 +21,11 @@ pub fn send_message(asked: &Asked<'_>, recipient: u32, text: &Bytes) -> Result<D
     login_guard(&caller)?;
     size_guard(text.as_slice(), LONGEST_MESSAGE)?;
     conference_or_none_guard(asked.rows(), &caller, recipient)?;
-    unless(is_sent(asked, recipient), 53, recipient)?;
+    unless(
+        is_sent(asked, recipient),
+        errors::MESSAGE_NOT_SENT,
+        recipient,
+    )?;
     Ok(asked.answer(Reply::Done))
 }
 

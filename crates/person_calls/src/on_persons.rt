@@ -15,7 +15,7 @@ use kom_types::bits::{CREATES_PERSONS, FIRST_PRIVILEGES, LETTERBOX_TYPE};
 use kom_types::limits::LONGEST_PASSWORD;
 use kom_types::{
     Bytes, Counter, Decision, Effect, EffectList, Memory, NewPerson, Object, PasswordChange,
-    PersonField, Reply, Sequence,
+    PersonField, Reply, Sequence, errors,
 };
 
 /// Call 7, set-priv-bits.
@@ -76,7 +76,7 @@ fn create_person_guard(rows: &StoredRows, caller: &Viewer) -> Result<(), Refused
 {
     unless(
         may_make_persons(rows, caller.person) || caller.strong,
-        12,
+        errors::PERMISSION_DENIED,
         0,
     )
 }

@@ -14,7 +14,7 @@ use kom_state::{Asked, StoredRows};
 use kom_types::limits::LONGEST_NAME;
 use kom_types::{
     Bytes, ClientVersion, Decision, Effect, MESSAGE_NUMBERS, Memory, Numbers, Reply, Seat,
-    SessionChange,
+    SessionChange, errors,
 };
 
 /// Call 1, logout: whoever is logged in is logged out. It is done also if nobody is.
@@ -65,7 +65,11 @@ pub fn disconnect(asked: &Asked<'_>, session: u32) -> Result<Decision, CallError
 {
     let session = session_meant(asked, session);
     session_guard(asked.sessions(), session)?;
-    unless(may_disconnect(asked, session), 12, session)?;
+    unless(
+        may_disconnect(asked, session),
+        errors::PERMISSION_DENIED,
+        session,
+    )?;
     match asked.sessions().seat(session) {
         None => Ok(asked.answer(Reply::Done)),
         Some(seat) => Ok(ended(asked, seat)?),
@@ -158,7 +162,7 @@ pub fn set_client_version(asked: &Asked<'_>, given: &ClientVersion) -> Result<De
 {
     size_guard(given.name.as_slice(), LONGEST_NAME)?;
     size_guard(given.version.as_slice(), LONGEST_NAME)?;
-    unless(!has_told(asked), 41, 0)?;
+    unless(!has_told(asked), errors::CLIENT_IS_CRAZY, 0)?;
     let name = Bytes::copy_of(asked.allocator(), given.name.as_slice())?;
     let version = Bytes::copy_of(asked.allocator(), given.version.as_slice())?;
     Ok(asked.with_change(SessionChange::Client(asked.session(), name, version))?)
@@ -183,7 +187,7 @@ pub fn accept_async(asked: &Asked<'_>, numbers: &Numbers) -> Result<Decision, Ca
     let change = SessionChange::Accept(asked.session(), bits_of(numbers));
     let mut decision = asked.with_change(change)?;
     if let Some(number) = first_other(numbers) {
-        decision.reply = Reply::Refused(50, number);
+        decision.reply = Reply::Refused(errors::UNKNOWN_ASYNC, number);
     }
     Ok(decision)
 }

@@ -12,7 +12,9 @@ use access_rights::{conference_adder, conference_guard, items_shown, login_guard
 use kom_model::{CallError, Refused, Viewer};
 use kom_state::{Asked, StoredRows};
 use kom_types::limits::LONGEST_NAME;
-use kom_types::{Boxed, Bytes, Conference, ConferenceRow, Decision, Memory, Reply, UConference};
+use kom_types::{
+    Boxed, Bytes, Conference, ConferenceRow, Decision, Memory, Reply, UConference, errors,
+};
 use name_lookup::fold_byte;
 use std::alloc::Global;
 
@@ -52,7 +54,7 @@ fn uconference_of(alloc: Global, rows: &StoredRows, conference: u32) -> Result<R
 {
     match rows.conference(conference) {
         Some(row) => Ok(Reply::UConference(Boxed::new(alloc, uconference(alloc, row)?)?)),
-        None => Ok(Reply::Refused(9, conference)),
+        None => Ok(Reply::Refused(errors::UNDEFINED_CONFERENCE, conference)),
     }
 }
 
@@ -99,7 +101,7 @@ fn conference_reply(
             let told = conference_told(alloc, rows, caller, row)?;
             Ok(Reply::Conference(Boxed::new(alloc, told)?))
         }
-        None => Ok(Reply::Refused(9, number)),
+        None => Ok(Reply::Refused(errors::UNDEFINED_CONFERENCE, number)),
     }
 }
 
@@ -176,7 +178,7 @@ pub fn find_next_conf_no(asked: &Asked<'_>, start: u32) -> Result<Decision, Refu
     match next_shown(asked, Wanted::Conference, start) {
         Some(number) => Ok(asked.answer(Reply::Number(number))),
         None => Err(Refused {
-            code: 9,
+            code: errors::UNDEFINED_CONFERENCE,
             status: start,
         }),
     }
@@ -190,7 +192,7 @@ pub fn find_previous_conf_no(asked: &Asked<'_>, start: u32) -> Result<Decision, 
     match previous_shown(asked, Wanted::Conference, start) {
         Some(number) => Ok(asked.answer(Reply::Number(number))),
         None => Err(Refused {
-            code: 9,
+            code: errors::UNDEFINED_CONFERENCE,
             status: start,
         }),
     }

@@ -23,7 +23,7 @@ use kom_state::{Asked, StoredRows};
 use kom_types::bits::PASSIVE_MEMBERSHIP;
 use kom_types::{
     Boxed, Decision, Members, Membership, MembershipRow, Memberships, Memory, Moment, Numbers,
-    RangesShown, ReadRange, Reply, Sequence,
+    RangesShown, ReadRange, Reply, Sequence, errors,
 };
 use read_ranges::Ranges;
 
@@ -35,7 +35,11 @@ pub fn get_unread_confs(asked: &Asked<'_>, person: u32) -> Result<Decision, Call
     let rows = asked.rows();
     login_guard(&caller)?;
     rows.person_guard(person)?;
-    unless(tells_unread(rows, &caller, person), 12, person)?;
+    unless(
+        tells_unread(rows, &caller, person),
+        errors::PERMISSION_DENIED,
+        person,
+    )?;
     let numbers = unread_confs(asked, person)?;
     let numbers = Boxed::new(asked.allocator(), numbers)?;
     Ok(asked.answer(Reply::Numbers(numbers)))
@@ -120,7 +124,7 @@ pub fn get_members(
     let passed = hidden_members(asked.rows(), &caller, conference, first as usize);
     unless(
         first == 0 || has_member_at(asked, &caller, conference, first, passed),
-        19,
+        errors::INDEX_OUT_OF_RANGE,
         first,
     )?;
     let members = members_from(asked, &caller, conference, first, passed, count)?;
@@ -194,7 +198,7 @@ pub fn query_read_texts(
     row_guard(rows, &caller, person, conference)?;
     let Some(row) = rows.membership(person, conference) else {
         return Err(Refused {
-            code: 13,
+            code: errors::NOT_MEMBER,
             status: conference,
         }
         .into());
@@ -308,7 +312,7 @@ pub fn get_membership(
     let passed = hidden_memberships(rows, &asked.caller(), person, first as usize);
     unless(
         first == 0 || has_membership_at(asked, person, first, passed),
-        19,
+        errors::INDEX_OUT_OF_RANGE,
         first,
     )?;
     let told = memberships_from(asked, person, first, passed, count, want_ranges, most)?;

@@ -7,7 +7,7 @@ use crate::told_counts::{memberships_told, own_count};
 use access_rights::{login_guard, told_count};
 use kom_model::{CallError, Viewer};
 use kom_state::{Asked, StoredRows};
-use kom_types::{Boxed, Bytes, Decision, Memory, Person, PersonRow, Reply};
+use kom_types::{Boxed, Bytes, Decision, Memory, Person, PersonRow, Reply, errors};
 use std::alloc::Global;
 
 /// Call 49, get-person-stat. Where a membership of the person may be hidden from somebody, and the
@@ -36,7 +36,7 @@ fn person_reply(
             let told = person_told(alloc, rows, caller, row)?;
             Ok(Reply::Person(Boxed::new(alloc, told)?))
         }
-        None => Ok(Reply::Refused(10, person)),
+        None => Ok(Reply::Refused(errors::UNDEFINED_PERSON, person)),
     }
 }
 

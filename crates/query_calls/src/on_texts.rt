@@ -11,7 +11,7 @@ use access_rights::{conference_guard, login_guard, reads_guard, shown_stat, text
 use kom_model::{CallError, Refused, Viewer};
 use kom_state::{Asked, StoredRows};
 use kom_types::limits::MOST_MAPPED;
-use kom_types::{Boxed, Decision, Mapping, Memory, Reply};
+use kom_types::{Boxed, Decision, Mapping, Memory, Reply, errors};
 use std::alloc::Global;
 
 /// Call 23, get-marks: by rising text.
@@ -45,7 +45,7 @@ fn text_reply(alloc: Global, rows: &StoredRows, caller: &Viewer, text: u32) -> R
             let stat = shown_stat(alloc, rows, caller, row)?;
             Ok(Reply::TextStat(Boxed::new(alloc, stat)?))
         }
-        None => Ok(Reply::Refused(14, text)),
+        None => Ok(Reply::Refused(errors::NO_SUCH_TEXT, text)),
     }
 }
 
@@ -64,7 +64,7 @@ pub fn find_next_text_no(asked: &Asked<'_>, start: u32) -> Result<Decision, Refu
     match next_shown(asked, Wanted::Text, start) {
         Some(number) => Ok(asked.answer(Reply::Number(number))),
         None => Err(Refused {
-            code: 14,
+            code: errors::NO_SUCH_TEXT,
             status: start,
         }),
     }
@@ -78,7 +78,7 @@ pub fn find_previous_text_no(asked: &Asked<'_>, start: u32) -> Result<Decision, 
     match previous_shown(asked, Wanted::Text, start) {
         Some(number) => Ok(asked.answer(Reply::Number(number))),
         None => Err(Refused {
-            code: 14,
+            code: errors::NO_SUCH_TEXT,
             status: start,
         }),
     }
@@ -88,14 +88,14 @@ pub fn find_previous_text_no(asked: &Asked<'_>, start: u32) -> Result<Decision, 
 fn first_guard(first: u32) -> Result<(), Refused>
     ensures { Guards (Texts.first_guard first) result }
 {
-    unless(first != 0, 17, 0)
+    unless(first != 0, errors::LOCAL_TEXT_ZERO, 0)
 }
 
 /// Not too many texts are asked for.
 fn count_guard(count: u32) -> Result<(), Refused>
     ensures { Guards (Texts.count_guard count) result }
 {
-    unless(count <= MOST_MAPPED, 19, count)
+    unless(count <= MOST_MAPPED, errors::INDEX_OUT_OF_RANGE, count)
 }
 
 /// Call 103, local-to-global.

@@ -17,7 +17,7 @@ use kom_state::{Asked, StoredRows, push_count, push_items};
 use kom_types::limits::{LAST_DRAWN, LONGEST_BODY};
 use kom_types::{
     Bytes, Counter, Decision, Effect, EffectList, Memory, MiscInput, NewText, Object, Reply,
-    Sequence, TextLink,
+    Sequence, TextLink, errors,
 };
 
 /// Call 86, create-text.
@@ -50,7 +50,7 @@ fn new_text(asked: &Asked<'_>, anonymous: bool, given: &NewText) -> Result<Decis
             anonymous,
             given.misc_inputs.as_slice(),
         ),
-        45,
+        errors::TEMPORARY_FAILURE,
         0,
     )?;
     new_items_guard(Object::Text, caller.person, &given.aux_items)?;

@@ -10,9 +10,9 @@ use crate::owning::made_text;
 use access_rights::{conference_guard, submit_guard, text_guard, unless};
 use kom_model::{Refused, Rows, Viewer};
 use kom_state::{Asked, StoredRows, is_recipient_tag};
-use kom_types::MiscInput;
 use kom_types::bits::ALLOWS_ANONYMOUS;
 use kom_types::limits::{MOST_COMMENTS, MOST_FOOTNOTES, MOST_RECIPIENTS};
+use kom_types::{MiscInput, errors};
 
 /// The tags of a comment's, and of a footnote's, link.
 const COMMENT: u32 = 2;
@@ -80,7 +80,7 @@ fn item_guard(
         footnote_guard(asked, anonymous, before, item.value)
     } else {
         Err(Refused {
-            code: 25,
+            code: errors::ILLEGAL_MISC,
             status: before.len().min(u32::MAX as usize) as u32,
         })
     }
@@ -100,12 +100,16 @@ fn recipient_guard(
     conference_guard(rows, &caller, conference)?;
     unless(
         is_new(Naming::Recipient, before, conference),
-        27,
+        errors::ALREADY_RECIPIENT,
         conference,
     )?;
     submit_guard(rows, &caller, conference)?;
     anonymous_guard(rows, anonymous, conference)?;
-    unless(count(Naming::Recipient, before) < MOST_RECIPIENTS, 33, 0)
+    unless(
+        count(Naming::Recipient, before) < MOST_RECIPIENTS,
+        errors::RECIPIENT_LIMIT,
+        0,
+    )
 }
 
 /// A text without an author is taken by the conference.
@@ -114,7 +118,7 @@ fn anonymous_guard(rows: &StoredRows, anonymous: bool, conference: u32) -> Resul
 {
     unless(
         !anonymous || takes_anonymous(rows, conference),
-        47,
+        errors::ANONYMOUS_REJECTED,
         conference,
     )
 }
@@ -135,9 +139,17 @@ fn comment_guard(asked: &Asked<'_>, before: &[MiscInput], text: u32) -> Result<(
     let caller = asked.caller();
     let rows = asked.rows();
     text_guard(rows, &caller, text)?;
-    unless(is_new(Naming::Comment, before, text), 28, text)?;
-    into_guard(rows, text, false, 34, text)?;
-    unless(count(Naming::Comment, before) < MOST_COMMENTS, 34, 0)
+    unless(
+        is_new(Naming::Comment, before, text),
+        errors::ALREADY_COMMENT,
+        text,
+    )?;
+    into_guard(rows, text, false, errors::COMMENT_LIMIT, text)?;
+    unless(
+        count(Naming::Comment, before) < MOST_COMMENTS,
+        errors::COMMENT_LIMIT,
+        0,
+    )
 }
 
 fn footnote_guard(
@@ -152,9 +164,17 @@ fn footnote_guard(
     let rows = asked.rows();
     text_guard(rows, &caller, text)?;
     author_guard(rows, &caller, anonymous, text)?;
-    unless(is_new(Naming::Footnote, before, text), 29, text)?;
-    into_guard(rows, text, true, 35, text)?;
-    unless(count(Naming::Footnote, before) < MOST_FOOTNOTES, 35, 0)
+    unless(
+        is_new(Naming::Footnote, before, text),
+        errors::ALREADY_FOOTNOTE,
+        text,
+    )?;
+    into_guard(rows, text, true, errors::FOOTNOTE_LIMIT, text)?;
+    unless(
+        count(Naming::Footnote, before) < MOST_FOOTNOTES,
+        errors::FOOTNOTE_LIMIT,
+        0,
+    )
 }
 
 /// The caller made the text that gets a footnote, and makes this one not without an author.
@@ -166,7 +186,11 @@ fn author_guard(
 ) -> Result<(), Refused>
     ensures { Guards (NewTexts.author_guard rows.now.db caller.now anonymous text) result }
 {
-    unless(!anonymous && made_text(rows, caller, text), 37, text)
+    unless(
+        !anonymous && made_text(rows, caller, text),
+        errors::NOT_AUTHOR,
+        text,
+    )
 }
 
 /// No item before names the same.

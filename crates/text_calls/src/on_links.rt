@@ -7,7 +7,7 @@ use crate::owning::{made_text, owns_text};
 use access_rights::{login_guard, text_guard, unless};
 use kom_model::{CallError, Refused};
 use kom_state::{Asked, StoredRows, most_links};
-use kom_types::{Decision, Effect, TextLink};
+use kom_types::{Decision, Effect, TextLink, errors};
 
 /// Call 32, add-comment.
 pub fn add_comment(asked: &Asked<'_>, child: u32, parent: u32) -> Result<Decision, CallError>
@@ -18,10 +18,10 @@ pub fn add_comment(asked: &Asked<'_>, child: u32, parent: u32) -> Result<Decisio
     login_guard(&caller)?;
     text_guard(rows, &caller, child)?;
     text_guard(rows, &caller, parent)?;
-    unless(child != parent, 12, child)?;
-    unlinked_guard(rows, child, parent, false, 28)?;
-    into_guard(rows, parent, false, 34, parent)?;
-    from_guard(rows, child, false, 34)?;
+    unless(child != parent, errors::PERMISSION_DENIED, child)?;
+    unlinked_guard(rows, child, parent, false, errors::ALREADY_COMMENT)?;
+    into_guard(rows, parent, false, errors::COMMENT_LIMIT, parent)?;
+    from_guard(rows, child, false, errors::COMMENT_LIMIT)?;
     Ok(asked.with_effect(linked(asked, child, parent, false))?)
 }
 
@@ -34,9 +34,13 @@ pub fn sub_comment(asked: &Asked<'_>, child: u32, parent: u32) -> Result<Decisio
     login_guard(&caller)?;
     text_guard(rows, &caller, child)?;
     text_guard(rows, &caller, parent)?;
-    linked_guard(rows, child, parent, false, 31)?;
+    linked_guard(rows, child, parent, false, errors::NOT_COMMENT)?;
     let is_linker = linker_of(rows, child, parent, false) == caller.person;
-    unless(owns_text(rows, &caller, child) || is_linker, 12, child)?;
+    unless(
+        owns_text(rows, &caller, child) || is_linker,
+        errors::PERMISSION_DENIED,
+        child,
+    )?;
     Ok(asked.with_effect(Effect::LinkGone {
         child,
         parent,
@@ -53,12 +57,12 @@ pub fn add_footnote(asked: &Asked<'_>, child: u32, parent: u32) -> Result<Decisi
     login_guard(&caller)?;
     text_guard(rows, &caller, child)?;
     text_guard(rows, &caller, parent)?;
-    unless(child != parent, 12, child)?;
+    unless(child != parent, errors::PERMISSION_DENIED, child)?;
     let are_own = made_text(rows, &caller, child) && made_text(rows, &caller, parent);
-    unless(are_own, 37, parent)?;
-    unlinked_guard(rows, child, parent, true, 29)?;
-    into_guard(rows, parent, true, 35, parent)?;
-    from_guard(rows, child, true, 35)?;
+    unless(are_own, errors::NOT_AUTHOR, parent)?;
+    unlinked_guard(rows, child, parent, true, errors::ALREADY_FOOTNOTE)?;
+    into_guard(rows, parent, true, errors::FOOTNOTE_LIMIT, parent)?;
+    from_guard(rows, child, true, errors::FOOTNOTE_LIMIT)?;
     Ok(asked.with_effect(linked(asked, child, parent, true))?)
 }
 
@@ -71,8 +75,12 @@ pub fn sub_footnote(asked: &Asked<'_>, child: u32, parent: u32) -> Result<Decisi
     login_guard(&caller)?;
     text_guard(rows, &caller, child)?;
     text_guard(rows, &caller, parent)?;
-    linked_guard(rows, child, parent, true, 32)?;
-    unless(made_text(rows, &caller, child) || caller.strong, 12, child)?;
+    linked_guard(rows, child, parent, true, errors::NOT_FOOTNOTE)?;
+    unless(
+        made_text(rows, &caller, child) || caller.strong,
+        errors::PERMISSION_DENIED,
+        child,
+    )?;
     Ok(asked.with_effect(Effect::LinkGone {
         child,
         parent,

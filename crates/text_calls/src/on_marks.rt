@@ -5,7 +5,7 @@ use access_rights::{login_guard, text_guard, unless};
 use kom_model::CallError;
 use kom_state::Asked;
 use kom_types::limits::MOST_MARKS;
-use kom_types::{Decision, Effect};
+use kom_types::{Decision, Effect, errors};
 
 /// Call 72, mark-text: the mark may be there already.
 pub fn mark_text(asked: &Asked<'_>, text: u32, kind: u8) -> Result<Decision, CallError>
@@ -17,7 +17,7 @@ pub fn mark_text(asked: &Asked<'_>, text: u32, kind: u8) -> Result<Decision, Cal
     login_guard(&caller)?;
     text_guard(rows, &caller, text)?;
     let may_mark = rows.mark(person, text).is_some() || rows.mark_count_of(person) < MOST_MARKS;
-    unless(may_mark, 36, 0)?;
+    unless(may_mark, errors::MARK_LIMIT, 0)?;
     Ok(asked.with_effect(Effect::MarkSet { person, text, kind })?)
 }
 
@@ -28,7 +28,11 @@ pub fn unmark_text(asked: &Asked<'_>, text: u32) -> Result<Decision, CallError>
     let caller = asked.caller();
     let person = caller.person;
     login_guard(&caller)?;
-    unless(text != 0, 15, 0)?;
-    unless(asked.rows().mark(person, text).is_some(), 44, text)?;
+    unless(text != 0, errors::TEXT_ZERO, 0)?;
+    unless(
+        asked.rows().mark(person, text).is_some(),
+        errors::NOT_MARKED,
+        text,
+    )?;
     Ok(asked.with_effect(Effect::MarkGone { person, text })?)
 }

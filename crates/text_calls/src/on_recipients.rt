@@ -11,7 +11,9 @@ use access_rights::{
 use kom_model::{CallError, Refused, Viewer};
 use kom_state::{Asked, StoredRows, is_recipient_tag};
 use kom_types::limits::{LAST_DRAWN, MOST_RECIPIENTS};
-use kom_types::{ConfField, Decision, Effect, EffectList, Memory, Recipient, Reply, Sequence};
+use kom_types::{
+    ConfField, Decision, Effect, EffectList, Memory, Recipient, Reply, Sequence, errors,
+};
 
 /// Call 30, add-recipient.
 pub fn add_recipient(
@@ -27,10 +29,18 @@ pub fn add_recipient(
     login_guard(&caller)?;
     text_guard(rows, &caller, text)?;
     conference_guard(rows, &caller, conference)?;
-    unless(is_recipient_tag(tag), 26, tag)?;
-    unless(rows.recipient(text, conference).is_none(), 27, conference)?;
+    unless(is_recipient_tag(tag), errors::ILLEGAL_INFO_TYPE, tag)?;
+    unless(
+        rows.recipient(text, conference).is_none(),
+        errors::ALREADY_RECIPIENT,
+        conference,
+    )?;
     submit_guard(rows, &caller, conference)?;
-    unless(rows.recipient_count(text) < MOST_RECIPIENTS, 33, text)?;
+    unless(
+        rows.recipient_count(text) < MOST_RECIPIENTS,
+        errors::RECIPIENT_LIMIT,
+        text,
+    )?;
     local_guard(rows, conference)?;
     let given = new_recipient(asked, text, conference, tag as u8, caller.person);
     Ok(Decision {
@@ -44,7 +54,11 @@ pub fn add_recipient(
 fn local_guard(rows: &StoredRows, conference: u32) -> Result<(), Refused>
     ensures { Guards (Texts.local_guard rows.now.db conference) result }
 {
-    unless(rows.next_local(conference) <= LAST_DRAWN, 45, 0)
+    unless(
+        rows.next_local(conference) <= LAST_DRAWN,
+        errors::TEMPORARY_FAILURE,
+        0,
+    )
 }
 
 /// A recipient that is added now, by whom: 0 if the text is made with it.
@@ -96,9 +110,17 @@ pub fn sub_recipient(asked: &Asked<'_>, text: u32, conference: u32) -> Result<De
     let rows = asked.rows();
     login_guard(&caller)?;
     text_guard(rows, &caller, text)?;
-    unless(conference != 0, 8, 0)?;
-    unless(shows_to(rows, &caller, text, conference), 30, conference)?;
-    unless(may_take(rows, &caller, text, conference), 12, text)?;
+    unless(conference != 0, errors::CONFERENCE_ZERO, 0)?;
+    unless(
+        shows_to(rows, &caller, text, conference),
+        errors::NOT_RECIPIENT,
+        conference,
+    )?;
+    unless(
+        may_take(rows, &caller, text, conference),
+        errors::PERMISSION_DENIED,
+        text,
+    )?;
     Ok(asked.with_effect(Effect::RecipientGone { text, conference })?)
 }
 

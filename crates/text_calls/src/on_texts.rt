@@ -7,7 +7,7 @@ use crate::owning::owns_text;
 use access_rights::{login_guard, text_guard, unless};
 use kom_model::CallError;
 use kom_state::{Asked, StoredRows};
-use kom_types::{Boxed, Bytes, Counter, Decision, Effect, Memory, Reply, Sequence};
+use kom_types::{Boxed, Bytes, Counter, Decision, Effect, Memory, Reply, Sequence, errors};
 use std::alloc::Global;
 
 /// Call 25, get-text: the bytes of a text from one place to another, that one too.
@@ -18,7 +18,11 @@ pub fn get_text(asked: &Asked<'_>, text: u32, start: u32, end: u32) -> Result<De
     let rows = asked.rows();
     login_guard(&caller)?;
     text_guard(rows, &caller, text)?;
-    unless(start as usize <= length_of(rows, text), 19, start)?;
+    unless(
+        start as usize <= length_of(rows, text),
+        errors::INDEX_OUT_OF_RANGE,
+        start,
+    )?;
     let alloc = asked.allocator();
     let bytes = copy_of_part(alloc, rows, text, start, end)?;
     let reply = Reply::Text(Boxed::new(alloc, bytes)?);
@@ -78,7 +82,11 @@ pub fn delete_text(asked: &Asked<'_>, text: u32) -> Result<Decision, CallError>
     let rows = asked.rows();
     login_guard(&caller)?;
     text_guard(rows, &caller, text)?;
-    unless(owns_text(rows, &caller, text), 12, text)?;
+    unless(
+        owns_text(rows, &caller, text),
+        errors::PERMISSION_DENIED,
+        text,
+    )?;
     let alloc = asked.allocator();
     Ok(Decision {
         reply: Reply::Done,

@@ -1,6 +1,7 @@
 -- The calls about aux-items. (Protocol A, "Auxiliary Information".)
 use Rattle.std.specs.Prelude.{ℕ, ◌+◌, Bool, true, false, ◌||◌, nat_le, List, [], ◌∷◌, ◌++◌}
 use Rattle.std.specs.Prelude.{length, map, Some, None, if◌then◌else◌}
+use Rattle.kom_types.specs.Errors as error
 use Rattle.kom_types.specs.AuxItems.{items_from}
 use Rattle.kom_types.specs.declared.aux_items.Adder.{Adder}
 use Rattle.kom_types.specs.declared.aux_items.AuxChange.{AuxChange}
@@ -40,7 +41,7 @@ items_added on_text number items = map (λ item. effect.AuxAdded on_text number 
 abbrev pub numbers_guard : Db → Bool → AuxChange → Guard
 numbers_guard db on_text change =
     unless (nat_le (next_item_of db on_text change.object + length change.add) (last_drawn + 1))
-    45 0
+    error.temporary_failure 0
 
 -- the effects of a change: items go, and others are added with the next numbers
 abbrev pub item_effects : Asked → Bool → Adder → AuxChange → List Effect

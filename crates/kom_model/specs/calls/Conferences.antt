@@ -3,6 +3,7 @@ use Rattle.std.specs.Prelude.{ℕ, ◌-◌, Bool, false, ◌==◌, ◌||◌, ◌
 use Rattle.std.specs.Prelude.{List, [], ◌∷◌, ◌++◌, map, filter, find, reverse, Option, Some, None}
 use Rattle.std.specs.Prelude.{if◌then◌else◌}
 use Rattle.std.specs.List.{range_with_len, filter_map}
+use Rattle.kom_types.specs.Errors as error
 use Rattle.kom_types.specs.AuxItems.{items_from}
 use Rattle.kom_types.specs.Bits.{alike}
 use Rattle.kom_types.specs.declared.aux_items.Object.TheVariants as object
@@ -90,7 +91,8 @@ may_become db number kind = elim (conference_of db number) [
 -- call 21, set-conf-type
 abbrev pub set_conf_type : Asked → ℕ → ℕ → Definition
 set_conf_type asked number kind = set_field asked number
-    (unless (may_become asked.db number kind) 23 number ∷ type_guard kind ∷ []) (field.Kind kind)
+    (unless (may_become asked.db number kind) error.letterbox number ∷ type_guard kind
+    ∷ []) (field.Kind kind)
 
 -- call 22, set-garb-nice; call 97, set-expire; and call 105, set-keep-commented: days
 abbrev pub set_garb_nice : Asked → ℕ → ℕ → Definition
@@ -140,7 +142,7 @@ may_make_conferences db person = elim (person_of db person) [
 
 abbrev pub create_conf_guard : Db → Viewer → Guard
 create_conf_guard db caller =
-    unless (may_make_conferences db caller.person || caller.strong) 12 0
+    unless (may_make_conferences db caller.person || caller.strong) error.permission_denied 0
 
 -- call 88, create-conf: no letterbox is made so
 abbrev pub create_conf : Asked → NewConference → Definition
@@ -149,7 +151,7 @@ create_conf asked given =
     let by = (caller asked).person in
     guarded
     (login_guard (caller asked) ∷ create_conf_guard asked.db (caller asked)
-    ∷ name_guard given.name ∷ unless (not (is_letterbox given.kind)) 23 0
+    ∷ name_guard given.name ∷ unless (not (is_letterbox given.kind)) error.letterbox 0
     ∷ type_guard given.kind ∷ free_guard asked.db 0 given.name ∷ drawn_guard asked.db ∷ [])
     (with_items (new_items_guard object.Conference by given.aux_items) (record {
       reply = reply.Number number;
@@ -180,7 +182,7 @@ lookup_z_name asked pattern persons conferences = guarded
 -- what a conference is said to be to most clients
 abbrev pub uconference_of : Db → ℕ → Reply
 uconference_of db number = elim (conference_of db number) [
-  | None ↦ reply.Refused 9 number
+  | None ↦ reply.Refused error.undefined_conference number
   | Some row ↦ reply.UConference (record {
     name = row.name;
     kind = row.kind;
@@ -202,7 +204,7 @@ get_collate_table = unguarded (answer (reply.Text (map fold (range_with_len 0 25
 -- what is replied of a conference
 abbrev pub conference_reply : Db → Viewer → ℕ → Reply
 conference_reply db caller number = elim (conference_of db number) [
-  | None ↦ reply.Refused 9 number
+  | None ↦ reply.Refused error.undefined_conference number
   | Some row ↦ reply.Conference (conference_told db caller row)
 ]
 
@@ -224,7 +226,8 @@ first_seen asked test rows =
 -- a number is answered, or that there is none
 abbrev pub nearest : Asked → ℕ → Option ConferenceRow → Definition
 nearest asked start None =
-    guarded (login_guard (caller asked) ∷ refusal 9 start ∷ []) (answer reply.Done)
+    guarded (login_guard (caller asked) ∷ refusal error.undefined_conference start
+    ∷ []) (answer reply.Done)
 nearest asked start (Some row) =
     guarded (login_guard (caller asked) ∷ []) (answer (reply.Number row.number))
 

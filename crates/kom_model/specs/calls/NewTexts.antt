@@ -3,6 +3,7 @@ use Rattle.std.specs.Prelude.{ℕ, Bool, true, false, ◌==◌, ◌||◌, ◌&&�
 use Rattle.std.specs.Prelude.{List, [], ◌∷◌, ◌++◌, length, map, filter, fold, count_by, Some, None}
 use Rattle.std.specs.Prelude.{if◌then◌else◌}
 use Rattle.std.specs.List.{list_any, list_all}
+use Rattle.kom_types.specs.Errors as error
 use Rattle.kom_types.specs.AuxItems.{items_from, inherited}
 use Rattle.kom_types.specs.declared.aux_items.AuxRow.{AuxRow}
 use Rattle.kom_types.specs.declared.aux_items.Object.TheVariants as object
@@ -59,35 +60,38 @@ takes_anonymous db conference = elim (conference_head_of db conference) [
 -- a text without an author is taken by the conference
 abbrev pub anonymous_guard : Db → Bool → ℕ → Guard
 anonymous_guard db anonymous conference =
-    unless (not anonymous || takes_anonymous db conference) 47 conference
+    unless (not anonymous || takes_anonymous db conference) error.anonymous_rejected conference
 
 -- the caller made the text that gets a footnote, and makes this one not without an author
 abbrev pub author_guard : Db → Viewer → Bool → ℕ → Guard
-author_guard db caller anonymous text = unless (not anonymous && made_text db caller text) 37 text
+author_guard db caller anonymous text =
+    unless (not anonymous && made_text db caller text) error.not_author text
 
 -- the guards of an item that names a recipient, after these items
 abbrev pub recipient_guard : Asked → Bool → List MiscInput → ℕ → Guard
 recipient_guard asked anonymous before conference = first_refusal
     (conference_guard asked.db (caller asked) conference
-    ∷ unless (is_new names_recipient before conference) 27 conference
+    ∷ unless (is_new names_recipient before conference) error.already_recipient conference
     ∷ submit_guard asked.db (caller asked) conference
     ∷ anonymous_guard asked.db anonymous conference
-    ∷ unless (has_room names_recipient before most_recipients) 33 0 ∷ [])
+    ∷ unless (has_room names_recipient before most_recipients) error.recipient_limit 0 ∷ [])
 
 -- the guards of an item that names a text that is commented
 abbrev pub comment_guard : Asked → List MiscInput → ℕ → Guard
 comment_guard asked before text = first_refusal
-    (text_guard asked.db (caller asked) text ∷ unless (is_new names_comment before text) 28 text
-    ∷ into_guard asked.db text false 34 text
-    ∷ unless (has_room names_comment before (most_links false)) 34 0 ∷ [])
+    (text_guard asked.db (caller asked) text
+    ∷ unless (is_new names_comment before text) error.already_comment text
+    ∷ into_guard asked.db text false error.comment_limit text
+    ∷ unless (has_room names_comment before (most_links false)) error.comment_limit 0 ∷ [])
 
 -- the guards of an item that names a text that gets a footnote: its author makes it
 abbrev pub footnote_guard : Asked → Bool → List MiscInput → ℕ → Guard
 footnote_guard asked anonymous before text = first_refusal
     (text_guard asked.db (caller asked) text
     ∷ author_guard asked.db (caller asked) anonymous text
-    ∷ unless (is_new names_footnote before text) 29 text ∷ into_guard asked.db text true 35 text
-    ∷ unless (has_room names_footnote before (most_links true)) 35 0 ∷ [])
+    ∷ unless (is_new names_footnote before text) error.already_footnote text
+    ∷ into_guard asked.db text true error.footnote_limit text
+    ∷ unless (has_room names_footnote before (most_links true)) error.footnote_limit 0 ∷ [])
 
 -- the guards of an item, after these items; of other tags none is taken. A status stops at
 -- 4294967295.
@@ -96,7 +100,7 @@ item_guard asked anonymous before item =
     if names_recipient item then recipient_guard asked anonymous before item.value
     else if names_comment item then comment_guard asked before item.value
     else if names_footnote item then footnote_guard asked anonymous before item.value
-    else refusal 25 (min (length before) 4294967295)
+    else refusal error.illegal_misc (min (length before) 4294967295)
 
 -- the guards of each item in turn
 abbrev pub item_guards : Asked → Bool → List MiscInput → List MiscInput → List Guard
@@ -168,7 +172,8 @@ abbrev pub new_text : Bool → Asked → NewText → Definition
 new_text anonymous asked given = let number = next_text_of asked.db in guarded
     (login_guard (caller asked) ∷ size_guard given.body longest_body
     ∷ first_refusal (item_guards asked anonymous [] given.misc_inputs)
-    ∷ unless (has_numbers asked.db (caller asked).person anonymous given.misc_inputs) 45 0 ∷ [])
+    ∷ unless (has_numbers asked.db (caller asked).person anonymous given.misc_inputs)
+    error.temporary_failure 0 ∷ [])
     (with_items (new_items_guard object.Text (caller asked).person given.aux_items) (record {
       reply = reply.Number number;
       effects = text_effects asked anonymous number given;

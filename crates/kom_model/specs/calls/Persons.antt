@@ -1,6 +1,7 @@
 -- The calls about persons. (Protocol A, "Protocol Requests".)
 use Rattle.std.specs.Prelude.{ℕ, Bool, false, ◌==◌, ◌||◌, List, [], ◌∷◌, ◌++◌, Some, None}
 use Rattle.std.specs.Prelude.{if◌then◌else◌}
+use Rattle.kom_types.specs.Errors as error
 use Rattle.kom_types.specs.AuxItems.{items_from}
 use Rattle.kom_types.specs.declared.aux_items.Object.TheVariants as object
 use Rattle.kom_types.specs.declared.effects.Counter.TheVariants as counter
@@ -61,7 +62,7 @@ set_user_area asked person text = guarded
 -- what is replied of a person
 abbrev pub person_reply : Db → Viewer → ℕ → Reply
 person_reply db caller number = elim (person_of db number) [
-  | None ↦ reply.Refused 10 number
+  | None ↦ reply.Refused error.undefined_person number
   | Some row ↦ reply.Person (person_told db caller row)
 ]
 
@@ -80,7 +81,7 @@ may_make_persons db person = elim (person_of db person) [
 
 abbrev pub create_person_guard : Db → Viewer → Guard
 create_person_guard db caller =
-    unless (may_make_persons db caller.person || caller.strong) 12 0
+    unless (may_make_persons db caller.person || caller.strong) error.permission_denied 0
 
 -- the type of a letterbox that is made, and the privileges of a person that is
 abbrev pub letterbox_type : ℕ

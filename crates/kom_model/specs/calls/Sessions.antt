@@ -3,6 +3,7 @@ use Rattle.std.specs.Prelude.{ℕ, ◌-◌, ◌^◌, Bool, false, ◌==◌, ◌|
 use Rattle.std.specs.Prelude.{List, [], ◌∷◌, ◌++◌, length, map}
 use Rattle.std.specs.Prelude.{Option, Some, None, find, filter, fold, bit_or, if◌then◌else◌}
 use Rattle.std.specs.List.{flat_map}
+use Rattle.kom_types.specs.Errors as error
 use Rattle.kom_types.specs.declared.effects.Counter.{Counter}
 use Rattle.kom_types.specs.declared.effects.Counter.TheVariants as counter
 use Rattle.kom_types.specs.declared.effects.Effect.{Effect}
@@ -47,7 +48,7 @@ accepted_bits numbers = fold (λ bits number. bit_or bits (2 ^ number)) 0 (filte
 
 -- refused for the first number that is of no message
 abbrev pub accept_reply : Option ℕ → Reply
-accept_reply (Some number) = reply.Refused 50 number
+accept_reply (Some number) = reply.Refused error.unknown_async number
 accept_reply None = reply.Done
 
 -- call 80, accept-async: the session accepts the messages of these numbers, also where the call is
@@ -90,7 +91,7 @@ has_told asked = elim (seat_of asked) [ None ↦ false | Some seat ↦ seat.clie
 abbrev pub set_client_version : Asked → ClientVersion → Definition
 set_client_version asked given = guarded
     (size_guard given.name longest_name ∷ size_guard given.version longest_name
-    ∷ unless (not (has_told asked)) 41 0 ∷ [])
+    ∷ unless (not (has_told asked)) error.client_is_crazy 0 ∷ [])
     (done [] (change.Client asked.session given.name given.version ∷ []))
 
 -- call 70, get-client-name, and call 71, get-client-version: empty where none was told
@@ -165,7 +166,7 @@ abbrev pub send_message_to : Asked → ℕ → List ℕ → Definition
 send_message_to asked recipient text = guarded
     (login_guard (caller asked) ∷ size_guard text longest_message
     ∷ conference_or_none_guard asked.db (caller asked) recipient
-    ∷ unless (is_sent asked recipient text) 53 recipient ∷ [])
+    ∷ unless (is_sent asked recipient text) error.message_not_sent recipient ∷ [])
     (done [] [])
 
 -- the session that a number means: the caller's own with 0
@@ -187,7 +188,8 @@ ended asked seat = done (seat_left asked seat) (seat_leaves seat ++ change.Ended
 -- call 55, disconnect: whoever is logged in is logged out, and the session makes no call any more
 abbrev pub disconnect : Asked → ℕ → Definition
 disconnect asked number = let session = session_meant asked number in guarded
-    (session_guard asked.seats session ∷ unless (may_disconnect asked session) 12 session ∷ [])
+    (session_guard asked.seats session
+    ∷ unless (may_disconnect asked session) error.permission_denied session ∷ [])
     (elim (seat_at asked.seats session) [ None ↦ done [] [] | Some seat ↦ ended asked seat ])
 
 -- for how many seconds a person has done nothing

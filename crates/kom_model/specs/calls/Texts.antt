@@ -2,6 +2,7 @@
 use Rattle.std.specs.Prelude.{ℕ, ◌+◌, ◌-◌, Bool, true, false, ◌==◌, ◌||◌, ◌&&◌, not, nat_le, nat_lt}
 use Rattle.std.specs.Prelude.{List, [], ◌∷◌, ◌++◌, length, map, filter, find, take, drop, reverse}
 use Rattle.std.specs.Prelude.{Option, Some, None, is_some, is_none}
+use Rattle.kom_types.specs.Errors as error
 use Rattle.kom_types.specs.declared.effects.ConfField.TheVariants as field
 use Rattle.kom_types.specs.declared.effects.Counter.TheVariants as counter
 use Rattle.kom_types.specs.declared.effects.Effect.{Effect}
@@ -50,7 +51,7 @@ cut start end bytes = take (end + 1 - start) (drop start bytes)
 abbrev pub get_text : Asked → ℕ → ℕ → ℕ → Definition
 get_text asked text start end = guarded
     (login_guard (caller asked) ∷ text_guard asked.db (caller asked) text
-    ∷ unless (nat_le start (length (body_of asked.db text))) 19 start ∷ [])
+    ∷ unless (nat_le start (length (body_of asked.db text))) error.index_out_of_range start ∷ [])
     (record {
       reply = reply.Text (cut start end (body_of asked.db text));
       effects = effect.Counted (caller asked).person counter.TextFetches 1 ∷ [];
@@ -60,7 +61,7 @@ get_text asked text start end = guarded
 -- what is replied of a text
 abbrev pub text_reply : Db → Viewer → ℕ → Reply
 text_reply db caller number = elim (text_of db number) [
-  | None ↦ reply.Refused 14 number
+  | None ↦ reply.Refused error.no_such_text number
   | Some row ↦ reply.TextStat (shown_stat db caller row)
 ]
 
@@ -83,12 +84,13 @@ gone_text db text =
 abbrev pub delete_text : Asked → ℕ → Definition
 delete_text asked text = guarded
     (login_guard (caller asked) ∷ text_guard asked.db (caller asked) text
-    ∷ unless (owns_text asked.db (caller asked) text) 12 text ∷ [])
+    ∷ unless (owns_text asked.db (caller asked) text) error.permission_denied text ∷ [])
     (done (gone_text asked.db text) [])
 
 -- a local number of the conference is left
 abbrev pub local_guard : Db → ℕ → Guard
-local_guard db conference = unless (nat_le (next_local_of db conference) last_drawn) 45 0
+local_guard db conference =
+    unless (nat_le (next_local_of db conference) last_drawn) error.temporary_failure 0
 
 -- a recipient that is added now, by whom: 0 if the text is made with it
 abbrev pub new_recipient : Asked → ℕ → ℕ → ℕ → ℕ → Recipient
@@ -110,10 +112,11 @@ abbrev pub add_recipient : Asked → ℕ → ℕ → ℕ → Definition
 add_recipient asked text conference tag = guarded
     (login_guard (caller asked) ∷ text_guard asked.db (caller asked) text
     ∷ conference_guard asked.db (caller asked) conference
-    ∷ unless (is_recipient_tag tag) 26 tag
-    ∷ unless (is_none (recipient_of asked.db text conference)) 27 conference
+    ∷ unless (is_recipient_tag tag) error.illegal_info_type tag
+    ∷ unless (is_none (recipient_of asked.db text conference)) error.already_recipient conference
     ∷ submit_guard asked.db (caller asked) conference
-    ∷ unless (nat_lt (length (recipients_of asked.db text)) most_recipients) 33 text
+    ∷ unless (nat_lt (length (recipients_of asked.db text)) most_recipients)
+    error.recipient_limit text
     ∷ local_guard asked.db conference ∷ [])
     (done
     (effect.RecipientAdded (new_recipient asked text conference tag (caller asked).person)
@@ -145,9 +148,9 @@ may_take db caller text conference =
 abbrev pub sub_recipient : Asked → ℕ → ℕ → Definition
 sub_recipient asked text conference = guarded
     (login_guard (caller asked) ∷ text_guard asked.db (caller asked) text
-    ∷ unless (not (conference == 0)) 8 0
-    ∷ unless (shows_to asked.db (caller asked) text conference) 30 conference
-    ∷ unless (may_take asked.db (caller asked) text conference) 12 text ∷ [])
+    ∷ unless (not (conference == 0)) error.conference_zero 0
+    ∷ unless (shows_to asked.db (caller asked) text conference) error.not_recipient conference
+    ∷ unless (may_take asked.db (caller asked) text conference) error.permission_denied text ∷ [])
     (done (effect.RecipientGone text conference ∷ []) [])
 
 -- a comment, or a footnote, that is linked to a text now
@@ -178,9 +181,11 @@ from_guard db child footnote code =
 abbrev pub add_comment : Asked → ℕ → ℕ → Definition
 add_comment asked child parent = guarded
     (login_guard (caller asked) ∷ text_guard asked.db (caller asked) child
-    ∷ text_guard asked.db (caller asked) parent ∷ unless (not (child == parent)) 12 child
-    ∷ unlinked_guard asked.db child parent false 28 ∷ into_guard asked.db parent false 34 parent
-    ∷ from_guard asked.db child false 34 ∷ [])
+    ∷ text_guard asked.db (caller asked) parent
+    ∷ unless (not (child == parent)) error.permission_denied child
+    ∷ unlinked_guard asked.db child parent false error.already_comment
+    ∷ into_guard asked.db parent false error.comment_limit parent
+    ∷ from_guard asked.db child false error.comment_limit ∷ [])
     (done (linked asked child parent false ∷ []) [])
 
 -- two texts are linked so
@@ -192,28 +197,34 @@ linked_guard db child parent footnote code =
 abbrev pub sub_comment : Asked → ℕ → ℕ → Definition
 sub_comment asked child parent = guarded
     (login_guard (caller asked) ∷ text_guard asked.db (caller asked) child
-    ∷ text_guard asked.db (caller asked) parent ∷ linked_guard asked.db child parent false 31
+    ∷ text_guard asked.db (caller asked) parent
+    ∷ linked_guard asked.db child parent false error.not_comment
     ∷ unless (owns_text asked.db (caller asked) child
-    || linker_of asked.db child parent false == (caller asked).person) 12 child ∷ [])
+    || linker_of asked.db child parent false == (caller asked).person)
+    error.permission_denied child ∷ [])
     (done (effect.LinkGone child parent false ∷ []) [])
 
 -- call 37, add-footnote
 abbrev pub add_footnote : Asked → ℕ → ℕ → Definition
 add_footnote asked child parent = guarded
     (login_guard (caller asked) ∷ text_guard asked.db (caller asked) child
-    ∷ text_guard asked.db (caller asked) parent ∷ unless (not (child == parent)) 12 child
+    ∷ text_guard asked.db (caller asked) parent
+    ∷ unless (not (child == parent)) error.permission_denied child
     ∷ unless (made_text asked.db (caller asked) child && made_text asked.db (caller asked) parent)
-    37 parent
-    ∷ unlinked_guard asked.db child parent true 29 ∷ into_guard asked.db parent true 35 parent
-    ∷ from_guard asked.db child true 35 ∷ [])
+    error.not_author parent
+    ∷ unlinked_guard asked.db child parent true error.already_footnote
+    ∷ into_guard asked.db parent true error.footnote_limit parent
+    ∷ from_guard asked.db child true error.footnote_limit ∷ [])
     (done (linked asked child parent true ∷ []) [])
 
 -- call 38, sub-footnote
 abbrev pub sub_footnote : Asked → ℕ → ℕ → Definition
 sub_footnote asked child parent = guarded
     (login_guard (caller asked) ∷ text_guard asked.db (caller asked) child
-    ∷ text_guard asked.db (caller asked) parent ∷ linked_guard asked.db child parent true 32
-    ∷ unless (made_text asked.db (caller asked) child || (caller asked).strong) 12 child ∷ [])
+    ∷ text_guard asked.db (caller asked) parent
+    ∷ linked_guard asked.db child parent true error.not_footnote
+    ∷ unless (made_text asked.db (caller asked) child || (caller asked).strong)
+    error.permission_denied child ∷ [])
     (done (effect.LinkGone child parent true ∷ []) [])
 
 -- call 72, mark-text: the mark may be there already
@@ -221,14 +232,14 @@ abbrev pub mark_text : Asked → ℕ → ℕ → Definition
 mark_text asked text kind = let person = (caller asked).person in guarded
     (login_guard (caller asked) ∷ text_guard asked.db (caller asked) text
     ∷ unless (is_some (mark_of asked.db person text)
-    || nat_lt (length (marks_of asked.db person)) most_marks) 36 0 ∷ [])
+    || nat_lt (length (marks_of asked.db person)) most_marks) error.mark_limit 0 ∷ [])
     (done (effect.MarkSet person text kind ∷ []) [])
 
 -- call 73, unmark-text: also of a text that is not read any more
 abbrev pub unmark_text : Asked → ℕ → Definition
 unmark_text asked text = let person = (caller asked).person in guarded
-    (login_guard (caller asked) ∷ unless (not (text == 0)) 15 0
-    ∷ unless (is_some (mark_of asked.db person text)) 44 text ∷ [])
+    (login_guard (caller asked) ∷ unless (not (text == 0)) error.text_zero 0
+    ∷ unless (is_some (mark_of asked.db person text)) error.not_marked text ∷ [])
     (done (effect.MarkGone person text ∷ []) [])
 
 -- call 23, get-marks
@@ -248,7 +259,7 @@ first_read asked test rows = find (λ row. test row && reads asked.db (caller as
 -- a text's number is answered, or that there is none
 abbrev pub nearest_text : Asked → ℕ → Option TextRow → Definition
 nearest_text asked start None =
-    guarded (login_guard (caller asked) ∷ refusal 14 start ∷ []) (answer reply.Done)
+    guarded (login_guard (caller asked) ∷ refusal error.no_such_text start ∷ []) (answer reply.Done)
 nearest_text asked start (Some row) =
     guarded (login_guard (caller asked) ∷ []) (answer (reply.Number row.number))
 
@@ -268,10 +279,10 @@ most_mapped = 255
 
 -- local numbers begin at 1; and not too many are asked for
 abbrev pub first_guard : ℕ → Guard
-first_guard first = unless (not (first == 0)) 17 0
+first_guard first = unless (not (first == 0)) error.local_text_zero 0
 
 abbrev pub count_guard : ℕ → Guard
-count_guard count = unless (nat_le count most_mapped) 19 count
+count_guard count = unless (nat_le count most_mapped) error.index_out_of_range count
 
 -- call 103, local-to-global
 abbrev pub local_to_global : Asked → ℕ → ℕ → ℕ → Definition
