@@ -30,7 +30,7 @@ undefined_conference = 9
 abbrev pub undefined_person : ℕ
 undefined_person = 10
 
--- the texts of the conference are not shown to the caller, or it takes none of the caller's
+-- the caller may not read, write to or join the conference
 abbrev pub access_denied : ℕ
 access_denied = 11
 

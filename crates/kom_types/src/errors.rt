@@ -23,7 +23,7 @@ pub const UNDEFINED_CONFERENCE: u32 = 9;
 /// The person is not there.
 pub const UNDEFINED_PERSON: u32 = 10;
 
-/// The texts of the conference are not shown to the caller, or it takes none of the caller's.
+/// The caller may not read, write to or join the conference.
 pub const ACCESS_DENIED: u32 = 11;
 
 /// The caller may not do this.
