@@ -3,8 +3,6 @@
 
 mod keyed;
 mod table;
-#[cfg(test)]
-mod tests;
 
 pub use keyed::{Change, Keyed};
 pub use table::Table;

@@ -1,5 +1,5 @@
-ghost use Rattle.std.specs.Prelude.{◌≡◌, ◌+◌, ◌<◌, ◌≤◌, ◌↔◌, [], None, length, option_copied};
-ghost use Rattle.std.specs.Prelude.{IsOk, IsTrue, OnOk, OnErr};
+ghost use Rattle.std.specs.Prelude.{◌≡◌, ◌+◌, ◌<◌, ◌≤◌, [], None, length, option_copied};
+ghost use Rattle.std.specs.Prelude.{IsOk, OnOk, OnErr};
 ghost use Rattle.row_table.specs.Tables.{row_of, with_row, without_row, changed_row, IsByNumber};
 
 use crate::keyed::{Change, Keyed};
@@ -41,12 +41,6 @@ impl<K: Keyed> Table<K> {
         ensures rising { IsByNumber K.number_of self.now.rows }
     {
         self.rows.len()
-    }
-
-    pub fn is_empty(&self) -> bool
-        ensures { IsTrue result ↔ (self.now.rows ≡ []) }
-    {
-        self.rows.is_empty()
     }
 
     /// The row of a number, if it is there.
