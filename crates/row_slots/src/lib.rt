@@ -5,8 +5,6 @@
 mod dense_lists;
 mod lists;
 mod slots;
-#[cfg(test)]
-mod tests;
 
 pub use dense_lists::DenseLists;
 pub use lists::Lists;

@@ -41,13 +41,6 @@ impl<R: Drop> Slots<R> {
         }
     }
 
-    /// How many rows there are.
-    pub fn len(&self) -> usize
-        ensures { result ≡ length (rows_in self.now.slots) }
-    {
-        self.count
-    }
-
     /// The row in a slot, if one is there.
     pub fn get(&self, place: u32) -> Option<&R>
         ensures { option_copied result ≡ option_flatten (slice_get self.now.slots place) }
