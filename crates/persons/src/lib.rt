@@ -6,8 +6,6 @@ mod keyed;
 mod password;
 mod row;
 mod table;
-#[cfg(test)]
-mod tests;
 
 pub use password::hash;
 pub use row::fresh_person;
