@@ -6,8 +6,6 @@ mod keyed;
 mod row;
 mod secret;
 mod table;
-#[cfg(test)]
-mod tests;
 
 pub use row::fresh_conference;
 pub use table::Conferences;

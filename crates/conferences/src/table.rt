@@ -1,6 +1,6 @@
-ghost use Rattle.std.specs.Prelude.{◌≡◌, ◌+◌, ◌<◌, ◌≤◌, ◌↔◌, [], None, length, option_copied};
+ghost use Rattle.std.specs.Prelude.{◌≡◌, ◌+◌, ◌<◌, ◌≤◌, [], None, length, option_copied};
 ghost use Rattle.std.specs.Prelude.{map, filter};
-ghost use Rattle.std.specs.Prelude.{IsOk, IsTrue, OnOk, OnErr};
+ghost use Rattle.std.specs.Prelude.{IsOk, OnOk, OnErr};
 ghost use Rattle.row_table.specs.Tables.{row_of, with_row, without_row, changed_row, IsByNumber};
 ghost use Rattle.kom_types.specs.tables.Conferences.{number_of_conference, with_field, with_name};
 ghost use Rattle.kom_types.specs.tables.Conferences.{with_local_drawn, with_item_drawn};
@@ -52,19 +52,6 @@ impl Conferences {
             rows: Table::new(alloc),
             secret: SecretNumbers::new(alloc),
         }
-    }
-
-    pub fn len(&self) -> usize
-        ensures len { result ≡ length self.now.rows }
-        ensures rising { IsByNumber number_of_conference self.now.rows }
-    {
-        self.rows.len()
-    }
-
-    pub fn is_empty(&self) -> bool
-        ensures { IsTrue result ↔ (self.now.rows ≡ []) }
-    {
-        self.rows.is_empty()
     }
 
     /// The row of a conference, if it is there.
