@@ -3,8 +3,6 @@
 
 mod kept;
 mod table;
-#[cfg(test)]
-mod tests;
 
 // A crate can name the table in a contract only if the types of its fields are exported.
 #[doc(hidden)]

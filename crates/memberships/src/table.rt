@@ -1,4 +1,4 @@
-ghost use Rattle.std.specs.Prelude.{◌≡◌, ◌≤◌, ◌<◌, ◌+◌, ◌==◌, [], None, length, take, slice_get};
+ghost use Rattle.std.specs.Prelude.{◌≡◌, ◌<◌, ◌+◌, ◌==◌, [], None, length, take, slice_get};
 ghost use Rattle.std.specs.Prelude.{option_map};
 ghost use Rattle.std.specs.Prelude.{nat_eq, is_some, IsNone, IsSome, IfSome, IsOk, OnOk, OnErr};
 ghost use Rattle.std.specs.List.{IsDistinct, list_any};
@@ -6,7 +6,6 @@ ghost use Rattle.kom_types.specs.tables.Memberships.{membership_of, members_of, 
 ghost use Rattle.kom_types.specs.tables.Memberships.{count_of, with_membership, without_membership};
 ghost use Rattle.memberships.specs.Table.{room_of_person, room_of_conference};
 ghost use Rattle.memberships.specs.Table.{HasRoom, KeepsRoom, UsesRoom, IsOrderly};
-ghost use Rattle.memberships.specs.Table.{IsReadOf};
 ghost use Rattle.kom_types.specs.tables.Memberships.{member_of};
 ghost use Rattle.read_ranges.specs.ListFault.{IsFaultless};
 ghost use Rattle.read_ranges.specs.Merged.{merged};
@@ -100,15 +99,6 @@ impl Memberships {
         }
     }
 
-    /// How many memberships there are.
-    pub fn len(&self) -> usize
-        ensures len { result ≡ length self.now.rows }
-        ensures orderly { IsOrderly self.now.rows }
-        ensures reads { IsReadOf self.now.rows self.now.reads }
-    {
-        self.entries.len()
-    }
-
     /// The membership of a person in a conference. The time grows with the person's memberships.
     pub fn get(&self, person: u32, conference: u32) -> Option<MembershipRow>
         ensures { result ≡ membership_of person conference self.now.rows }
@@ -159,15 +149,6 @@ impl Memberships {
         let conference = *list.get(place)?;
         let kept = self.entries.get(&(person, conference))?;
         Some(kept.show(person, conference, short_place(list, place)))
-    }
-
-    /// The membership at a place among those in a conference in the order of joining. The time
-    /// grows with the memberships of its person.
-    pub fn nth_of_conference(&self, conference: u32, place: usize) -> Option<MembershipRow>
-        ensures { result ≡ slice_get (members_of conference self.now.rows) place }
-    {
-        let person = *self.persons.list(conference).get(place)?;
-        self.get(person, conference)
     }
 
     /// The member at a place among those in a conference in the order of joining, in constant time.
