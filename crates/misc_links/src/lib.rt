@@ -5,8 +5,6 @@
 mod kinds;
 mod links;
 mod recipients;
-#[cfg(test)]
-mod tests;
 
 // A crate can name the links in a contract only if the types of their fields are exported.
 #[doc(hidden)]

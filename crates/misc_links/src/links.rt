@@ -59,21 +59,6 @@ impl Links {
         }
     }
 
-    /// How many links there are.
-    pub fn len(&self) -> usize
-        ensures { result ≡ length self.now.links }
-    {
-        self.rows.len()
-    }
-
-    /// Whether a text is a comment, or a footnote, to another. The time grows with the links from
-    /// it of that kind.
-    pub fn contains(&self, child: u32, parent: u32, footnote: bool) -> bool
-        ensures { result ≡ is_some (link_of child parent footnote self.now.links) }
-    {
-        self.get(child, parent, footnote).is_some()
-    }
-
     /// The link of a comment, or a footnote, to a text. The time grows with the links from the
     /// child of that kind.
     pub fn get(&self, child: u32, parent: u32, footnote: bool) -> Option<&TextLink>

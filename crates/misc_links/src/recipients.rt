@@ -1,5 +1,5 @@
 ghost use Rattle.std.specs.Prelude.{◌≡◌, ◌≤◌, ◌<◌, [], ◌∷◌, ◌++◌, None, length, find, slice_get};
-ghost use Rattle.std.specs.Prelude.{is_some, option_copied, IsOk, OnOk, OnErr};
+ghost use Rattle.std.specs.Prelude.{option_copied, IsOk, OnOk, OnErr};
 ghost use Rattle.kom_types.specs.tables.Texts.{recipient_of, recipients_of, without_recipient};
 ghost use Rattle.misc_links.specs.Received.{room_of_text, AreOnce, HasRoom, KeepsRoom, UsesRoom};
 ghost use Rattle.misc_links.specs.Receiving.{is_conference_at};
@@ -43,21 +43,6 @@ impl Recipients {
             rows: Slots::new(alloc),
             by_text: DenseLists::new(alloc),
         }
-    }
-
-    /// How many recipients there are, of all texts.
-    pub fn len(&self) -> usize
-        ensures len { result ≡ length self.now.recipients }
-        ensures once { AreOnce self.now.recipients }
-    {
-        self.rows.len()
-    }
-
-    /// Whether a conference is a recipient of a text. The time grows with the text's recipients.
-    pub fn contains(&self, text: u32, conference: u32) -> bool
-        ensures { result ≡ is_some (recipient_of text conference self.now.recipients) }
-    {
-        self.get(text, conference).is_some()
     }
 
     /// The conference as a recipient of a text. The time grows with the text's recipients.
