@@ -54,13 +54,6 @@ impl MarkTable {
         }
     }
 
-    /// How many marks there are.
-    pub fn len(&self) -> usize
-        ensures { result ≡ length self.now.marks }
-    {
-        self.rows.len()
-    }
-
     /// The mark of a person on a text. The time grows with the marks on the text.
     pub fn get(&self, person: u32, text: u32) -> Option<MarkRow>
         ensures { result ≡ mark_of person text self.now.marks }
