@@ -5,8 +5,6 @@
 mod map;
 mod mapping;
 mod maps;
-#[cfg(test)]
-mod tests;
 mod walks;
 
 pub use map::LocalMap;

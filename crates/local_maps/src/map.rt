@@ -1,5 +1,5 @@
-ghost use Rattle.std.specs.Prelude.{◌≡◌, ◌+◌, ◌^◌, ◌<◌, ◌≤◌, ◌↔◌, [], ◌∷◌, ◌++◌, length, reverse};
-ghost use Rattle.std.specs.Prelude.{take, IfOk, IsOk, IsTrue, OnErr, OnOk};
+ghost use Rattle.std.specs.Prelude.{◌≡◌, ◌+◌, ◌^◌, ◌<◌, ◌≤◌, [], ◌∷◌, ◌++◌, length, reverse};
+ghost use Rattle.std.specs.Prelude.{take, IfOk, IsOk, OnErr, OnOk};
 ghost use Rattle.kom_types.specs.Mappings.{mapping_up, mapping_down, end_below};
 ghost use Rattle.local_maps.specs.Pairs.{AllBelow, IsRising, text_of, least_of, without};
 ghost use Rattle.local_maps.specs.Pairs.{from_on, below};
@@ -48,20 +48,6 @@ impl LocalMap {
         ensures rising { IsRising self.now.pairs }
     {
         self.chain.len()
-    }
-
-    pub fn is_empty(&self) -> bool
-        ensures { IsTrue result ↔ (self.now.pairs ≡ []) }
-    {
-        self.chain.is_empty()
-    }
-
-    /// The text of a local number.
-    pub fn get(&self, local: u32) -> Option<u32>
-        ensures text { result ≡ text_of local self.now.pairs }
-        ensures rising { IsRising self.now.pairs }
-    {
-        self.chain.get(local)
     }
 
     /// The least local number.

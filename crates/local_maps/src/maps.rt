@@ -1,7 +1,7 @@
 ghost use Rattle.std.specs.Prelude.{◌≡◌, ℕ, ◌+◌, ◌<◌, ◌≤◌, [], ◌∷◌, ◌++◌, length, option_copied};
 ghost use Rattle.std.specs.Prelude.{IfOk, IsOk, IsSome, OnErr, OnOk};
 ghost use Rattle.kom_types.specs.Mappings.{mapping_up, mapping_down};
-ghost use Rattle.local_maps.specs.Pairs.{AllBelow, IsRising, text_of, least_of, without};
+ghost use Rattle.local_maps.specs.Pairs.{AllBelow, IsRising, text_of, without};
 ghost use Rattle.local_maps.specs.Maps.{map_of, pairs_of, room_of, HasOnlyChanged};
 
 use crate::map::LocalMap;
@@ -41,14 +41,6 @@ impl LocalMaps {
         self.maps.get(&owner)
     }
 
-    /// The text of a local number of an owner.
-    pub fn get(&self, owner: u32, local: u32) -> Option<u32>
-        ensures text { result ≡ text_of local (pairs_of self.now owner) }
-        ensures rising { IsRising (pairs_of self.now owner) }
-    {
-        self.maps.get(&owner)?.get(local)
-    }
-
     /// How many texts an owner has.
     pub fn len_of(&self, owner: u32) -> usize
         ensures len { result ≡ length (pairs_of self.now owner) }
@@ -58,13 +50,6 @@ impl LocalMaps {
             Some(map) => map.len(),
             None => 0,
         }
-    }
-
-    /// The least local number of an owner.
-    pub fn first_of(&self, owner: u32) -> Option<u32>
-        ensures { result ≡ least_of (pairs_of self.now owner) }
-    {
-        self.maps.get(&owner)?.first()
     }
 
     /// The first `count` texts of an owner from the local number `first` on, as `LocalMap::up`.
@@ -115,14 +100,6 @@ impl LocalMaps {
             Some(map) => map.remove(local),
             None => None,
         }
-    }
-
-    /// Takes all of an owner out, with the room that there was for more.
-    pub fn remove_all(&mut self, owner: u32)
-        ensures pairs { pairs_of self.new owner ≡ [] }
-        ensures others { HasOnlyChanged self.old self.new owner }
-    {
-        self.maps.swap_remove(&owner);
     }
 
     /// Makes room for so many more texts of an owner.
