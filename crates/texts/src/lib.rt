@@ -8,8 +8,6 @@ mod needs;
 mod reading;
 mod row;
 mod table;
-#[cfg(test)]
-mod tests;
 mod texts;
 
 pub use needs::Need;

@@ -1,5 +1,5 @@
-ghost use Rattle.std.specs.Prelude.{◌≡◌, ◌+◌, ◌<◌, ◌≤◌, ◌↔◌, [], None, length, option_copied};
-ghost use Rattle.std.specs.Prelude.{IsOk, IsTrue, OnOk, OnErr};
+ghost use Rattle.std.specs.Prelude.{◌≡◌, ◌+◌, ◌<◌, ◌≤◌, [], None, option_copied};
+ghost use Rattle.std.specs.Prelude.{IsOk, OnOk, OnErr};
 ghost use Rattle.row_table.specs.Tables.{row_of, with_row, without_row, changed_row, IsByNumber};
 ghost use Rattle.kom_types.specs.tables.Texts.{number_of_text, with_created_local};
 ghost use Rattle.kom_types.specs.tables.Texts.{with_item_drawn};
@@ -36,19 +36,6 @@ impl TextTable {
         TextTable {
             rows: Table::new(alloc),
         }
-    }
-
-    pub fn len(&self) -> usize
-        ensures len { result ≡ length self.now.rows }
-        ensures rising { IsByNumber number_of_text self.now.rows }
-    {
-        self.rows.len()
-    }
-
-    pub fn is_empty(&self) -> bool
-        ensures { IsTrue result ↔ (self.now.rows ≡ []) }
-    {
-        self.rows.is_empty()
     }
 
     /// The row of a text, if it is there.
