@@ -1,4 +1,4 @@
-ghost use Rattle.std.specs.Prelude.{◌≡◌, ◌<◌, ◌≤◌, [], None, length, IfOk, OnOk};
+ghost use Rattle.std.specs.Prelude.{◌≡◌, ◌<◌, ◌≤◌, [], None, IfOk, OnOk};
 ghost use Rattle.name_lookup.specs.NamedRows.{with_name, without_name, taken, found, NoneClash};
 
 use crate::alphabet::clashes;
@@ -39,12 +39,6 @@ impl Index {
             kept: IndexMap::new(alloc),
             order: Vec::new(alloc),
         }
-    }
-
-    pub(crate) fn len(&self) -> usize
-        ensures { result ≡ length self.now.names }
-    {
-        self.kept.len()
     }
 
     pub(crate) fn alloc(&self) -> Global {

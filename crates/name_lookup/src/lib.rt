@@ -7,8 +7,6 @@ mod letters;
 mod matching;
 mod names;
 mod order;
-#[cfg(test)]
-mod tests;
 
 pub use alphabet::{fold_byte, is_name};
 pub use names::Names;

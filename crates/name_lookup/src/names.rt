@@ -1,4 +1,4 @@
-ghost use Rattle.std.specs.Prelude.{◌≡◌, [], None, Some, length, IfOk, OnOk, OnErr, IsOk};
+ghost use Rattle.std.specs.Prelude.{◌≡◌, [], None, Some, IfOk, OnOk, OnErr, IsOk};
 ghost use Rattle.std.specs.Prelude.{IsTrue, ◌↔◌};
 ghost use Rattle.name_lookup.specs.NamedRows.{with_name, without_name, taken, found, NoneClash};
 
@@ -33,19 +33,6 @@ impl Names {
             index: Index::new(alloc),
             next: None,
         }
-    }
-
-    /// The number of the names.
-    pub fn len(&self) -> usize
-        ensures { result ≡ length self.now.names }
-    {
-        self.index.len()
-    }
-
-    pub fn is_empty(&self) -> bool
-        ensures { IsTrue result ↔ (self.now.names ≡ []) }
-    {
-        self.len() == 0
     }
 
     /// Makes a name ready in place of another: the next put of it takes no memory.
