@@ -9,8 +9,6 @@ mod objects;
 mod of_object;
 mod standing;
 mod table;
-#[cfg(test)]
-mod tests;
 
 pub use checking::check_items;
 pub use inheriting::inherit;
