@@ -12,8 +12,6 @@ mod reading;
 mod reserving;
 mod rights;
 mod stored_rows;
-#[cfg(test)]
-mod tests;
 mod walks;
 
 pub use asked::{Asked, push_count};
