@@ -8,8 +8,6 @@ mod items;
 mod memberships;
 mod messages;
 mod rights;
-#[cfg(test)]
-mod tests;
 mod text_stat;
 mod texts;
 
