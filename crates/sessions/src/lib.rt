@@ -7,8 +7,6 @@ mod outbox;
 mod queued;
 mod row;
 mod table;
-#[cfg(test)]
-mod tests;
 
 pub use row::SessionRow;
 pub use table::Sessions;

@@ -1,7 +1,7 @@
 ghost use Rattle.std.specs.Prelude.{slice_get, ◌≡◌, ◌<◌, ◌==◌, ◌^◌, ◌-◌, ◌++◌, ◌∷◌, [], not};
 ghost use Rattle.std.specs.Prelude.{false, None};
 ghost use Rattle.std.specs.Prelude.{filter, find, length, take, option_copied, IfSome, OnOk, OnErr};
-ghost use Rattle.std.specs.Prelude.{IsSome, IsTrue, ◌↔◌, MatchOption, min, map};
+ghost use Rattle.std.specs.Prelude.{IsSome, MatchOption, min, map};
 ghost use Rattle.kom_types.specs.Bits.{is_on};
 ghost use Rattle.kom_types.specs.Printing.{print_of};
 ghost use Rattle.kom_types.specs.Sessions.{is_session, waiting_limits, queued, drained_count};
@@ -52,12 +52,6 @@ impl Sessions {
         ensures rising { IsRising self.now }
     {
         self.rows.len()
-    }
-
-    pub fn is_empty(&self) -> bool
-        ensures { IsTrue result ↔ (self.now ≡ []) }
-    {
-        self.rows.is_empty()
     }
 
     /// Adds a row after the others, whose numbers are below its own. The session accepts no message
