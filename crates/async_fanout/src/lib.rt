@@ -12,8 +12,6 @@ mod on_persons;
 mod on_server;
 mod on_sessions;
 mod on_texts;
-#[cfg(test)]
-mod tests;
 
 pub use deliveries::Delivery;
 pub use messages::{fan_out, is_silent};
