@@ -15,8 +15,6 @@ mod reader;
 mod server;
 mod sessions;
 mod shapes;
-#[cfg(test)]
-mod tests;
 mod texts;
 
 pub use reader::{CallFault, read_call};
