@@ -14,8 +14,6 @@ mod replies;
 mod server;
 mod sessions;
 mod spelled;
-#[cfg(test)]
-mod tests;
 mod texts;
 mod words;
 
