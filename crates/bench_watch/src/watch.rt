@@ -40,6 +40,3 @@ impl Watch {
         Ok(())
     }
 }
-
-#[cfg(test)]
-mod tests;
