@@ -362,11 +362,6 @@ abbrev pub apply_all : List Effect → Db → Db
 apply_all [] db = db
 apply_all (what ∷ effects) db = apply_all effects (apply what db)
 
--- each effect fits after those before it
-abbrev pub all_fit : List Effect → Db → Bool
-all_fit [] db = true
-all_fit (what ∷ effects) db = fits what db && all_fit effects (apply what db)
-
 -- every conference that is secret is read-protected too
 abbrev pub IsProtected : Db → Type 0
 IsProtected db = AllByRecursion (λ row. IsTrue (is_secret_protected row.kind)) db.conferences

@@ -16,14 +16,3 @@ pub mod After
 pub mod Legal
 pub mod Out
 pub mod Laws
-pub mod Rows
-pub mod Cast
-pub mod DbRows
-pub mod CallRows
-pub mod TextRows
-pub mod MemberRows
-pub mod ReadingRows
-pub mod ShownRows
-pub mod ItemRows
-pub mod NewItemRows
-pub mod MessageRows

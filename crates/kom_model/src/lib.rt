@@ -4,17 +4,12 @@
 
 mod call_errors;
 mod laws;
-mod rows;
 mod stored;
 mod text_heads;
 mod viewers;
 
 pub use call_errors::{CallError, Refused};
 pub use laws::drains_give_all;
-pub use rows::{
-    worked_calls, worked_histories, worked_items, worked_memberships, worked_messages,
-    worked_rights, worked_shown, worked_texts,
-};
 pub use stored::Rows;
 pub use text_heads::TextHead;
 pub use viewers::Viewer;

@@ -14,5 +14,3 @@ pub mod Names
 pub mod Mappings
 pub mod AuxItems
 pub mod tables
-pub mod Rows
-pub mod TableRows

@@ -20,7 +20,6 @@ mod memberships;
 mod messages;
 mod persons;
 mod replies;
-mod rows;
 mod seats;
 mod sequence;
 mod server;
@@ -51,7 +50,6 @@ pub use memberships::{
 pub use messages::{ChangedItems, MESSAGE_NUMBERS, Message, NewName, SentMessage};
 pub use persons::{NewPerson, PasswordChange, Person, PersonRow};
 pub use replies::Reply;
-pub use rows::{worked_rows, worked_tables};
 pub use seats::Seat;
 pub use sequence::Sequence;
 pub use server::{Info, VersionInfo};

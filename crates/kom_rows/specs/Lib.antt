@@ -1,0 +1,13 @@
+pub mod StreamRows
+pub mod TableRows
+pub mod HistoryRows
+pub mod Cast
+pub mod DbRows
+pub mod CallRows
+pub mod TextRows
+pub mod MemberRows
+pub mod ReadingRows
+pub mod ShownRows
+pub mod ItemRows
+pub mod NewItemRows
+pub mod MessageRows
