@@ -5,7 +5,7 @@ ghost use Rattle.kom_calls.specs.Reads.{ReadsBy, pattern_of, Reads};
 use crate::arguments::Arguments;
 use crate::fault::ArgumentFault;
 use crate::shapes::{number_and_string, one_number};
-use kom_types::{Call, ClientVersion};
+use kom_types::{Call, ClientVersion, LoginPassword};
 
 /// The call about sessions that has this number, if one has.
 pub(crate) fn session_call(
@@ -83,7 +83,7 @@ fn enable(arguments: &mut Arguments<'_>) -> Result<Call, ArgumentFault>
     Ok(Call::Enable { level })
 }
 
-/// Call 62.
+/// Call 62. The password is hashed here, so that who decides the call has it hashed already.
 fn login(arguments: &mut Arguments<'_>) -> Result<Call, ArgumentFault>
     ensures { Reads (pattern_of 62 patterns) arguments.old result }
 {
@@ -91,6 +91,7 @@ fn login(arguments: &mut Arguments<'_>) -> Result<Call, ArgumentFault>
     let password = arguments.string()?;
     let invisible = arguments.flag()?;
     arguments.end()?;
+    let password = arguments.boxed(LoginPassword::of(person, password))?;
     Ok(Call::Login {
         person,
         password,

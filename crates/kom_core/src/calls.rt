@@ -92,7 +92,7 @@ pub(crate) fn make(asked: &Asked<'_>, call: &Call) -> Result<Decision, CallError
             person,
             password,
             invisible,
-        } => person_calls::login(asked, *person, password, *invisible),
+        } => person_calls::login(asked, *person, password.get(), *invisible),
         Call::ChangeConference { conference } => {
             person_calls::change_conference(asked, *conference)
         }

@@ -10,7 +10,7 @@ use crate::stored_rows::StoredRows;
 use kom_model::{Refused, Viewer};
 use kom_types::bits::WHEEL_AND_ADMIN;
 use kom_types::limits::LAST_CONFERENCE;
-use kom_types::{AuxChange, errors};
+use kom_types::{AuxChange, LoginPassword, errors, password_hash};
 
 impl StoredRows {
     /// Whether a person's privileges let its sessions be strong.
@@ -98,13 +98,39 @@ impl StoredRows {
         }
     }
 
+    /// The same of a login, whose password has its hash already.
+    pub fn login_password_guard(
+        &self,
+        caller: &Viewer,
+        person: u32,
+        password: &LoginPassword,
+    ) -> Result<(), Refused>
+        ensures { Guards
+            (Guard.password_guard self.now.db caller.now person password.now) result }
+    {
+        if caller.strong || self.agrees_at_login(person, password) {
+            Ok(())
+        } else {
+            refuse(errors::INVALID_PASSWORD, person)
+        }
+    }
+
     /// Whether a person has this password.
     fn agrees(&self, person: u32, password: &[u8]) -> bool
         ensures { result ≡ Guard.agrees self.now.db person password.now }
     {
         match self.person(person) {
             None => false,
-            Some(row) => row.hash == persons::hash(person, password),
+            Some(row) => row.hash == password_hash(person, password),
+        }
+    }
+
+    fn agrees_at_login(&self, person: u32, password: &LoginPassword) -> bool
+        ensures { result ≡ Guard.agrees self.now.db person password.now }
+    {
+        match self.person(person) {
+            None => false,
+            Some(row) => row.hash == password.hash_for(person),
         }
     }
 }

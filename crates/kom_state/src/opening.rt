@@ -5,7 +5,7 @@ ghost use Rattle.kom_model.specs.Effects.{apply, apply_all};
 
 use crate::stored_rows::StoredRows;
 use kom_types::bits::{ALL_PRIVILEGES, LETTERBOX_TYPE, TYPE_FOR_ALL};
-use kom_types::{Bytes, Effect, EffectList, Memory, Moment, Sequence};
+use kom_types::{Bytes, Effect, EffectList, Memory, Moment, Sequence, password_hash};
 use std::alloc::Global;
 use std::slice;
 
@@ -60,7 +60,7 @@ pub fn initial_effects(alloc: Global, password: &[u8], moment: Moment) -> Result
     })?;
     effects.push(Effect::Password {
         number: ADMINISTRATOR,
-        hash: persons::hash(ADMINISTRATOR, password),
+        hash: password_hash(ADMINISTRATOR, password),
     })?;
     effects.push(Effect::MemberSet {
         person: ADMINISTRATOR,

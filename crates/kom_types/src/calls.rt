@@ -3,6 +3,7 @@ use crate::boxed::Boxed;
 use crate::conferences::NewConference;
 use crate::lists::{Bytes, Numbers};
 use crate::memberships::ReadRanges;
+use crate::passwords::LoginPassword;
 use crate::persons::{NewPerson, PasswordChange};
 use crate::sessions::ClientVersion;
 use crate::texts::NewText;
@@ -39,7 +40,7 @@ pub enum Call {
     /// Call 62: a person is logged in.
     Login {
         person: u32,
-        password: Bytes,
+        password: Boxed<LoginPassword>,
         invisible: bool,
     },
     /// Call 69: what the client tells of itself.

@@ -18,6 +18,7 @@ pub mod limits;
 mod lists;
 mod memberships;
 mod messages;
+mod passwords;
 mod persons;
 mod replies;
 mod seats;
@@ -48,6 +49,7 @@ pub use memberships::{
     Member, Members, Membership, MembershipRow, Memberships, RangesShown, ReadRange, ReadRanges,
 };
 pub use messages::{ChangedItems, MESSAGE_NUMBERS, Message, NewName, SentMessage};
+pub use passwords::{LoginPassword, password_hash};
 pub use persons::{NewPerson, PasswordChange, Person, PersonRow};
 pub use replies::Reply;
 pub use seats::Seat;

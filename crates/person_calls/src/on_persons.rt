@@ -15,7 +15,7 @@ use kom_types::bits::{CREATES_PERSONS, FIRST_PRIVILEGES, LETTERBOX_TYPE};
 use kom_types::limits::LONGEST_PASSWORD;
 use kom_types::{
     Bytes, Counter, Decision, Effect, EffectList, Memory, NewPerson, Object, PasswordChange,
-    PersonField, Reply, Sequence, errors,
+    PersonField, Reply, Sequence, errors, password_hash,
 };
 
 /// Call 7, set-priv-bits.
@@ -45,7 +45,7 @@ pub fn set_passwd(asked: &Asked<'_>, given: &PasswordChange) -> Result<Decision,
     size_guard(given.new_password.as_slice(), LONGEST_PASSWORD)?;
     Ok(asked.with_effect(Effect::Password {
         number: given.person,
-        hash: persons::hash(given.person, given.new_password.as_slice()),
+        hash: password_hash(given.person, given.new_password.as_slice()),
     })?)
 }
 
@@ -116,7 +116,7 @@ fn person_effects(asked: &Asked<'_>, person: u32, given: &NewPerson) -> Result<E
     })?;
     effects.push(Effect::Password {
         number: person,
-        hash: persons::hash(person, given.password.as_slice()),
+        hash: password_hash(person, given.password.as_slice()),
     })?;
     effects.push(Effect::MemberSet {
         person,

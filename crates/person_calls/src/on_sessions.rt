@@ -13,8 +13,8 @@ use kom_model::CallError;
 use kom_state::{Asked, StoredRows};
 use kom_types::limits::LONGEST_NAME;
 use kom_types::{
-    Bytes, ClientVersion, Decision, Effect, MESSAGE_NUMBERS, Memory, Numbers, Reply, Seat,
-    SessionChange, errors,
+    Bytes, ClientVersion, Decision, Effect, LoginPassword, MESSAGE_NUMBERS, Memory, Numbers, Reply,
+    Seat, SessionChange, errors,
 };
 
 /// Call 1, logout: whoever is logged in is logged out. It is done also if nobody is.
@@ -123,14 +123,14 @@ fn ended(asked: &Asked<'_>, seat: &Seat) -> Result<Decision, Memory>
 pub fn login(
     asked: &Asked<'_>,
     person: u32,
-    password: &Bytes,
+    password: &LoginPassword,
     invisible: bool,
 ) -> Result<Decision, CallError>
     ensures { Meets (Sessions.login asked.now person password.now invisible) result }
 {
     let rows = asked.rows();
     rows.person_guard(person)?;
-    rows.password_guard(&asked.caller(), person, password.as_slice())?;
+    rows.login_password_guard(&asked.caller(), person, password)?;
     let mut effects = leaving_effects(asked)?;
     effects.push(Effect::LoggedIn {
         number: person,

@@ -115,7 +115,7 @@ impl Persons {
         self.rows.change(number, LogIn { at, user });
     }
 
-    /// Sets what is kept of a person's password, as `hash` gives it.
+    /// Sets what is kept of a person's password, as `password_hash` gives it.
     pub fn set_hash(&mut self, number: u32, hash: [u8; 32])
         ensures rows { self.new.rows
             ≡ changed_row number_of_person number (with_hash hash) self.old.rows }

@@ -3,7 +3,7 @@ ghost use Rattle.std.specs.Prelude.{◌≡◌, ◌+◌, ◌^◌, ◌<◌, ◌≤
 
 use super::tests::{connect, fresh, kind_of};
 use super::*;
-use kom_types::{Act, Bytes, Call, Effect};
+use kom_types::{Act, Boxed, Bytes, Call, Effect, LoginPassword};
 use std::process::Abort;
 use std::test::Fail;
 
@@ -53,7 +53,7 @@ fn check_login_kept(
     rt: &impl Abort,
     core: &mut Core,
     keeper: &mut Counter,
-    password: Bytes,
+    password: Boxed<LoginPassword>,
     left: (u32, usize, bool),
 ) -> Result<(), Fail>
     requires { core.old.state.entries < 2 ^ 62 }
@@ -78,6 +78,11 @@ fn a_keeper_gets_the_effects_of_accepted_calls(rt: HostRuntime) -> Result<(), Fa
     keep_logins(&rt, rt.alloc(), &mut fresh(rt.alloc())?)
 }
 
+fn kept(alloc: Global, password: &[u8]) -> Result<Boxed<LoginPassword>, Memory> {
+    let bytes = Bytes::copy_of(alloc, password)?;
+    Boxed::new(alloc, LoginPassword::of(5, bytes))
+}
+
 fn keep_logins(rt: &impl Abort, alloc: Global, core: &mut Core) -> Result<(), Fail>
     requires { core.old.state.entries ≡ 0 }
 {
@@ -87,11 +92,11 @@ fn keep_logins(rt: &impl Abort, alloc: Global, core: &mut Core) -> Result<(), Fa
         effects: 0,
         refuses: false,
     };
-    let wrong = Bytes::copy_of(alloc, b"x")?;
+    let wrong = kept(alloc, b"x")?;
     check_login_kept(rt, core, &mut keeper, wrong, (0, 0, false))?;
-    check_login_kept(rt, core, &mut keeper, Bytes::new(alloc), (1, 1, false))?;
+    check_login_kept(rt, core, &mut keeper, kept(alloc, b"")?, (1, 1, false))?;
     keeper.refuses = true;
-    check_login_kept(rt, core, &mut keeper, Bytes::new(alloc), (1, 1, true))?;
+    check_login_kept(rt, core, &mut keeper, kept(alloc, b"")?, (1, 1, true))?;
     assert_eq!(rt;
         ask_kept(core, &mut keeper, Call::WhoAmI)?,
         AnswerKind::Taken

@@ -4,7 +4,7 @@ ghost use Rattle.std.specs.Prelude.{◌≡◌, ◌+◌, ◌*◌, ◌^◌, ◌<�
 use super::tests::{check_drained, check_made, connect, fresh, gone};
 use super::*;
 use kom_types::{
-    Act, Boxed, Bytes, Call, MiscInput, NewConference, NewPerson, NewText, Sequence, Why,
+    Act, Boxed, Bytes, Call, LoginPassword, MiscInput, NewConference, NewPerson, NewText, Sequence, Why,
 };
 use std::process::Abort;
 use std::test::Fail;
@@ -49,7 +49,7 @@ fn call_for(alloc: Global, ask: Ask) -> Result<Call, Memory> {
         Ask::Disconnect(session) => Ok(Call::Disconnect { session }),
         Ask::Login(person) => Ok(Call::Login {
             person,
-            password: Bytes::new(alloc),
+            password: Boxed::new(alloc, LoginPassword::of(person, Bytes::new(alloc)))?,
             invisible: false,
         }),
         Ask::Accept(number) => Ok(Call::AcceptAsync {

@@ -3,7 +3,9 @@ ghost use Rattle.std.specs.Prelude.{◌≡◌, ◌+◌, ◌^◌, ◌<◌, ◌≤
 use super::*;
 use kom_framing::Writer;
 use kom_replies::print_item;
-use kom_types::{Act, Boxed, Bytes, Call, Moment, NewConference, Refusal, Sequence, Why};
+use kom_types::{
+    Act, Boxed, Bytes, Call, LoginPassword, Moment, NewConference, Refusal, Sequence, Why,
+};
 use std::process::Abort;
 use std::test::Fail;
 
@@ -339,7 +341,7 @@ fn check_login(
 {
     let call = Call::Login {
         person: 5,
-        password: Bytes::copy_of(alloc, password)?,
+        password: Boxed::new(alloc, LoginPassword::of(5, Bytes::copy_of(alloc, password)?))?,
         invisible: false,
     };
     check_line(rt, alloc, core, 1, call, line)

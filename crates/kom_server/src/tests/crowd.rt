@@ -7,7 +7,7 @@ ghost use Rattle.kom_server.specs.Desks.{desk_view};
 use crate::core_desk::CoreDesk;
 use arrayvec::ArrayVec;
 use kom_links::{Desk, DeskFault};
-use kom_types::{Bytes, Call, Item, Moment};
+use kom_types::{Boxed, Bytes, Call, Item, LoginPassword, Moment};
 use std::alloc::Global;
 
 /// The reference of the call of the served session before which the other one acts.
@@ -71,11 +71,15 @@ impl CrowdedDesk {
             (desk_view self.new.desk) }
         ensures other { self.new.other ≡ self.old.other }
     {
+        let password = LoginPassword::of(5, Bytes::new(self.alloc));
+        let Ok(password) = Boxed::new(self.alloc, password) else {
+            return;
+        };
         self.ask(
             at,
             Call::Login {
                 person: 5,
-                password: Bytes::new(self.alloc),
+                password,
                 invisible: false,
             },
         );
