@@ -1,5 +1,5 @@
 -- The rows in slots: after a row is added, and after a slot is emptied.
-use Rattle.std.proofs.Common.{◌≡◌, ℕ, zero, suc, ◌<◌, ◌≤◌, Bor, true, false, is_some, option_copied, List, [], ◌∷◌, ◌++◌, length, slice_get, Option, Some, None, refl, sym, ap, arith}
+use Rattle.std.proofs.Common.{◌≡◌, ℕ, zero, suc, ◌<◌, Bor, true, false, is_some, option_copied, List, [], ◌∷◌, ◌++◌, length, slice_get, Option, Some, None, refl, sym, ap, arith}
 use Rattle.std.specs.Option.{option_flatten}
 use Rattle.std.proofs.Math.ListN.{set}
 use Rattle.std.proofs.lemmas.Bool.{false≢true}
@@ -12,11 +12,6 @@ module _ {R : Type 0} where
   rows_in-push (None ∷ slots) row = rows_in-push slots row
   rows_in-push (Some first ∷ slots) row = ap (λ rows. first ∷ rows) (rows_in-push slots row)
 
-  pub length-rows_in : (slots : List (Option R)) → length (rows_in slots) ≤ length slots
-  length-rows_in [] = omega arith
-  length-rows_in (None ∷ slots) = omega (arith, length-rows_in slots)
-  length-rows_in (Some row ∷ slots) = omega (arith, length-rows_in slots)
-
   pub emptied-set : (place : ℕ) (slots : List (Option R)) → set slots place None ≡ emptied place slots
   emptied-set place [] = refl
   emptied-set zero (slot ∷ slots) = refl
@@ -28,16 +23,6 @@ module _ {R : Type 0} where
   emptied-empty place [] empty = refl
   emptied-empty zero (slot ∷ slots) empty = ap (λ first. first ∷ slots) (sym empty)
   emptied-empty (suc place) (slot ∷ slots) empty = ap (λ rest. slot ∷ rest) (emptied-empty place slots empty)
-
-  -- one row fewer is left
-  pub length-emptied : (place : ℕ) (slots : List (Option R)) (row : R) →
-      option_flatten (slice_get slots place) ≡ Some row →
-      length (rows_in slots) ≡ suc (length (rows_in (emptied place slots)))
-  length-emptied place [] row there = absurd (none-some row there)
-  length-emptied zero (None ∷ slots) row there = absurd (none-some row there)
-  length-emptied zero (Some first ∷ slots) row there = refl
-  length-emptied (suc place) (None ∷ slots) row there = length-emptied place slots row there
-  length-emptied (suc place) (Some first ∷ slots) row there = ap suc (length-emptied place slots row there)
 
   -- the row of a full slot is another one
   pub replaced-set : (place : ℕ) (row : R) (slots : List (Option R)) (first : R) →
@@ -55,15 +40,6 @@ module _ {R : Type 0} where
   replaced-empty zero row (None ∷ slots) empty = refl
   replaced-empty zero row (Some first ∷ slots) empty = absurd (none-some first (sym empty))
   replaced-empty (suc place) row (slot ∷ slots) empty = ap (λ rest. slot ∷ rest) (replaced-empty place row slots empty)
-
-  -- as many rows stand there
-  pub length-replaced : (place : ℕ) (row : R) (slots : List (Option R)) →
-      length (rows_in (replaced place row slots)) ≡ length (rows_in slots)
-  length-replaced place row [] = refl
-  length-replaced zero row (None ∷ slots) = refl
-  length-replaced zero row (Some first ∷ slots) = refl
-  length-replaced (suc place) row (None ∷ slots) = length-replaced place row slots
-  length-replaced (suc place) row (Some first ∷ slots) = ap suc (length-replaced place row slots)
 
   -- what is read behind a reference
   pub read_none : (found : Option (Bor R)) → is_some found ≡ false → option_copied found ≡ None

@@ -1,7 +1,7 @@
 ghost use Rattle.std.specs.Prelude.{◌≡◌, ◌<◌, ◌≤◌, ◌+◌, ◌++◌, ◌∷◌, [], length, Some, slice_get};
 ghost use Rattle.std.specs.Prelude.{option_copied, IsOk, OnOk, OnErr, IfOk};
 ghost use Rattle.std.specs.Option.{option_flatten};
-ghost use Rattle.row_slots.specs.Slots.{rows_in, emptied, replaced};
+ghost use Rattle.row_slots.specs.Slots.{emptied, replaced};
 
 use std::alloc::{AllocError, Global};
 use std::marker::Model;
@@ -12,13 +12,11 @@ use std::marker::Model;
 #[derive(Drop)]
 pub struct Slots<R> {
     slots: Vec<Option<R>>,
-    /// How many of the slots hold a row.
-    count: usize,
 }
 
 impl<R> Model for Slots<R> {
-    ghost use Rattle.std.specs.Prelude.{◌≡◌, ◌-◌, min, length, vec_len, vec_capacity};
-    ghost use Rattle.row_slots.specs.Slots.{Slotted, rows_in};
+    ghost use Rattle.std.specs.Prelude.{◌-◌, min, vec_len, vec_capacity};
+    ghost use Rattle.row_slots.specs.Slots.{Slotted};
 
     ghost Value = { Slotted R };
 
@@ -26,8 +24,6 @@ impl<R> Model for Slots<R> {
       slots = a.slots.items;
       spare = min (vec_capacity a.slots - vec_len a.slots) (4294967295 - vec_len a.slots);
     } };
-
-    ghost invariant = { λ a. a.count ≡ length (rows_in a.slots.items) };
 }
 
 impl<R: Drop> Slots<R> {
@@ -37,7 +33,6 @@ impl<R: Drop> Slots<R> {
     {
         Slots {
             slots: Vec::new(alloc),
-            count: 0,
         }
     }
 
@@ -59,7 +54,6 @@ impl<R: Drop> Slots<R> {
         let place = next_place(self.slots.len())?;
         self.slots.reserve(1)?;
         self.slots.push(Some(row))?;
-        self.count += 1;
         Ok(place)
     }
 
@@ -70,9 +64,7 @@ impl<R: Drop> Slots<R> {
         ensures spare { self.old.spare ≤ self.new.spare }
     {
         let slot = self.slots.get_mut(place as usize)?;
-        let row = slot.take()?;
-        self.count -= 1;
-        Some(row)
+        slot.take()
     }
 
     /// Puts a row in place of the one in a slot, if one is there.

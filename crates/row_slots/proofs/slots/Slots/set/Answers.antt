@@ -1,6 +1,5 @@
-use Rattle.std.proofs.Common.{sym, ap, ◌∙◌, length, arith}
-use Rattle.row_slots.specs.Slots.{rows_in}
-use Rattle.row_slots.proofs.Rows.{read_none, read_some, within_slots, replaced-set, replaced-empty, length-replaced}
+use Rattle.std.proofs.Common.{sym, ◌∙◌, arith}
+use Rattle.row_slots.proofs.Rows.{read_none, read_some, within_slots, replaced-set, replaced-empty}
 use Rattle.row_slots.proofs.slots.Slots.set.Goals as goal
 
 pub returns-then-is_none-clause-slots : goal.returns-then-is_none-clause-slots
@@ -13,15 +12,6 @@ index_mut-requires g c =
     let there = read_some c.get.result c.if-is_none.ensures in
     let row = rw (← c.self.view_is) at (sym c.get.ensures ∙ there.1) in
     omega (arith, within_slots c.args.place c.self.inside.slots.items there.0 row, c.self.inside.slots.ok.0)
-
-pub invariant_of-self : goal.invariant_of-self
-invariant_of-self g c =
-    let there = read_some c.get.result c.if-is_none.ensures in
-    let row = rw (← c.self.view_is) at (sym c.get.ensures ∙ there.1) in
-    c.self.invariant
-    ∙ sym (ap (λ slots. length (rows_in slots))
-    (replaced-set c.args.place c.args.row c.self.inside.slots.items there.0 row)
-    ∙ length-replaced c.args.place c.args.row c.self.inside.slots.items)
 
 pub returns-clause-slots : goal.returns-clause-slots
 returns-clause-slots g c =

@@ -3,7 +3,7 @@ use Rattle.std.specs.Option.{option_flatten}
 use Rattle.std.proofs.Math.ListN.{set}
 use Rattle.std.proofs.lemmas.Bool.{false≢true}
 use Rattle.std.proofs.lemmas.Option.{slice_get_read, slice_get_past}
-use Rattle.row_slots.proofs.Rows.{emptied-set, emptied-empty, length-emptied}
+use Rattle.row_slots.proofs.Rows.{emptied-set, emptied-empty}
 use Rattle.row_slots.proofs.slots.Slots.take.Goals as goal
 
 pub returns-in_err-slot-clause-slots : goal.returns-in_err-slot-clause-slots
@@ -13,48 +13,11 @@ returns-in_err-slot-clause-slots g c =
     let empty = slice_get_past c.self.inside.slots.items c.args.place (omega (arith, c.self.inside.slots.ok.0)) in
     rw (← c.self.view_is) (sym (emptied-empty c.args.place c.self.inside.slots.items (ap option_flatten empty)))
 
-pub returns-in_err-row-clause-row : goal.returns-in_err-row-clause-row
-returns-in_err-row-clause-row g c =
-    let at = slice_get_read c.self.inside.slots.items _ c.args.place c.in_ok-slot.slot.now c.self.inside.slots.ok.0
-    (c.in_ok-slot.ensures.variant.0 refl) c.in_ok-slot.ensures.value in
-    rw (← c.self.view_is)
-    (c.from_residual-in_err-row.ensures
-    ∙ sym (ap option_flatten at ∙ sym c.take.ensures.value ∙ c.in_err-row.was))
-
-pub returns-in_err-row-clause-slots : goal.returns-in_err-row-clause-slots
-returns-in_err-row-clause-slots g c =
-    rw (← c.self.view_is)
-    (ap (set c.self.inside.slots.items c.args.place) c.take.ensures.after
-    ∙ emptied-set c.args.place c.self.inside.slots.items)
-
-pub overflow_sub-self : goal.overflow_sub-self
-overflow_sub-self g c =
-    let at = slice_get_read c.self.inside.slots.items _ c.args.place c.in_ok-slot.slot.now c.self.inside.slots.ok.0
-    (c.in_ok-slot.ensures.variant.0 refl) c.in_ok-slot.ensures.value in
-    omega (
-      arith,
-      c.self.invariant,
-      length-emptied c.args.place c.self.inside.slots.items c.in_ok-row.row
-          (ap option_flatten at ∙ sym c.take.ensures.value ∙ c.in_ok-row.was),
-    )
-
-pub invariant_of-self-2 : goal.invariant_of-self-2
-invariant_of-self-2 g c =
-    let at = slice_get_read c.self.inside.slots.items _ c.args.place c.in_ok-slot.slot.now c.self.inside.slots.ok.0
-    (c.in_ok-slot.ensures.variant.0 refl) c.in_ok-slot.ensures.value in
-    rw (c.take.ensures.after, emptied-set)
-    (omega (
-      arith,
-      c.self.invariant,
-      length-emptied c.args.place c.self.inside.slots.items c.in_ok-row.row
-          (ap option_flatten at ∙ sym c.take.ensures.value ∙ c.in_ok-row.was),
-    ))
-
 pub returns-clause-row : goal.returns-clause-row
 returns-clause-row g c =
     let at = slice_get_read c.self.inside.slots.items _ c.args.place c.in_ok-slot.slot.now c.self.inside.slots.ok.0
     (c.in_ok-slot.ensures.variant.0 refl) c.in_ok-slot.ensures.value in
-    rw (← c.self.view_is) (sym (ap option_flatten at ∙ sym c.take.ensures.value ∙ c.in_ok-row.was))
+    rw (← c.self.view_is) (sym (ap option_flatten at ∙ sym c.take.ensures.value))
 
 pub returns-clause-slots : goal.returns-clause-slots
 returns-clause-slots g c =
