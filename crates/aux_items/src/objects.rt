@@ -8,10 +8,18 @@ use row_slots::Lists;
 use std::alloc::Global;
 
 /// A list of numbers for each text and each conference: empty where it was never used.
-#[derive(Drop)]
 pub struct ObjectLists {
     texts: Lists,
     conferences: Lists,
+}
+
+// A call of its own, so that whoever lets the lists go has one step to prove and not one for each
+// part.
+impl Drop for ObjectLists {
+    fn drop(self) {
+        let ObjectLists { texts, conferences } = self;
+        drop((texts, conferences));
+    }
 }
 
 impl ObjectLists {

@@ -12,11 +12,19 @@ use std::alloc::Global;
 use std::marker::Model;
 
 /// The aux-items of texts and conferences, in the order of adding.
-#[derive(Drop)]
 pub struct Items {
     rows: Slots<ItemRow>,
     /// The places of the items of each text and each conference.
     of_objects: ObjectLists,
+}
+
+// A call of its own, so that whoever lets the items go has one step to prove and not one for each
+// part.
+impl Drop for Items {
+    fn drop(self) {
+        let Items { rows, of_objects } = self;
+        drop((rows, of_objects));
+    }
 }
 
 impl Model for Items {

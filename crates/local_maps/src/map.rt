@@ -15,10 +15,18 @@ use std::marker::Model;
 ///
 /// `append`, `len` and `first` are done in constant time, a search takes the logarithm of the
 /// number of texts at most, and a part costs by the texts that it tells.
-#[derive(Drop)]
 pub struct LocalMap {
     chain: Chain,
     alloc: Global,
+}
+
+// A call of its own, so that whoever lets the map go has one step to prove and not one for each
+// part.
+impl Drop for LocalMap {
+    fn drop(self) {
+        let LocalMap { chain, alloc: _ } = self;
+        drop(chain);
+    }
 }
 
 impl Model for LocalMap {

@@ -11,9 +11,17 @@ use std::alloc::Global;
 use std::marker::Model;
 
 /// The texts of several owners, conferences or authors, by their local numbers.
-#[derive(Drop)]
 pub struct LocalMaps {
     maps: IndexMap<u32, LocalMap>,
+}
+
+// A call of its own, so that whoever lets the maps go has one step to prove and not one for each
+// part.
+impl Drop for LocalMaps {
+    fn drop(self) {
+        let LocalMaps { maps } = self;
+        drop(maps);
+    }
 }
 
 impl Model for LocalMaps {

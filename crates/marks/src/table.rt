@@ -12,7 +12,6 @@ use std::alloc::Global;
 use std::marker::Model;
 
 /// The marks of persons on texts, in the order of setting.
-#[derive(Drop)]
 pub struct MarkTable {
     rows: Slots<MarkRow>,
     /// The places of the marks of each person.
@@ -21,6 +20,20 @@ pub struct MarkTable {
     on_text: Lists,
     /// Where the lists of marks that are shown take their memory from.
     alloc: Global,
+}
+
+// A call of its own, so that whoever lets the marks go has one step to prove and not one for each
+// part.
+impl Drop for MarkTable {
+    fn drop(self) {
+        let MarkTable {
+            rows,
+            of_person,
+            on_text,
+            alloc: _,
+        } = self;
+        drop((rows, of_person, on_text));
+    }
 }
 
 impl Model for MarkTable {

@@ -8,10 +8,21 @@ use row_slots::Lists;
 use std::alloc::Global;
 
 /// A list of numbers for each text and each kind of link: empty where it was never used.
-#[derive(Drop)]
 pub struct KindLists {
     comments: Lists,
     footnotes: Lists,
+}
+
+// A call of its own, so that whoever lets the lists go has one step to prove and not one for each
+// part.
+impl Drop for KindLists {
+    fn drop(self) {
+        let KindLists {
+            comments,
+            footnotes,
+        } = self;
+        drop((comments, footnotes));
+    }
 }
 
 impl KindLists {

@@ -14,7 +14,6 @@ use std::alloc::Global;
 use std::marker::Model;
 
 /// The links of comments and of footnotes to the texts that they are to, in the order of adding.
-#[derive(Drop)]
 pub struct Links {
     rows: Slots<TextLink>,
     /// The places of the links from each text.
@@ -23,6 +22,20 @@ pub struct Links {
     into: KindLists,
     /// Where the lists of the links of a text take their memory from.
     alloc: Global,
+}
+
+// A call of its own, so that whoever lets the links go has one step to prove and not one for each
+// part.
+impl Drop for Links {
+    fn drop(self) {
+        let Links {
+            rows,
+            from,
+            into,
+            alloc: _,
+        } = self;
+        drop((rows, from, into));
+    }
 }
 
 impl Model for Links {

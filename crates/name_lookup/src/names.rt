@@ -8,10 +8,18 @@ use std::alloc::Global;
 use std::marker::Model;
 
 /// The names of conferences, by rising number. Of two names that clash one alone is kept.
-#[derive(Drop)]
 pub struct Names {
     index: Index,
     next: Option<Bytes>,
+}
+
+// A call of its own, so that whoever lets the names go has one step to prove and not one for each
+// part.
+impl Drop for Names {
+    fn drop(self) {
+        let Names { index, next } = self;
+        drop((index, next));
+    }
 }
 
 impl Model for Names {

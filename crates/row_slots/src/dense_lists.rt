@@ -11,9 +11,17 @@ use std::alloc::{AllocError, Global};
 /// one after the other. It takes memory for each of them.
 ///
 /// A list of up to four numbers takes no further memory of its own.
-#[derive(Drop)]
 pub struct DenseLists {
     lists: Vec<SmallVec<u32, 4>>,
+}
+
+// A call of its own, so that whoever lets the lists go has one step to prove and not one for each
+// part.
+impl Drop for DenseLists {
+    fn drop(self) {
+        let DenseLists { lists } = self;
+        drop(lists);
+    }
 }
 
 impl DenseLists {

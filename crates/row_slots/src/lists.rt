@@ -10,9 +10,17 @@ use std::alloc::{AllocError, Global};
 /// A list of numbers for each key: empty where the key was never used.
 ///
 /// A list of up to four numbers takes no memory of its own.
-#[derive(Drop)]
 pub struct Lists {
     map: IndexMap<u32, SmallVec<u32, 4>>,
+}
+
+// A call of its own, so that whoever lets the lists go has one step to prove and not one for each
+// part.
+impl Drop for Lists {
+    fn drop(self) {
+        let Lists { map } = self;
+        drop(map);
+    }
 }
 
 impl Lists {

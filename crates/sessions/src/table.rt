@@ -17,11 +17,19 @@ use std::alloc::Global;
 use std::marker::Model;
 
 /// The rows of the sessions, in the order of their numbers.
-#[derive(Drop)]
 pub struct Sessions {
     rows: Vec<SessionRow>,
     /// The sessions that accept each message.
     accepting: Accepting,
+}
+
+// A call of its own, so that whoever lets the sessions go has one step to prove and not one for
+// each part.
+impl Drop for Sessions {
+    fn drop(self) {
+        let Sessions { rows, accepting } = self;
+        drop((rows, accepting));
+    }
 }
 
 impl Model for Sessions {
