@@ -17,7 +17,8 @@ unfolding supervises
 supervises_none db person conference is = ap (told (λ head. stands_for db person head.supervisor)) is
 
 pub supervises_some : (db : Db) (person conference : ℕ) (head : ConferenceHead) →
-    conference_head_of db conference ≡ Some head → supervises db person conference ≡ stands_for db person head.supervisor
+    conference_head_of db conference ≡ Some head → supervises db person conference ≡ stands_for db person
+    head.supervisor
 unfolding supervises
 supervises_some db person conference head is = ap (told (λ head. stands_for db person head.supervisor)) is
 
@@ -35,7 +36,8 @@ sees_some db viewer conference head is =
     ap (told (λ head. not (is_secret_conference head.kind) || is_let_in db viewer conference head.supervisor)) is
 
 pub sees_open : (db : Db) (viewer : Viewer) (conference : ℕ) (head : ConferenceHead) →
-    conference_head_of db conference ≡ Some head → is_secret_conference head.kind ≡ false → sees db viewer conference ≡ true
+    conference_head_of db conference ≡ Some head → is_secret_conference head.kind ≡ false →
+    sees db viewer conference ≡ true
 sees_open db viewer conference head is not_set =
     sees_some db viewer conference head is
     ∙ ap (λ b. not b || is_let_in db viewer conference head.supervisor) not_set
@@ -48,13 +50,15 @@ reads_none db viewer conference is =
 
 pub reads_some : (db : Db) (viewer : Viewer) (conference : ℕ) (head : ConferenceHead) →
     conference_head_of db conference ≡ Some head →
-    reads_conference db viewer conference ≡ (not (is_read_protected head.kind) || is_let_in db viewer conference head.supervisor)
+    reads_conference db viewer conference ≡ (not (is_read_protected head.kind) || is_let_in db viewer conference
+    head.supervisor)
 unfolding reads_conference
 reads_some db viewer conference head is =
     ap (told (λ head. not (is_read_protected head.kind) || is_let_in db viewer conference head.supervisor)) is
 
 pub reads_open : (db : Db) (viewer : Viewer) (conference : ℕ) (head : ConferenceHead) →
-    conference_head_of db conference ≡ Some head → is_read_protected head.kind ≡ false → reads_conference db viewer conference ≡ true
+    conference_head_of db conference ≡ Some head → is_read_protected head.kind ≡ false →
+    reads_conference db viewer conference ≡ true
 reads_open db viewer conference head is not_set =
     reads_some db viewer conference head is
     ∙ ap (λ b. not b || is_let_in db viewer conference head.supervisor) not_set

@@ -314,7 +314,8 @@ plain_acting : (state : State) (pass moment : ℕ) (what : Act) (session : ℕ) 
 plain_acting state pass moment what session short over may other some =
     inr (
       λ zero.
-          let stands : IsSome (session_of session state) = acting_stands state pass moment what session short may other some
+          let stands : IsSome (session_of session state) =
+          acting_stands state pass moment what session short may other some
           in
           let none : session_of session state ≡ None = ap (λ (n : ℕ). session_of n state) zero ∙ over.absent in
           let no : is_some (session_of session state) ≡ false = ap (λ (found : Option Session). is_some found) none in

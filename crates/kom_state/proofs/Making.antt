@@ -32,7 +32,8 @@ pub IsMade-using : (what : Effect) (old new : Stored) → new.db ≡ made what o
 IsMade-using what old new db uses = record { db = db; room = HasRoom-after what old.room new.room uses }
 
 -- one person is changed
-pub IsMade-person : {items : Attached} → (what : Effect) (number : ℕ) (change : PersonRow → PersonRow) (conferences : Tabled ConferenceRow)
+pub IsMade-person : {items : Attached} → (what : Effect) (number : ℕ) (change : PersonRow →
+    PersonRow) (conferences : Tabled ConferenceRow)
     (old new : Tabled PersonRow) (memberships : Table) (names : Lookup) (texts : Texts) (next next_text : ℕ) →
     ((db : Db) → made what db ≡ with_changed_person number change db) →
     new.rows ≡ changed_row number_of_person number change old.rows → old.spare ≤ new.spare →
@@ -40,7 +41,8 @@ pub IsMade-person : {items : Attached} → (what : Effect) (number : ℕ) (chang
     (stored conferences new memberships names texts items next next_text)
 IsMade-person {items} what number change conferences old new memberships names texts next next_text makes rows spare =
     IsMade-using what _ _
-    (ap (λ rows. record (stored conferences old memberships names texts items next next_text).db { persons = rows }) rows
+    (ap (λ rows. record (stored conferences old memberships names texts items next next_text).db { persons = rows })
+    rows
     ∙ sym (makes (stored conferences old memberships names texts items next next_text).db))
     (record {
       conferences = omega arith;
@@ -62,10 +64,12 @@ pub IsMade-conference : {items : Attached} → (what : Effect) (number : ℕ) (c
     (name_given what ≡ None → new_names.ready ≡ names.ready) →
     IsMade what (stored old persons memberships names texts items next next_text)
     (stored new persons memberships new_names texts items next next_text)
-IsMade-conference {items} what number change old new persons memberships names new_names texts next next_text makes rows spare
+IsMade-conference {items} what number change old new persons memberships names new_names texts next next_text makes
+    rows spare
     ready =
     IsMade-using what _ _
-    (ap (λ rows. record (stored old persons memberships names texts items next next_text).db { conferences = rows }) rows
+    (ap (λ rows. record (stored old persons memberships names texts items next next_text).db { conferences = rows })
+    rows
     ∙ sym (makes (stored old persons memberships names texts items next next_text).db))
     (record {
       conferences = omega arith;
@@ -79,7 +83,8 @@ IsMade-conference {items} what number change old new persons memberships names n
       of_objects = λ kind other. omega arith;
     })
 
-pub IsMade-added : {items : Attached} → (number : ℕ) (name : List ℕ) (kind at creator supervisor : ℕ) (old new : Tabled ConferenceRow)
+pub IsMade-added : {items : Attached} → (number : ℕ) (name : List ℕ) (kind at creator supervisor : ℕ)
+    (old new : Tabled ConferenceRow)
     (persons : Tabled PersonRow) (memberships : Table) (names new_names : Lookup) (texts : Texts) (next next_text : ℕ) →
     new.rows ≡ with_row number_of_conference (fresh_conference number name kind at creator supervisor) old.rows →
     old.spare ≤ new.spare + 1 →
@@ -87,10 +92,12 @@ pub IsMade-added : {items : Attached} → (number : ℕ) (name : List ℕ) (kind
     (stored old persons memberships names texts items next next_text)
     (stored new persons memberships new_names texts items (number + 1) next_text)
 unfolding made
-IsMade-added {items} number name kind at creator supervisor old new persons memberships names new_names texts next next_text
+IsMade-added {items} number name kind at creator supervisor old new persons memberships names new_names texts next
+    next_text
     rows spare =
     IsMade-using _ _ _
-    (ap (λ rows. (stored (record new { rows = rows }) persons memberships new_names texts items (number + 1) next_text).db)
+    (ap (λ rows. (stored (record new { rows = rows }) persons memberships new_names texts items (number + 1)
+    next_text).db)
     rows)
     (record {
       conferences = omega arith;
@@ -105,16 +112,19 @@ IsMade-added {items} number name kind at creator supervisor old new persons memb
     })
 
 -- a conference is taken away, with its name
-pub IsMade-conference_gone : {items : Attached} → (number : ℕ) (old new : Tabled ConferenceRow) (persons : Tabled PersonRow)
+pub IsMade-conference_gone : {items : Attached} → (number : ℕ) (old new : Tabled ConferenceRow)
+    (persons : Tabled PersonRow)
     (memberships : Table) (names new_names : Lookup) (texts : Texts) (next next_text : ℕ) →
     new.rows ≡ without_row number_of_conference number old.rows → old.spare ≤ new.spare →
     new_names.ready ≡ names.ready →
     IsMade (effect.ConfGone number) (stored old persons memberships names texts items next next_text)
     (stored new persons memberships new_names texts items next next_text)
 unfolding made
-IsMade-conference_gone {items} number old new persons memberships names new_names texts next next_text rows spare ready =
+IsMade-conference_gone {items} number old new persons memberships names new_names texts next next_text rows spare
+    ready =
     IsMade-using _ _ _
-    (ap (λ rows. (stored (record new { rows = rows }) persons memberships new_names texts items next next_text).db) rows)
+    (ap (λ rows. (stored (record new { rows = rows }) persons memberships new_names texts items next next_text).db)
+    rows)
     (record {
       conferences = omega arith;
       persons = omega arith;
@@ -135,9 +145,11 @@ pub IsMade-joined : {items : Attached} → (number privileges flags last_login :
     (stored conferences old memberships names texts items next next_text)
     (stored conferences new memberships names texts items next next_text)
 unfolding made
-IsMade-joined {items} number privileges flags last_login conferences old new memberships names texts next next_text rows spare =
+IsMade-joined {items} number privileges flags last_login conferences old new memberships names texts next next_text
+    rows spare =
     IsMade-using _ _ _
-    (ap (λ rows. (stored conferences (record new { rows = rows }) memberships names texts items next next_text).db) rows)
+    (ap (λ rows. (stored conferences (record new { rows = rows }) memberships names texts items next next_text).db)
+    rows)
     (record {
       conferences = omega arith;
       persons = omega arith;
@@ -172,7 +184,8 @@ pub IsMade-texts : {items : Attached} → (what : Effect) (old_conferences new_c
     Changes what old_conferences new_conferences old_persons new_persons old new conference_rows person_rows rows →
     IsMade what (stored old_conferences old_persons memberships names old items next next_text)
     (stored new_conferences new_persons memberships names new items next new_next_text)
-IsMade-texts {items} what old_conferences new_conferences old_persons new_persons memberships names old new next next_text
+IsMade-texts {items} what old_conferences new_conferences old_persons new_persons memberships names old new next
+    next_text
     new_next_text conference_rows person_rows rows db changes =
     IsMade-using what _ _ (rw (changes.conferences, changes.persons, changes.texts) db) (record {
       conferences =
@@ -260,7 +273,8 @@ pub IsMade-members : {items : Attached} → (what : Effect) (change : List Membe
 IsMade-members {items} what change reads conferences persons old new names texts next next_text makes rows read keeps =
     IsMade-using what _ _
     (ap (λ rows. (stored conferences persons (record new { rows = rows }) names texts items next next_text).db) rows
-    ∙ ap (λ reads. (stored conferences persons (record new { rows = change old.rows; reads = reads }) names texts items next
+    ∙ ap (λ reads. (stored conferences persons (record new { rows = change old.rows; reads = reads }) names texts
+    items next
     next_text).db) read
     ∙ sym (makes (stored conferences persons old names texts items next next_text).db))
     (record {
@@ -275,7 +289,8 @@ IsMade-members {items} what change reads conferences persons old new names texts
       of_objects = λ kind other. omega arith;
     })
 
-pub IsMade-set : {items : Attached} → (row : MembershipRow) (conferences : Tabled ConferenceRow) (persons : Tabled PersonRow)
+pub IsMade-set : {items : Attached} → (row : MembershipRow) (conferences : Tabled ConferenceRow)
+    (persons : Tabled PersonRow)
     (old new : Table) (names : Lookup) (texts : Texts) (next next_text : ℕ) → row.last_time_read ≡ row.added_at →
     new.rows ≡ with_membership row old.rows → new.reads ≡ with_reader row.person row.conference old.reads →
     UsesRoom old new row.person row.conference →

@@ -36,7 +36,8 @@ module _ (creator moment : ℕ) where
       take_more given place one inside ∙ ap (λ x. take place given ++ x ∷ []) (sym is) in
       let long : length (take place given) ≡ place = length-take-le place given (omega arith) in
       push ∙ ap (λ l. l ++ item_of (first + place) creator moment one ∷ []) was
-      ∙ ap (λ n. items_from first creator moment (take place given) ++ item_of (first + n) creator moment one ∷ []) (sym long)
+      ∙ ap (λ n. items_from first creator moment (take place given) ++ item_of (first + n) creator moment one ∷ [])
+      (sym long)
       ∙ sym (items-last first (take place given) one) ∙ ap (items_from first creator moment) (sym more)
 
 -- ---- how many an object is made with
@@ -54,8 +55,10 @@ module _ (on : Object) (adder : Adder) (items : List AuxRow) (given : AuxInput) 
 
   fit : (known : AuxKind) → fits on items adder.person known given ≡ true → length items < most_items
   fit known is =
-      let before : Bool = known.stands_on on && not (nat_lt longest_content (length given.content)) && not (has_wrong_flags given.flags) in
-      let stands : may_stand known items adder.person ≡ true = (and_parts before (may_stand known items adder.person) is).1 in
+      let before : Bool = known.stands_on on && not (nat_lt longest_content (length given.content)) && not
+      (has_wrong_flags given.flags) in
+      let stands : may_stand known items adder.person ≡ true =
+      (and_parts before (may_stand known items adder.person) is).1 in
       ltb-true (length items) most_items
       (and_parts (nat_lt (length items) most_items) (leaves_room known.count items known.tag adder.person) stands).0
 
@@ -107,7 +110,8 @@ module _ (on : Object) (adder : Adder) (items : List AuxRow) (given : AuxInput) 
 -- those that may be added beside some
 module _ (on : Object) (adder : Adder) where
   few-beside : (items : List AuxRow) (index : ℕ) (added : List AuxInput) →
-      refused_added on adder items index added ≡ None → length items ≤ most_items → length items + length added ≤ most_items
+      refused_added on adder items index added ≡ None → length items ≤ most_items →
+      length items + length added ≤ most_items
   unfolding more_items first_of
   few-beside items index [] passes few = omega (arith, few)
   few-beside items index (given ∷ more) passes few =

@@ -149,5 +149,9 @@ module _ (es fs : List Entry) (next : ℕ) (conferences persons lists : ℕ → 
       length-remove_key (nat_eq given.conference) (conferences given.person) is_there in
       let shorter : length others ≡ count_of given.person (rows_of conferences es) - 1 = omega arith in
       rw (some, with_membership)
-      (rows_renewed ∙ ap (λ n. replaced_by (record given { position = min given.position n; last_time_read = old.last_time_read })
+      (rows_renewed ∙ ap (λ n. replaced_by (record given {
+        position = min given.position n;
+        last_time_read =
+            old.last_time_read;
+      })
       (opened given.person (min given.position n) (closed_up given.person before (rows_of conferences es)))) shorter)

@@ -105,7 +105,8 @@ passes_in : (text : ℕ) (slot : Option TextLink) →
 passes_in text None = refl
 passes_in text (Some row) = in_lists (eqb row.child text) (eqb row.parent text) row.footnote
 
-module _ (slots : List (Option TextLink)) (from into : ℕ → Bool → List ℕ) (kept : IsKept slots from into) (text : ℕ) where
+module _ (slots : List (Option TextLink)) (from into : ℕ → Bool →
+    List ℕ) (kept : IsKept slots from into) (text : ℕ) where
   pub has_all : (place : ℕ) →
       has ((from text false ++ from text true) ++ (into text false ++ into text true)) place
       ≡ has (places_of (touches text) slots) place

@@ -14,7 +14,8 @@ use Rattle.misc_links.proofs.Finding.{link_parts}
 use Rattle.row_slots.proofs.Passing.{none_pass, all_stay, fewer_pass, one_passes}
 
 -- without a link that is not there
-pub without_none : (child parent : ℕ) (footnote : Bool) (rows : List TextLink) → link_of child parent footnote rows ≡ None →
+pub without_none : (child parent : ℕ) (footnote : Bool) (rows : List TextLink) →
+    link_of child parent footnote rows ≡ None →
     without_link child parent footnote rows ≡ rows
 without_none child parent footnote rows none = all_stay (is_link child parent footnote) rows none
 

@@ -18,7 +18,8 @@ use Rattle.query_calls.specs.Shown.{is_shown, shown_of}
 abbrev AreFound : List ConferenceRow → List ConferenceRow → Type 0
 AreFound all rows = AllByRecursion (λ row. row_of number_of_conference row.number all ≡ Some row) rows
 
-found-later : (first : ConferenceRow) (all rows : List ConferenceRow) → AllAbove number_of_conference first.number rows →
+found-later : (first : ConferenceRow) (all rows : List ConferenceRow) →
+    AllAbove number_of_conference first.number rows →
     AreFound all rows → AreFound (first ∷ all) rows
 found-later first all [] above found = tt
 found-later first all (row ∷ rows) above found =
@@ -51,7 +52,8 @@ module _ (db : Db) (viewer : Viewer) (persons conferences : Bool) where
 
   -- a row that is found is shown, or not
   shown_found : (row : ConferenceRow) → conference_of db row.number ≡ Some row →
-      shown_of db viewer persons conferences row.number ≡ cond (is_shown db viewer persons conferences row) (Some row) None
+      shown_of db viewer persons conferences row.number ≡ cond (is_shown db viewer persons conferences row) (Some row)
+      None
   shown_found row found =
       let none : Option ConferenceRow = None in
       ap (λ one. elim one [

@@ -5,7 +5,8 @@ use Rattle.kom_types.specs.declared.memberships.ReadRange.{ReadRange}
 use Rattle.read_ranges.specs.ListFault.{IsInvalidAt, IsOutOfOrderAt, IsFaultAt, IsFaultlessBelow}
 
 -- after a range with no fault, one more is faultless
-pub faultless_more : (rs : List ReadRange) (i : ℕ) → IsFaultlessBelow rs i → IsFaultAt rs i None → IsFaultlessBelow rs (i + 1)
+pub faultless_more : (rs : List ReadRange) (i : ℕ) → IsFaultlessBelow rs i → IsFaultAt rs i None →
+    IsFaultlessBelow rs (i + 1)
 faultless_more rs i below here =
     below_more (λ k. ¬ (IsInvalidAt rs k ⊎ IsOutOfOrderAt rs k)) i below (λ fault. elim fault [
       | inl invalid ↦ here.0 invalid

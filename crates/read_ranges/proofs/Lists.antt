@@ -16,52 +16,64 @@ TouchFrom least [] = Unit {0}
 TouchFrom least (r ∷ rs) = (least ≤ r.first) × (r.first ≤ r.last) × (r.last ≤ greatest) × TouchFrom (r.last + 1) rs
 
 -- a range put before rising ranges
-rise_with_range : (r : ReadRange) (rs : List ReadRange) → r.first ≤ r.last → r.last ≤ greatest → RiseFrom (r.last + 1) rs → RiseFrom r.first (with_range r rs)
+rise_with_range : (r : ReadRange) (rs : List ReadRange) → r.first ≤ r.last → r.last ≤ greatest →
+    RiseFrom (r.last + 1) rs → RiseFrom r.first (with_range r rs)
 rise_with_range r [] order fits rise = (omega arith, order, fits, tt)
 rise_with_range r (q ∷ qs) order fits rise =
-    elim (eqb q.first (r.last + 1)) as (λ b. eqb q.first (r.last + 1) ≡ b → RiseFrom r.first (cond b ((range r.first q.last) ∷ qs) (r ∷ q ∷ qs))) [
+    elim (eqb q.first (r.last + 1)) as (λ b. eqb q.first (r.last + 1) ≡ b →
+    RiseFrom r.first (cond b ((range r.first q.last) ∷ qs) (r ∷ q ∷ qs))) [
       | true ↦ λ e. (omega arith, omega arith, rise.2, rise.3)
       | false ↦ λ e. (omega arith, order, fits, (grind (arith, nat_tests), rise.1, rise.2, rise.3))
     ] refl
 
-holds_with_range : (r : ReadRange) (rs : List ReadRange) → r.first ≤ r.last → RiseFrom (r.last + 1) rs → (m : ℕ) → holds_in (with_range r rs) m ≡ (is_in_range m r || holds_in rs m)
+holds_with_range : (r : ReadRange) (rs : List ReadRange) → r.first ≤ r.last → RiseFrom (r.last + 1) rs → (m : ℕ) →
+    holds_in (with_range r rs) m ≡ (is_in_range m r || holds_in rs m)
 holds_with_range r [] order rise m = refl
 holds_with_range r (q ∷ qs) order rise m =
-    elim (eqb q.first (r.last + 1)) as (λ b. eqb q.first (r.last + 1) ≡ b → holds_in (cond b ((range r.first q.last) ∷ qs) (r ∷ q ∷ qs)) m ≡ (is_in_range m r || (is_in_range m q || holds_in qs m))) [
+    elim (eqb q.first (r.last + 1)) as (λ b. eqb q.first (r.last + 1) ≡ b →
+    holds_in (cond b ((range r.first q.last) ∷ qs) (r ∷ q ∷ qs)) m ≡
+    (is_in_range m r || (is_in_range m q || holds_in qs m))) [
       | true ↦ λ e. grind (arith, nat_tests)
       | false ↦ λ e. refl
     ] refl
 
 pub rise_merged : (a : ℕ) (rs : List ReadRange) → TouchFrom a rs → RiseFrom a (merged rs)
 rise_merged a [] touch = tt
-rise_merged a (r ∷ rs) touch = rise_lower a r.first _ touch.0 (rise_with_range r (merged rs) touch.1 touch.2 (rise_merged (r.last + 1) rs touch.3))
+rise_merged a (r ∷ rs) touch = rise_lower a r.first _ touch.0
+    (rise_with_range r (merged rs) touch.1 touch.2 (rise_merged (r.last + 1) rs touch.3))
 
 pub holds_merged : (a : ℕ) (rs : List ReadRange) → TouchFrom a rs → (m : ℕ) → holds_in (merged rs) m ≡ holds_in rs m
 holds_merged a [] touch m = refl
 holds_merged a (r ∷ rs) touch m =
-    holds_with_range r (merged rs) touch.1 (rise_merged (r.last + 1) rs touch.3) m ∙ ap (λ b. is_in_range m r || b) (holds_merged (r.last + 1) rs touch.3 m)
+    holds_with_range r (merged rs) touch.1 (rise_merged (r.last + 1) rs touch.3) m
+    ∙ ap (λ b. is_in_range m r || b) (holds_merged (r.last + 1) rs touch.3 m)
 
 pub union_of-merged : (rs : List ReadRange) → TouchFrom 1 rs → union_of (merged rs) ≡ union_of rs
-union_of-merged rs touch = same_numbers _ _ (λ m. contains-union_of (merged rs) m ∙ holds_merged 1 rs touch m ∙ sym (contains-union_of rs m))
+union_of-merged rs touch = same_numbers _ _ (λ m. contains-union_of (merged rs) m ∙ holds_merged 1 rs touch m
+    ∙ sym (contains-union_of rs m))
 
 -- merging makes no more ranges
 length-with_range : (r : ReadRange) (rs : List ReadRange) → length (with_range r rs) ≤ length rs + 1
 length-with_range r [] = omega arith
 length-with_range r (q ∷ qs) =
-    elim (eqb q.first (r.last + 1)) as (λ b. length (cond b ((range r.first q.last) ∷ qs) (r ∷ q ∷ qs)) ≤ length (q ∷ qs) + 1) [ true ↦ omega arith | false ↦ omega arith ]
+    elim (eqb q.first (r.last + 1)) as (λ b. length (cond b ((range r.first q.last) ∷ qs) (r ∷ q ∷ qs)) ≤ length
+    (q ∷ qs) + 1) [ true ↦ omega arith | false ↦ omega arith ]
 
 pub length-merged : (rs : List ReadRange) → length (merged rs) ≤ length rs
 length-merged [] = omega arith
 length-merged (r ∷ rs) = omega (arith, length-with_range r (merged rs), length-merged rs)
 
 -- what a range and those after it make: one that touches it lengthens it, and any other follows it
-pub merged_touching : (last r : ReadRange) (rs : List ReadRange) → r.first ≡ last.last + 1 → merged (last ∷ r ∷ rs) ≡ merged (range last.first r.last ∷ rs)
-merged_touching last r rs touches = elim (merged rs) as (λ ms. with_range last (with_range r ms) ≡ with_range (range last.first r.last) ms) [
-  | [] ↦ grind (arith, nat_tests)
-  | q ∷ qs ↦ grind (arith, nat_tests)
-]
+pub merged_touching : (last r : ReadRange) (rs : List ReadRange) → r.first ≡ last.last + 1 →
+    merged (last ∷ r ∷ rs) ≡ merged (range last.first r.last ∷ rs)
+merged_touching last r rs touches = elim (merged rs)
+    as (λ ms. with_range last (with_range r ms) ≡ with_range (range last.first r.last) ms) [
+      | [] ↦ grind (arith, nat_tests)
+      | q ∷ qs ↦ grind (arith, nat_tests)
+    ]
 
-pub merged_apart : (last r : ReadRange) (rs : List ReadRange) → r.first ≢ last.last + 1 → merged (last ∷ r ∷ rs) ≡ last ∷ merged (r ∷ rs)
+pub merged_apart : (last r : ReadRange) (rs : List ReadRange) → r.first ≢ last.last + 1 →
+    merged (last ∷ r ∷ rs) ≡ last ∷ merged (r ∷ rs)
 merged_apart last r rs apart = elim (merged rs) as (λ ms. with_range last (with_range r ms) ≡ last ∷ with_range r ms) [
   | [] ↦ grind (arith, nat_tests)
   | q ∷ qs ↦ grind (arith, nat_tests)
@@ -71,9 +83,11 @@ merged_apart last r rs apart = elim (merged rs) as (λ ms. with_range last (with
 pub others_faultless : (r : ReadRange) (rs : List ReadRange) → IsFaultless (r ∷ rs) → IsFaultless rs
 others_faultless r rs faultless k lt (inl invalid) = faultless (suc k) (omega arith) (inl invalid)
 others_faultless r rs faultless zero lt (inr disorder) = absurd (omega (arith, disorder.0))
-others_faultless r rs faultless (suc k) lt (inr disorder) = faultless (suc (suc k)) (omega arith) (inr (omega arith, same disorder.1))
+others_faultless r rs faultless (suc k) lt (inr disorder) =
+    faultless (suc (suc k)) (omega arith) (inr (omega arith, same disorder.1))
   where
-    same : (get_or rs (suc k) (range 0 0)).first ≤ (get_or rs (suc k - 1) (range 0 0)).last → (get_or rs (suc k) (range 0 0)).first ≤ (get_or (r ∷ rs) (suc (suc k) - 1) (range 0 0)).last
+    same : (get_or rs (suc k) (range 0 0)).first ≤ (get_or rs (suc k - 1) (range 0 0)).last →
+        (get_or rs (suc k) (range 0 0)).first ≤ (get_or (r ∷ rs) (suc (suc k) - 1) (range 0 0)).last
     same le =
         let here : suc k - 1 ≡ k = omega arith in
         let there : suc (suc k) - 1 ≡ suc k = omega arith in
@@ -97,10 +111,16 @@ valid_order r rs faultless = elim (cases_lt r.last r.first) [
   | inr le ↦ le
 ]
 
-touch_from : (a : ℕ) (rs : List ReadRange) → Begins a rs → EndWithinBelow rs (length rs) → IsFaultless rs → TouchFrom a rs
+touch_from : (a : ℕ) (rs : List ReadRange) → Begins a rs → EndWithinBelow rs (length rs) → IsFaultless rs →
+    TouchFrom a rs
 touch_from a [] begins fits faultless = tt
-touch_from a (r ∷ rs) begins fits faultless =
-    (begins, valid_order r rs faultless, fits 0 (omega arith), touch_from (r.last + 1) rs (next_begins r rs faultless) (λ k lt. fits (suc k) (omega arith)) (others_faultless r rs faultless))
+touch_from a (r ∷ rs) begins fits faultless = (
+  begins,
+  valid_order r rs faultless,
+  fits 0 (omega arith),
+  touch_from (r.last + 1) rs (next_begins r rs faultless)
+      (λ k lt. fits (suc k) (omega arith)) (others_faultless r rs faultless),
+)
 
 pub begins_at_one : (rs : List ReadRange) → IsFaultless rs → Begins 1 rs
 begins_at_one [] faultless = tt

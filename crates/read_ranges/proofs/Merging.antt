@@ -60,7 +60,8 @@ module _ (xs ys : List ReadRange) (at : ℕ) (within : at < length xs) (within_o
 
   -- a range that ends within bounds, after those that do
   pub ends_more : EndWithinBelow ys at → (range_at xs at).last ≤ greatest → EndWithinBelow ys (at + 1)
-  ends_more ends end = below_more (λ k. (range_at ys k).last ≤ greatest) at ends (subst (λ (r : ReadRange). r.last ≤ greatest) range_there end)
+  ends_more ends end = below_more (λ k. (range_at ys k).last ≤ greatest) at ends
+      (subst (λ (r : ReadRange). r.last ≤ greatest) range_there end)
 
 -- the first range ends within bounds
 pub ends_first : (xs : List ReadRange) → (range_at xs 0).last ≤ greatest → EndWithinBelow xs 1

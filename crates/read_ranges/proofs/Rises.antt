@@ -49,7 +49,8 @@ pub holds_first : (x : ReadRange) (xs : List ReadRange) (n : ℕ) → x.first �
 holds_first x xs n from to = let here : is_in_range n x ≡ true = grind (arith, nat_tests) in rw here refl
 
 -- the number after the first range is not held
-pub holds_gap : (a : ℕ) (x : ReadRange) (xs : List ReadRange) → RiseFrom a (x ∷ xs) → holds_in (x ∷ xs) (x.last + 1) ≡ false
+pub holds_gap : (a : ℕ) (x : ReadRange) (xs : List ReadRange) → RiseFrom a (x ∷ xs) →
+    holds_in (x ∷ xs) (x.last + 1) ≡ false
 holds_gap a x xs rise =
     let here : is_in_range (x.last + 1) x ≡ false = grind (arith, nat_tests) in
     rw (here, holds_below (x.last + 2) xs (x.last + 1) rise.3 (omega arith)) refl
@@ -66,13 +67,17 @@ holds_past : (x : ReadRange) (xs : List ReadRange) (n : ℕ) → x.last < n → 
 holds_past x xs n lt = let here : is_in_range n x ≡ false = grind (arith, nat_tests) in rw here refl
 
 -- the first ranges of two lists that hold the same numbers
-first_begins : (a : ℕ) (x y : ReadRange) (xs ys : List ReadRange) → RiseFrom a (x ∷ xs) → RiseFrom a (y ∷ ys) → ((n : ℕ) → holds_in (x ∷ xs) n ≡ holds_in (y ∷ ys) n) → y.first ≤ x.first
+first_begins : (a : ℕ) (x y : ReadRange) (xs ys : List ReadRange) → RiseFrom a (x ∷ xs) → RiseFrom a (y ∷ ys) →
+    ((n : ℕ) → holds_in (x ∷ xs) n ≡ holds_in (y ∷ ys) n) → y.first ≤ x.first
 first_begins a x y xs ys rise_x rise_y same =
-    held_at_least y.first (y ∷ ys) x.first (omega arith, rise_y.1, rise_y.2, rise_y.3) (sym (same x.first) ∙ holds_first x xs x.first (omega arith) rise_x.1)
+    held_at_least y.first (y ∷ ys) x.first (omega arith, rise_y.1, rise_y.2, rise_y.3) (sym (same x.first)
+    ∙ holds_first x xs x.first (omega arith) rise_x.1)
 
-first_ends : (a : ℕ) (x y : ReadRange) (xs ys : List ReadRange) → RiseFrom a (x ∷ xs) → RiseFrom a (y ∷ ys) → ((n : ℕ) → holds_in (x ∷ xs) n ≡ holds_in (y ∷ ys) n) → y.last ≤ x.last
+first_ends : (a : ℕ) (x y : ReadRange) (xs ys : List ReadRange) → RiseFrom a (x ∷ xs) → RiseFrom a (y ∷ ys) →
+    ((n : ℕ) → holds_in (x ∷ xs) n ≡ holds_in (y ∷ ys) n) → y.last ≤ x.last
 first_ends a x y xs ys rise_x rise_y same = elim (cases_lt x.last y.last) [
-  | inl lt ↦ absurd (false≢true (sym (holds_gap a x xs rise_x) ∙ same (x.last + 1) ∙ holds_first y ys (x.last + 1) (omega (arith, first_begins a x y xs ys rise_x rise_y same)) (omega arith)))
+  | inl lt ↦ absurd (false≢true (sym (holds_gap a x xs rise_x) ∙ same (x.last + 1)
+      ∙ holds_first y ys (x.last + 1) (omega (arith, first_begins a x y xs ys rise_x rise_y same)) (omega arith)))
   | inr le ↦ le
 ]
 
@@ -80,16 +85,31 @@ same_range : (x y : ReadRange) → x.first ≡ y.first → x.last ≡ y.last →
 same_range x y e f = λ i. range (e i) (f i)
 
 -- rising ranges that hold the same numbers are the same
-pub one_list : (a : ℕ) (xs ys : List ReadRange) → RiseFrom a xs → RiseFrom a ys → ((n : ℕ) → holds_in xs n ≡ holds_in ys n) → xs ≡ ys
+pub one_list : (a : ℕ) (xs ys : List ReadRange) → RiseFrom a xs → RiseFrom a ys →
+    ((n : ℕ) → holds_in xs n ≡ holds_in ys n) → xs ≡ ys
 one_list a [] [] rise_x rise_y same = refl
-one_list a [] (y ∷ ys) rise_x rise_y same = absurd (false≢true (same y.first ∙ holds_first y ys y.first (omega arith) rise_y.1))
-one_list a (x ∷ xs) [] rise_x rise_y same = absurd (false≢true (sym (same x.first) ∙ holds_first x xs x.first (omega arith) rise_x.1))
+one_list a [] (y ∷ ys) rise_x rise_y same = absurd (false≢true (same y.first
+    ∙ holds_first y ys y.first (omega arith) rise_y.1))
+one_list a (x ∷ xs) [] rise_x rise_y same = absurd (false≢true (sym (same x.first)
+    ∙ holds_first x xs x.first (omega arith) rise_x.1))
 one_list a (x ∷ xs) (y ∷ ys) rise_x rise_y same =
-    let begins : x.first ≡ y.first = omega (arith, first_begins a x y xs ys rise_x rise_y same, first_begins a y x ys xs rise_y rise_x (λ n. sym (same n))) in
-    let ends : x.last ≡ y.last = omega (arith, first_ends a x y xs ys rise_x rise_y same, first_ends a y x ys xs rise_y rise_x (λ n. sym (same n))) in
-    let rest : xs ≡ ys = one_list (x.last + 2) xs ys rise_x.3 (subst (λ e. RiseFrom (e + 2) ys) (sym ends) rise_y.3) (λ n. elim (cases_lt x.last n) [
+    let begins : x.first ≡ y.first = omega (
+      arith,
+      first_begins a x y xs ys rise_x rise_y same,
+      first_begins a y x ys
+          xs rise_y rise_x (λ n. sym (same n)),
+    ) in
+    let ends : x.last ≡ y.last = omega (
+      arith,
+      first_ends a x y xs ys rise_x rise_y same,
+      first_ends a y x ys xs
+          rise_y rise_x (λ n. sym (same n)),
+    ) in
+    let rest : xs ≡ ys = one_list (x.last + 2) xs ys rise_x.3 (subst (λ e. RiseFrom (e + 2) ys) (sym ends) rise_y.3)
+    (λ n. elim (cases_lt x.last n) [
       | inl lt ↦ sym (holds_past x xs n lt) ∙ same n ∙ holds_past y ys n (omega arith)
-      | inr le ↦ holds_below (x.last + 2) xs n rise_x.3 (omega arith) ∙ sym (holds_below (y.last + 2) ys n rise_y.3 (omega arith))
+      | inr le ↦ holds_below (x.last + 2) xs n rise_x.3 (omega arith)
+          ∙ sym (holds_below (y.last + 2) ys n rise_y.3 (omega arith))
     ]) in
     λ i. same_range x y begins ends i ∷ rest i
 

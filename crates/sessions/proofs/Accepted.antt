@@ -191,7 +191,8 @@ found-first message row rows (suc place) number rising at accepted rest =
 -- the same where the session is closed
 pub accepting-closed : (message number : ℕ) (rows : List Session) (old : Session) (was : Bool) → IsRising rows →
     find (is_session number) rows ≡ Some old → accepts message old ≡ was →
-    accepting message (filter (λ row. not (is_session number row)) rows) ≡ moved number was false (accepting message rows)
+    accepting message (filter (λ row. not (is_session number row)) rows) ≡ moved number was false
+    (accepting message rows)
 accepting-closed message number [] old was rising found was_is = cc
 accepting-closed message number (row ∷ rows) old was rising found was_is =
     elim (cases_Bool (is_session number row)) [

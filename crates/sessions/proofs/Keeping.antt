@@ -28,7 +28,8 @@ pub queued_silent : (limits : Limits) (entry : ℕ) (item : Item) → KeepsAccep
 queued_silent limits entry item row =
     let more : Session = record row { waiting = row.waiting ++ record { item = item; entry = entry } ∷ [] } in
     let over : Session = record row { overrun = true } in
-    elim row.overrun as (λ b. accepted_of (cond b row (cond (fits limits row.waiting item) more over)) ≡ accepted_of row) [
+    elim row.overrun as (λ b. accepted_of (cond b row (cond (fits limits row.waiting item) more over)) ≡ accepted_of
+    row) [
       | true ↦ refl
       | false ↦ elim (fits limits row.waiting item) as (λ b. accepted_of (cond b more over) ≡ accepted_of row) [
         | true ↦ refl

@@ -29,11 +29,13 @@ module _ (asked : Asked) (anonymous : Bool) (items : List MiscInput) where
 
     pub refused-next : guard ≡ None → refused_from place ≡ refused_from (place + 1)
     refused-next none =
-        split ∙ ap (λ g. first_refusal (g ∷ item_guards asked anonymous (take (place + 1) items) (drop (place + 1) items))) none
+        split ∙ ap (λ g. first_refusal (g ∷ item_guards asked anonymous (take (place + 1) items)
+        (drop (place + 1) items))) none
 
     pub refused-here : (refused : Refused) → guard ≡ Some refused → refused_from place ≡ Some refused
     refused-here refused some =
-        split ∙ ap (λ g. first_refusal (g ∷ item_guards asked anonymous (take (place + 1) items) (drop (place + 1) items))) some
+        split ∙ ap (λ g. first_refusal (g ∷ item_guards asked anonymous (take (place + 1) items)
+        (drop (place + 1) items))) some
 
   pub refused-end : (place : ℕ) → length items ≤ place → refused_from place ≡ None
   refused-end place past =

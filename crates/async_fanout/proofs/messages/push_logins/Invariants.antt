@@ -6,4 +6,5 @@ use Rattle.async_fanout.proofs.messages.push_logins.Given as goal
 
 abbrev pub invariant-loop-change : goal.invariant-loop-change
 invariant-loop-change l =
-    l.sent.items ≡ pushed_to (λ one. all_brought l.asked (listed (logged_in one))) l.fn.sent.items l.changes l.change-index
+    l.sent.items ≡ pushed_to (λ one. all_brought l.asked (listed (logged_in one))) l.fn.sent.items l.changes
+    l.change-index

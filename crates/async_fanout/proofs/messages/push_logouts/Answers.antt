@@ -9,4 +9,5 @@ pub returns : goal.returns
 returns c =
     pushed_all (λ one. all_brought c.args.asked.now (listed (logged_out c.args.asked.now one))) c.args.sent.now.items
     c.args.changes.now c.loop-change.change-index c.loop-change.sent.items (omega arith) c.loop-change.invariant
-    ∙ ap (λ list. c.args.sent.now.items ++ list) (brought-each c.args.asked.now (logged_out c.args.asked.now) c.args.changes.now)
+    ∙ ap (λ list. c.args.sent.now.items ++ list) (brought-each c.args.asked.now (logged_out c.args.asked.now)
+    c.args.changes.now)

@@ -6,4 +6,5 @@ use Rattle.async_fanout.proofs.messages.push_logouts.Given as goal
 
 abbrev pub invariant-loop-change : goal.invariant-loop-change
 invariant-loop-change l =
-    l.sent.items ≡ pushed_to (λ one. all_brought l.asked (listed (logged_out l.asked one))) l.fn.sent.items l.changes l.change-index
+    l.sent.items ≡ pushed_to (λ one. all_brought l.asked (listed (logged_out l.asked one))) l.fn.sent.items l.changes
+    l.change-index

@@ -6,4 +6,5 @@ use Rattle.async_fanout.proofs.on_texts.make.Given as goal
 
 abbrev pub invariant-loop-effect : goal.invariant-loop-effect
 invariant-loop-effect l =
-    l.sent.items ≡ pushed_to (λ one. all_brought l.asked (listed (made_by l.effects l.asked.db one))) l.fn.sent.items l.effects l.effect-index
+    l.sent.items ≡ pushed_to (λ one. all_brought l.asked (listed (made_by l.effects l.asked.db one))) l.fn.sent.items
+    l.effects l.effect-index

@@ -22,10 +22,12 @@ loop-place-preserved c =
     elim c.match-nth_item.branch [
       | in-Some+in_ok-push w ↦
           pushed make c.args.effects.now items c.loop-place.place w.in-Some.item.now c.loop-place.effects _
-          (sym c.nth_item.ensures ∙ ap option_copied w.in-Some.is) c.loop-place.invariant (w.effects-is ∙ w.in_ok-push.ensures.ok)
+          (sym c.nth_item.ensures ∙ ap option_copied w.in-Some.is) c.loop-place.invariant (w.effects-is
+          ∙ w.in_ok-push.ensures.ok)
       | in_default w ↦
           absurd (pushed-past make c.args.effects.now items c.loop-place.place
-          (omega (arith, c.item_count-place-end.ensures, c.loop-place-test.true)) (sym c.nth_item.ensures ∙ ap option_copied w.in_default.is))
+          (omega (arith, c.item_count-place-end.ensures, c.loop-place-test.true)) (sym c.nth_item.ensures
+          ∙ ap option_copied w.in_default.is))
     ]
 
 pub returns : goal.returns

@@ -7,4 +7,5 @@ abbrev pub invariant-loop-place : goal.invariant-loop-place
 invariant-loop-place l =
     l.effects
     ≡ l.fn.effects
-    ++ map (λ item. effect.AuxGone l.on_text l.object item.number) (take l.place (items_of l.rows.db l.on_text l.object))
+    ++ map (λ item. effect.AuxGone l.on_text l.object item.number)
+    (take l.place (items_of l.rows.db l.on_text l.object))

@@ -30,7 +30,8 @@ returns-in_default c =
     rw (← c.caller-caller.ensures, ← c.rows-rows.ensures)
     (IfOk-weaker c.upward.result _ _
     (λ mapping is. rw c.next_created-next.ensures at (is (filter (is_read db viewer) made) c.args.count
-    (subst (λ (items : List LocalText). AreTaken (filter (is_read db viewer) made) c.args.first c.args.count items false)
+    (subst (λ (items : List LocalText). AreTaken (filter (is_read db viewer) made) c.args.first c.args.count items
+    false)
     (sym c.new-taken.ensures.items)
     (none_taken (is_read db viewer) made c.args.first c.args.count c.created_from.ensures.rising
     c.created_from.ensures.fits c.in_default.ensures.pairs))))

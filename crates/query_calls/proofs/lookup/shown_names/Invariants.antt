@@ -7,4 +7,5 @@ use Rattle.query_calls.proofs.lookup.shown_names.Given as goal
 abbrev pub invariant-loop-number : goal.invariant-loop-number
 invariant-loop-number l =
     l.names
-    ≡ map name_of (filter_map (shown_of l.rows.db l.caller l.persons l.conferences) (take l.number-index l.number-items))
+    ≡ map name_of (filter_map (shown_of l.rows.db l.caller l.persons l.conferences)
+    (take l.number-index l.number-items))

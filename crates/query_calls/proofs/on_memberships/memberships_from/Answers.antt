@@ -40,7 +40,8 @@ loop-row-preserved c =
     yielded _ c.loop-row.yielded_by _ _ row c.in-Some.is c.next.ensures.steps in
     subst (λ count. AreTold asked want_ranges most first given count c.push.new.self) (sym (length_push yielded row))
     (told-more asked want_ranges most first given _ row told c.push.new.self c.loop-row.invariant
-    (subst (λ (l : List MembershipRow). (length yielded < length l) × (row ≡ get_or l (length yielded) row)) walked turn)
+    (subst (λ (l : List MembershipRow). (length yielded < length l) × (row ≡ get_or l (length yielded) row)) walked
+    turn)
     (c.in_ok-push.ensures.ok ∙ ap (λ one. told ++ one ∷ []) (c.in_ok-membership_told.ensures
     ∙ ap (λ count. membership_told asked want_ranges most (first + count) row) c.len.ensures)))
 

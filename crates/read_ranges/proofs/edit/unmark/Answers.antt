@@ -10,8 +10,11 @@ use Rattle.read_ranges.proofs.edit.unmark.Goals.{In-Some, Then-first-last, Then-
 reaches : (c : In-Some) → (c.args.n ≤ c.in-Some.field-0.now.last) × (c.in-Some.field-0.now.last ≤ greatest)
 reaches c =
     let place = rw c.as_slice-ranges.ensures at c.place_of-at.ensures in
-    let found = rw c.as_slice-ranges.ensures at c.in-Some.ensures.lookup in
-    (ends_from _ c.requires.ranges _ _ found.3.0 found.1 _ place, ends_within _ c.requires.ranges _ _ found.3.0 found.1 _ place)
+    let found = rw c.as_slice-ranges.ensures at c.in-Some.ensures.lookup in (
+      ends_from _ c.requires.ranges _ _ found.3.0 found.1 _ place,
+      ends_within _ c.requires.ranges _ _ found.3.0
+          found.1 _ place,
+    )
 
 pub overflow_add-n : goal.overflow_add-n
 overflow_add-n c = let end = reaches (goal.at.overflow_add-n c).In-Some in omega (arith, end)
@@ -20,7 +23,9 @@ pub overflow_add-above : goal.overflow_add-above
 overflow_add-above c = let end = reaches (goal.at.overflow_add-above c).In-Some in omega (arith, end)
 
 -- n is inside the range at the place
-middle : (c : Else-last-n) → Unmarks c.args.kept.now.items (set (insert c.args.kept.now.items (c.place_of-at.result + 1) (range (c.args.n + 1) c.in-Some.field-0.now.last)) c.place_of-at.result (range c.in-Some.field-0.now.first (c.args.n - 1))) c.args.n
+middle : (c : Else-last-n) → Unmarks c.args.kept.now.items
+    (set (insert c.args.kept.now.items (c.place_of-at.result + 1) (range (c.args.n + 1) c.in-Some.field-0.now.last))
+    c.place_of-at.result (range c.in-Some.field-0.now.first (c.args.n - 1))) c.args.n
 middle c =
     let place = rw c.as_slice-ranges.ensures at c.place_of-at.ensures in
     let found = rw c.as_slice-ranges.ensures at c.in-Some.ensures.lookup in
@@ -38,14 +43,17 @@ returns-in_err-insert-in-Some-clause-full c =
 
 pub returns-in_ok-insert-in-Some-clause-ranges : goal.returns-in_ok-insert-in-Some-clause-ranges
 returns-in_ok-insert-in-Some-clause-ranges c =
-    rw (c.write-else-last-n.ensures.items, c.in_ok-insert-in-Some.ensures.ok) (middle (goal.at.returns-in_ok-insert-in-Some-clause-ranges c).Else-last-n).ranges
+    rw (c.write-else-last-n.ensures.items, c.in_ok-insert-in-Some.ensures.ok)
+    (middle (goal.at.returns-in_ok-insert-in-Some-clause-ranges c).Else-last-n).ranges
 
 pub returns-in_ok-insert-in-Some-clause-ok : goal.returns-in_ok-insert-in-Some-clause-ok
 returns-in_ok-insert-in-Some-clause-ok c =
-    rw (c.write-else-last-n.ensures.items, c.in_ok-insert-in-Some.ensures.ok) (middle (goal.at.returns-in_ok-insert-in-Some-clause-ok c).Else-last-n).numbers
+    rw (c.write-else-last-n.ensures.items, c.in_ok-insert-in-Some.ensures.ok)
+    (middle (goal.at.returns-in_ok-insert-in-Some-clause-ok c).Else-last-n).numbers
 
 -- n is all of it
-whole : (c : Then-first-last) → Unmarks c.args.kept.now.items (remove c.args.kept.now.items c.place_of-at.result) c.args.n
+whole : (c : Then-first-last) → Unmarks c.args.kept.now.items (remove c.args.kept.now.items c.place_of-at.result)
+    c.args.n
 whole c =
     let place = rw c.as_slice-ranges.ensures at c.place_of-at.ensures in
     let found = rw c.as_slice-ranges.ensures at c.in-Some.ensures.lookup in
@@ -53,13 +61,16 @@ whole c =
     unmark_whole _ c.requires.ranges _ _ found.3.0 found.1 _ place (omega (arith, reach)) (omega (arith, reach))
 
 pub returns-then-first-last-clause-ranges : goal.returns-then-first-last-clause-ranges
-returns-then-first-last-clause-ranges c = rw c.remove.ensures.items (whole (goal.at.returns-then-first-last-clause-ranges c).Then-first-last).ranges
+returns-then-first-last-clause-ranges c = rw c.remove.ensures.items
+    (whole (goal.at.returns-then-first-last-clause-ranges c).Then-first-last).ranges
 
 pub returns-then-first-last-clause-ok : goal.returns-then-first-last-clause-ok
-returns-then-first-last-clause-ok c = rw c.remove.ensures.items (whole (goal.at.returns-then-first-last-clause-ok c).Then-first-last).numbers
+returns-then-first-last-clause-ok c = rw c.remove.ensures.items
+    (whole (goal.at.returns-then-first-last-clause-ok c).Then-first-last).numbers
 
 -- n begins it
-first : (c : Then-first-n-2) → Unmarks c.args.kept.now.items (set c.args.kept.now.items c.place_of-at.result (range (c.args.n + 1) c.in-Some.field-0.now.last)) c.args.n
+first : (c : Then-first-n-2) → Unmarks c.args.kept.now.items
+    (set c.args.kept.now.items c.place_of-at.result (range (c.args.n + 1) c.in-Some.field-0.now.last)) c.args.n
 first c =
     let place = rw c.as_slice-ranges.ensures at c.place_of-at.ensures in
     let found = rw c.as_slice-ranges.ensures at c.in-Some.ensures.lookup in
@@ -67,23 +78,28 @@ first c =
     unmark_first _ c.requires.ranges _ _ found.3.0 found.1 _ place (omega arith) (omega (arith, reach))
 
 pub returns-then-first-n-2-clause-ranges : goal.returns-then-first-n-2-clause-ranges
-returns-then-first-n-2-clause-ranges c = rw c.write.ensures.items (first (goal.at.returns-then-first-n-2-clause-ranges c).Then-first-n-2).ranges
+returns-then-first-n-2-clause-ranges c = rw c.write.ensures.items
+    (first (goal.at.returns-then-first-n-2-clause-ranges c).Then-first-n-2).ranges
 
 pub returns-then-first-n-2-clause-ok : goal.returns-then-first-n-2-clause-ok
-returns-then-first-n-2-clause-ok c = rw c.write.ensures.items (first (goal.at.returns-then-first-n-2-clause-ok c).Then-first-n-2).numbers
+returns-then-first-n-2-clause-ok c = rw c.write.ensures.items
+    (first (goal.at.returns-then-first-n-2-clause-ok c).Then-first-n-2).numbers
 
 -- n ends it
-last : (c : Then-last-n) → Unmarks c.args.kept.now.items (set c.args.kept.now.items c.place_of-at.result (range c.in-Some.field-0.now.first (c.args.n - 1))) c.args.n
+last : (c : Then-last-n) → Unmarks c.args.kept.now.items
+    (set c.args.kept.now.items c.place_of-at.result (range c.in-Some.field-0.now.first (c.args.n - 1))) c.args.n
 last c =
     let place = rw c.as_slice-ranges.ensures at c.place_of-at.ensures in
     let found = rw c.as_slice-ranges.ensures at c.in-Some.ensures.lookup in
     unmark_last _ c.requires.ranges _ _ found.3.0 found.1 _ place (omega arith) (omega arith)
 
 pub returns-then-last-n-clause-ranges : goal.returns-then-last-n-clause-ranges
-returns-then-last-n-clause-ranges c = rw c.write-then-last-n.ensures.items (last (goal.at.returns-then-last-n-clause-ranges c).Then-last-n).ranges
+returns-then-last-n-clause-ranges c = rw c.write-then-last-n.ensures.items
+    (last (goal.at.returns-then-last-n-clause-ranges c).Then-last-n).ranges
 
 pub returns-then-last-n-clause-ok : goal.returns-then-last-n-clause-ok
-returns-then-last-n-clause-ok c = rw c.write-then-last-n.ensures.items (last (goal.at.returns-then-last-n-clause-ok c).Then-last-n).numbers
+returns-then-last-n-clause-ok c = rw c.write-then-last-n.ensures.items
+    (last (goal.at.returns-then-last-n-clause-ok c).Then-last-n).numbers
 
 -- n is in no range
 pub returns-in_default-clause-ok : goal.returns-in_default-clause-ok

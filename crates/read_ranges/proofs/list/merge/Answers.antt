@@ -40,7 +40,8 @@ loop-at-preserved c =
       | else-touches w ↦
           let apart : (range_at c.loop-at.list c.loop-at.at).first ≢ c.loop-at.last.last + 1 = grind arith in
           rw (w.list-is, w.last-is, w.count-is, c.within_bounds-range.ensures.same) (record {
-            whole = merge_apart _ _ _ c.loop-at.at c.loop-at.last within c.loop-at.invariant.whole c.loop-at.invariant.few apart;
+            whole = merge_apart _ _ _ c.loop-at.at c.loop-at.last within c.loop-at.invariant.whole
+                c.loop-at.invariant.few apart;
             others = others_after_set _ _ _ within within_others c.loop-at.invariant.others _ _ c.loop-at.invariant.few;
             few = omega arith;
             bounds = bounds;

@@ -7,4 +7,5 @@ pub returns : goal.returns
 returns c =
     let facts = c.partition_point.ensures in
     place_from_point _ _ _ facts.bound
-    (IsPartitionPoint-from_clause (λ r. ltb r.last c.args.n) _ _ facts.partitioned (ends_parted _ _ c.requires) (λ a r f called. search rules))
+    (IsPartitionPoint-from_clause (λ r. ltb r.last c.args.n) _ _ facts.partitioned (ends_parted _ _ c.requires)
+    (λ a r f called. search rules))

@@ -5,4 +5,5 @@ use Rattle.text_calls.proofs.deleting.push_links.Given as goal
 abbrev pub invariant-loop-link : goal.invariant-loop-link
 invariant-loop-link l =
     l.effects
-    ≡ l.fn.effects ++ map (λ link. effect.LinkGone link.child link.parent link.footnote) (take l.link-index l.link-items)
+    ≡ l.fn.effects ++ map (λ link. effect.LinkGone link.child link.parent link.footnote)
+    (take l.link-index l.link-items)

@@ -22,7 +22,8 @@ loop-place-preserved c =
           (sym c.nth_mark_on.ensures ∙ w.in-Some.is) c.loop-place.invariant (w.effects-is ∙ w.in_ok-push.ensures.ok)
       | in_default w ↦
           absurd (pushed-past make c.args.effects.now rows c.loop-place.place
-          (omega (arith, c.mark_count_on-place-end.ensures, c.loop-place-test.true)) (sym c.nth_mark_on.ensures ∙ w.in_default.is))
+          (omega (arith, c.mark_count_on-place-end.ensures, c.loop-place-test.true)) (sym c.nth_mark_on.ensures
+          ∙ w.in_default.is))
     ]
 
 pub returns : goal.returns

@@ -19,13 +19,16 @@ loop-place-preserved c =
     elim c.match-nth_recipient.branch [
       | in-Some+in_ok-push w ↦
           pushed make c.args.effects.now rows c.loop-place.place w.in-Some.row.now c.loop-place.effects _
-          (sym c.nth_recipient.ensures ∙ ap option_copied w.in-Some.is) c.loop-place.invariant (w.effects-is ∙ w.in_ok-push.ensures.ok)
+          (sym c.nth_recipient.ensures ∙ ap option_copied w.in-Some.is) c.loop-place.invariant (w.effects-is
+          ∙ w.in_ok-push.ensures.ok)
       | in_default w ↦
           absurd (pushed-past make c.args.effects.now rows c.loop-place.place
-          (omega (arith, c.recipient_count-place-end.ensures, c.loop-place-test.true)) (sym c.nth_recipient.ensures ∙ ap option_copied w.in_default.is))
+          (omega (arith, c.recipient_count-place-end.ensures, c.loop-place-test.true)) (sym c.nth_recipient.ensures
+          ∙ ap option_copied w.in_default.is))
     ]
 
 pub returns : goal.returns
 returns c =
-    pushed-all make c.args.effects.now (recipients_of c.args.rows.now.db c.args.text) c.loop-place.place c.loop-place.effects
+    pushed-all make c.args.effects.now (recipients_of c.args.rows.now.db c.args.text) c.loop-place.place
+    c.loop-place.effects
     (omega (arith, c.recipient_count-place-end.ensures, c.loop-place-test.false)) c.loop-place.invariant

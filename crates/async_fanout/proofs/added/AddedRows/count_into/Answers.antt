@@ -15,4 +15,5 @@ returns c =
     (YieldsList-from_filter _ (is_into c.args.text c.args.footnote)
     (YieldsList-at c.filter.ensures.source (YieldsList-from_slice c.args.self.now.effects.now c.iter.ensures.rest))
     c.filter.ensures.closure (λ x b q k. search (rules, tests)))
-    ∙ count-passing link_added (λ row. eqb row.parent c.args.text && alike row.footnote c.args.footnote) c.args.self.now.effects.now
+    ∙ count-passing link_added (λ row. eqb row.parent c.args.text && alike row.footnote c.args.footnote)
+    c.args.self.now.effects.now

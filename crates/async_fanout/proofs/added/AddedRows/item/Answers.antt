@@ -17,7 +17,8 @@ unfolding items_of
 returns-in_err-effect c =
     ap option_copied c.from_residual.ensures
     ∙ ap (option_map (λ (row : ItemRow). row.item))
-    (found-none item_added (is_item_of c.args.on_text c.args.object) c.args.self.now.effects.now c.args.place c.nth.result c.in_err-effect.was
+    (found-none item_added (is_item_of c.args.on_text c.args.object) c.args.self.now.effects.now c.args.place
+    c.nth.result c.in_err-effect.was
     (nth_from_yields_List c.nth.result _ c.args.place c.nth.ensures.ran
     (YieldsList-from_filter _ (is_item c.args.on_text c.args.object)
     (YieldsList-at c.filter.ensures.source (YieldsList-from_slice c.args.self.now.effects.now c.iter.ensures.rest))
@@ -30,7 +31,8 @@ unfolding items_of
 returns c =
     c.item_in.ensures
     ∙ ap (option_map (λ (row : ItemRow). row.item))
-    (found-some item_added (is_item_of c.args.on_text c.args.object) c.args.self.now.effects.now c.args.place c.nth.result c.in_ok-effect.effect
+    (found-some item_added (is_item_of c.args.on_text c.args.object) c.args.self.now.effects.now c.args.place
+    c.nth.result c.in_ok-effect.effect
     c.in_ok-effect.was
     (nth_from_yields_List c.nth.result _ c.args.place c.nth.ensures.ran
     (YieldsList-from_filter _ (is_item c.args.on_text c.args.object)

@@ -19,5 +19,6 @@ returns c =
     (YieldsList-at c.filter.ensures.source (YieldsList-from_slice c.args.self.now.effects.now c.iter.ensures.rest))
     c.filter.ensures.closure (λ x b q k. search (rules, tests)))
     ∙ count-passing item_added (is_item_of c.args.on_text c.args.object) c.args.self.now.effects.now
-    ∙ sym (length-map (filter (is_item_of c.args.on_text c.args.object) (filter_map item_added c.args.self.now.effects.now))
+    ∙ sym (length-map (filter (is_item_of c.args.on_text c.args.object)
+    (filter_map item_added c.args.self.now.effects.now))
     (λ (row : ItemRow). row.item))

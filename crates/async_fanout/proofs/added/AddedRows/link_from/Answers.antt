@@ -12,7 +12,8 @@ pub returns-in_err-effect : goal.returns-in_err-effect
 unfolding links_from
 returns-in_err-effect c =
     c.from_residual.ensures
-    ∙ found-none link_added (λ row. eqb row.child c.args.text && alike row.footnote c.args.footnote) c.args.self.now.effects.now c.args.place c.nth.result c.in_err-effect.was
+    ∙ found-none link_added (λ row. eqb row.child c.args.text && alike row.footnote c.args.footnote)
+    c.args.self.now.effects.now c.args.place c.nth.result c.in_err-effect.was
     (nth_from_yields_List c.nth.result _ c.args.place c.nth.ensures.ran
     (YieldsList-from_filter _ (is_from c.args.text c.args.footnote)
     (YieldsList-at c.filter.ensures.source (YieldsList-from_slice c.args.self.now.effects.now c.iter.ensures.rest))
@@ -22,7 +23,8 @@ pub returns : goal.returns
 unfolding links_from
 returns c =
     c.link_in.ensures
-    ∙ found-some link_added (λ row. eqb row.child c.args.text && alike row.footnote c.args.footnote) c.args.self.now.effects.now c.args.place c.nth.result c.in_ok-effect.effect
+    ∙ found-some link_added (λ row. eqb row.child c.args.text && alike row.footnote c.args.footnote)
+    c.args.self.now.effects.now c.args.place c.nth.result c.in_ok-effect.effect
     c.in_ok-effect.was
     (nth_from_yields_List c.nth.result _ c.args.place c.nth.ensures.ran
     (YieldsList-from_filter _ (is_from c.args.text c.args.footnote)

@@ -11,7 +11,8 @@ pub returns-in_err-effect : goal.returns-in_err-effect
 unfolding recipients_of
 returns-in_err-effect c =
     c.from_residual.ensures
-    ∙ found-none recipient_added (λ row. eqb row.text c.args.text) c.args.self.now.effects.now c.args.place c.nth.result c.in_err-effect.was
+    ∙ found-none recipient_added (λ row. eqb row.text c.args.text) c.args.self.now.effects.now c.args.place
+    c.nth.result c.in_err-effect.was
     (nth_from_yields_List c.nth.result _ c.args.place c.nth.ensures.ran
     (YieldsList-from_filter _ (is_recipient_of c.args.text)
     (YieldsList-at c.filter.ensures.source (YieldsList-from_slice c.args.self.now.effects.now c.iter.ensures.rest))
@@ -21,7 +22,8 @@ pub returns : goal.returns
 unfolding recipients_of
 returns c =
     c.recipient_in.ensures
-    ∙ found-some recipient_added (λ row. eqb row.text c.args.text) c.args.self.now.effects.now c.args.place c.nth.result c.in_ok-effect.effect
+    ∙ found-some recipient_added (λ row. eqb row.text c.args.text) c.args.self.now.effects.now c.args.place
+    c.nth.result c.in_ok-effect.effect
     c.in_ok-effect.was
     (nth_from_yields_List c.nth.result _ c.args.place c.nth.ensures.ran
     (YieldsList-from_filter _ (is_recipient_of c.args.text)

@@ -39,7 +39,8 @@ invariant_of-self c =
 pub returns : goal.returns
 unfolding made
 returns c = rw (← c.self.view_is)
-    (IsMade-items (effect.AuxAdded false c.args.object c.args.item) _ _ _ _ c.self.inside.names c.self.inside.texts c.self.inside.texts
+    (IsMade-items (effect.AuxAdded false c.args.object c.args.item) _ _ _ _ c.self.inside.names c.self.inside.texts
+    c.self.inside.texts
     c.self.inside.items c.add.new.self _ _ _ _ _ refl (record {
       conferences = c.draw_item.ensures.rows;
       conference_spare = c.draw_item.ensures.spare;

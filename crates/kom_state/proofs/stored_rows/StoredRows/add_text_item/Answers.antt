@@ -33,7 +33,8 @@ invariant_of-self c =
 pub returns : goal.returns
 unfolding made
 returns c = rw (← c.self.view_is)
-    (IsMade-items (effect.AuxAdded true c.args.object c.args.item) _ _ _ _ c.self.inside.names c.self.inside.texts c.draw_item.new.self
+    (IsMade-items (effect.AuxAdded true c.args.object c.args.item) _ _ _ _ c.self.inside.names c.self.inside.texts
+    c.draw_item.new.self
     c.self.inside.items c.add.new.self _ _ _ _ _ refl (record {
       conferences = refl;
       conference_spare = omega arith;

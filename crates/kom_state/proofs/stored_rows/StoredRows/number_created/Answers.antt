@@ -33,7 +33,8 @@ invariant_of-self c =
       c.self.invariant.0,
       AreDrawn-created _ _ _ _ c.self.invariant.1 c.args.person c.args.local c.args.text parts.row parts.found
           parts.author parts.there parts.from _ _ c.draw_created.ensures.rows c.number_created.ensures.rows,
-      AreNumbered-text_changed _ _ _ c.self.invariant.2 c.args.text (with_created_local c.args.local) _ (λ _. refl) (λ _. refl)
+      AreNumbered-text_changed _ _ _ c.self.invariant.2 c.args.text (with_created_local c.args.local) _ (λ _. refl)
+          (λ _. refl)
           (ap (λ rows. rows.texts) c.number_created.ensures.rows),
       c.self.invariant.3,
     )

@@ -21,9 +21,11 @@ invariant_of-self c =
           (rw (c.unwrap.ensures, c.as_slice.ensures) at c.put.ensures.ok),
       AreDrawn-conference _ _ _ _ c.self.invariant.1 c.args.number (with_name c.args.name) _ (λ _. refl) (λ _. refl)
           c.rename.ensures.rows,
-      AreNumbered-conference_changed _ _ _ c.self.invariant.2 c.args.number (with_name c.args.name) _ (λ _. refl) (λ _. refl)
+      AreNumbered-conference_changed _ _ _ c.self.invariant.2 c.args.number (with_name c.args.name) _ (λ _. refl)
+          (λ _. refl)
           c.rename.ensures.rows,
-      AreHeld-conference_changed _ _ c.self.invariant.3 c.args.number (with_name c.args.name) _ (λ _. refl) c.rename.ensures.rows,
+      AreHeld-conference_changed _ _ c.self.invariant.3 c.args.number (with_name c.args.name) _ (λ _. refl)
+          c.rename.ensures.rows,
     )
 
 pub returns : goal.returns

@@ -16,9 +16,11 @@ invariant_of-self c = (
       c.set_field.ensures.rows,
   AreDrawn-conference _ _ _ _ c.self.invariant.1 c.args.number (with_field c.args.field) _
       (number-with_field c.args.field) (next-with_field c.args.field) c.set_field.ensures.rows,
-  AreNumbered-conference_changed _ _ _ c.self.invariant.2 c.args.number (with_field c.args.field) _ (next_item-with_field c.args.field)
+  AreNumbered-conference_changed _ _ _ c.self.invariant.2 c.args.number (with_field c.args.field) _
+      (next_item-with_field c.args.field)
       (number-with_field c.args.field) c.set_field.ensures.rows,
-  AreHeld-conference_changed _ _ c.self.invariant.3 c.args.number (with_field c.args.field) _ (number-with_field c.args.field) c.set_field.ensures.rows,
+  AreHeld-conference_changed _ _ c.self.invariant.3 c.args.number (with_field c.args.field) _
+      (number-with_field c.args.field) c.set_field.ensures.rows,
 )
 
 pub returns : goal.returns

@@ -28,6 +28,7 @@ pub returns : goal.returns
 unfolding made
 returns c = rw (← c.self.view_is)
     (IsMade-members (effect.ReadSet c.args.person c.args.conference c.args.at c.args.ranges)
-    (read_at c.args.person c.args.conference c.args.at) (with_read c.args.person c.args.conference (merged c.args.ranges))
+    (read_at c.args.person c.args.conference c.args.at)
+    (with_read c.args.person c.args.conference (merged c.args.ranges))
     _ _ _ _ c.self.inside.names _ _ _ (λ db. refl) c.set_read.ensures.rows
     (rw c.into_vec.ensures at c.set_read.ensures.reads) c.set_read.ensures.room)

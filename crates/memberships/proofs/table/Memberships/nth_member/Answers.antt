@@ -19,7 +19,8 @@ pub returns-in_err-kept : goal.returns-in_err-kept
 returns-in_err-kept c =
     let gives = c.in_ok-person.ensures.lookup in
     let at = element_of _ _ c.args.place c.in_ok-person.field-0.now c.list.ensures gives.3.0 gives.1 in
-    let there = conference_kept _ _ _ _ c.self.invariant.0 c.args.conference c.args.place c.in_ok-person.field-0.now at in
+    let there = conference_kept _ _ _ _ c.self.invariant.0 c.args.conference c.args.place c.in_ok-person.field-0.now
+    at in
     absurd (false≢true (ap is_some (ap option_copied (sym c.in_err-kept.was) ∙ c.get-2.ensures.value) ∙ there))
 
 pub returns : goal.returns

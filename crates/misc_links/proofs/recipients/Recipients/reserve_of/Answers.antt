@@ -13,7 +13,12 @@ returns-in_err-reserve-clause-err c =
     IfErr-at_err (λ _. dense_room c.self.inside.by_text c.args.text < c.args.additional) c.in_err-reserve.was
     (no_room c.reserve.result c.args.additional (dense_room c.self.inside.by_text c.args.text)
     c.reserve.ensures.succeeds) in
-    on_err c.from_residual.result (omega (arith, same, dense_room_in-dense_rooms c.self.inside.by_text c.args.text, less))
+    on_err c.from_residual.result (omega (
+      arith,
+      same,
+      dense_room_in-dense_rooms c.self.inside.by_text c.args.text,
+      less,
+    ))
 
 pub returns-in_err-reserve-clause-room : goal.returns-in_err-reserve-clause-room
 returns-in_err-reserve-clause-room c =
@@ -24,7 +29,11 @@ returns-in_err-reserve-clause-room c =
     })
 
 pub returns-clause-ok : goal.returns-clause-ok
-returns-clause-ok c = omega (arith, dense_room_in-dense_rooms c.reserve.new.self c.args.text, c.in_ok-reserve.ensures.ok)
+returns-clause-ok c = omega (
+  arith,
+  dense_room_in-dense_rooms c.reserve.new.self c.args.text,
+  c.in_ok-reserve.ensures.ok,
+)
 
 pub returns-clause-room : goal.returns-clause-room
 returns-clause-room c =

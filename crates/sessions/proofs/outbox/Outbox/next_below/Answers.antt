@@ -5,7 +5,8 @@ use Rattle.sessions.proofs.outbox.Outbox.next_below.Goals as goal
 
 pub returns : goal.returns
 returns c =
-    let below : true ≡ is_below_first c.args.below c.args.self.now = sym c.if-not-is_first_below.false ∙ c.is_first_below.ensures in
+    let below : true ≡ is_below_first c.args.below c.args.self.now = sym c.if-not-is_first_below.false
+    ∙ c.is_first_below.ensures in
     let rest = ap (λ ring. ring.items) c.pop_front.ensures.items in
     taken_first c.args.below c.args.self.now c.pop_front.new.self.items c.self.inside.ring.items c.in_ok-one.one
     c.into_item.result c.self.view_is c.in_ok-one.ensures.value rest below c.into_item.ensures

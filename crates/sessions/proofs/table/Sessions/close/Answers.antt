@@ -34,7 +34,8 @@ invariant_of-self c = (
   rw c.remove-row.ensures.items (took c.before).rising,
   rw (c.remove-row.ensures.items, (took c.before).filtered)
       (closed c.self.inside.accepting.lists c.change.new.self.lists c.self.inside.rows.items c.args.session
-      c.remove-row.result c.self.invariant.0 (there c.before) c.self.invariant.1 (rw c.seat.ensures at c.change.ensures.lists)
+      c.remove-row.result c.self.invariant.0 (there c.before) c.self.invariant.1
+      (rw c.seat.ensures at c.change.ensures.lists)
       c.change.ensures.room),
 )
 
