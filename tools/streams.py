@@ -1,12 +1,14 @@
 #!/usr/bin/env python3
 """Gives the built program `komd` streams and compares what it answers: streams.py [PROGRAM [FOLDER..]]
 
-Each FOLDER of tests/streams holds pairs of files: NAME.in is what a client sends over standard input, NAME.out what it gets
-at a clock that stands at moment 0. Wherever NAME.out has the time of that moment, any time passes. Without a folder all are
-run. A stream that is answered otherwise is given once more: how long a session was idle and a person was present is counted in
-seconds, and one may have ended while the program ran. It prints a line for each stream that is answered otherwise twice, and a
-count, and ends with 1 if there is one, else with 0. PROGRAM is crates/komd/out/komd, which `rt ci` leaves there, unless it is
-named.
+What the folders of tests/streams have is said in tests/streams/README.md. Wherever a file of answers has the time of moment 0, any
+time passes. Without a folder all are run. A stream that is answered otherwise is given once more: how long a session was idle and a
+person was present is counted in seconds, and one may have ended while the program ran. It prints a line for each stream that is
+answered otherwise twice, and a count.
+
+Before that it looks at the files alone, all of them: each call of docs/protocol.md is answered well in some stream, and no line is
+answered that memory ran out. It prints a line for each call, or stream, of which that is not so. It ends with 1 if it printed any
+line but the count, else with 0. PROGRAM is crates/komd/out/komd, which `rt ci` leaves there, unless it is named.
 """
 import pathlib
 import re
@@ -18,6 +20,11 @@ STREAMS = ROOT / "tests" / "streams"
 # A time: seconds, minutes, hours, day, month, year, day of the week, day of the year, and no summer time.
 BEGINNING = b"0 0 0 1 0 70 4 0 0"
 ANY_TIME = rb"(?:\d{1,2} ){5}\d{1,3} [0-6] \d{1,3} 0"
+GREETING = re.compile(rb"A[ \t\r]*(\d+)H")
+STRING = re.compile(rb"(\d+)H")
+# What a reply begins with: whether it is good, the reference, and the code of a refusal.
+REPLY = re.compile(rb"([=%])(\d+)(?: (\d+))?")
+OUT_OF_MEMORY = 39
 
 
 def pattern_of(line):
@@ -47,9 +54,62 @@ def run(program, stream):
     return difference(stream.with_suffix(".out").read_bytes(), done.stdout)
 
 
+def lines_of(text, place):
+    """The lines from a place on, without those that have blanks alone. A line feed inside a string ends none."""
+    lines, begun = [], place
+    while place < len(text):
+        string = STRING.match(text, place)
+        if string:
+            place = string.end() + int(string[1])
+        elif text[place : place + 1].isdigit():
+            place += len(re.compile(rb"\d+").match(text, place)[0])
+        else:
+            place += 1
+            if text[place - 1 : place] == b"\n":
+                lines.append(text[begun : place - 1])
+                begun = place
+    return [line for line in lines if line.strip(b" \t\r")]
+
+
+def replies_of(stream):
+    """The lines that a stream has replies to in its file of answers, each with what its reply begins with."""
+    sent, told = stream.read_bytes(), stream.with_suffix(".out").read_bytes()
+    greeting = GREETING.match(sent)
+    lines = lines_of(sent, greeting.end() + int(greeting[1])) if greeting else []
+    replies = [line for line in lines_of(told, 0) if REPLY.match(line)]
+    return zip(lines, (REPLY.match(line) for line in replies))
+
+
+def calls_of_the_protocol():
+    """The numbers of the calls, which docs/protocol.md has in its table of them."""
+    page = (ROOT / "docs" / "protocol.md").read_text()
+    table = page.partition("| call | arguments | good reply |\n")[2].partition("\n\n")[0]
+    return [int(number) for number in re.findall(r"^\| (\d+) ", table, re.MULTILINE)]
+
+
+def gaps(streams):
+    """What the files lack, a line for each."""
+    answered, found = set(), []
+    for stream in streams:
+        for line, reply in replies_of(stream):
+            words = line.split(maxsplit=2)
+            if reply[1] == b"=" and len(words) > 1 and int(words[0]) == int(reply[2]):
+                answered.add(int(words[1]))
+            if reply[1] == b"%" and reply[3] is not None and int(reply[3]) == OUT_OF_MEMORY:
+                found.append(f"{stream.relative_to(STREAMS)}: {line!r:.100} is answered that memory ran out")
+    calls = calls_of_the_protocol()
+    if not calls:
+        found.append("docs/protocol.md: its table of the calls was not found")
+    return found + [f"call {call}: no stream has a good reply to it" for call in calls if call not in answered]
+
+
 def main(words):
     program = pathlib.Path(words[0]) if words else ROOT / "crates" / "komd" / "out" / "komd"
-    folders = [pathlib.Path(word) for word in words[1:]] or sorted(p for p in STREAMS.iterdir() if p.is_dir())
+    every = sorted(p for p in STREAMS.iterdir() if p.is_dir())
+    folders = [pathlib.Path(word) for word in words[1:]] or every
+    lacks = gaps([stream for folder in every for stream in sorted(folder.glob("*.in"))])
+    for lack in lacks:
+        print(lack)
     streams = [stream for folder in folders for stream in sorted(folder.glob("*.in"))]
     failed = 0
     for stream in streams:
@@ -58,7 +118,7 @@ def main(words):
             failed += 1
             print(f"{stream.relative_to(STREAMS) if STREAMS in stream.parents else stream}: {why}")
     print(f"{len(streams) - failed} streams are answered as they should be, {failed} are not")
-    return 1 if failed or not streams else 0
+    return 1 if lacks or failed or not streams else 0
 
 
 if __name__ == "__main__":
