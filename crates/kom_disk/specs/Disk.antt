@@ -41,11 +41,12 @@ Only bytes images = (image : List ℕ) → images image → image ≡ bytes
 -- A call takes the clock from one moment to another and never back. What a stop up to its start
 -- could have left stays as it was, and inside the call a stop leaves an image from its start or one
 -- from its end.
-pub record Passes (tells : Bool) (start end : ℕ) (old new : ℕ → List ℕ → Type 0) : Type 0 where
+pub record Passes {I : Type 0} (tells : Bool) (start end : ℕ) (old new : ℕ → I → Type 0)
+    : Type 0 where
   pub forward : start ≤ end
-  pub kept : IsTrue tells → (moment : ℕ) (image : List ℕ) → moment ≤ start
+  pub kept : IsTrue tells → (moment : ℕ) (image : I) → moment ≤ start
       → (new moment image ↔ old moment image)
-  pub inside : IsTrue tells → (moment : ℕ) (image : List ℕ) → start < moment → moment ≤ end
+  pub inside : IsTrue tells → (moment : ℕ) (image : I) → start < moment → moment ≤ end
       → new moment image → old start image ⊎ new end image
 
 -- a disk that tells nothing owes nothing
