@@ -14,10 +14,17 @@ use std::alloc::Global;
 use std::marker::Model;
 
 /// The state of the server, and the record of its last act until that is handed out.
-#[derive(Drop)]
 pub struct Core {
     server: ServerState,
     last: Option<Record>,
+}
+
+// A call of its own, as for the state.
+impl Drop for Core {
+    fn drop(self) {
+        let Core { server, last } = self;
+        drop((server, last));
+    }
 }
 
 impl Model for Core {

@@ -23,7 +23,6 @@ use std::marker::Model;
 /// The server: its stored rows, its sessions, how many were connected, the stable number, how many
 /// entries its history has, the moment of the last one, whether it was shut down, and whether its
 /// store refused a flush.
-#[derive(Drop)]
 pub(crate) struct ServerState {
     rows: kom_state::StoredRows,
     sessions: Sessions,
@@ -34,6 +33,25 @@ pub(crate) struct ServerState {
     stopped: bool,
     store_refused: bool,
     alloc: Global,
+}
+
+// A call of its own, so that whoever lets a server go has one step to prove and not one for each
+// part.
+impl Drop for ServerState {
+    fn drop(self) {
+        let ServerState {
+            rows,
+            sessions,
+            connects: _,
+            stable: _,
+            entries: _,
+            moment: _,
+            stopped: _,
+            store_refused: _,
+            alloc: _,
+        } = self;
+        drop((rows, sessions));
+    }
 }
 
 impl Model for ServerState {

@@ -15,15 +15,38 @@ use std::collections::VecDeque;
 use std::mem;
 
 /// The clients of a gate in memory, and which of its calls are not served.
-#[derive(Debug, Drop)]
+#[derive(Debug)]
 pub struct GatePlan {
     pub clients: VecDeque<Client>,
     pub script: Script,
 }
 
+// A call of its own, so that whoever lets a plan go has one step to prove and not one for each part.
+impl Drop for GatePlan {
+    fn drop(self) {
+        let GatePlan { clients, script } = self;
+        drop((clients, script));
+    }
+}
+
+impl GatePlan {
+    ghost use Rattle.memory_links.specs.Memories.{clients_of, script_of, calls_of};
+
+    /// The gate of this plan.
+    fn open(self, alloc: Global) -> Result<MemoryGate, Memory>
+        ensures fresh { IfOk result (λ gate. IsNewGate (⟦<MemoryGate as Gate>⟧.view gate)) }
+        ensures clients { IfOk result (λ gate. clients_of gate ≡ self.clients.items) }
+        ensures script { IfOk result (λ gate. script_of gate ≡ self.script) }
+        ensures no_call { IfOk result (λ gate. calls_of gate ≡ 0) }
+    {
+        let GatePlan { clients, script } = self;
+        MemoryGate::make(alloc, clients, script)
+    }
+}
+
 /// A world in memory. It has one gate, over standard input and output: a second one is refused,
 /// which is counted.
-#[derive(Debug, Drop)]
+#[derive(Debug)]
 pub struct MemoryWorld {
     alloc: Global,
     gate: Option<GatePlan>,
@@ -32,6 +55,20 @@ pub struct MemoryWorld {
     counts: WorldCounts,
     faults: u64,
     ghost some: { 0 < vec_len moments },
+}
+
+impl Drop for MemoryWorld {
+    fn drop(self) {
+        let MemoryWorld {
+            alloc: _,
+            gate,
+            moments,
+            sink_fails,
+            counts: _,
+            faults: _,
+        } = self;
+        drop((gate, moments, sink_fails));
+    }
 }
 
 impl MemoryWorld {
@@ -106,7 +143,7 @@ impl World for MemoryWorld {
         ensures sink_fails { sink_fails_of self.new ≡ sink_fails_of self.old }
     {
         let opened = match self.gate.take() {
-            Some(plan) => match MemoryGate::make(self.alloc, plan.clients, plan.script) {
+            Some(plan) => match plan.open(self.alloc) {
                 Ok(gate) => Ok(gate),
                 Err(Memory) => Err(WorldFault::Memory),
             },
