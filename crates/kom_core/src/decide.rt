@@ -101,6 +101,3 @@ fn refuse(alloc: Global, refused: Refused) -> Decision
         changes: Sequence::new(alloc),
     }
 }
-
-#[cfg(test)]
-mod tests;

@@ -168,12 +168,3 @@ impl Core {
         self.last.take()
     }
 }
-
-#[cfg(test)]
-mod keeper_tests;
-#[cfg(test)]
-mod message_tests;
-#[cfg(test)]
-mod number_tests;
-#[cfg(test)]
-mod tests;

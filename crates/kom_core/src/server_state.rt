@@ -97,20 +97,6 @@ impl ServerState {
         }
     }
 
-    /// A server whose sessions have all gone, after so many connects, with these stored rows.
-    #[cfg(test)]
-    pub(crate) fn after_connects(
-        alloc: Global,
-        rows: kom_state::StoredRows,
-        connects: u32,
-    ) -> ServerState
-        ensures { result ≡ record (opening_state rows.db) { connects = connects } }
-    {
-        let mut server = ServerState::opening(alloc, rows);
-        server.connects = connects;
-        server
-    }
-
     pub(crate) fn allocator(&self) -> Global {
         self.alloc
     }

@@ -7,7 +7,6 @@ pub mod TrueFaults
 pub mod StandingDesk
 pub mod Refusals
 pub mod DeskViews
-pub mod Crowds
 pub mod Within
 pub mod GrownHistories
 pub mod NewPasses

@@ -1,7 +1,6 @@
 pub mod Passes
 pub mod Faults
 pub mod Desks
-pub mod Crowds
 pub mod Making
 pub mod Runs
 pub mod Serving

@@ -11,6 +11,3 @@ mod serving;
 pub use outcome::{Closing, Outcome};
 pub use passes::Pass;
 pub use running::run;
-
-#[cfg(test)]
-mod tests;

@@ -4,11 +4,7 @@
 mod conversation;
 mod ending;
 mod flow;
-#[cfg(test)]
-mod planned_tests;
 mod serving;
 mod settling;
-#[cfg(test)]
-mod tests;
 
 pub use serving::serve_link;
