@@ -12,9 +12,10 @@ use Rattle.kom_types.specs.spellings.Replies.{words_of_reply}
 use Rattle.kom_types.specs.declared.replies.Reply.{Reply}
 use Rattle.kom_types.specs.declared.replies.Reply.TheVariants as reply
 use Rattle.kom_types.specs.spellings.Words.{Words}
-use Rattle.kom_framing.specs.Writing.{Written, end_line}
-use Rattle.kom_replies.specs.Items.{with_words, with_item, words_of, Keeps}
-use Rattle.kom_replies.specs.Lengths.{capped, with_lengths}
+use Rattle.kom_framing.specs.Writing.{Written, put_word, end_line}
+use Rattle.kom_replies.specs.Items.{with_item, words_of, Begins}
+use Rattle.kom_replies.specs.Sinks.{with_words, Keeps}
+use Rattle.kom_replies.specs.Lengths.{capped, put_length}
 use Rattle.kom_replies.proofs.WrittenWords.{line_written, line_measured}
 
 -- an item's line is that of its words
@@ -60,26 +61,27 @@ item_word item.Fault = record { first = _; rest = _; is = refl }
 
 -- an item's words at a line's beginning, and the line's end, are its print
 pub item_written : (item : Item) (written : Written) → written.joined ≡ true →
-    end_line (with_words (words_of item) written) ≡ with_item item written
+    end_line (with_words put_word (words_of item) written) ≡ with_item item written
 item_written item written joined =
     let begun : written ≡ record { bytes = written.bytes; joined = true } =
     ap (λ (j : Bool). let line : Written = record { bytes = written.bytes; joined = j } in line) joined in
-    ap (λ (line : Written). end_line (with_words (words_of item) line)) begun
+    ap (λ (line : Written). end_line (with_words put_word (words_of item) line)) begun
     ∙ line_written (words_of item) written.bytes
     ∙ ap (λ (more : List ℕ). let line : Written = record { bytes = written.bytes ++ more; joined = true } in line)
     (sym (print_is_line item))
 
 -- the lengths of an item's words are its print's
-pub item_measured : (item : Item) → with_lengths (words_of item) 0 ≡ capped (length (print_of item))
+pub item_measured : (item : Item) → with_words put_length (words_of item) 0 ≡ capped (length (print_of item))
 item_measured item =
     let some = item_word item in
     let line : length (print_of item) ≡ length (line_of (some.first ∷ some.rest)) =
     ap length (print_is_line item) ∙ ap (λ (words : Words). length (line_of words)) some.is in
-    ap (λ (words : Words). with_lengths words 0) some.is ∙ line_measured some.first some.rest ∙ ap capped (sym line)
+    ap (λ (words : Words). with_words put_length words 0) some.is ∙ line_measured some.first some.rest
+    ∙ ap capped (sym line)
 
 -- a writer that lost nothing since it began a line, cut back to where it stood, is what it was
 pub cut_back_again : (old begun new : Written) (place : ℕ) (joined : Bool) →
-    begun ≡ record old { joined = true } → Keeps begun new → place ≡ length old.bytes → joined ≡ old.joined →
+    begun ≡ record old { joined = true } → Keeps Begins begun new → place ≡ length old.bytes → joined ≡ old.joined →
     record { bytes = take place new.bytes; joined = joined } ≡ old
 cut_back_again old begun new place joined is keeps long same =
     let none : begun.bytes ≡ old.bytes ++ [] = ap (λ (line : Written). line.bytes) is ∙ sym (append-nil old.bytes) in

@@ -1,4 +1,4 @@
--- Words at the end of a writer, and their lengths.
+-- Words put into a sink: at the end of a writer, and their lengths.
 use Rattle.std.proofs.Common.{◌≡◌, ℕ, ◌+◌, ◌-◌, ◌^◌, ◌<◌, ◌≤◌, ◌==◌, true, false, List, [], ◌∷◌, ◌++◌}
 use Rattle.std.proofs.Common.{get_or, drop, length, refl, ap, ◌∙◌, sym, arith, append_assoc, length-append}
 use Rattle.std.specs.Fmt.{decimal}
@@ -7,40 +7,27 @@ use Rattle.std.proofs.lemmas.List.{drop_more}
 use Rattle.kom_types.specs.Printing.{line_of}
 use Rattle.kom_types.specs.spellings.Words.{Words, array}
 use Rattle.kom_framing.specs.Writing.{Written, put_word, end_line}
-use Rattle.kom_replies.specs.Items.{with_words}
-use Rattle.kom_replies.specs.Lengths.{capped, with_lengths}
+use Rattle.kom_replies.specs.Sinks.{with_words}
+use Rattle.kom_replies.specs.Lengths.{capped, put_length}
 
-pub with_words_append : (xs ys : Words) (written : Written) →
-    with_words (xs ++ ys) written ≡ with_words ys (with_words xs written)
-with_words_append [] ys written = refl
-with_words_append (x ∷ xs) ys written = with_words_append xs ys (put_word x written)
-
-pub with_lengths_append : (xs ys : Words) (n : ℕ) →
-    with_lengths (xs ++ ys) n ≡ with_lengths ys (with_lengths xs n)
-with_lengths_append [] ys n = refl
-with_lengths_append (x ∷ xs) ys n = with_lengths_append xs ys (capped (n + (length x + 1)))
+pub with_words_append : {S : Type 0} (with_word : List ℕ → S → S) (xs ys : Words) (sink : S) →
+    with_words with_word (xs ++ ys) sink ≡ with_words with_word ys (with_words with_word xs sink)
+with_words_append with_word [] ys sink = refl
+with_words_append with_word (x ∷ xs) ys sink = with_words_append with_word xs ys (with_word x sink)
 
 -- an array that is not empty: its length, a brace, its elements, a brace
-pub array_written : {X : Type 0} (element : X → Words) (values : List X) (written : Written) →
+pub array_put : {S X : Type 0} (with_word : List ℕ → S → S) (element : X → Words) (values : List X) (sink : S) →
     false ≡ (length values == 0) →
-    with_words (array element values) written
-    ≡ put_word (125 ∷ [])
-    (with_words (flat_map element values) (put_word (123 ∷ []) (put_word (decimal (length values)) written)))
-array_written element [] written some = let none : false ≡ true = some in cc
-array_written element (value ∷ values) written some =
-    with_words_append (flat_map element (value ∷ values)) ((125 ∷ []) ∷ []) _
-
-pub array_measured : {X : Type 0} (element : X → Words) (values : List X) (n : ℕ) → false ≡ (length values == 0) →
-    with_lengths (array element values) n
-    ≡ capped
-    (with_lengths (flat_map element values) (capped (capped (n + (length (decimal (length values)) + 1)) + 2)) + 2)
-array_measured element [] n some = let none : false ≡ true = some in cc
-array_measured element (value ∷ values) n some =
-    with_lengths_append (flat_map element (value ∷ values)) ((125 ∷ []) ∷ []) _
+    with_words with_word (array element values) sink
+    ≡ with_word (125 ∷ [])
+    (with_words with_word (flat_map element values) (with_word (123 ∷ []) (with_word (decimal (length values)) sink)))
+array_put with_word element [] sink some = let none : false ≡ true = some in cc
+array_put with_word element (value ∷ values) sink some =
+    with_words_append with_word (flat_map element (value ∷ values)) ((125 ∷ []) ∷ []) _
 
 -- words after a first one
 after_a_word : (bytes word : List ℕ) (words : Words) →
-    (with_words words (record { bytes = bytes ++ word; joined = false })).bytes
+    (with_words put_word words (record { bytes = bytes ++ word; joined = false })).bytes
     ≡ bytes ++ join_with_byte 32 (word ∷ words)
 after_a_word bytes word [] = refl
 after_a_word bytes word (next ∷ words) =
@@ -49,7 +36,7 @@ after_a_word bytes word (next ∷ words) =
 
 -- words at a line's beginning, and the line's end, are a line
 pub line_written : (words : Words) (bytes : List ℕ) →
-    end_line (with_words words (record { bytes = bytes; joined = true }))
+    end_line (with_words put_word words (record { bytes = bytes; joined = true }))
     ≡ record { bytes = bytes ++ line_of words; joined = true }
 line_written [] bytes = refl
 line_written (word ∷ words) bytes =
@@ -61,7 +48,7 @@ unfoldable pub total : Words → ℕ
 total [] = 0
 total (word ∷ words) = (length word + 1) + total words
 
-lengths_capped : (words : Words) (n : ℕ) → n ≤ 2 ^ 64 - 1 → with_lengths words n ≡ capped (n + total words)
+lengths_capped : (words : Words) (n : ℕ) → n ≤ 2 ^ 64 - 1 → with_words put_length words n ≡ capped (n + total words)
 unfolding total
 lengths_capped [] n within = omega arith
 lengths_capped (word ∷ words) n within =
@@ -79,7 +66,7 @@ line_length word (next ∷ words) =
 
 -- the lengths of a line's words are the line's length
 pub line_measured : (word : List ℕ) (words : Words) →
-    with_lengths (word ∷ words) 0 ≡ capped (length (line_of (word ∷ words)))
+    with_words put_length (word ∷ words) 0 ≡ capped (length (line_of (word ∷ words)))
 line_measured word words =
     let within : 0 ≤ 2 ^ 64 - 1 = omega arith in
     let counted = lengths_capped (word ∷ words) 0 within in
@@ -87,21 +74,12 @@ line_measured word words =
     omega (arith, counted, long)
 
 -- of values that are spelled in a row, the next and those after it
-pub next_written : {X : Type 0} (spelling : X → Words) (values : List X) (place : ℕ) (value : X) (written : Written) →
-    place < length values → value ≡ get_or values place value →
-    with_words (flat_map spelling (drop place values)) written
-    ≡ with_words (flat_map spelling (drop (place + 1) values)) (with_words (spelling value) written)
-next_written spelling values place value written within is =
-    ap (λ rest. with_words (flat_map spelling rest) written) (drop_more values place value within)
-    ∙ with_words_append (spelling (get_or values place value)) (flat_map spelling (drop (place + 1) values)) written
-    ∙ ap (λ next. with_words (flat_map spelling (drop (place + 1) values)) (with_words (spelling next) written))
-    (sym is)
-
-pub next_measured : {X : Type 0} (spelling : X → Words) (values : List X) (place : ℕ) (value : X) (n : ℕ) →
-    place < length values → value ≡ get_or values place value →
-    with_lengths (flat_map spelling (drop place values)) n
-    ≡ with_lengths (flat_map spelling (drop (place + 1) values)) (with_lengths (spelling value) n)
-next_measured spelling values place value n within is =
-    ap (λ rest. with_lengths (flat_map spelling rest) n) (drop_more values place value within)
-    ∙ with_lengths_append (spelling (get_or values place value)) (flat_map spelling (drop (place + 1) values)) n
-    ∙ ap (λ next. with_lengths (flat_map spelling (drop (place + 1) values)) (with_lengths (spelling next) n)) (sym is)
+pub next_put : {S X : Type 0} (with_word : List ℕ → S → S) (spelling : X → Words) (values : List X) (place : ℕ)
+    (value : X) (sink : S) → place < length values → value ≡ get_or values place value →
+    with_words with_word (flat_map spelling (drop place values)) sink
+    ≡ with_words with_word (flat_map spelling (drop (place + 1) values)) (with_words with_word (spelling value) sink)
+next_put with_word spelling values place value sink within is =
+    let rest : Words = flat_map spelling (drop (place + 1) values) in
+    ap (λ those. with_words with_word (flat_map spelling those) sink) (drop_more values place value within)
+    ∙ with_words_append with_word (spelling (get_or values place value)) rest sink
+    ∙ ap (λ next. with_words with_word rest (with_words with_word (spelling next) sink)) (sym is)

@@ -6,25 +6,16 @@ use Rattle.kom_types.specs.Printing.{print_of}
 use Rattle.kom_types.specs.spellings.Messages.{words_of_message}
 use Rattle.kom_types.specs.spellings.Replies.{words_of_reply}
 use Rattle.kom_types.specs.spellings.Words.{Words}
-use Rattle.kom_framing.specs.Writing.{Written, put_word}
+use Rattle.kom_framing.specs.Writing.{Written}
 
 -- with the item's one spelling at the end, and ready for the next line
 abbrev pub with_item : Item → Written → Written
 with_item item written = record { bytes = written.bytes ++ print_of item; joined = true }
 
--- with these words at the end
-abbrev pub with_words : Words → Written → Written
-with_words [] written = written
-with_words (word ∷ words) written = with_words words (put_word word written)
-
 -- the bytes of a writer begin with these
 pub record Begins (prefix : List ℕ) (written : Written) : Type 0 where
   pub more : List ℕ
   pub is : written.bytes ≡ prefix ++ more
-
--- nothing of what was written is lost: what it began with it begins with still
-abbrev pub Keeps : Written → Written → Type 0
-Keeps old new = (prefix : List ℕ) → Begins prefix old → Begins prefix new
 
 -- the words of an item's line
 abbrev pub words_of : Item → Words

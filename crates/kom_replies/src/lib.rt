@@ -13,9 +13,9 @@ mod printer;
 mod replies;
 mod server;
 mod sessions;
+mod sinks;
 mod spelled;
 mod texts;
-mod words;
 
 pub use cutting::cut_one_way;
 pub use lengths::printed_len;

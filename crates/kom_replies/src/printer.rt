@@ -1,17 +1,18 @@
 ghost use Rattle.std.specs.Prelude.{◌≡◌, true, OnOk, OnErr};
-ghost use Rattle.kom_replies.specs.Items.{with_item, with_words, words_of, Keeps};
+ghost use Rattle.kom_replies.specs.Items.{with_item, words_of, Begins};
+ghost use Rattle.kom_replies.specs.Sinks.{with_words, Keeps};
 
-use crate::messages::write_message;
-use crate::replies::write_reply;
-use crate::words::write_word;
+use crate::messages::put_message;
+use crate::replies::put_reply;
+use crate::sinks::Sink;
 use kom_framing::Writer;
 use kom_types::{Item, Memory};
 
 /// The greeting's answer, without the line's end.
-pub(crate) const HELLO: &[u8] = b"LysKOM";
+const HELLO: &[u8] = b"LysKOM";
 
 /// The line of a stream at fault, without its end.
-pub(crate) const FAULT: &[u8] = b"%%Protocol error.";
+const FAULT: &[u8] = b"%%Protocol error.";
 
 /// Writes an item at the end. A refusal changes nothing.
 pub fn print_item(item: &Item, out: &mut Writer) -> Result<(), Memory>
@@ -31,21 +32,21 @@ pub fn print_item(item: &Item, out: &mut Writer) -> Result<(), Memory>
 fn write_item(item: &Item, out: &mut Writer) -> Result<(), Memory>
     requires { out.old.joined ≡ true }
     ensures ok { OnOk result (out.new ≡ with_item item.now out.old) }
-    ensures keeps { Keeps out.old out.new }
+    ensures keeps { Keeps Begins out.old out.new }
 {
-    write_words(item, out)?;
+    put_words(item, out)?;
     out.end_line()
 }
 
-/// The words of an item, without the line's end.
-fn write_words(item: &Item, out: &mut Writer) -> Result<(), Memory>
-    ensures ok { OnOk result (out.new ≡ with_words (words_of item.now) out.old) }
-    ensures keeps { Keeps out.old out.new }
+/// Puts the words of an item, without the line's end.
+pub(crate) fn put_words<S: Sink>(item: &Item, out: &mut S) -> Result<(), S::Refusal>
+    ensures ok { OnOk result (out.new ≡ with_words S.with_word (words_of item.now) out.old) }
+    ensures keeps { Keeps S.begins out.old out.new }
 {
     match item {
-        Item::Hello => write_word(HELLO, out),
-        Item::Reply { reference, body } => write_reply(*reference, body, out),
-        Item::Message(message) => write_message(message, out),
-        Item::Fault => write_word(FAULT, out),
+        Item::Hello => out.word(HELLO),
+        Item::Reply { reference, body } => put_reply(*reference, body, out),
+        Item::Message(message) => put_message(message, out),
+        Item::Fault => out.word(FAULT),
     }
 }

@@ -1,10 +1,7 @@
 ghost use Rattle.std.specs.Prelude.{◌≡◌, OnOk};
-ghost use Rattle.kom_replies.specs.Items.{with_words, Keeps};
-ghost use Rattle.kom_replies.specs.Lengths.{with_lengths};
+ghost use Rattle.kom_replies.specs.Sinks.{with_words, Keeps};
 
-use crate::lengths::Length;
-use kom_framing::Writer;
-use kom_types::Memory;
+use crate::sinks::Sink;
 
 /// A value that is spelled as some words of a line.
 pub(crate) trait Spelled {
@@ -12,12 +9,8 @@ pub(crate) trait Spelled {
 
     ghost spelling: { Self → Words };
 
-    /// Writes the value's words at the end. A refusal may leave a part of them.
-    fn write(&self, out: &mut Writer) -> Result<(), Memory>
-        ensures ok { OnOk result (out.new ≡ with_words (spelling self.now) out.old) }
-        ensures keeps { Keeps out.old out.new };
-
-    /// Adds the length of the value's words.
-    fn measure(&self, length: &mut Length)
-        ensures { length.new ≡ with_lengths (spelling self.now) length.old };
+    /// Puts the value's words. A refusal may leave a part of them.
+    fn put<S: Sink>(&self, out: &mut S) -> Result<(), S::Refusal>
+        ensures ok { OnOk result (out.new ≡ with_words S.with_word (spelling self.now) out.old) }
+        ensures keeps { Keeps S.begins out.old out.new };
 }

@@ -1,7 +1,0 @@
-use Rattle.std.proofs.Common.{rules}
-use Rattle.kom_replies.proofs.WrittenWords.{array_written}
-use Rattle.kom_replies.proofs.arrays.write_array.Goals as goal
-
-pub returns-clause-ok : goal.returns-clause-ok
-returns-clause-ok g c =
-    rw (array_written g.T.Spelled.spelling c.args.values.now c.args.out.now c.if-is_empty.ensures) (search rules)
