@@ -21,6 +21,11 @@ MOST_RECIPIENTS = 100
 FIRST = 6
 
 
+def read_of(ranges):
+    """So many ranges, each of one local number: every second one."""
+    return " ".join(f"{2 * number + 1} {2 * number + 1}" for number in range(ranges))
+
+
 def stream(memberships, ranges, call, times):
     """A greeting, a login, conferences with texts, what was read of them, and a call, asked so many times."""
     yield "A5Hceder\n1 62 5 0H 0\n"
@@ -34,21 +39,21 @@ def stream(memberships, ranges, call, times):
         line = f"4 86 1HA {len(part)} {{ " + " ".join(f"0 {number}" for number in part) + " } 0 { }\n"
         for _ in range(2 * ranges):
             yield line
-    read = " ".join(f"{2 * number + 1} {2 * number + 1}" for number in range(ranges))
     for number in numbers:
-        yield f"5 110 {number} {ranges} {{ {read} }}\n"
+        yield f"5 110 {number} {ranges} {{ {read_of(ranges)} }}\n"
     line = f"6 {call}\n"
     for _ in range(times):
         yield line
 
 
-def calls(memberships):
+def calls(memberships, ranges):
     """The calls that are counted, with how many times each is asked."""
     last = FIRST + memberships - 2
     yield "query-read-texts, of the last membership", f"107 5 {last} 1 0", 400
     yield "query-read-texts, without the ranges", f"107 5 {last} 0 0", 400
     yield "mark-as-read, of one text", f"27 {last} 1 {{ 2 }}", 400
     yield "get-unread-confs", "52 5", 40
+    yield "set-read-ranges, of as many ranges", f"110 {last} {ranges} {{ {read_of(ranges)} }}", 40
 
 
 def instructions(program, size, call, times):
@@ -65,7 +70,7 @@ def instructions(program, size, call, times):
 
 def count(program, size):
     """What each call takes at a size."""
-    asked = list(calls(size[0]))
+    asked = list(calls(*size))
     with concurrent.futures.ThreadPoolExecutor(os.cpu_count()) as runs:
         none = runs.submit(instructions, program, size, "", 0)
         ran = [runs.submit(instructions, program, size, call, times) for _, call, times in asked]

@@ -5,15 +5,15 @@
 # a disk, and then for 2 ms outside of it. The threads take 2,000,000 short turns together, or as many
 # as the one word says, and a 500th as many held ones. Both programs run one after the other, three
 # times, and of each the least time and the least processor time count. It needs rt, which proves the
-# program bench_state_lock first, and rustc.
+# program bench first, and rustc.
 set -euo pipefail
 turns=${1:-2000000}
 root=$(cd "$(dirname "$0")/.." && pwd)
 work=$(mktemp -d)
 trap 'rm -rf "$work"' EXIT
 
-(cd "$root/crates/bench_state_lock" && rt run) > "$work/log" 2>&1 || { cat "$work/log"; exit 1; }
-hall=$root/crates/bench_state_lock/out/bench_state_lock
+(cd "$root/crates/bench" && rt run) > "$work/log" 2>&1 || { cat "$work/log"; exit 1; }
+hall=$root/crates/bench/out/bench
 
 cat > "$work/mutex.rs" <<'RUST'
 use std::sync::Mutex;
@@ -80,7 +80,7 @@ RUST
 rustc -O -o "$work/mutex" "$work/mutex.rs"
 
 for round in 1 2 3; do
-    "$hall" "$turns" > "$work/hall.$round"
+    "$hall" state_lock "$turns" > "$work/hall.$round"
     "$work/mutex" "$turns" > "$work/mutex.$round"
 done
 

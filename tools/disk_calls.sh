@@ -1,14 +1,14 @@
 #!/usr/bin/env bash
 # Counts the system calls of a disk over a file in 100,000 turns, or as many as the one word says, and compares its time
 # with C that makes the same calls. Both work on files in a folder that the script makes and removes. It needs strace,
-# a C compiler and rt, which proves the program bench_disk first.
+# a C compiler and rt, which proves the program bench first.
 set -euo pipefail
 turns=${1:-100000}
 root=$(cd "$(dirname "$0")/.." && pwd)
 work=$(mktemp -d)
 trap 'rm -rf "$work"' EXIT
-(cd "$root/crates/bench_disk" && rt run) > "$work/log" 2>&1 || { cat "$work/log"; exit 1; }
-disk=$root/crates/bench_disk/out/bench_disk
+(cd "$root/crates/bench" && rt run) > "$work/log" 2>&1 || { cat "$work/log"; exit 1; }
+disk=$root/crates/bench/out/bench
 
 cd "$work"
 cat > plain.c <<C
@@ -29,10 +29,10 @@ C
 cc -O2 -o plain plain.c
 
 echo "system calls of $turns turns of cut, write_at, len and read, and of one sync:"
-strace -f -c -e trace=pread64,pwrite64,ftruncate,fdatasync,fsync,fstat,newfstatat,statx "$disk" "$turns" 2>&1 > output | grep -E 'calls|64|trunc|sync|stat'
+strace -f -c -e trace=pread64,pwrite64,ftruncate,fdatasync,fsync,fstat,newfstatat,statx "$disk" disk "$turns" 2>&1 > output | grep -E 'calls|64|trunc|sync|stat'
 microseconds() { local start end; start=$(date +%s%N); "$@" > output; end=$(date +%s%N); echo $(( (end - start) / 1000 )); }
 for _ in 1 2 3; do
-    ours=$(microseconds "$disk" "$turns")
+    ours=$(microseconds "$disk" disk "$turns")
     theirs=$(microseconds ./plain)
     echo "disk over a file $ours us, plain C $theirs us, ratio $(( ours * 100 / theirs ))/100"
 done

@@ -10,9 +10,9 @@ root=$(cd "$(dirname "$0")/.." && pwd)
 work=$(mktemp -d)
 trap 'rm -rf "$work"' EXIT
 (cd "$root/crates/map_chain" && rt test) > "$work/log" 2>&1 || { cat "$work/log"; exit 1; }
-(cd "$root/crates/bench_map_chain" && rt run) > "$work/log" 2>&1 || { cat "$work/log"; exit 1; }
+(cd "$root/crates/bench" && rt run) > "$work/log" 2>&1 || { cat "$work/log"; exit 1; }
 tests=$root/crates/map_chain/out/map_chain_tests
-calls=$root/crates/bench_map_chain/out/bench_map_chain
+calls=$root/crates/bench/out/bench
 
 # Refuses the allocation whose number REFUSE says, in the program that PROGRAM names, and then makes the file REFUSED.
 cat > "$work/refuse.c" <<'C'
@@ -71,9 +71,9 @@ refuse_each() {
     echo "$(basename "$1") ${2:-}: $((number - 1)) allocations refused in turn, nothing lost"
 }
 
-run 0 "$calls" "$pairs"
-echo "$(basename "$calls") $pairs: nothing lost"
+run 0 "$calls" map_chain "$pairs"
+echo "$(basename "$calls") map_chain $pairs: nothing lost"
 for test in $("$tests" --list | sed -n 's/: test$//p'); do
     refuse_each "$tests" "$test"
 done
-refuse_each "$calls" "$few"
+refuse_each "$calls" map_chain "$few"

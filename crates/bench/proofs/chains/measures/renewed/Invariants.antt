@@ -1,0 +1,5 @@
+use Rattle.map_chain.specs.Pairs.{AllBelow}
+use Rattle.bench.proofs.chains.measures.renewed.Given as goal
+
+abbrev pub invariant-loop-local : goal.invariant-loop-local
+invariant-loop-local l = AllBelow l.local l.chain.pairs

@@ -1,5 +1,0 @@
-use Rattle.map_chain.specs.Pairs.{AllBelow}
-use Rattle.bench_map_chain.proofs.measures.renewed.Given as goal
-
-abbrev pub invariant-loop-local : goal.invariant-loop-local
-invariant-loop-local l = AllBelow l.local l.chain.pairs
