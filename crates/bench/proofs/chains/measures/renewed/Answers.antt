@@ -1,4 +1,4 @@
-use Rattle.std.proofs.Common.{◌≡◌, ◌+◌, ◌/◌, sym, subst}
+use Rattle.std.proofs.Common.{◌+◌, ◌/◌, sym, subst}
 use Rattle.map_chain.specs.Pairs.{AllBelow}
 use Rattle.map_chain.proofs.Below.{below_push, below_without}
 use Rattle.bench.proofs.chains.measures.renewed.Goals as goal
