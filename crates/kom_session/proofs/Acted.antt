@@ -1,17 +1,19 @@
 -- The acts of a stream's units.
-use Rattle.std.proofs.Common.{◌≡◌, ◌≢◌, ℕ, ◌+◌, ◌<◌, ◌≤◌, Bool, true, false, inl, inr, List, [], ◌∷◌, ◌++◌, length, map, Option, Some, None, Result, Ok, Err, refl, sym, ◌∙◌, ap, subst, subst₂, append-nil, append_assoc, arith}
+use Rattle.std.proofs.Common.{◌≡◌, ◌≢◌, ℕ, ◌+◌, ◌<◌, ◌≤◌, ◌⊎◌, Bool, true, false, inl, inr, List, [], ◌∷◌, ◌++◌, length, map, Option, Some, None, Result, Ok, Err, refl, sym, ◌∙◌, ap, subst, subst₂, append-nil, append_assoc, arith}
 use Rattle.std.specs.Prelude.{⊤}
 use Rattle.std.proofs.lemmas.List.{map-append}
 use Rattle.kom_types.specs.declared.acts.Act.TheVariants as act
 use Rattle.kom_types.specs.declared.acts.Record.{Record}
+use Rattle.kom_types.specs.declared.answers.Why.TheVariants as why
 use Rattle.kom_types.specs.declared.calls.Call.{Call}
 use Rattle.kom_types.specs.declared.items.Item.{Item}
 use Rattle.kom_types.specs.Stream.{Line}
 use Rattle.kom_types.specs.Reading.{Request, reading_of}
 use Rattle.kom_framing.specs.declared.units.Unit.{Unit as StreamUnit}
 use Rattle.kom_framing.specs.declared.units.Unit.TheVariants as unit
-use Rattle.kom_framing.specs.Splitting.{IsAt}
+use Rattle.kom_framing.specs.Splitting.{Splitting, IsAt}
 use Rattle.kom_links.specs.declared.desk.DeskFault.{DeskFault}
+use Rattle.kom_links.specs.declared.desk.DeskFault.TheVariants as fault
 use Rattle.kom_links.specs.declared.served.SessionEnd.{SessionEnd}
 use Rattle.kom_links.specs.declared.served.SessionEnd.TheVariants as end
 use Rattle.kom_links.specs.Outside.{LinkView}
@@ -21,7 +23,9 @@ use Rattle.kom_links.specs.DeskCalls.{DeskView, record_of, first_fault, Connects
 use Rattle.kom_links.specs.Talk.{Step, Connects, Asks, Breaks, steps_of, printed, AreTimed}
 use Rattle.kom_session.specs.declared.flow.Phase.{Phase}
 use Rattle.kom_session.specs.declared.flow.Phase.TheVariants as phase
+use Rattle.kom_session.specs.declared.flow.UnitDone.TheVariants as done
 use Rattle.kom_session.specs.Course.{IsRecent, IsCourse}
+use Rattle.kom_session.specs.Flows.{done_after}
 use Rattle.kom_session.specs.Known.{Known, Seen, seen, awake, with_line, HasRoom, LeavesOthers}
 use Rattle.kom_session.specs.Serving.{Party, Nobody, Somebody, Past, AreFirst, IsFaultAfter, IsPhase, IsServed, IsServing, IsTaking, IsFaulty, Plans, IsFinal, IsLast, IsOver, IsHeard}
 use Rattle.kom_session.proofs.Times.{timed_more}
@@ -676,17 +680,15 @@ greeting_refused {start} {past} {known} {now} units user t moment reason desk ga
 -- ---- a unit that was taken
 
 pub taking : {start : Seen} {past : Past} {known : Known} {now : Seen} (units : List StreamUnit)
-    (next : StreamUnit) (later : Known) → IsServing start past past.fed units known now
-    → IsAt later.splitting past.fed (units ++ next ∷ []) →
-    later ≡ record known { splitting = later.splitting } → IsTaking start past units next later now
-taking {start} {past} {known} {now} units next later s at same = record {
-  served =
-      subst (λ (later : Known). IsServed start past later now) (sym same)
-      (served_split s.served later.splitting);
+    (next : StreamUnit) (splitting : Splitting) → IsServing start past past.fed units known now
+    → IsAt splitting past.fed (units ++ next ∷ []) →
+    IsTaking start past units next (record known { splitting = splitting }) now
+taking units next splitting s at = record {
+  served = served_split s.served splitting;
   at = at;
   called = s.called;
-  nothing = ap (λ (known : Known). known.pending) same ∙ s.nothing;
-  sound = ap (λ (known : Known). known.cause) same ∙ s.sound;
+  nothing = s.nothing;
+  sound = s.sound;
 }
 
 -- the name of a greeting is short
@@ -709,3 +711,13 @@ line_session {fed = fed} {known = known} (Nobody told) units line t =
     (t.at.units ∙ ap
     (λ units. (units ++ unit.Line line ∷ []) ++ known.splitting.held) t.called.1))
 line_session (Somebody user requests broken) units line t = t.served.party.some
+
+-- a call that was refused is the last one, or ends the service
+pub done_ways : (why : DeskFault) → (done_after why ≡ done.Last end.End)
+    ⊎ (done_after why ≡ done.Ends end.End)
+done_ways (fault.Gone why.Absent) = inr refl
+done_ways (fault.Gone why.Dropped) = inl refl
+done_ways (fault.Gone why.Overrun) = inr refl
+done_ways (fault.Gone why.Stopped) = inl refl
+done_ways (fault.Full number) = inr refl
+done_ways fault.Memory = inr refl

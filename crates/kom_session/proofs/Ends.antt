@@ -1,5 +1,5 @@
 -- From the end that the loop gives to the end of the service.
-use Rattle.std.proofs.Common.{◌≡◌, ◌≢◌, ℕ, zero, suc, ◌^◌, ◌<◌, ◌⊎◌, ◌==◌, ◌&&◌, ◌||◌, not, Bool, true, false, inl, inr, List, [], ◌∷◌, ◌++◌, length, Option, Some, None, Result, Ok, Err, refl, sym, ◌∙◌, ap, ap₂, subst, subst₂, append-nil, append_assoc, ne_eqb, le-leb, arith}
+use Rattle.std.proofs.Common.{◌≡◌, ◌≢◌, ℕ, zero, suc, ◌^◌, ◌<◌, ◌⊎◌, ◌==◌, ◌&&◌, ◌||◌, ◌↔◌, not, Bool, true, false, inl, inr, List, [], ◌∷◌, ◌++◌, length, Option, Some, None, Result, Ok, Err, refl, sym, ◌∙◌, ap, ap₂, subst, subst₂, append-nil, append_assoc, ne_eqb, le-leb, arith}
 use Rattle.std.specs.Prelude.{⊤, IfSome, IsSome, IsTrue}
 use Rattle.std.specs.List.{AllByRecursion}
 use Rattle.std.proofs.lemmas.List.Folds.{list_any-append}
@@ -16,7 +16,7 @@ use Rattle.kom_links.specs.declared.desk.DeskFault.{DeskFault}
 use Rattle.kom_links.specs.declared.desk.DeskFault.TheVariants as fault
 use Rattle.kom_links.specs.declared.served.SessionEnd.{SessionEnd}
 use Rattle.kom_links.specs.declared.served.SessionEnd.TheVariants as end
-use Rattle.kom_links.specs.Outside.{Look, Rose, grown, IsNothing}
+use Rattle.kom_links.specs.Outside.{Look, LinkView, Rose, grown, IsNothing}
 use Rattle.kom_links.specs.Doors.{Gains}
 use Rattle.kom_links.specs.Records.{is_connect, is_open, has_connect, has_close, IsOpen}
 use Rattle.kom_links.specs.DeskCalls.{DeskView, record_of, first_fault, is_lock_full, IsLockFault, IsConnectFault, Closes as ClosesOf}
@@ -24,8 +24,8 @@ use Rattle.kom_links.specs.Talk.{Step, Closes, steps_of, printed, lines_before, 
 use Rattle.kom_session.specs.declared.flow.Phase.TheVariants as phase
 use Rattle.kom_session.specs.Course.{IsSettled}
 use Rattle.kom_session.specs.Ends.{IsEndOf, HasCause, TellsFault, IsOwn, IsUntouched, given_to, end_at, ending_of, ending}
-use Rattle.kom_session.specs.Known.{Known, Seen, seen, LeavesOthers}
-use Rattle.kom_session.specs.Serving.{Party, Nobody, Somebody, Past, owed_to, IsFaultAfter, IsSomebody, IsParty, IsPhase, IsServed, IsBetween, Climbs, Plans, IsHeard, IsOver}
+use Rattle.kom_session.specs.Known.{Known, Seen, seen, State, IsClosed, LeavesOthers}
+use Rattle.kom_session.specs.Serving.{Party, Nobody, Somebody, Past, owed_to, IsFaultAfter, IsSomebody, IsParty, IsPhase, IsServed, IsBetween, Climbs, Plans, IsHeard, IsOver, IsBegun, ServesLink}
 use Rattle.kom_session.specs.Waits.{AreAnswered, NoneWaits}
 use Rattle.kom_session.proofs.Times.{timed_none, timed_more, timed_skip}
 use Rattle.kom_session.proofs.Talks.{EndFacts, SilentFacts, talk_closed, talk_open, talk_silent}
@@ -632,17 +632,18 @@ heard_ended {start} {past} {known} {now} over e none =
 -- ---- the beginning
 
 -- nothing was done yet
-pub begun_between : (start : Seen) (known : Known) → IsUntouched start.link
-    → start.desk.fault_to 0 ≡ None → IsAt known.splitting [] []
-    → known ≡ record {
-      splitting = known.splitting;
+pub begun : (at : State) → IsUntouched at.seen.link → at.seen.desk.fault_to 0 ≡ None
+    → IsAt at.known.splitting [] []
+    → at.known ≡ record {
+      splitting = at.known.splitting;
       pending = [];
       session = 0;
       cause = None;
       phase = phase.Calm;
     } →
-    IsBetween start (record { fed = []; party = Nobody [] }) [] known start
-begun_between start known untouched none at same =
+    IsBegun at
+begun at untouched none is_at same =
+    let start : Seen = at.seen in
     subst (λ (known : Known). IsBetween start (record { fed = []; party = Nobody [] }) [] known
     start) (sym same)
     (record {
@@ -667,12 +668,12 @@ begun_between start known untouched none at same =
           others = others_none 0 start;
           untouched = untouched;
         };
-        at = at;
+        at = is_at;
         called = (refl, refl);
         nothing = refl;
         sound = refl;
       };
-      all = sym at.units;
+      all = sym is_at.units;
       sound = refl;
       calm = refl;
     })
@@ -700,53 +701,92 @@ is_zero : (n : ℕ) → (n ≡ 0) ⊎ (n ≢ 0)
 is_zero zero = inl refl
 is_zero (suc n) = inr (λ e. omega arith)
 
--- how a conversation was closed
-pub record IsClosed (known : Known) (now : Seen) (new : Known) (desk : DeskView)
-    (gave : Option (List ℕ)) : Type 0 where
-  pub silent : known.session ≡ 0 → (desk ≡ now.desk) × (gave ≡ now.gave) × (new ≡ known)
-  pub closed : known.session ≢ 0 → (moment : ℕ) × (answer : Result ⊤ DeskFault)
-      × Gains now.gave moment gave × ClosesOf now.desk moment known.session answer desk
-      × (new ≡ record known { cause = first_fault known.cause answer })
-
 first_kept : (cause : Option DeskFault) (answer : Result ⊤ DeskFault)
     → first_fault cause answer ≡ None → cause ≡ None
 first_kept None answer e = refl
 first_kept (Some first) answer e = absurd (cc (e))
 
 -- the Close meets no fault where there is none
-pub none_before : {known : Known} {now : Seen} {new : Known} {desk : DeskView} {gave : Option
-    (List ℕ)} → IsClosed known now new desk gave → new.cause ≡ None → known.cause ≡ None
-none_before {known} {now} {new} {desk} {gave} close e = go (is_zero known.session)
+pub none_before : (old new : State) → IsClosed old new → new.known.cause ≡ None
+    → old.known.cause ≡ None
+none_before old new close e = go (is_zero old.known.session)
   where
-    go : (known.session ≡ 0) ⊎ (known.session ≢ 0) → known.cause ≡ None
-    go (inl none) = ap (λ (known : Known). known.cause) (sym (close.silent none).2) ∙ e
+    go : (old.known.session ≡ 0) ⊎ (old.known.session ≢ 0) → old.known.cause ≡ None
+    go (inl none) = ap (λ (at : State). at.known.cause) (sym (close.silent none)) ∙ e
     go (inr some) =
-        let closed = close.closed some in first_kept known.cause closed.1
-        (ap (λ (known : Known). known.cause) (sym closed.4) ∙ e)
+        let closed = close.closed some in first_kept old.known.cause closed.1
+        (ap (λ (at : State). at.known.cause) (sym closed.6) ∙ e)
 
-pub over_told : {start : Seen} {past : Past} {known : Known} {now : Seen} {planned : SessionEnd}
-    (over : IsOver start past known now planned) → (risen : Bool)
-    → (new : Known) (desk : DeskView) (gave : Option (List ℕ)) → IsClosed known now new desk gave →
+pub over_told : {start : Seen} {past : Past} {planned : SessionEnd} (old new : State)
+    (over : IsOver start past old.known old.seen planned) → (risen : Bool) → IsClosed old new →
     (planned ≡ end.LinkFault → risen ≡ true)
-    → Told start past.fed new.session new.cause (seen desk now.link gave)
-    (ending risen planned new.cause)
-over_told {start} {past} {known} {now} {planned} over risen new desk gave close lost =
-    go (is_zero known.session)
+    → Told start past.fed new.known.session new.known.cause new.seen
+    (ending risen planned new.known.cause)
+over_told {start} {past} {planned} old new over risen close lost = go (is_zero old.known.session)
   where
-    go : (known.session ≡ 0) ⊎ (known.session ≢ 0)
-        → Told start past.fed new.session new.cause (seen desk now.link gave)
-        (ending risen planned new.cause)
+    go : (old.known.session ≡ 0) ⊎ (old.known.session ≢ 0)
+        → Told start past.fed new.known.session new.known.cause new.seen
+        (ending risen planned new.known.cause)
     go (inl none) =
-        let same = close.silent none in
-        subst (λ (new : Known). Told start past.fed new.session new.cause (seen desk now.link gave)
-        (ending risen planned new.cause)) (sym same.2)
-        (subst₂ (λ (desk : DeskView) (gave : Option (List ℕ)). Told start past.fed known.session
-        known.cause (seen desk now.link gave) (ending risen planned known.cause)) (sym same.0)
-        (sym same.1)
-        (silent_told over none risen lost (heard_ended over)))
+        subst (λ (at : State). Told start past.fed at.known.session at.known.cause at.seen
+        (ending risen planned at.known.cause)) (sym (close.silent none))
+        (silent_told over none risen lost (heard_ended over))
     go (inr some) =
         let closed = close.closed some in
-        subst (λ (new : Known). Told start past.fed new.session new.cause (seen desk now.link gave)
-        (ending risen planned new.cause)) (sym closed.4)
-        (session_told over some risen closed.0 closed.1 desk gave closed.3 closed.2 lost
-        (λ e none. heard_ended over e (first_kept known.cause closed.1 none)))
+        subst (λ (at : State). Told start past.fed at.known.session at.known.cause at.seen
+        (ending risen planned at.known.cause)) (sym closed.6)
+        (session_told over some risen closed.0 closed.1 closed.2 closed.3 closed.5 closed.4 lost
+        (λ e none. heard_ended over e (first_kept old.known.cause closed.1 none)))
+
+-- what a link's service comes to, once its session was closed
+pub served_link : (begun before after : State) (past : Past) (planned : SessionEnd) (risen : Bool)
+    → IsOver begun.seen past before.known before.seen planned → IsClosed before after
+    → (IsTrue risen ↔ Rose begun.seen.link.faults after.seen.link.faults)
+    → after.seen.link.faults < 2 ^ 64 →
+    ServesLink begun.seen
+    (record { session = after.known.session; end = ending risen planned after.known.cause })
+    after.seen
+served_link begun before after past planned risen over close rises fits =
+    let start : Seen = begun.seen in
+    let link : LinkView = after.seen.link in
+    let cause : Option DeskFault = after.known.cause in
+    let still : risen ≡ false → Rose start.link.faults link.faults → ⊥ =
+    λ e rose. let so = rises.1 rose in cc in
+    let lost : planned ≡ end.LinkFault → risen ≡ true =
+    λ e. lost_risen risen start.link.faults link.faults still
+    (subst (λ (link : LinkView). Climbs start.link.faults link.faults) (sym close.link)
+    (heard_lost over e)) fits in
+    let told = over_told before after over risen close lost in
+    record {
+      talk = (
+        told.added,
+        told.mine_is,
+        told.own,
+        told.timed,
+        past.fed,
+        told.bytes,
+        (
+          told_so past.fed start.link.taken link.taken over.served.untouched.nothing_taken
+              (ap (λ (link : LinkView). link.taken) close.link ∙ over.served.taken),
+          told_so told.bytes start.link.put link.put over.served.untouched.nothing_put
+              told.put_is,
+        ),
+        subst
+            (λ (first : Option DeskFault). TellsFault start.link.faults link.faults first past.fed
+            (ending risen planned cause)) (sym told.cause_is)
+            (tells_fault over risen start.link.faults link.faults cause rises.0 lost
+            (none_before before after close)),
+        told.talk,
+      );
+      session = (told.added, told.mine_is, told.connects);
+      waits = (told.added, told.mine_is, told.waits);
+      cause =
+          subst
+          (λ (first : Option DeskFault). HasCause start.link.faults link.faults first link.ended
+          (ending risen planned cause)) (sym told.cause_is)
+          (has_cause risen planned cause start.link.faults link.faults link.ended
+          (over_planned over) rises.0 still lost
+          (λ e none. ap (λ (link : LinkView). link.ended) close.link
+          ∙ heard_ended over e (none_before before after close none)));
+      others = told.others;
+    }

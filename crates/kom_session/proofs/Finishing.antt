@@ -14,8 +14,8 @@ use Rattle.kom_session.specs.declared.flow.Next.{Next}
 use Rattle.kom_session.specs.declared.flow.Next.TheVariants as next
 use Rattle.kom_session.specs.declared.flow.Phase.TheVariants as phase
 use Rattle.kom_session.specs.Flows.{ended_by}
-use Rattle.kom_session.specs.Known.{Known, Seen, Keeps}
-use Rattle.kom_session.specs.Serving.{Party, Nobody, Somebody, Past, IsParty, IsServed, ServesOn, IsServing, Plans, Climbs, IsHeard, IsOver, IsFinal, IsLast, Serves, GoesOn, Settled}
+use Rattle.kom_session.specs.Known.{Known, Seen, State, HasRoom, Keeps}
+use Rattle.kom_session.specs.Serving.{Party, Nobody, Somebody, Past, IsParty, IsServed, ServesOn, IsServing, Plans, Climbs, IsHeard, IsOver, IsFinal, IsLast, IsEnded, ServesBatch, GoesOn, Settled}
 use Rattle.kom_session.proofs.Acted.{heard_fault}
 
 -- ---- faults of a link
@@ -43,40 +43,34 @@ last_heard end.Stopped cause later final first before after = absurd final
 last_heard (end.Full number) cause later final first before after = absurd final
 
 -- after what waits was sent
-pub finished : {start : Seen} {past : Past} {old : Known} {before : Seen} {ending : SessionEnd}
-    → IsLast start past old before ending → (way : Flow) (new : Known) (after : Seen)
-    → ServesOn old before new after → Keeps old new →
-    (way ≡ flow.Open → new.pending ≡ [])
-    → (way ≡ flow.Open → new.cause ≡ None → new.phase ≡ phase.Calm)
-    → (way ≡ flow.Lost → Climbs before.link.faults after.link.faults) →
-    ((later : Past) × IsOver start later new after (ended_by way ending))
-finished {start} {past} {old} {before} {ending} last flow.Open new after serves keeps nothing calm
-    lost = (
-      past,
-      record {
-        served = serves start past last.served;
-        plan = last.plan new keeps (nothing refl) (calm refl);
-        heard = last_heard ending old.cause new.cause last.final keeps.first start.link after.link;
-      },
-    )
-finished {start} {past} {old} {before} last flow.Lost new after serves keeps nothing calm lost = (
+pub finished : {start : Seen} {past : Past} {ending : SessionEnd} (old new : State)
+    → IsLast start past old.known old.seen ending → (way : Flow) → ServesOn old new
+    → Keeps old.known new.known → (way ≡ flow.Open → new.known.pending ≡ [])
+    → (way ≡ flow.Open → new.known.cause ≡ None → new.known.phase ≡ phase.Calm)
+    → (way ≡ flow.Lost → Climbs old.seen.link.faults new.seen.link.faults) →
+    IsEnded (ended_by way ending) start new
+finished {start} {past} {ending} old new last flow.Open serves keeps nothing calm lost = (
+  past,
+  record {
+    served = serves start past last.served;
+    plan = last.plan new.known keeps (nothing refl) (calm refl);
+    heard =
+        last_heard ending old.known.cause new.known.cause last.final keeps.first start.link
+        new.seen.link;
+  },
+)
+finished {start} {past} old new last flow.Lost serves keeps nothing calm lost = (
   past,
   record {
     served = serves start past last.served;
     plan = tt;
     heard =
-        climbs_after start.link.faults before.link.faults after.link.faults last.served.others.faults
-        (lost refl);
+        climbs_after start.link.faults old.seen.link.faults new.seen.link.faults
+        last.served.others.faults (lost refl);
   },
 )
-finished {start} {past} {old} {before} last flow.NoMemory new after serves keeps nothing calm lost = (
-  past,
-  record {
-    served = serves start past last.served;
-    plan = tt;
-    heard = tt;
-  },
-)
+finished {start} {past} old new last flow.NoMemory serves keeps nothing calm lost =
+    (past, record { served = serves start past last.served; plan = tt; heard = tt })
 
 -- ---- settling
 
@@ -92,76 +86,67 @@ some_plan (Somebody user requests broken) fed start known' now added (Some reaso
     some is connected = (nothing, tt)
 
 -- a service that is over after a session was settled
-pub settled_over : {start : Seen} {past : Past} {new : Known} (before : Seen) {after : Seen}
-    (ending : SessionEnd) → IsServed start past new after → new.session ≢ 0
-    → start.link.faults ≤ before.link.faults
-    → Settled (next.Ends ending) new before.link after.link →
-    IsOver start past new after ending
-settled_over {start} {past} {new} before {after} end.End s some below settled = record {
+settled_over : {start : Seen} {past : Past} (old new : State) (ending : SessionEnd)
+    → IsServed start past new.known new.seen → new.known.session ≢ 0
+    → start.link.faults ≤ old.seen.link.faults → Settled (next.Ends ending) old new →
+    IsOver start past new.known new.seen ending
+settled_over {start} {past} old new end.End s some below settled = record {
   served = s;
   plan =
-      some_plan past.party past.fed start new after s.added new.cause new settled.0 settled.1
-      s.party some;
-  heard = heard_fault new.cause settled.1 end.End settled.1 start.link after.link;
+      some_plan past.party past.fed start new.known new.seen s.added new.known.cause new.known
+      settled.0 settled.1 s.party some;
+  heard = heard_fault new.known.cause settled.1 end.End settled.1 start.link new.seen.link;
 }
-settled_over {start} {past} {new} before {after} end.LinkFault s some below settled = record {
+settled_over {start} old new end.LinkFault s some below settled = record {
   served = s;
   plan = tt;
-  heard = climbs_after start.link.faults before.link.faults after.link.faults below settled;
+  heard =
+      climbs_after start.link.faults old.seen.link.faults new.seen.link.faults below settled;
 }
-settled_over before end.Memory s some below settled = record { served = s; plan = tt; heard = tt }
-settled_over before (end.Broken place) s some below settled = absurd settled
-settled_over before end.Overrun s some below settled = absurd settled
-settled_over before end.Dropped s some below settled = absurd settled
-settled_over before end.Stopped s some below settled = absurd settled
-settled_over before (end.Full number) s some below settled = absurd settled
+settled_over old new end.Memory s some below settled = record { served = s; plan = tt; heard = tt }
+settled_over old new (end.Broken place) s some below settled = absurd settled
+settled_over old new end.Overrun s some below settled = absurd settled
+settled_over old new end.Dropped s some below settled = absurd settled
+settled_over old new end.Stopped s some below settled = absurd settled
+settled_over old new (end.Full number) s some below settled = absurd settled
 
 -- a service that goes on so
-pub settled_serving : {start : Seen} {past : Past} {units : List StreamUnit} {fed : List
-    ℕ} {old : Known} {before : Seen} → IsServing start past fed units old before
-    → (new : Known) (after : Seen) → ServesOn old before new after → Keeps old new →
-    Settled next.GoesOn new before.link after.link → IsServing start past fed units new after
-settled_serving {start} {past} {units} {fed} {old} {before} s new after serves keeps settled =
-    record {
-      served = serves start past s.served;
-      at = subst (λ (splitting : Splitting). IsAt splitting fed units) (sym keeps.splitting) s.at;
-      called = s.called;
-      nothing = settled.0;
-      sound = settled.1;
-    }
+settled_serving : {start : Seen} {past : Past} {units : List StreamUnit} {fed : List ℕ}
+    (old new : State) → IsServing start past fed units old.known old.seen → ServesOn old new
+    → Keeps old.known new.known → Settled next.GoesOn old new →
+    IsServing start past fed units new.known new.seen
+settled_serving {start} {past} {units} {fed} old new s serves keeps settled = record {
+  served = serves start past s.served;
+  at = subst (λ (splitting : Splitting). IsAt splitting fed units) (sym keeps.splitting) s.at;
+  called = s.called;
+  nothing = settled.0;
+  sound = settled.1;
+}
 
-pub settled_on : {start : Seen} {past : Past} {units : List
-    StreamUnit} {old : Known} {before : Seen} → IsServing start past past.fed units old before
-    → (answer : Next) (new : Known) (after : Seen) → old.session ≢ 0 → ServesOn old before new after
-    → Keeps old new →
-    Settled answer new before.link after.link → Serves answer start past units new after
-settled_on s next.GoesOn new after some serves keeps settled =
-    settled_serving s new after serves keeps settled
-settled_on {start} {past} {units} {old} {before} s (next.Ends ending) new after some serves keeps
-    settled =
-    settled_over before ending (serves start past s.served)
+pub settled_on : {start : Seen} {past : Past} {units : List StreamUnit} (old new : State)
+    → IsServing start past past.fed units old.known old.seen → (answer : Next)
+    → old.known.session ≢ 0 → ServesOn old new → Keeps old.known new.known →
+    Settled answer old new → ServesBatch answer start past units new
+settled_on old new s next.GoesOn some serves keeps settled =
+    (settled_serving old new s serves keeps settled, subst HasRoom (sym settled.2) tt)
+settled_on {start} {past} old new s (next.Ends ending) some serves keeps settled =
+    settled_over old new ending (serves start past s.served)
     (λ none. some (sym keeps.session ∙ none)) s.served.others.faults settled
 
-pub settled_between : {start : Seen} {past : Past} {units : List
-    StreamUnit} {old : Known} {before : Seen} → IsServing start past past.fed units old before
-    → (answer : Next) (new : Known) (after : Seen) → old.session ≢ 0 → ServesOn old before new after
-    → Keeps old new →
-    Settled answer new before.link after.link → old.splitting.held ≡ []
-    → (stream_of past.fed).fault ≡ None → GoesOn answer start new after
-settled_between {start} {past} {units} {old} {before} s next.GoesOn new after some serves keeps
-    settled all sound = (
-      past,
-      units,
-      record {
-        serving = settled_serving s new after serves keeps settled;
-        all = ap (λ (splitting : Splitting). splitting.held) keeps.splitting ∙ all;
-        sound = sound;
-        calm = settled.2;
-      },
-    )
-settled_between {start} {past} {units} {old} {before} s (next.Ends ending) new after some serves
-    keeps settled all sound = (
-      past,
-      settled_over before ending (serves start past s.served)
-          (λ none. some (sym keeps.session ∙ none)) s.served.others.faults settled,
-    )
+pub settled_between : {start : Seen} {past : Past} {units : List StreamUnit} (old new : State)
+    → IsServing start past past.fed units old.known old.seen → (answer : Next)
+    → old.known.session ≢ 0 → ServesOn old new → Keeps old.known new.known →
+    Settled answer old new → old.known.splitting.held ≡ [] → (stream_of past.fed).fault ≡ None
+    → GoesOn answer start new
+settled_between {start} {past} {units} old new s next.GoesOn some serves keeps settled all sound = (
+  past,
+  units,
+  record {
+    serving = settled_serving old new s serves keeps settled;
+    all = ap (λ (splitting : Splitting). splitting.held) keeps.splitting ∙ all;
+    sound = sound;
+    calm = settled.2;
+  },
+)
+settled_between {past = past} old new s (next.Ends ending) some serves keeps settled all sound =
+    (past, settled_on old new s (next.Ends ending) some serves keeps settled)

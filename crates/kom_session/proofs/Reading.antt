@@ -24,8 +24,8 @@ use Rattle.kom_session.specs.declared.flow.Phase.{Phase}
 use Rattle.kom_session.specs.declared.flow.Phase.TheVariants as phase
 use Rattle.kom_session.specs.Course.{IsSettled}
 use Rattle.kom_session.specs.Flows.{ended_by}
-use Rattle.kom_session.specs.Known.{Known, Seen, awake, HasRoom, HasSession, Keeps, Puts}
-use Rattle.kom_session.specs.Serving.{Party, Nobody, Somebody, Past, owed_to, AreFirst, IsParty, IsPhase, IsServed, ServesOn, AreCalled, IsServing, IsBetween, HasRead, HasWaited, IsWhole, Plans, Climbs, IsHeard, IsOver, IsLast, IsFaulty, Settled}
+use Rattle.kom_session.specs.Known.{Known, Seen, State, knowing, awake, HasRoom, HasSession, Keeps, ReadsLink, IsSent}
+use Rattle.kom_session.specs.Serving.{Party, Nobody, Somebody, Past, owed_to, AreFirst, IsParty, IsPhase, IsServed, ServesOn, AreCalled, IsServing, IsBetween, HasRead, HasWaited, IsWhole, Plans, Climbs, IsHeard, IsOver, IsLast, IsFaulty, IsEnded, Settled}
 use Rattle.kom_session.specs.Waits.{given_in, IsAnsweredBy, IsAnswered, IsChecked, AreAnswered}
 use Rattle.kom_session.proofs.Acted.{heard_fault}
 use Rattle.kom_session.proofs.Others.{others_trans}
@@ -285,136 +285,139 @@ silent_steps {start} {past} {known} {now} s none = go past.party s.party
     go (Somebody user requests broken) is = absurd (is.some none)
 
 -- a piece was read
-pub read_piece : {start : Seen} {past : Past} {units : List StreamUnit} {known : Known} {now : Seen}
-    → IsBetween start past units known now → (buffer : List ℕ) (count : ℕ) (link : LinkView)
-    → Reads now.link buffer (got.Some count) link →
+pub read_piece : {start : Seen} {past : Past} {units : List StreamUnit} (old new : State)
+    → IsBetween start past units old.known old.seen → (buffer : List ℕ) (count : ℕ)
+    → ReadsLink old buffer (got.Some count) new →
     HasRead (take count buffer) start
-    (record { fed = past.fed ++ take count buffer; party = past.party }) known
-    (record now { link = link })
-read_piece {start} {past} {units} {known} {now} b buffer count link reads =
+    (record { fed = past.fed ++ take count buffer; party = past.party }) new
+read_piece {start} {past} {units} old new b buffer count (reads, same) =
     let calm : IsPhase phase.Calm b.serving.served.waited b.serving.served.place
     b.serving.served.recent = subst
     (λ reached. IsPhase reached b.serving.served.waited b.serving.served.place
     b.serving.served.recent) b.calm b.serving.served.phase in
-    record {
+    subst (λ (at : State). HasRead (take count buffer) start
+    (record { fed = past.fed ++ take count buffer; party = past.party }) at) (sym same)
+    (record {
       fed = past.fed;
       units = units;
       whole = refl;
       serving =
           subst (λ (reached : Phase). IsServing start
           (record { fed = past.fed ++ take count buffer; party = past.party }) past.fed units
-          (record known { phase = reached }) (record now { link = link })) (sym b.calm)
-          (read_served b buffer (got.Some count) link reads (past.fed ++ take count buffer) refl
-          phase.Calm (λ none. refl) (still_calm _ calm.0, λ waited. absurd (cc (waited))));
+          (record old.known { phase = reached }) (record old.seen { link = new.seen.link }))
+          (sym b.calm)
+          (read_served b buffer (got.Some count) new.seen.link reads
+          (past.fed ++ take count buffer) refl phase.Calm (λ none. refl)
+          (still_calm _ calm.0, λ waited. absurd (cc (waited))));
       all = b.all;
       calm = b.calm;
-    }
+    })
 
 -- nothing was there to be read
-pub read_waited : {start : Seen} {past : Past} {units : List
-    StreamUnit} {known : Known} {now : Seen} → IsBetween start past units known now
-    → (buffer : List ℕ) (link : LinkView) → Reads now.link buffer got.NotYet link →
-    HasWaited start past units known (record now { link = link })
-read_waited {start} {past} {units} {known} {now} b buffer link reads =
+pub read_waited : {start : Seen} {past : Past} {units : List StreamUnit} (old new : State)
+    → IsBetween start past units old.known old.seen → (buffer : List ℕ)
+    → ReadsLink old buffer got.NotYet new → HasWaited start past units new
+read_waited {start} {past} {units} old new b buffer (reads, same) =
     let s = b.serving.served in
     let calm : IsPhase phase.Calm s.waited s.place s.recent =
     subst (λ reached. IsPhase reached s.waited s.place s.recent) b.calm s.phase in
-    record {
+    subst (λ (at : State). HasWaited start past units at) (sym same)
+    (record {
       silent =
           λ none. subst
           (λ (reached : Phase). IsServing start past past.fed units
-          (record known { phase = reached }) (record now { link = link })) (sym b.calm)
-          (read_served b buffer got.NotYet link reads past.fed
+          (record old.known { phase = reached }) (record old.seen { link = new.seen.link }))
+          (sym b.calm)
+          (read_served b buffer got.NotYet new.seen.link reads past.fed
           (sym (append-nil past.fed)) phase.Calm (λ none. refl)
           (still_calm _ calm.0, λ waited some. absurd (some (silent_steps s none))));
       connected =
-          λ some. read_served b buffer got.NotYet link reads past.fed (sym (append-nil past.fed))
-          (phase.Due 0) (λ none. absurd (some none))
+          λ some. read_served b buffer got.NotYet new.seen.link reads past.fed
+          (sym (append-nil past.fed)) (phase.Due 0) (λ none. absurd (some none))
           (recent_settled ((s.place ++ s.recent) ++ [])
           (still_calm (s.place ++ s.recent) calm.0));
       all = b.all;
       sound = b.sound;
       calm = b.calm;
-    }
+    })
 
 or_true : (a : Bool) → (a || true) ≡ true
 or_true true = refl
 or_true false = refl
 
--- the link has ended
-pub read_ended : {start : Seen} {past : Past} {units : List StreamUnit} {known : Known} {now : Seen}
-    → IsBetween start past units known now → (buffer : List ℕ) (link : LinkView)
-    → Reads now.link buffer got.End link →
-    ((later : Past) × IsOver start later known (record now { link = link }) end.End)
-read_ended {start} {past} {units} {known} {now} b buffer link reads =
+-- no byte came
+read_none : {start : Seen} {past : Past} {units : List StreamUnit} {old : State}
+    → IsBetween start past units old.known old.seen → (buffer : List ℕ) (answer : Got)
+    (link : LinkView) → Reads old.seen.link buffer answer link → read_bytes answer buffer ≡ []
+    → is_not_yet answer ≡ false →
+    IsServing start past past.fed units old.known (record old.seen { link = link })
+read_none {start} {past} {units} {old} b buffer answer link reads nothing now =
     let s = b.serving.served in
     let calm : IsPhase phase.Calm s.waited s.place s.recent =
     subst (λ reached. IsPhase reached s.waited s.place s.recent) b.calm s.phase in
-    let after : IsServing start past past.fed units known (record now { link = link })
-    =
     subst (λ (reached : Phase). IsServing start past past.fed units
-    (record known { phase = reached }) (record now { link = link })) (sym b.calm)
-    (read_served b buffer got.End link reads past.fed (sym (append-nil past.fed)) phase.Calm
-    (λ none. refl) (still_calm _ calm.0, λ waited. absurd (cc (waited)))) in (
+    (record old.known { phase = reached }) (record old.seen { link = link })) (sym b.calm)
+    (read_served b buffer answer link reads past.fed
+    (sym (ap (λ bytes. past.fed ++ bytes) nothing ∙ append-nil past.fed)) phase.Calm
+    (λ none. refl) (still_calm _ calm.0, λ waited. absurd (cc (waited, now))))
+
+-- the link has ended
+pub read_ended : {start : Seen} {past : Past} {units : List StreamUnit} (old new : State)
+    → IsBetween start past units old.known old.seen → (buffer : List ℕ)
+    → ReadsLink old buffer got.End new → IsEnded end.End start new
+read_ended {start} {past} {units} old new b buffer (reads, same) =
+    subst (λ (at : State). IsEnded end.End start at) (sym same) (
       past,
       record {
-        served = after.served;
+        served = (read_none {old = old} b buffer got.End new.seen.link reads refl refl).served;
         plan =
-            subst (λ (cause : Option DeskFault). Plans end.End cause past known)
+            subst (λ (cause : Option DeskFault). Plans end.End cause past old.known)
             (sym b.serving.sound) (
               b.serving.nothing,
               subst (λ (reached : Phase). IsWhole past.fed past.party reached)
                   (sym b.calm) (whole b),
             );
         heard =
-            subst (λ (cause : Option DeskFault). IsHeard end.End cause start.link link)
-            (sym b.serving.sound) (reads.ended ∙ or_true now.link.ended);
+            subst (λ (cause : Option DeskFault). IsHeard end.End cause start.link new.seen.link)
+            (sym b.serving.sound) (reads.ended ∙ or_true old.seen.link.ended);
       },
     )
 
 -- the link failed
-pub read_failed : {start : Seen} {past : Past} {units : List
-    StreamUnit} {known : Known} {now : Seen} → IsBetween start past units known now
-    → (buffer : List ℕ) (link : LinkView) → Reads now.link buffer got.Failed link →
-    ((later : Past) × IsOver start later known (record now { link = link }) end.LinkFault)
-read_failed {start} {past} {units} {known} {now} b buffer link reads =
-    let s = b.serving.served in
-    let calm : IsPhase phase.Calm s.waited s.place s.recent =
-    subst (λ reached. IsPhase reached s.waited s.place s.recent) b.calm s.phase in
-    let after : IsServing start past past.fed units known (record now { link = link })
-    =
-    subst (λ (reached : Phase). IsServing start past past.fed units
-    (record known { phase = reached }) (record now { link = link })) (sym b.calm)
-    (read_served b buffer got.Failed link reads past.fed (sym (append-nil past.fed)) phase.Calm
-    (λ none. refl) (still_calm _ calm.0, λ waited. absurd (cc (waited)))) in (
+pub read_failed : {start : Seen} {past : Past} {units : List StreamUnit} (old new : State)
+    → IsBetween start past units old.known old.seen → (buffer : List ℕ)
+    → ReadsLink old buffer got.Failed new → IsEnded end.LinkFault start new
+read_failed {start} {past} {units} old new b buffer (reads, same) =
+    subst (λ (at : State). IsEnded end.LinkFault start at) (sym same) (
       past,
       record {
-        served = after.served;
+        served = (read_none {old = old} b buffer got.Failed new.seen.link reads refl refl).served;
         plan = tt;
-        heard = climbs_risen start.link.faults
-            now.link.faults link.faults s.others.faults reads.may;
+        heard =
+            climbs_risen start.link.faults old.seen.link.faults new.seen.link.faults
+            b.serving.served.others.faults reads.may;
       },
     )
 
 -- ---- a wait
 
 -- a fault without a session
-pub silent_over : {start : Seen} {past : Past} {units : List
-    StreamUnit} {known : Known} {now : Seen} → IsServing start past past.fed units known now
-    → known.splitting.held ≡ [] → known.session ≡ 0 → (new : Known) (after : Seen)
-    → ServesOn known now new after →
-    new.session ≡ 0 → new.pending ≡ [] → new.cause ≢ None → IsOver start past new after end.End
-silent_over {start} {past} {units} {known} {now} s all none new after serves same nothing some =
+silent_over : {start : Seen} {past : Past} {units : List StreamUnit} (old new : State)
+    → IsServing start past past.fed units old.known old.seen → old.known.splitting.held ≡ []
+    → old.known.session ≡ 0 → ServesOn old new → new.known.session ≡ 0 → new.known.pending ≡ []
+    → new.known.cause ≢ None → IsOver start past new.known new.seen end.End
+silent_over {start} {past} {units} old new s all none serves same nothing some =
     let later = serves start past s.served in
     record {
       served = later;
-      plan = go past.party later.party s.called new.cause some;
-      heard = heard_fault new.cause some end.End some start.link after.link;
+      plan = go past.party later.party s.called new.known.cause some;
+      heard = heard_fault new.known.cause some end.End some start.link new.seen.link;
     }
   where
-    go : (party : Party) → IsParty past.fed party start new after (serves start past s.served).added
+    go : (party : Party)
+        → IsParty past.fed party start new.known new.seen (serves start past s.served).added
         → AreCalled party units → (cause : Option DeskFault) → cause ≢ None
-        → Plans end.End cause (record { fed = past.fed; party = party }) new
+        → Plans end.End cause (record { fed = past.fed; party = party }) new.known
     go (Nobody told) is called None some = absurd (some refl)
     go (Nobody told) is called (Some reason) some = (
       nothing,
@@ -436,42 +439,32 @@ between s all sound calm = record { serving = s; all = all; sound = sound; calm 
 
 -- ---- a piece
 
-pub piece_fed : {piece : List ℕ} {start : Seen} {past : Past} {known : Known} {now : Seen}
-    (r : HasRead piece start past known now) → (new : Known)
-    → new ≡ record known { splitting = new.splitting }
-    → IsAt new.splitting (r.fed ++ piece) r.units →
-    IsServing start past past.fed r.units new now
-piece_fed {piece} {start} {past} {known} {now} r new same at = record {
-  served =
-      subst (λ (new : Known). IsServed start past new now) (sym same)
-      (served_split r.serving.served new.splitting);
-  at = subst (λ fed. IsAt new.splitting fed r.units) (sym r.whole) at;
+pub piece_fed : {piece : List ℕ} {start : Seen} {past : Past} (at : State)
+    (r : HasRead piece start past at) → (splitting : Splitting)
+    → IsAt splitting (r.fed ++ piece) r.units →
+    IsServing start past past.fed r.units (record at.known { splitting = splitting }) at.seen
+piece_fed at r splitting is_at = record {
+  served = served_split r.serving.served splitting;
+  at = subst (λ fed. IsAt splitting fed r.units) (sym r.whole) is_at;
   called = r.serving.called;
-  nothing = ap (λ (known : Known). known.pending) same ∙ r.serving.nothing;
-  sound = ap (λ (known : Known). known.cause) same ∙ r.serving.sound;
+  nothing = r.serving.nothing;
+  sound = r.serving.sound;
 }
 
 -- a piece for which there was no memory
-pub piece_unfed : {piece : List ℕ} {start : Seen} {past : Past} {known : Known} {now : Seen}
-    (r : HasRead piece start past known now) → (new : Known)
-    → new ≡ record known { splitting = new.splitting }
-    → ((later : Past) × IsOver start later new now end.Memory)
-piece_unfed {piece} {start} {past} {known} {now} r new same = (
-  past,
-  record {
-    served = subst (λ (new : Known). IsServed start past new now) (sym same)
-        (served_split r.serving.served new.splitting);
-    plan = tt;
-    heard = tt;
-  },
-)
+pub piece_unfed : {piece : List ℕ} {start : Seen} {past : Past} (at : State)
+    → HasRead piece start past at → (splitting : Splitting) →
+    IsEnded end.Memory start (knowing at (record at.known { splitting = splitting }))
+piece_unfed {past = past} at r splitting =
+    (past, record { served = served_split r.serving.served splitting; plan = tt; heard = tt })
 
 pub has_room : (reached : Phase) → reached ≡ phase.Calm → HasRoom reached
 has_room reached calm = subst HasRoom (sym calm) tt
 
 -- a session is connected where its phase is not calm
 pub due_session : {start : Seen} {past : Past} {known : Known} {now : Seen}
-    → IsServed start past known now → known.phase ≢ phase.Calm → HasSession known now.desk
+    → IsServed start past known now → known.phase ≢ phase.Calm →
+    HasSession (record { known = known; seen = now })
 due_session {start} {past} {known} {now} s due =
     served_open s (λ none. due (go past.party s.party none))
   where
@@ -545,27 +538,28 @@ pub nobody_over : {start : Seen} {past : Past} {units : List
     StreamUnit} {known : Known} {now : Seen} → IsServing start past past.fed units known now
     → known.splitting.held ≡ [] → known.session ≡ 0 → (place : ℕ)
     → option_map place_of (stream_of past.fed).fault ≡ Some place →
-    (way : Flow) (new : Known) (after : Seen)
-    → ServesOn (record known { pending = print_of item.Fault }) now new after → new.cause ≡ None
-    → (way ≡ flow.Open → new.pending ≡ [])
-    → (way ≡ flow.Lost → Climbs now.link.faults after.link.faults) →
-    ((later : Past) × IsOver start later new after (ended_by way (end.Broken place)))
-nobody_over {start} {past} {units} {known} {now} s all none place told way new after serves sound
-    nothing lost = go past.party s.served s.called
+    (way : Flow) (new : State)
+    → ServesOn (record { known = record known { pending = print_of item.Fault }; seen = now }) new
+    → new.known.cause ≡ None → (way ≡ flow.Open → new.known.pending ≡ [])
+    → (way ≡ flow.Lost → Climbs now.link.faults new.seen.link.faults) →
+    IsEnded (ended_by way (end.Broken place)) start new
+nobody_over {start} {past} {units} {known} {now} s all none place told way new serves sound nothing
+    lost = go past.party s.served s.called
   where
     over : (way : Flow)
-        → IsServed start (record { fed = past.fed; party = Nobody (print_of item.Fault) }) new after
+        → IsServed start (record { fed = past.fed; party = Nobody (print_of item.Fault) }) new.known
+        new.seen
         → (stream_of past.fed).greeting ≡ None → fault_of past.fed ≡ Some place →
-        (way ≡ flow.Open → new.pending ≡ [])
-        → (way ≡ flow.Lost → Climbs now.link.faults after.link.faults)
-        → ((later : Past) × IsOver start later new after (ended_by way (end.Broken place)))
+        (way ≡ flow.Open → new.known.pending ≡ [])
+        → (way ≡ flow.Lost → Climbs now.link.faults new.seen.link.faults)
+        → IsEnded (ended_by way (end.Broken place)) start new
     over flow.Open later greeting fault nothing lost = (
       record { fed = past.fed; party = Nobody (print_of item.Fault) },
       record {
         served = later;
         plan =
             subst (λ (cause : Option DeskFault). Plans (end.Broken place) cause
-            (record { fed = past.fed; party = Nobody (print_of item.Fault) }) new) (sym sound)
+            (record { fed = past.fed; party = Nobody (print_of item.Fault) }) new.known) (sym sound)
             (nothing refl, (greeting, fault, refl));
         heard = tt;
       },
@@ -576,7 +570,7 @@ nobody_over {start} {past} {units} {known} {now} s all none place told way new a
         served = later;
         plan = tt;
         heard =
-            climbs_after start.link.faults now.link.faults after.link.faults s.served.others.faults
+            climbs_after start.link.faults now.link.faults new.seen.link.faults s.served.others.faults
             (lost refl);
       },
     )
@@ -591,7 +585,7 @@ nobody_over {start} {past} {units} {known} {now} s all none place told way new a
 
     go : (party : Party) → IsServed start (record { fed = past.fed; party = party }) known now
         → AreCalled party units
-        → ((later : Past) × IsOver start later new after (ended_by way (end.Broken place)))
+        → IsEnded (ended_by way (end.Broken place)) start new
     go (Nobody nobody) before called =
         let greeting =
         no_greeting past.fed
@@ -606,11 +600,10 @@ nobody_over {start} {past} {units} {known} {now} s all none place told way new a
 
 -- ---- one step after another
 
-pub serves_none : (known : Known) (now : Seen) → ServesOn known now known now
-serves_none known now = λ start past s. s
+pub serves_none : (at : State) → ServesOn at at
+serves_none at = λ start past s. s
 
-pub serves_trans : {a b c : Known} {x y z : Seen} → ServesOn a x b y → ServesOn b y c z
-    → ServesOn a x c z
+pub serves_trans : {a b c : State} → ServesOn a b → ServesOn b c → ServesOn a c
 serves_trans p q = λ start past s. q start past (p start past s)
 
 pub keeps_none : (known : Known) → Keeps known known
@@ -626,95 +619,75 @@ keeps_trans p q =
     }
 
 -- what a try to send leaves alone
-pub sent_keeps : (old new : Known) → new ≡ record old { pending = new.pending } → Keeps old new
-sent_keeps old new same = record {
-  session = ap (λ (known : Known). known.session) same;
-  splitting = ap (λ (known : Known). known.splitting) same;
-  first = λ e. sym (ap (λ (known : Known). known.cause) same) ∙ e;
+pub sent_keeps : (old new : State) → IsSent old new → Keeps old.known new.known
+sent_keeps old new sent = record {
+  session = ap (λ (at : State). at.known.session) sent.3;
+  splitting = ap (λ (at : State). at.known.splitting) sent.3;
+  first = λ e. sym (ap (λ (at : State). at.known.cause) sent.3) ∙ e;
 }
 
-pub sent_on : (old new : Known) (before : Seen) (link : LinkView)
-    → ((bytes : List ℕ) × (old.pending ≡ bytes ++ new.pending) × Puts before.link bytes link)
-    → new ≡ record old { pending = new.pending }
-    → ServesOn old before new (record before { link = link })
-sent_on old new before link (bytes, e, puts) same = λ start past s.
-    subst (λ (new : Known). IsServed start past new (record before { link = link })) (sym same)
-    (served_sent s bytes new.pending link e puts)
+pub sent_on : (old new : State) → IsSent old new → ServesOn old new
+sent_on old new (bytes, e, puts, same) = λ start past s.
+    subst (λ (new : State). IsServed start past new.known new.seen) (sym same)
+    (served_sent s bytes new.known.pending new.seen.link e puts)
 
 -- the session is open still
-pub session_same : (old new : Known) (before after : DeskView) → Keeps old new
-    → after.mine ≡ before.mine → HasSession old before → HasSession new after
-session_same old new before after keeps mine h = record {
+pub session_same : (old new : State) → Keeps old.known new.known
+    → new.seen.desk.mine ≡ old.seen.desk.mine → HasSession old → HasSession new
+session_same old new keeps mine h = record {
   some = λ none. h.some (sym keeps.session ∙ none);
   is_open =
       subst₂ (λ (session : ℕ) (mine : List Record). IsOpen session mine) (sym keeps.session)
       (sym mine) h.is_open;
 }
 
-pub settled_room : (answer : Next) (new : Known) (before after : LinkView)
-    → Settled answer new before after → answer ≡ next.GoesOn → HasRoom new.phase
-settled_room next.GoesOn new before after settled same = has_room new.phase settled.2
-settled_room (next.Ends ending) new before after settled same = absurd (cc (same))
-
 -- ---- after a read that found nothing
 
-serving_next : {start : Seen} {past : Past} {units : List StreamUnit} {fed : List
-    ℕ} {old : Known} {before : Seen} → IsServing start past fed units old before
-    → (new : Known) (after : Seen) → ServesOn old before new after → Keeps old new →
-    new.pending ≡ [] → new.cause ≡ None → IsServing start past fed units new after
-serving_next {start} {past} {units} {fed} s new after serves keeps nothing sound = record {
+-- a session to be settled
+pub woken : {start : Seen} {past : Past} {units : List StreamUnit} (old new : State)
+    → HasWaited start past units old → old.known.session ≢ 0
+    → new ≡ knowing old (record old.known { phase = awake old.known.phase }) →
+    IsServing start past past.fed units new.known new.seen
+woken {start} {past} {units} old new h some same =
+    subst (λ (at : State). IsServing start past past.fed units at.known at.seen) (sym same)
+    (subst (λ (reached : Phase). IsServing start past past.fed units
+    (record old.known { phase = awake reached }) old.seen) (sym h.calm) (h.connected some))
+
+pub waited_asked : {start : Seen} {past : Past} {units : List StreamUnit} (old new : State)
+    → IsServing start past past.fed units old.known old.seen → ServesOn old new
+    → Keeps old.known new.known → new.known ≡ record old.known { cause = new.known.cause }
+    → new.known.cause ≡ None → IsServing start past past.fed units new.known new.seen
+waited_asked {start} {past} {units} old new s serves keeps same sound = record {
   served = serves start past s.served;
-  at = subst (λ (splitting : Splitting). IsAt splitting fed units) (sym keeps.splitting) s.at;
+  at = subst (λ (splitting : Splitting). IsAt splitting past.fed units) (sym keeps.splitting) s.at;
   called = s.called;
-  nothing = nothing;
+  nothing = ap (λ (known : Known). known.pending) same ∙ s.nothing;
   sound = sound;
 }
 
--- a session to be settled
-pub woken : {start : Seen} {past : Past} {units : List StreamUnit} {known : Known} {now : Seen}
-    → HasWaited start past units known now → known.session ≢ 0 → (new : Known)
-    → new ≡ record known { phase = awake known.phase } → IsServing start past past.fed units new now
-woken {start} {past} {units} {known} {now} h some new same =
-    subst (λ (new : Known). IsServing start past past.fed units new now)
-    (ap (λ (reached : Phase). let woken : Known = record known {
-      phase = awake
-          reached;
-    } in woken) (sym h.calm) ∙ sym same) (h.connected some)
-
-pub waited_asked : {start : Seen} {past : Past} {units : List
-    StreamUnit} {old : Known} {before : Seen} → IsServing start past past.fed units old before
-    → (new : Known) (after : Seen) → ServesOn old before new after → Keeps old new →
-    new ≡ record old { cause = new.cause } → new.cause ≡ None
-    → IsServing start past past.fed units new after
-waited_asked s new after serves keeps same sound =
-    serving_next s new after serves keeps
-    (ap (λ (known : Known). known.pending) same ∙ s.nothing) sound
-
-pub waited_last : {start : Seen} {past : Past} {units : List
-    StreamUnit} {old : Known} {before : Seen} → IsServing start past past.fed units old before
-    → old.session ≢ 0 → (new : Known) (after : Seen) → ServesOn old before new after
-    → Keeps old new →
-    new ≡ record old { cause = new.cause } → new.cause ≢ None → IsLast start past new after end.End
-waited_last {start} {past} s some new after serves keeps same fault = record {
+pub waited_last : {start : Seen} {past : Past} {units : List StreamUnit} (old new : State)
+    → IsServing start past past.fed units old.known old.seen → old.known.session ≢ 0
+    → ServesOn old new → Keeps old.known new.known
+    → new.known ≡ record old.known { cause = new.known.cause } → new.known.cause ≢ None →
+    IsLast start past new.known new.seen end.End
+waited_last {start} {past} old new s some serves keeps same fault = record {
   served = serves start past s.served;
   some = λ none. some (sym keeps.session ∙ none);
   nothing = ap (λ (known : Known). known.pending) same ∙ s.nothing;
   final = fault;
   plan =
-      λ later kept nothing calm. some_plan past.party past.fed start new after
+      λ later kept nothing calm. some_plan past.party past.fed start new.known new.seen
       (serves start past s.served).added later.cause later nothing
       (λ none. fault (kept.first none)) (serves start past s.served).party
       (λ none. some (sym keeps.session ∙ none));
 }
 
-pub waited_over : {start : Seen} {past : Past} {units : List
-    StreamUnit} {known : Known} {now : Seen} → HasWaited start past units known now
-    → known.session ≡ 0 → (new : Known) (after : Seen) → ServesOn known now new after
-    → Keeps known new →
-    new ≡ record known { cause = new.cause } → new.cause ≢ None
-    → IsOver start past new after end.End
-waited_over h none new after serves keeps same fault =
-    silent_over (h.silent none) h.all none new after serves (keeps.session ∙ none)
+pub waited_over : {start : Seen} {past : Past} {units : List StreamUnit} (old new : State)
+    → HasWaited start past units old → old.known.session ≡ 0 → ServesOn old new
+    → Keeps old.known new.known → new.known ≡ record old.known { cause = new.known.cause }
+    → new.known.cause ≢ None → IsOver start past new.known new.seen end.End
+waited_over old new h none serves keeps same fault =
+    silent_over old new (h.silent none) h.all none serves (keeps.session ∙ none)
     (ap (λ (known : Known). known.pending) same ∙ (h.silent none).nothing) fault
 
 pub some_of : {X : Type 0} (one : Option X) → is_some one ≡ true → one ≢ None

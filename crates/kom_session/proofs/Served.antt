@@ -106,11 +106,12 @@ noted_of {start} {past} {known} {now} s = go past.party s.party
         or_right (known.session == 0) (is_open known.session now.desk.mine) is.is_open
 
 pub served_open : {start : Seen} {past : Past} {known : Known} {now : Seen}
-    → IsServed start past known now → known.session ≢ 0 → HasSession known now.desk
+    → IsServed start past known now → known.session ≢ 0 →
+    HasSession (record { known = known; seen = now })
 served_open {start} {past} {known} {now} s some = go past.party s.party
   where
     go : (party : Party) → IsParty past.fed party start known now s.added
-        → HasSession known now.desk
+        → HasSession (record { known = known; seen = now })
     go (Nobody told) is = absurd (some is.none)
     go (Somebody user requests broken) is = record { some = some; is_open = is.is_open }
 

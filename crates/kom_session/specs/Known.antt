@@ -1,11 +1,13 @@
 -- What is known of a conversation, and of what is outside it.
 use Rattle.std.specs.Prelude.{◌≡◌, ◌≢◌, ℕ, ◌+◌, ◌≤◌, ◌<◌, ◌⊎◌, ◌++◌, false, List, drop, flat_map}
-use Rattle.std.specs.Prelude.{Option, None, IsSome}
+use Rattle.std.specs.Prelude.{Option, None, IsSome, Result, ⊤}
 use Rattle.kom_types.specs.Printing.{print_of}
 use Rattle.kom_framing.specs.Splitting.{Splitting}
 use Rattle.kom_links.specs.declared.desk.DeskFault.{DeskFault}
-use Rattle.kom_links.specs.DeskCalls.{DeskView}
-use Rattle.kom_links.specs.Outside.{LinkView, grown}
+use Rattle.kom_links.specs.DeskCalls.{DeskView, Closes, first_fault}
+use Rattle.kom_links.specs.Doors.{Gains}
+use Rattle.kom_links.specs.declared.link.Got.{Got}
+use Rattle.kom_links.specs.Outside.{LinkView, Reads, grown}
 use Rattle.kom_links.specs.Records.{is_open, IsOpen}
 use Rattle.kom_session.specs.declared.conversation.Conversation.{Conversation}
 use Rattle.kom_session.specs.declared.flow.Phase.{Phase}
@@ -41,10 +43,25 @@ pub record Seen : Type 0 where
 abbrev pub seen : DeskView → LinkView → Option (List ℕ) → Seen
 seen desk link gave = record { desk = desk; link = link; gave = gave }
 
+-- What is known of a service, and what is seen of its desk, link and clock.
+pub record State : Type 0 where
+  pub known : Known
+  pub seen : Seen
+
+-- the same with this known
+abbrev pub knowing : State → Known → State
+knowing at known = record { known = known; seen = at.seen }
+
+-- which desk, link and clock a service has borrowed
+pub record Doors : Type 0 where
+  pub desk : ℕ
+  pub link : ℕ
+  pub clock : ℕ
+
 -- a session is connected, and open
-pub record HasSession (known : Known) (desk : DeskView) : Type 0 where
-  pub some : known.session ≢ 0
-  pub is_open : IsOpen known.session desk.mine
+pub record HasSession (at : State) : Type 0 where
+  pub some : at.known.session ≢ 0
+  pub is_open : IsOpen at.known.session at.seen.desk.mine
 
 -- one more line can be called before it must be settled
 abbrev pub HasRoom : Phase → Type 0
@@ -78,6 +95,32 @@ pub record Puts (before : LinkView) (bytes : List ℕ) (after : LinkView) : Type
   pub host : after.host ≡ before.host
   pub reads : after.reads ≡ before.reads
   pub faults : before.faults ≤ after.faults
+
+-- The link was read, and nothing else was done.
+abbrev pub ReadsLink : State → List ℕ → Got → State → Type 0
+ReadsLink old buffer answer new = Reads old.seen.link buffer answer new.seen.link
+    × (new ≡ record { known = old.known; seen = record old.seen { link = new.seen.link } })
+
+-- Some of what was pending was put to the link, and nothing else was done.
+abbrev pub IsSent : State → State → Type 0
+IsSent old new = (bytes : List ℕ) × (old.known.pending ≡ bytes ++ new.known.pending)
+    × Puts old.seen.link bytes new.seen.link
+    × (new ≡ record {
+      known = record old.known { pending = new.known.pending };
+      seen = record old.seen { link = new.seen.link };
+    })
+
+-- The session was closed, if there was one.
+pub record IsClosed (old new : State) : Type 0 where
+  pub link : new.seen.link ≡ old.seen.link
+  pub silent : old.known.session ≡ 0 → new ≡ old
+  pub closed : old.known.session ≢ 0 → (moment : ℕ) × (answer : Result ⊤ DeskFault)
+      × (desk : DeskView) × (gave : Option (List ℕ)) × Gains old.seen.gave moment gave
+      × Closes old.seen.desk moment old.known.session answer desk
+      × (new ≡ record {
+        known = record old.known { cause = first_fault old.known.cause answer };
+        seen = record old.seen { desk = desk; gave = gave };
+      })
 
 -- What the service of a session leaves alone of a desk and a link: the pass and the host; what is
 -- given to others, who stays open, and what is noted of others, unless it is the first fault of an

@@ -1,6 +1,6 @@
 -- How far the service of a link has come.
 use Rattle.std.specs.Prelude.{◌≡◌, ◌≢◌, ℕ, ◌-◌, ◌^◌, ◌<◌, ◌≤◌, ◌⊎◌, Bool, true, false, List, []}
-use Rattle.std.specs.Prelude.{◌∷◌, ◌++◌, length, map, take, Option, Some, None, IsSome, IfSome}
+use Rattle.std.specs.Prelude.{◌∷◌, ◌++◌, length, map, take, Option, Some, None, IsSome, IfSome, IsTrue}
 use Rattle.std.specs.List.{AllByRecursion}
 use Rattle.kom_types.specs.declared.acts.Record.{Record}
 use Rattle.kom_types.specs.declared.items.Item.{Item}
@@ -12,22 +12,23 @@ use Rattle.kom_framing.specs.declared.units.Unit.{Unit as StreamUnit}
 use Rattle.kom_framing.specs.declared.units.Unit.TheVariants as unit
 use Rattle.kom_framing.specs.Splitting.{IsAt}
 use Rattle.kom_links.specs.declared.desk.DeskFault.{DeskFault}
+use Rattle.kom_links.specs.declared.served.Served.{Served}
 use Rattle.kom_links.specs.declared.served.SessionEnd.{SessionEnd}
 use Rattle.kom_links.specs.declared.served.SessionEnd.TheVariants as end
 use Rattle.kom_links.specs.Outside.{LinkView, grown}
-use Rattle.kom_links.specs.Records.{IsOpen}
+use Rattle.kom_links.specs.Records.{IsOpen, has_connect}
 use Rattle.kom_links.specs.DeskCalls.{IsConnectFault}
-use Rattle.kom_links.specs.Talk.{Step, steps_of, lines_before, printed, AreTimed}
+use Rattle.kom_links.specs.Talk.{Step, steps_of, lines_before, printed, AreTimed, IsTalk}
 use Rattle.kom_session.specs.declared.flow.Next.{Next}
 use Rattle.kom_session.specs.declared.flow.Next.TheVariants as next
 use Rattle.kom_session.specs.declared.flow.Phase.{Phase}
 use Rattle.kom_session.specs.declared.flow.Phase.TheVariants as phase
-use Rattle.kom_session.specs.declared.flow.Turn.{Turn}
-use Rattle.kom_session.specs.declared.flow.Turn.TheVariants as turn
+use Rattle.kom_session.specs.declared.flow.UnitDone.{UnitDone}
+use Rattle.kom_session.specs.declared.flow.UnitDone.TheVariants as done
 use Rattle.kom_session.specs.Course.{IsFlushed, IsSettled, IsRecent, IsCourse}
-use Rattle.kom_session.specs.Ends.{IsOwn, IsUntouched}
-use Rattle.kom_session.specs.Known.{Known, Seen, HasRoom, Keeps, LeavesOthers}
-use Rattle.kom_session.specs.Waits.{IsChecked, AreAnswered}
+use Rattle.kom_session.specs.Ends.{IsOwn, IsUntouched, HasCause, Tells, TellsFault, given_to}
+use Rattle.kom_session.specs.Known.{Known, Seen, State, HasRoom, Keeps, LeavesOthers}
+use Rattle.kom_session.specs.Waits.{IsChecked, AreAnswered, NoneWaits}
 
 -- Who is served: nobody, who is told these bytes; or the session of a user, with the calls that it
 -- made, and whether it was said that its stream is at fault.
@@ -112,9 +113,9 @@ pub record IsServed (start : Seen) (past : Past) (known : Known) (now : Seen) : 
   pub untouched : IsUntouched start.link
 
 -- From every start since which a link was served so far, it is served on.
-abbrev pub ServesOn : Known → Seen → Known → Seen → Type 0
-ServesOn old before new after =
-    (start : Seen) (past : Past) → IsServed start past old before → IsServed start past new after
+abbrev pub ServesOn : State → State → Type 0
+ServesOn old new = (start : Seen) (past : Past)
+    → IsServed start past old.known old.seen → IsServed start past new.known new.seen
 
 -- The units taken are the greeting and these calls, or none.
 abbrev pub AreCalled : Party → List StreamUnit → Type 0
@@ -142,24 +143,23 @@ pub record IsBetween (start : Seen) (past : Past) (units : List StreamUnit) (kno
   pub calm : known.phase ≡ phase.Calm
 
 -- A piece was read after the bytes that were fed, and is to be fed.
-pub record HasRead (piece : List ℕ) (start : Seen) (past : Past) (known : Known)
-    (now : Seen) : Type 0 where
+pub record HasRead (piece : List ℕ) (start : Seen) (past : Past) (at : State) : Type 0 where
   pub fed : List ℕ
   pub units : List StreamUnit
   pub whole : past.fed ≡ fed ++ piece
-  pub serving : IsServing start past fed units known now
-  pub all : known.splitting.held ≡ []
-  pub calm : known.phase ≡ phase.Calm
+  pub serving : IsServing start past fed units at.known at.seen
+  pub all : at.known.splitting.held ≡ []
+  pub calm : at.known.phase ≡ phase.Calm
 
 -- A read found nothing, so that a session is to be settled again.
-pub record HasWaited (start : Seen) (past : Past) (units : List StreamUnit) (known : Known)
-    (now : Seen) : Type 0 where
-  pub silent : known.session ≡ 0 → IsServing start past past.fed units known now
-  pub connected : known.session ≢ 0
-      → IsServing start past past.fed units (record known { phase = phase.Due 0 }) now
-  pub all : known.splitting.held ≡ []
+pub record HasWaited (start : Seen) (past : Past) (units : List StreamUnit)
+    (at : State) : Type 0 where
+  pub silent : at.known.session ≡ 0 → IsServing start past past.fed units at.known at.seen
+  pub connected : at.known.session ≢ 0 →
+      IsServing start past past.fed units (record at.known { phase = phase.Due 0 }) at.seen
+  pub all : at.known.splitting.held ≡ []
   pub sound : (stream_of past.fed).fault ≡ None
-  pub calm : known.phase ≡ phase.Calm
+  pub calm : at.known.phase ≡ phase.Calm
 
 -- the whole stream was served, and it has no fault
 abbrev pub IsWhole : List ℕ → Party → Phase → Type 0
@@ -264,50 +264,98 @@ pub record IsFaulty (place : ℕ) (start : Seen) (past : Past) (known : Known)
   pub nothing : known.pending ≡ []
   pub sound : known.cause ≡ None
 
--- What a turn leaves of what was fed to the splitter: no unit is left, or one was served, or it was
--- the last.
-abbrev pub Turns : Turn → Seen → Past → Known → Seen → Type 0
-Turns turn.Idle start past known now =
-    (units : List StreamUnit) × IsServing start past past.fed units known now
-    × (known.splitting.held ≡ []) × HasRoom known.phase
-Turns turn.Made start past known now =
-    (later : Past) × (units : List StreamUnit) × (later.fed ≡ past.fed)
-    × IsServing start later later.fed units known now
-Turns (turn.Last ending) start past known now =
-    (later : Past) × (later.fed ≡ past.fed) × IsLast start later known now ending
-Turns (turn.Ends ending) start past known now =
-    (later : Past) × (later.fed ≡ past.fed) × IsOver start later known now ending
+-- The loop is over at this state, and so ends.
+abbrev pub IsEnded : SessionEnd → Seen → State → Type 0
+IsEnded ending start at = (later : Past) × IsOver start later at.known at.seen ending
 
--- The units that were taken are served on, or the loop is over.
-abbrev pub Serves : Next → Seen → Past → List StreamUnit → Known → Seen → Type 0
-Serves next.GoesOn start past units known now = IsServing start past past.fed units known now
-Serves (next.Ends ending) start past units known now = IsOver start past known now ending
+-- a link is served since some start, and a fact of each such start
+abbrev pub CanServe : State → Type 0
+CanServe at = (start : Seen) × (past : Past) × (units : List StreamUnit)
+    × IsServing start past past.fed units at.known at.seen
+
+abbrev pub IfServing : State → (Seen → Past → List StreamUnit → Type 0) → Type 0
+IfServing at P = (start : Seen) (past : Past) (units : List StreamUnit)
+    → IsServing start past past.fed units at.known at.seen → P start past units
+
+-- the same between two reads, and of a unit that was taken
+abbrev pub CanRead : State → Type 0
+CanRead at = (start : Seen) × (past : Past) × (units : List StreamUnit)
+    × IsBetween start past units at.known at.seen
+
+abbrev pub IfBetween : State → (Seen → Past → List StreamUnit → Type 0) → Type 0
+IfBetween at P = (start : Seen) (past : Past) (units : List StreamUnit)
+    → IsBetween start past units at.known at.seen → P start past units
+
+abbrev pub IfTaking : StreamUnit → State → (Seen → Past → List StreamUnit → Type 0) → Type 0
+IfTaking next at P = (start : Seen) (past : Past) (units : List StreamUnit)
+    → IsTaking start past units next at.known at.seen → P start past units
+
+-- What serving one unit leaves: none was left, or one was served, or it was the last.
+abbrev pub ServesUnit : UnitDone → Seen → Past → State → Type 0
+ServesUnit done.Idle start past at =
+    (units : List StreamUnit) × IsServing start past past.fed units at.known at.seen
+    × (at.known.splitting.held ≡ []) × HasRoom at.known.phase
+ServesUnit done.Made start past at =
+    (later : Past) × (units : List StreamUnit) × (later.fed ≡ past.fed)
+    × IsServing start later later.fed units at.known at.seen
+ServesUnit (done.Last ending) start past at =
+    (later : Past) × (later.fed ≡ past.fed) × IsLast start later at.known at.seen ending
+ServesUnit (done.Ends ending) start past at =
+    (later : Past) × (later.fed ≡ past.fed) × IsOver start later at.known at.seen ending
+
+-- The units that were taken are served on, and one more line can be, or the loop is over.
+abbrev pub ServesBatch : Next → Seen → Past → List StreamUnit → State → Type 0
+ServesBatch next.GoesOn start past units at =
+    IsServing start past past.fed units at.known at.seen × HasRoom at.known.phase
+ServesBatch (next.Ends ending) start past units at = IsOver start past at.known at.seen ending
 
 -- What all units that were fed leave: each was served, or the loop is over.
-abbrev pub ServesUnits : Next → Seen → List ℕ → Known → Seen → Type 0
-ServesUnits next.GoesOn start fed known now =
+abbrev pub ServesUnits : Next → Seen → List ℕ → State → Type 0
+ServesUnits next.GoesOn start fed at =
     (past : Past) × (units : List StreamUnit) × (past.fed ≡ fed)
-    × IsServing start past past.fed units known now × (known.splitting.held ≡ [])
-    × HasRoom known.phase
-ServesUnits (next.Ends ending) start fed known now =
-    (past : Past) × IsOver start past known now ending
+    × IsServing start past past.fed units at.known at.seen × (at.known.splitting.held ≡ [])
+    × HasRoom at.known.phase
+ServesUnits (next.Ends ending) start fed at = IsEnded ending start at
 
 -- The link is read again, or the loop is over.
-abbrev pub GoesOn : Next → Seen → Known → Seen → Type 0
-GoesOn next.GoesOn start known now =
-    (past : Past) × (units : List StreamUnit) × IsBetween start past units known now
-GoesOn (next.Ends ending) start known now = (past : Past) × IsOver start past known now ending
+abbrev pub GoesOn : Next → Seen → State → Type 0
+GoesOn next.GoesOn start at =
+    (past : Past) × (units : List StreamUnit) × IsBetween start past units at.known at.seen
+GoesOn (next.Ends ending) start at = IsEnded ending start at
 
 -- What settling a session leaves: it is settled, or the desk answered a fault, or the link or
 -- memory failed.
-abbrev pub Settled : Next → Known → LinkView → LinkView → Type 0
-Settled next.GoesOn known before after =
-    (known.pending ≡ []) × (known.cause ≡ None) × (known.phase ≡ phase.Calm)
-Settled (next.Ends end.End) known before after = (known.pending ≡ []) × (known.cause ≢ None)
-Settled (next.Ends end.LinkFault) known before after = Climbs before.faults after.faults
-Settled (next.Ends end.Memory) known before after = Unit {0}
-Settled (next.Ends (end.Broken place)) known before after = ⊥
-Settled (next.Ends end.Overrun) known before after = ⊥
-Settled (next.Ends end.Dropped) known before after = ⊥
-Settled (next.Ends end.Stopped) known before after = ⊥
-Settled (next.Ends (end.Full number)) known before after = ⊥
+abbrev pub Settled : Next → State → State → Type 0
+Settled next.GoesOn old new =
+    (new.known.pending ≡ []) × (new.known.cause ≡ None) × (new.known.phase ≡ phase.Calm)
+Settled (next.Ends end.End) old new = (new.known.pending ≡ []) × (new.known.cause ≢ None)
+Settled (next.Ends end.LinkFault) old new = Climbs old.seen.link.faults new.seen.link.faults
+Settled (next.Ends end.Memory) old new = Unit {0}
+Settled (next.Ends (end.Broken place)) old new = ⊥
+Settled (next.Ends end.Overrun) old new = ⊥
+Settled (next.Ends end.Dropped) old new = ⊥
+Settled (next.Ends end.Stopped) old new = ⊥
+Settled (next.Ends (end.Full number)) old new = ⊥
+
+-- Nothing was said yet, and the link is untouched.
+abbrev pub IsBegun : State → Type 0
+IsBegun at =
+    IsBetween at.seen (record { fed = []; party = Nobody [] }) [] at.known at.seen
+
+-- A link was served from its greeting to its end, as the contract of serve_link says.
+pub record ServesLink (old : Seen) (result : Served) (new : Seen) : Type 0 where
+  pub talk : (added : List Record) × (new.desk.mine ≡ old.desk.mine ++ added)
+      × AllByRecursion (IsOwn result.session) added × AreTimed old.gave new.gave added
+      × (input output : List ℕ) × Tells new.link input output
+      × TellsFault old.link.faults new.link.faults (new.desk.fault_to result.session) input
+      result.end
+      × IsTalk old.link.host input output new.link.ended added result.session
+      (given_to result.session (new.desk.gave_to result.session)) result.end new.desk.lock_full
+  pub session : (added : List Record) × (new.desk.mine ≡ old.desk.mine ++ added)
+      × (result.session ≢ 0 → IsTrue (has_connect result.session added))
+  pub waits : (added : List Record) × (new.desk.mine ≡ old.desk.mine ++ added)
+      × IfSome new.link.reads (λ looks. NoneWaits (steps_of result.session added
+      (given_to result.session (new.desk.gave_to result.session))) looks)
+  pub cause : HasCause old.link.faults new.link.faults (new.desk.fault_to result.session)
+      new.link.ended result.end
+  pub others : LeavesOthers result.session old new

@@ -14,9 +14,9 @@ pub(crate) enum Phase {
     Draining,
 }
 
-/// What a turn of a conversation came to.
+/// What serving one unit came to.
 #[derive(Clone, Copy, Debug)]
-pub(crate) enum Turn {
+pub(crate) enum UnitDone {
     /// No unit was complete.
     Idle,
     /// The unit's act was made.

@@ -4,6 +4,8 @@
 mod conversation;
 mod ending;
 mod flow;
+mod serve;
+mod service;
 mod serving;
 mod settling;
 

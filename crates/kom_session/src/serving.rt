@@ -7,18 +7,19 @@ ghost use Rattle.kom_types.specs.Reading.{place_of};
 ghost use Rattle.kom_framing.specs.declared.units.Unit.{Unit as StreamUnit};
 ghost use Rattle.kom_links.specs.Records.{has_connect};
 ghost use Rattle.kom_links.specs.Talk.{IsTalk, AreTimed, steps_of};
-ghost use Rattle.kom_session.specs.declared.flow.Next.TheVariants as next;
 ghost use Rattle.kom_session.specs.Ends.{HasCause, TellsFault, IsOwn, IsUntouched, Tells, given_to};
-ghost use Rattle.kom_session.specs.Known.{known, Seen, seen, HasSession, HasRoom, Keeps};
-ghost use Rattle.kom_session.specs.Known.{LeavesOthers};
-ghost use Rattle.kom_session.specs.Serving.{Past, ServesOn, IsServing, IsBetween, HasRead};
-ghost use Rattle.kom_session.specs.Serving.{HasWaited, IsOver, IsLast, Serves, ServesUnits, GoesOn};
+ghost use Rattle.kom_session.specs.Known.{Seen, seen, HasSession, HasRoom, Keeps, LeavesOthers};
+ghost use Rattle.kom_session.specs.Serving.{Past, ServesOn, IsBegun, ServesLink, CanServe};
+ghost use Rattle.kom_session.specs.Serving.{IfServing, CanRead, IfBetween, HasRead, HasWaited};
+ghost use Rattle.kom_session.specs.Serving.{IsEnded, IsLast, ServesBatch, ServesUnits, GoesOn};
 ghost use Rattle.kom_session.specs.Serving.{Settled};
 ghost use Rattle.kom_session.specs.Waits.{NoneWaits};
 
 use crate::conversation::Conversation;
 use crate::ending::end_of;
-use crate::flow::{Flow, Next, Turn, ended_by};
+use crate::flow::{Flow, Next, UnitDone, ended_by};
+use crate::serve::Serve;
+use crate::service::Service;
 use crate::settling::{send, settle};
 use kom_links::{Clock, Desk, Got, Link, Served, SessionEnd, has_risen};
 use std::alloc::Global;
@@ -70,63 +71,55 @@ pub fn serve_link<R: Wait, K: Desk, L: Link, C: Clock>(
         (seen (K.view desk.old) (L.view link.old) (C.gave clock.old))
         (seen (K.view desk.new) (L.view link.new) (C.gave clock.new)) }
 {
-    let faults = link.faults();
     let mut talk = Conversation::new(alloc);
-    let planned = serve_stream(rt, alloc, &mut talk, desk, link, clock);
-    talk.close(desk, clock);
+    let mut service = Service {
+        talk: &mut talk,
+        desk,
+        link,
+        clock,
+    };
+    serve(rt, alloc, &mut service)
+}
+
+/// Serves a link on which nothing was done, and closes its session.
+fn serve<R: Wait, S: Serve>(rt: &R, alloc: Global, service: &mut S) -> Served
+    requires { IsBegun (S.state service.old) }
+    ensures doors { S.doors service.new ≡ S.doors service.old }
+    ensures serves { ServesLink (S.state service.old).seen result (S.state service.new).seen }
+{
+    let faults = service.faults();
+    let planned = serve_stream(rt, alloc, service);
+    service.close();
+    let risen = has_risen(faults, service.faults());
     Served {
-        session: talk.session(),
-        end: end_of(has_risen(faults, link.faults()), planned, talk.cause()),
+        session: service.session(),
+        end: end_of(risen, planned, service.cause()),
     }
 }
 
 /// Reads the client's stream into a buffer and serves it, until one of the ends.
-fn serve_stream<R: Wait, K: Desk, L: Link, C: Clock>(
-    rt: &R,
-    alloc: Global,
-    talk: &mut Conversation,
-    desk: &mut K,
-    link: &mut L,
-    clock: &mut C,
-) -> SessionEnd
-    requires { (start : Seen) × (past : Past) × (units : List StreamUnit)
-        × IsBetween start past units (known talk.old)
-        (seen (K.view desk.old) (L.view link.old) (C.gave clock.old)) }
-    ensures { (start : Seen) (past : Past) (units : List StreamUnit)
-        → IsBetween start past units (known talk.old)
-        (seen (K.view desk.old) (L.view link.old) (C.gave clock.old))
-        → (later : Past)
-        × IsOver start later (known talk.new)
-        (seen (K.view desk.new) (L.view link.new) (C.gave clock.new)) result }
+fn serve_stream<R: Wait, S: Serve>(rt: &R, alloc: Global, service: &mut S) -> SessionEnd
+    requires { CanRead (S.state service.old) }
+    ensures doors { S.doors service.new ≡ S.doors service.old }
+    ensures serves { IfBetween (S.state service.old)
+        (λ start past units. IsEnded result start (S.state service.new)) }
 {
     let Ok(mut buffer) = vec![in alloc; 0u8; PIECE] else {
         return SessionEnd::Memory;
     };
-    serve_pieces(rt, talk, desk, link, clock, buffer.as_mut_slice())
+    serve_pieces(rt, service, buffer.as_mut_slice())
 }
 
 /// Reads the client's stream piece by piece and serves it, until one of the ends.
-fn serve_pieces<R: Wait, K: Desk, L: Link, C: Clock>(
-    rt: &R,
-    talk: &mut Conversation,
-    desk: &mut K,
-    link: &mut L,
-    clock: &mut C,
-    buffer: &mut [u8],
-) -> SessionEnd
+fn serve_pieces<R: Wait, S: Serve>(rt: &R, service: &mut S, buffer: &mut [u8]) -> SessionEnd
     requires room { 0 < length buffer.old }
-    requires between { (start : Seen) × (past : Past) × (units : List StreamUnit)
-        × IsBetween start past units (known talk.old)
-        (seen (K.view desk.old) (L.view link.old) (C.gave clock.old)) }
-    ensures { (start : Seen) (past : Past) (units : List StreamUnit)
-        → IsBetween start past units (known talk.old)
-        (seen (K.view desk.old) (L.view link.old) (C.gave clock.old))
-        → (later : Past)
-        × IsOver start later (known talk.new)
-        (seen (K.view desk.new) (L.view link.new) (C.gave clock.new)) result }
+    requires between { CanRead (S.state service.old) }
+    ensures doors { S.doors service.new ≡ S.doors service.old }
+    ensures serves { IfBetween (S.state service.old)
+        (λ start past units. IsEnded result start (S.state service.new)) }
 {
     for _ in rt.forever() {
-        match serve_read(rt, talk, desk, link, clock, buffer) {
+        match serve_read(rt, service, buffer) {
             Next::GoesOn => {}
             Next::Ends(end) => return end,
         }
@@ -135,27 +128,16 @@ fn serve_pieces<R: Wait, K: Desk, L: Link, C: Clock>(
 }
 
 /// Reads once and serves what was read, or what waits where nothing was there.
-fn serve_read<R: Wait, K: Desk, L: Link, C: Clock>(
-    rt: &R,
-    talk: &mut Conversation,
-    desk: &mut K,
-    link: &mut L,
-    clock: &mut C,
-    buffer: &mut [u8],
-) -> Next
+fn serve_read<R: Wait, S: Serve>(rt: &R, service: &mut S, buffer: &mut [u8]) -> Next
     requires room { 0 < length buffer.old }
-    requires between { (start : Seen) × (past : Past) × (units : List StreamUnit)
-        × IsBetween start past units (known talk.old)
-        (seen (K.view desk.old) (L.view link.old) (C.gave clock.old)) }
-    ensures { (start : Seen) (past : Past) (units : List StreamUnit)
-        → IsBetween start past units (known talk.old)
-        (seen (K.view desk.old) (L.view link.old) (C.gave clock.old))
-        → GoesOn result start (known talk.new)
-        (seen (K.view desk.new) (L.view link.new) (C.gave clock.new)) }
+    requires between { CanRead (S.state service.old) }
+    ensures doors { S.doors service.new ≡ S.doors service.old }
+    ensures serves { IfBetween (S.state service.old)
+        (λ start past units. GoesOn result start (S.state service.new)) }
 {
-    match link.read(buffer) {
-        Got::Some(count) => serve_piece(rt, talk, desk, link, clock, &buffer[..count]),
-        Got::NotYet => wait_for_more(rt, talk, desk, link, clock),
+    match service.read(buffer) {
+        Got::Some(count) => serve_piece(rt, service, &buffer[..count]),
+        Got::NotYet => wait_for_more(rt, service),
         Got::End => Next::Ends(SessionEnd::End),
         Got::Failed => Next::Ends(SessionEnd::LinkFault),
     }
@@ -163,93 +145,65 @@ fn serve_read<R: Wait, K: Desk, L: Link, C: Clock>(
 
 /// Nothing was there to read: the desk is asked whether it is stopped, and what waits for the
 /// session is sent.
-fn wait_for_more<R: Wait, K: Desk, L: Link, C: Clock>(
-    rt: &R,
-    talk: &mut Conversation,
-    desk: &mut K,
-    link: &mut L,
-    clock: &mut C,
-) -> Next
+fn wait_for_more<R: Wait, S: Serve>(rt: &R, service: &mut S) -> Next
     requires { (start : Seen) × (past : Past) × (units : List StreamUnit)
-        × HasWaited start past units (known talk.old)
-        (seen (K.view desk.old) (L.view link.old) (C.gave clock.old)) }
-    ensures { (start : Seen) (past : Past) (units : List StreamUnit)
-        → HasWaited start past units (known talk.old)
-        (seen (K.view desk.old) (L.view link.old) (C.gave clock.old))
-        → GoesOn result start (known talk.new)
-        (seen (K.view desk.new) (L.view link.new) (C.gave clock.new)) }
+        × HasWaited start past units (S.state service.old) }
+    ensures doors { S.doors service.new ≡ S.doors service.old }
+    ensures serves { (start : Seen) (past : Past) (units : List StreamUnit)
+        → HasWaited start past units (S.state service.old)
+        → GoesOn result start (S.state service.new) }
 {
-    if talk.session() == 0 {
-        talk.ask_stopped(desk);
-        if talk.cause().is_some() {
+    if service.session() == 0 {
+        service.ask_stopped();
+        if !service.is_sound() {
             return Next::Ends(SessionEnd::End);
         }
         return Next::GoesOn;
     }
-    talk.wake();
-    talk.ask_stopped(desk);
-    if talk.cause().is_some() {
-        return Next::Ends(finish(rt, talk, desk, link, clock, SessionEnd::End));
+    service.wake();
+    service.ask_stopped();
+    if !service.is_sound() {
+        return Next::Ends(finish(rt, service, SessionEnd::End));
     }
-    settle_on(rt, talk, desk, link, clock)
+    settle_on(rt, service)
 }
 
 /// Feeds a piece of the stream, and serves what is complete.
-fn serve_piece<R: Wait, K: Desk, L: Link, C: Clock>(
-    rt: &R,
-    talk: &mut Conversation,
-    desk: &mut K,
-    link: &mut L,
-    clock: &mut C,
-    piece: &[u8],
-) -> Next
-    requires { (start : Seen) × (past : Past)
-        × HasRead piece.now start past (known talk.old)
-        (seen (K.view desk.old) (L.view link.old) (C.gave clock.old)) }
-    ensures { (start : Seen) (past : Past)
-        → HasRead piece.now start past (known talk.old)
-        (seen (K.view desk.old) (L.view link.old) (C.gave clock.old))
-        → GoesOn result start (known talk.new)
-        (seen (K.view desk.new) (L.view link.new) (C.gave clock.new)) }
+fn serve_piece<R: Wait, S: Serve>(rt: &R, service: &mut S, piece: &[u8]) -> Next
+    requires { (start : Seen) × (past : Past) × HasRead piece.now start past (S.state service.old) }
+    ensures doors { S.doors service.new ≡ S.doors service.old }
+    ensures serves { (start : Seen) (past : Past)
+        → HasRead piece.now start past (S.state service.old)
+        → GoesOn result start (S.state service.new) }
 {
-    let Ok(fault) = talk.feed(piece) else {
+    let Ok(fault) = service.feed(piece) else {
         return Next::Ends(SessionEnd::Memory);
     };
-    match serve_units(rt, talk, desk, link, clock) {
+    match serve_units(rt, service) {
         Next::Ends(end) => Next::Ends(end),
         Next::GoesOn => match fault {
-            None => serve_rest(rt, talk, desk, link, clock),
-            Some(place) => Next::Ends(serve_fault(rt, talk, desk, link, clock, place)),
+            None => serve_rest(rt, service),
+            Some(place) => Next::Ends(serve_fault(rt, service, place)),
         },
     }
 }
 
 /// Serves the units that are complete, and settles the session after each four lines.
-fn serve_units<R: Wait, K: Desk, L: Link, C: Clock>(
-    rt: &R,
-    talk: &mut Conversation,
-    desk: &mut K,
-    link: &mut L,
-    clock: &mut C,
-) -> Next
-    requires room { HasRoom (known talk.old).phase }
-    requires serving { (start : Seen) × (past : Past) × (units : List StreamUnit)
-        × IsServing start past past.fed units (known talk.old)
-        (seen (K.view desk.old) (L.view link.old) (C.gave clock.old)) }
-    ensures { (start : Seen) (past : Past) (units : List StreamUnit)
-        → IsServing start past past.fed units (known talk.old)
-        (seen (K.view desk.old) (L.view link.old) (C.gave clock.old))
-        → ServesUnits result start past.fed (known talk.new)
-        (seen (K.view desk.new) (L.view link.new) (C.gave clock.new)) }
+fn serve_units<R: Wait, S: Serve>(rt: &R, service: &mut S) -> Next
+    requires room { HasRoom (S.state service.old).known.phase }
+    requires serving { CanServe (S.state service.old) }
+    ensures doors { S.doors service.new ≡ S.doors service.old }
+    ensures serves { IfServing (S.state service.old)
+        (λ start past units. ServesUnits result start past.fed (S.state service.new)) }
 {
     for _ in rt.forever() {
-        match talk.act(desk, link, clock) {
-            Turn::Idle => return Next::GoesOn,
-            Turn::Made => {}
-            Turn::Last(end) => return Next::Ends(finish(rt, talk, desk, link, clock, end)),
-            Turn::Ends(end) => return Next::Ends(end),
+        match service.act() {
+            UnitDone::Idle => return Next::GoesOn,
+            UnitDone::Made => {}
+            UnitDone::Last(end) => return Next::Ends(finish(rt, service, end)),
+            UnitDone::Ends(end) => return Next::Ends(end),
         }
-        match serve_batch(rt, talk, desk, link, clock) {
+        match serve_batch(rt, service) {
             Next::GoesOn => {}
             Next::Ends(end) => return Next::Ends(end),
         }
@@ -258,135 +212,86 @@ fn serve_units<R: Wait, K: Desk, L: Link, C: Clock>(
 }
 
 /// Settles the session if four lines were called since it last was.
-fn serve_batch<R: Wait, K: Desk, L: Link, C: Clock>(
-    rt: &R,
-    talk: &mut Conversation,
-    desk: &mut K,
-    link: &mut L,
-    clock: &mut C,
-) -> Next
-    requires { (start : Seen) × (past : Past) × (units : List StreamUnit)
-        × IsServing start past past.fed units (known talk.old)
-        (seen (K.view desk.old) (L.view link.old) (C.gave clock.old)) }
-    ensures room { result ≡ next.GoesOn → HasRoom (known talk.new).phase }
-    ensures serves { (start : Seen) (past : Past) (units : List StreamUnit)
-        → IsServing start past past.fed units (known talk.old)
-        (seen (K.view desk.old) (L.view link.old) (C.gave clock.old))
-        → Serves result start past units (known talk.new)
-        (seen (K.view desk.new) (L.view link.new) (C.gave clock.new)) }
+fn serve_batch<R: Wait, S: Serve>(rt: &R, service: &mut S) -> Next
+    requires { CanServe (S.state service.old) }
+    ensures doors { S.doors service.new ≡ S.doors service.old }
+    ensures serves { IfServing (S.state service.old)
+        (λ start past units. ServesBatch result start past units (S.state service.new)) }
 {
-    if talk.is_full() {
-        return settle_on(rt, talk, desk, link, clock);
+    if service.is_full() {
+        return settle_on(rt, service);
     }
     Next::GoesOn
 }
 
 /// Settles the session if something was done since it last was.
-fn serve_rest<R: Wait, K: Desk, L: Link, C: Clock>(
-    rt: &R,
-    talk: &mut Conversation,
-    desk: &mut K,
-    link: &mut L,
-    clock: &mut C,
-) -> Next
-    requires { (start : Seen) × (past : Past) × (units : List StreamUnit)
-        × IsServing start past past.fed units (known talk.old)
-        (seen (K.view desk.old) (L.view link.old) (C.gave clock.old)) }
-    ensures { (start : Seen) (past : Past) (units : List StreamUnit)
-        → IsServing start past past.fed units (known talk.old)
-        (seen (K.view desk.old) (L.view link.old) (C.gave clock.old))
-        → (known talk.old).splitting.held ≡ [] → (stream_of past.fed).fault ≡ None
-        → GoesOn result start (known talk.new)
-        (seen (K.view desk.new) (L.view link.new) (C.gave clock.new)) }
+fn serve_rest<R: Wait, S: Serve>(rt: &R, service: &mut S) -> Next
+    requires { CanServe (S.state service.old) }
+    ensures doors { S.doors service.new ≡ S.doors service.old }
+    ensures serves { IfServing (S.state service.old) (λ start past units.
+        (S.state service.old).known.splitting.held ≡ [] → (stream_of past.fed).fault ≡ None
+        → GoesOn result start (S.state service.new)) }
 {
-    if talk.is_calm() {
+    if service.is_calm() {
         return Next::GoesOn;
     }
-    settle_on(rt, talk, desk, link, clock)
+    settle_on(rt, service)
 }
 
 /// Tells a client that its stream is at fault at this place. Without a session the line is written
 /// by itself.
-fn serve_fault<R: Wait, K: Desk, L: Link, C: Clock>(
-    rt: &R,
-    talk: &mut Conversation,
-    desk: &mut K,
-    link: &mut L,
-    clock: &mut C,
-    place: u64,
-) -> SessionEnd
-    requires room { HasRoom (known talk.old).phase }
-    requires serving { (start : Seen) × (past : Past) × (units : List StreamUnit)
-        × IsServing start past past.fed units (known talk.old)
-        (seen (K.view desk.old) (L.view link.old) (C.gave clock.old)) }
-    ensures { (start : Seen) (past : Past) (units : List StreamUnit)
-        → IsServing start past past.fed units (known talk.old)
-        (seen (K.view desk.old) (L.view link.old) (C.gave clock.old))
-        → (known talk.old).splitting.held ≡ []
+fn serve_fault<R: Wait, S: Serve>(rt: &R, service: &mut S, place: u64) -> SessionEnd
+    requires room { HasRoom (S.state service.old).known.phase }
+    requires serving { CanServe (S.state service.old) }
+    ensures doors { S.doors service.new ≡ S.doors service.old }
+    ensures serves { IfServing (S.state service.old) (λ start past units.
+        (S.state service.old).known.splitting.held ≡ []
         → option_map place_of (stream_of past.fed).fault ≡ Some place
-        → (later : Past)
-        × IsOver start later (known talk.new)
-        (seen (K.view desk.new) (L.view link.new) (C.gave clock.new)) result }
+        → IsEnded result start (S.state service.new)) }
 {
-    if talk.session() == 0 {
-        talk.tell_fault();
-        let flow = send(rt, talk, desk, link, clock);
+    if service.session() == 0 {
+        service.tell_fault();
+        let flow = send(rt, service);
         return ended_by(flow, SessionEnd::Broken(place));
     }
-    talk.tell_broken(desk, clock);
-    finish(rt, talk, desk, link, clock, SessionEnd::Broken(place))
+    service.tell_broken();
+    finish(rt, service, SessionEnd::Broken(place))
 }
 
 /// Settles a session, and goes on unless the desk answered a fault. Where a stop was found while
 /// something was written, what waits since is sent too.
-fn settle_on<R: Wait, K: Desk, L: Link, C: Clock>(
-    rt: &R,
-    talk: &mut Conversation,
-    desk: &mut K,
-    link: &mut L,
-    clock: &mut C,
-) -> Next
-    requires session { HasSession (known talk.old) (K.view desk.old) }
-    requires nothing { (known talk.old).pending ≡ [] }
-    ensures serves { ServesOn (known talk.old)
-        (seen (K.view desk.old) (L.view link.old) (C.gave clock.old)) (known talk.new)
-        (seen (K.view desk.new) (L.view link.new) (C.gave clock.new)) }
-    ensures keeps { Keeps (known talk.old) (known talk.new) }
-    ensures settled { Settled result (known talk.new) (L.view link.old) (L.view link.new) }
+fn settle_on<R: Wait, S: Serve>(rt: &R, service: &mut S) -> Next
+    requires session { HasSession (S.state service.old) }
+    requires nothing { (S.state service.old).known.pending ≡ [] }
+    ensures doors { S.doors service.new ≡ S.doors service.old }
+    ensures serves { ServesOn (S.state service.old) (S.state service.new) }
+    ensures keeps { Keeps (S.state service.old).known (S.state service.new).known }
+    ensures settled { Settled result (S.state service.old) (S.state service.new) }
 {
-    match settle(rt, talk, desk, link, clock) {
+    match settle(rt, service) {
         Flow::Open => {}
         Flow::Lost => return Next::Ends(SessionEnd::LinkFault),
         Flow::NoMemory => return Next::Ends(SessionEnd::Memory),
     }
-    if talk.cause().is_none() {
+    if service.is_sound() {
         return Next::GoesOn;
     }
-    if !talk.is_calm() {
+    if !service.is_calm() {
         return Next::Ends(SessionEnd::End);
     }
-    let flow = settle(rt, talk, desk, link, clock);
+    let flow = settle(rt, service);
     Next::Ends(ended_by(flow, SessionEnd::End))
 }
 
 /// Sends what waits for a session, and then so ends, unless the link or memory failed.
-fn finish<R: Wait, K: Desk, L: Link, C: Clock>(
-    rt: &R,
-    talk: &mut Conversation,
-    desk: &mut K,
-    link: &mut L,
-    clock: &mut C,
-    end: SessionEnd,
-) -> SessionEnd
-    requires session { HasSession (known talk.old) (K.view desk.old) }
-    requires nothing { (known talk.old).pending ≡ [] }
-    ensures { (start : Seen) (past : Past)
-        → IsLast start past (known talk.old)
-        (seen (K.view desk.old) (L.view link.old) (C.gave clock.old)) end
-        → (later : Past)
-        × IsOver start later (known talk.new)
-        (seen (K.view desk.new) (L.view link.new) (C.gave clock.new)) result }
+fn finish<R: Wait, S: Serve>(rt: &R, service: &mut S, end: SessionEnd) -> SessionEnd
+    requires session { HasSession (S.state service.old) }
+    requires nothing { (S.state service.old).known.pending ≡ [] }
+    ensures doors { S.doors service.new ≡ S.doors service.old }
+    ensures serves { (start : Seen) (past : Past)
+        → IsLast start past (S.state service.old).known (S.state service.old).seen end
+        → IsEnded result start (S.state service.new) }
 {
-    let flow = settle(rt, talk, desk, link, clock);
+    let flow = settle(rt, service);
     ended_by(flow, end)
 }

@@ -1,42 +1,36 @@
 ghost use Rattle.std.specs.Prelude.{◌≡◌, ◌≤◌, [], None};
 ghost use Rattle.kom_session.specs.declared.flow.Flow.TheVariants as flow;
 ghost use Rattle.kom_session.specs.declared.flow.Phase.TheVariants as phase;
-ghost use Rattle.kom_session.specs.Known.{known, seen, HasSession, Keeps};
+ghost use Rattle.kom_session.specs.Known.{HasSession, Keeps};
 ghost use Rattle.kom_session.specs.Serving.{ServesOn, Climbs};
 
-use crate::conversation::Conversation;
 use crate::flow::{Flow, Sent};
-use kom_links::{Clock, Desk, Link};
+use crate::serve::Serve;
 use std::sync::Wait;
 
 /// Sends what was drained, each item whole. Where the link takes nothing yet, the desk is asked
 /// whether it is stopped, if there is a session, and the write is tried again.
-pub(crate) fn send<R: Wait, K: Desk, L: Link, C: Clock>(
-    rt: &R,
-    talk: &mut Conversation,
-    desk: &mut K,
-    link: &mut L,
-    clock: &C,
-) -> Flow
-    ensures serves { ServesOn (known talk.old)
-        (seen (K.view desk.old) (L.view link.old) (C.gave clock.now)) (known talk.new)
-        (seen (K.view desk.new) (L.view link.new) (C.gave clock.now)) }
-    ensures keeps { Keeps (known talk.old) (known talk.new) }
-    ensures mine { (K.view desk.new).mine ≡ (K.view desk.old).mine }
-    ensures phase { (known talk.new).phase ≡ (known talk.old).phase }
-    ensures silent { (known talk.old).session ≡ 0
-        → (known talk.new).cause ≡ (known talk.old).cause }
-    ensures open { result ≡ flow.Open → (known talk.new).pending ≡ [] }
-    ensures lost { result ≡ flow.Lost → Climbs (L.view link.old).faults (L.view link.new).faults }
-    ensures faults { (L.view link.old).faults ≤ (L.view link.new).faults }
+pub(crate) fn send<R: Wait, S: Serve>(rt: &R, service: &mut S) -> Flow
+    ensures doors { S.doors service.new ≡ S.doors service.old }
+    ensures serves { ServesOn (S.state service.old) (S.state service.new) }
+    ensures keeps { Keeps (S.state service.old).known (S.state service.new).known }
+    ensures mine { (S.state service.new).seen.desk.mine ≡ (S.state service.old).seen.desk.mine }
+    ensures phase { (S.state service.new).known.phase ≡ (S.state service.old).known.phase }
+    ensures silent { (S.state service.old).known.session ≡ 0
+        → (S.state service.new).known.cause ≡ (S.state service.old).known.cause }
+    ensures open { result ≡ flow.Open → (S.state service.new).known.pending ≡ [] }
+    ensures lost { result ≡ flow.Lost
+        → Climbs (S.state service.old).seen.link.faults (S.state service.new).seen.link.faults }
+    ensures faults { (S.state service.old).seen.link.faults
+        ≤ (S.state service.new).seen.link.faults }
 {
     for _ in rt.forever() {
-        match talk.send(link) {
+        match service.send() {
             Sent::All => return Flow::Open,
             Sent::Some => {}
             Sent::NotYet => {
-                if talk.session() != 0 {
-                    talk.ask_stopped(desk);
+                if service.session() != 0 {
+                    service.ask_stopped();
                 }
             }
             Sent::Failed => return Flow::Lost,
@@ -47,34 +41,29 @@ pub(crate) fn send<R: Wait, K: Desk, L: Link, C: Clock>(
 }
 
 /// Flushes, and then drains the session until nothing is given, and sends what was given.
-pub(crate) fn settle<R: Wait, K: Desk, L: Link, C: Clock>(
-    rt: &R,
-    talk: &mut Conversation,
-    desk: &mut K,
-    link: &mut L,
-    clock: &mut C,
-) -> Flow
-    requires session { HasSession (known talk.old) (K.view desk.old) }
-    requires nothing { (known talk.old).pending ≡ [] }
-    ensures serves { ServesOn (known talk.old)
-        (seen (K.view desk.old) (L.view link.old) (C.gave clock.old)) (known talk.new)
-        (seen (K.view desk.new) (L.view link.new) (C.gave clock.new)) }
-    ensures keeps { Keeps (known talk.old) (known talk.new) }
-    ensures session { HasSession (known talk.new) (K.view desk.new) }
-    ensures open { result ≡ flow.Open → (known talk.new).pending ≡ [] }
-    ensures calm { result ≡ flow.Open → (known talk.new).cause ≡ None
-        → (known talk.new).phase ≡ phase.Calm }
-    ensures lost { result ≡ flow.Lost → Climbs (L.view link.old).faults (L.view link.new).faults }
-    ensures faults { (L.view link.old).faults ≤ (L.view link.new).faults }
+pub(crate) fn settle<R: Wait, S: Serve>(rt: &R, service: &mut S) -> Flow
+    requires session { HasSession (S.state service.old) }
+    requires nothing { (S.state service.old).known.pending ≡ [] }
+    ensures doors { S.doors service.new ≡ S.doors service.old }
+    ensures serves { ServesOn (S.state service.old) (S.state service.new) }
+    ensures keeps { Keeps (S.state service.old).known (S.state service.new).known }
+    ensures session { HasSession (S.state service.new) }
+    ensures open { result ≡ flow.Open → (S.state service.new).known.pending ≡ [] }
+    ensures calm { result ≡ flow.Open → (S.state service.new).known.cause ≡ None
+        → (S.state service.new).known.phase ≡ phase.Calm }
+    ensures lost { result ≡ flow.Lost
+        → Climbs (S.state service.old).seen.link.faults (S.state service.new).seen.link.faults }
+    ensures faults { (S.state service.old).seen.link.faults
+        ≤ (S.state service.new).seen.link.faults }
 {
-    if !talk.flush(desk, clock) {
+    if !service.flush() {
         return Flow::Open;
     }
     for _ in rt.forever() {
-        if !talk.drain(desk, clock) {
+        if !service.drain() {
             return Flow::Open;
         }
-        match send(rt, talk, desk, link, clock) {
+        match send(rt, service) {
             Flow::Open => {}
             Flow::Lost => return Flow::Lost,
             Flow::NoMemory => return Flow::NoMemory,

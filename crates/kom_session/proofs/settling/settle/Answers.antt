@@ -1,4 +1,4 @@
-use Rattle.std.proofs.Common.{rules, arith, ◌∙◌}
+use Rattle.std.proofs.Common.{rules, arith, refl, ◌∙◌}
 use Rattle.kom_session.proofs.Reading.{serves_trans, keeps_trans, session_same}
 use Rattle.kom_session.proofs.settling.settle.Goals as goal
 
@@ -6,53 +6,52 @@ pub loop-init : goal.loop-init
 loop-init g c = record {
   can = search rules;
   finite = search rules;
-  serves = c.flush.ensures.serves (g.L.Link.view c.args.link.now);
+  doors = c.flush.ensures.doors;
+  serves = c.flush.ensures.serves;
   keeps = c.flush.ensures.keeps;
   session = c.flush.ensures.session;
   nothing = c.flush.ensures.pending ∙ c.requires.nothing;
   flushed = search rules;
-  faults = omega arith;
+  faults = rw c.flush.ensures.link (omega arith);
 }
 
 pub returns-in-Lost-clause-serves : goal.returns-in-Lost-clause-serves
 returns-in-Lost-clause-serves g c =
     serves_trans c.loop.invariant.serves
-    (serves_trans (c.drain.ensures.serves (g.L.Link.view c.loop.link)) c.in-Lost.ensures.serves)
+    (serves_trans c.drain.ensures.serves c.in-Lost.ensures.serves)
 
 pub returns-in-NoMemory-clause-serves : goal.returns-in-NoMemory-clause-serves
 returns-in-NoMemory-clause-serves g c =
     serves_trans c.loop.invariant.serves
-    (serves_trans
-    (c.drain.ensures.serves (g.L.Link.view c.loop.link)) c.in-NoMemory.ensures.serves)
+    (serves_trans c.drain.ensures.serves c.in-NoMemory.ensures.serves)
 
 pub returns-in-Lost-clause-session : goal.returns-in-Lost-clause-session
 returns-in-Lost-clause-session g c =
-    session_same _ _ (g.K.Desk.view c.drain.new.desk)
-    (g.K.Desk.view c.send.new.desk) c.in-Lost.ensures.keeps c.in-Lost.ensures.mine
-    c.drain.ensures.session
+    session_same (g.S.Serve.state c.drain.new.self) (g.S.Serve.state c.send.new.service)
+    c.in-Lost.ensures.keeps c.in-Lost.ensures.mine c.drain.ensures.session
 
 pub returns-in-NoMemory-clause-session : goal.returns-in-NoMemory-clause-session
 returns-in-NoMemory-clause-session g c =
-    session_same _ _ (g.K.Desk.view c.drain.new.desk)
-    (g.K.Desk.view c.send.new.desk) c.in-NoMemory.ensures.keeps c.in-NoMemory.ensures.mine
-    c.drain.ensures.session
+    session_same (g.S.Serve.state c.drain.new.self) (g.S.Serve.state c.send.new.service)
+    c.in-NoMemory.ensures.keeps c.in-NoMemory.ensures.mine c.drain.ensures.session
 
 pub loop-preserved : goal.loop-preserved
 loop-preserved g c = record {
   can = search rules;
   finite = search rules;
+  doors = c.in-Open.ensures.doors ∙ c.drain.ensures.doors ∙ c.loop.invariant.doors;
   serves =
       serves_trans c.loop.invariant.serves
-      (serves_trans
-      (c.drain.ensures.serves (g.L.Link.view c.loop.link)) c.in-Open.ensures.serves);
+      (serves_trans c.drain.ensures.serves c.in-Open.ensures.serves);
   keeps =
       keeps_trans c.loop.invariant.keeps
       (keeps_trans c.drain.ensures.keeps c.in-Open.ensures.keeps);
   session =
-      session_same _ _ (g.K.Desk.view c.drain.new.desk)
-      (g.K.Desk.view c.send.new.desk) c.in-Open.ensures.keeps c.in-Open.ensures.mine
-      c.drain.ensures.session;
+      session_same (g.S.Serve.state c.drain.new.self) (g.S.Serve.state c.send.new.service)
+      c.in-Open.ensures.keeps c.in-Open.ensures.mine c.drain.ensures.session;
   nothing = search rules;
   flushed = c.in-Open.ensures.phase ∙ c.drain.ensures.some (search rules);
-  faults = omega (arith, c.loop.invariant.faults, c.in-Open.ensures.faults);
+  faults =
+      let drained = rw c.drain.ensures.link at c.in-Open.ensures.faults in
+      omega (arith, c.loop.invariant.faults, drained);
 }

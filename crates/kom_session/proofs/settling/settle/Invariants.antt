@@ -1,20 +1,22 @@
 -- The session is flushed and drained so far, and what was given was sent.
 use Rattle.std.proofs.Common.{◌≡◌, ◌≤◌, []}
 use Rattle.kom_session.specs.declared.flow.Phase.TheVariants as phase
-use Rattle.kom_session.specs.Known.{known, seen, Keeps, HasSession}
+use Rattle.kom_session.specs.Known.{Keeps, HasSession}
 use Rattle.kom_session.specs.Serving.{ServesOn}
 use Rattle.kom_session.proofs.settling.settle.Given as goal
 
 abbrev pub invariant-loop : goal.invariant-loop
-invariant-loop g l = record {
-  can : (goal.iterator-loop g).can_next l.iterator';
-  finite : (goal.iterator-loop g).is_finite l.iterator';
-  serves : ServesOn (known l.fn.talk)
-      (seen (g.K.Desk.view l.fn.desk) (g.L.Link.view l.fn.link) (g.C.Clock.gave l.fn.clock))
-      (known l.talk) (seen (g.K.Desk.view l.desk) (g.L.Link.view l.link) (g.C.Clock.gave l.clock));
-  keeps : Keeps (known l.fn.talk) (known l.talk);
-  session : HasSession (known l.talk) (g.K.Desk.view l.desk);
-  nothing : (known l.talk).pending ≡ [];
-  flushed : (known l.talk).phase ≡ phase.Draining;
-  faults : (g.L.Link.view l.fn.link).faults ≤ (g.L.Link.view l.link).faults;
-}
+invariant-loop g l =
+    let old = g.S.Serve.state l.fn.service in
+    let new = g.S.Serve.state l.service in
+    record {
+      can : (goal.iterator-loop g).can_next l.iterator';
+      finite : (goal.iterator-loop g).is_finite l.iterator';
+      doors : g.S.Serve.doors l.service ≡ g.S.Serve.doors l.fn.service;
+      serves : ServesOn old new;
+      keeps : Keeps old.known new.known;
+      session : HasSession new;
+      nothing : new.known.pending ≡ [];
+      flushed : new.known.phase ≡ phase.Draining;
+      faults : old.seen.link.faults ≤ new.seen.link.faults;
+    }
