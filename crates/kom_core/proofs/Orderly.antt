@@ -24,7 +24,7 @@ use Rattle.kom_types.specs.declared.effects.Effect.TheVariants as effect
 use Rattle.kom_types.specs.declared.memberships.MembershipRow.{MembershipRow}
 use Rattle.kom_types.specs.declared.persons.NewPerson.{NewPerson}
 use Rattle.kom_types.specs.declared.seats.Seat.{Seat}
-use Rattle.kom_types.specs.declared.texts.Link.{Link}
+use Rattle.kom_types.specs.declared.texts.TextLink.{TextLink}
 use Rattle.kom_types.specs.declared.texts.LocalText.{LocalText}
 use Rattle.kom_types.specs.declared.texts.MarkRow.{MarkRow}
 use Rattle.kom_types.specs.declared.texts.MiscInput.{MiscInput}
@@ -163,7 +163,7 @@ nearest_text-orderly asked start None = tt
 nearest_text-orderly asked start (Some row) = tt
 
 -- ---- texts
-abbrev gone_link : Link → Effect
+abbrev gone_link : TextLink → Effect
 gone_link link = effect.LinkGone link.child link.parent link.footnote
 
 abbrev gone_recipient : Recipient → Effect
