@@ -1,0 +1,6 @@
+pub mod Again
+pub mod Effects
+pub mod Stays
+pub mod Spelled
+pub mod Spellings
+pub mod GoesOn
