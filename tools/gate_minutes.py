@@ -1,11 +1,14 @@
 #!/usr/bin/env python3
-"""Tells what a run of the gate costs, crate by crate: gate_minutes.py [WORD..]
+"""Tells what a run of the gate costs, crate by crate: gate_minutes.py [WORD..], or gate_minutes.py --below SHELL
 
 It starts `rt ci WORD..` at the top of the repository, looks at the processes below it twice a second, and prints at the end, by
 crate, the processor minutes of its proof, of its tests (the proof of these, and their run) and of its edits that must fail (and of
 the proof that these begin with), their sum, the lines of the crate's .rt and .antt files, and the minutes for 1,000 of them. The
 crate that took most comes first. What is left is that of `rt` itself, of layouts, and of runs of programs. What an earlier run on
 this machine proved costs nothing, and its crate is not told: `--anew` has all proved. It ends with the status of the run.
+
+With --below it starts nothing. It watches the run that the process SHELL starts beside it, as `.ci/run` does, tells the same once
+it is sent SIGTERM, and ends then, or when SHELL has ended, or when a look takes a minute; its status tells nothing of the run.
 
 The figures are the system's own counts of a process's time. A process that ended between two looks has in them what it added to
 the time of its parent's ended children; where several ended at once, what was not yet seen of them is shared out evenly.
@@ -23,21 +26,24 @@ ROOT = pathlib.Path(__file__).resolve().parent.parent
 TICKS_OF_A_MINUTE = 60 * os.sysconf("SC_CLK_TCK")
 KINDS = ("proof", "tests", "edits")
 BETWEEN_LOOKS = 0.5
+SECONDS_OF_A_LOOK = 60
 # The folder of a check with an edit, and the program of a crate's tests while it runs.
-OF_AN_EDIT = re.compile(r"/rt-edits?-\d+-")
-RUN_OF_TESTS = re.compile(r"/rt-run-\d+-[^/]*/bin/(\w+)_tests")
+OF_AN_EDIT = re.compile(r"/rt-edits?-")
+RUN_OF_TESTS = re.compile(r"/rt-run-[^/]*/bin/(\w+)_tests")
 
-Process = collections.namedtuple("Process", "parent start own of_ended")
+Process = collections.namedtuple("Process", "has_ended parent start own of_ended")
 
 
 def process(number):
-    """A process: its parent, its start, its own ticks, and those of its children that ended; None where there is none."""
+    """A process: whether it only waits for its parent, which that is, its start, its own ticks, and those of its children that
+    ended; None where there is none."""
     try:
         with open(f"/proc/{number}/stat", encoding="utf-8", errors="replace") as it:
             words = it.read().rpartition(")")[2].split()
     except OSError:
         return None
-    return Process(int(words[1]), int(words[19]), int(words[11]) + int(words[12]), int(words[13]) + int(words[14]))
+    own, of_ended = int(words[11]) + int(words[12]), int(words[13]) + int(words[14])
+    return Process(words[0] in "ZX", int(words[1]), int(words[19]), own, of_ended)
 
 
 def processes():
@@ -70,7 +76,7 @@ def task_of(number):
         return None
     if "--crate-name" in words[:-1]:
         crate = words[words.index("--crate-name") + 1]
-        if OF_AN_EDIT.search(f"{folder}/"):
+        if OF_AN_EDIT.search(folder):
             return crate, "edits"
         return crate, "tests" if "--test" in words else "proof"
     run = next(filter(None, map(RUN_OF_TESTS.search, words)), None)
@@ -147,7 +153,15 @@ def table(taken, whole, wall):
     yield f"all else {whole - sum(sums):.2f}; the run took {wall:.2f} minutes"
 
 
-def main(words):
+def tell(watch, whole, begun):
+    """Prints the table of what a watch saw, of the ticks of the whole run, and of its time since it began."""
+    watch.close()
+    for line in table(watch.taken, whole / TICKS_OF_A_MINUTE, (time.monotonic() - begun) / 60):
+        print(line)
+
+
+def start(words):
+    """Starts a run, and tells of it. Returns its status."""
     begun = time.monotonic()
     ran = subprocess.Popen(["rt", "ci", *words], cwd=ROOT)
     # (what was told to end is told of too; a terminal tells its run itself)
@@ -157,12 +171,39 @@ def main(words):
     while ran.poll() is None:
         watch.look()
         time.sleep(BETWEEN_LOOKS)
-    watch.close()
-    ended = os.times()
-    whole = (ended.children_user + ended.children_system) / 60
-    for line in table(watch.taken, whole, (time.monotonic() - begun) / 60):
-        print(line)
+    tell(watch, process(os.getpid()).of_ended, begun)
     return ran.returncode if ran.returncode >= 0 else 128 - ran.returncode
+
+
+def run_below(shell):
+    """The number of the process that a shell has started beside this one; None where there is none yet."""
+    return next((child for child in children_of(processes())[shell] if child != os.getpid()), None)
+
+
+def watch_below(shell):
+    """Watches what a shell runs, and tells of it when that has ended."""
+    signal.pthread_sigmask(signal.SIG_BLOCK, {signal.SIGTERM})
+    begun, before, watch = time.monotonic(), process(shell), None
+    while before and not signal.sigtimedwait({signal.SIGTERM}, BETWEEN_LOOKS):
+        # (the system ends what is still at this look when its time is over)
+        signal.alarm(SECONDS_OF_A_LOOK)
+        now = process(shell)
+        if not now or now.has_ended or now.start != before.start:
+            return
+        number = watch.number if watch else run_below(shell)
+        if number:
+            watch = watch or Watch(number)
+            watch.look()
+    after = process(shell)
+    if watch and after:
+        tell(watch, after.of_ended - before.of_ended, begun)
+
+
+def main(words):
+    if words[:1] != ["--below"]:
+        return start(words)
+    watch_below(int(words[1]))
+    return 0
 
 
 if __name__ == "__main__":
