@@ -6,6 +6,7 @@ pub mod Queueing
 pub mod Changing
 pub mod Protection
 pub mod Soundness
+pub mod Kept
 pub mod Opening
 pub mod Draining
 pub mod Flushing

@@ -56,11 +56,11 @@ guarded-without number (row ∷ rows) all =
       | false ↦ (all.0, guarded-without number rows all.1)
     ]
 
-and-first : (first second : Bool) → (first && second) ≡ true → first ≡ true
+pub and-first : (first second : Bool) → (first && second) ≡ true → first ≡ true
 and-first true second both = refl
 and-first false second both = both
 
-and-second : (first second : Bool) → (first && second) ≡ true → second ≡ true
+pub and-second : (first second : Bool) → (first && second) ≡ true → second ≡ true
 and-second true second both = both
 and-second false second both = absurd (true≢false (sym both))
 

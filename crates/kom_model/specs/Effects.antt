@@ -362,6 +362,17 @@ abbrev pub apply_all : List Effect → Db → Db
 apply_all [] db = db
 apply_all (what ∷ effects) db = apply_all effects (apply what db)
 
+-- each effect fits after those before it
+abbrev pub all_fit : List Effect → Db → Bool
+all_fit [] db = true
+all_fit (what ∷ effects) db = fits what db && all_fit effects (apply what db)
+
+-- those of the effects that fit, each after those before it
+abbrev pub fitting : List Effect → Db → List Effect
+fitting [] db = []
+fitting (what ∷ effects) db = let rest = fitting effects (apply what db) in
+    if fits what db then what ∷ rest else rest
+
 -- every conference that is secret is read-protected too
 abbrev pub IsProtected : Db → Type 0
 IsProtected db = AllByRecursion (λ row. IsTrue (is_secret_protected row.kind)) db.conferences

@@ -1,16 +1,20 @@
 -- What holds of every legal history.
-use Rattle.std.specs.Prelude.{◌≡◌, ℕ, ◌+◌, ◌<◌, ◌≤◌, false, List, [], ◌∷◌, ◌++◌, length, flat_map}
+use Rattle.std.specs.Prelude.{◌≡◌, ℕ, ◌+◌, ◌<◌, ◌≤◌, true, false, List, [], ◌∷◌, ◌++◌, length, flat_map}
 use Rattle.std.specs.Prelude.{Some, IsTrue, ◌↔◌}
 use Rattle.std.specs.List.{AllByRecursion}
 use Rattle.kom_types.specs.declared.acts.Act.TheVariants as act
 use Rattle.kom_types.specs.declared.acts.Record.{Record}
 use Rattle.kom_types.specs.declared.answers.Refusal.TheVariants.{Gone}
 use Rattle.kom_types.specs.declared.answers.Why.TheVariants.{Dropped}
+use Rattle.kom_types.specs.declared.effects.Effect.{Effect}
 use Rattle.kom_types.specs.declared.items.Item.{Item}
 use Rattle.kom_types.specs.Printing.{print_of}
 use Rattle.kom_types.specs.Sessions.{Waiting, waiting_limits, fits, printed_bytes}
 use Rattle.kom_model.specs.State.{State, IsSound}
-use Rattle.kom_model.specs.After.{MayFollow}
+use Rattle.kom_model.specs.Db.{Db}
+use Rattle.kom_model.specs.Effects.{apply_all, all_fit, fitting}
+use Rattle.kom_model.specs.After.{MayFollow, after}
+use Rattle.kom_model.specs.Kept.{kept_of}
 use Rattle.kom_model.specs.Legal.{IsLegal, state_after}
 use Rattle.kom_model.specs.Out.{out_of, given_along, given_from, drained_from}
 use Rattle.kom_model.specs.Refusal.{refusal_of}
@@ -69,3 +73,16 @@ abbrev pub FitsWithin : Type 0
 FitsWithin = (waiting : List Waiting) (item : Item) →
     IsTrue (fits waiting_limits waiting item)
     ↔ ((length waiting < 4096) × (printed_bytes waiting + length (print_of item) ≤ 33554432))
+
+-- What is kept of a record all fits, and makes of the rows what the record makes of them.
+abbrev pub KeptFits : Type 0
+KeptFits = (state : State) (made : Record) → all_fit (kept_of state made) state.db ≡ true
+
+abbrev pub KeptMakes : Type 0
+KeptMakes = (state : State) (made : Record) →
+    apply_all (kept_of state made) state.db ≡ (after state made).db
+
+-- Effects that all fit are all kept.
+abbrev pub FittingIsAll : Type 0
+FittingIsAll = (effects : List Effect) (db : Db) → all_fit effects db ≡ true →
+    fitting effects db ≡ effects

@@ -13,6 +13,7 @@ pub mod Decide
 pub mod ToWhom
 pub mod Refusal
 pub mod After
+pub mod Kept
 pub mod Legal
 pub mod Out
 pub mod Laws

@@ -1,11 +1,13 @@
 -- What a session is to be sent, and what its drains give.
 use Rattle.std.specs.Prelude.{ℕ, ◌==◌, List, [], ◌∷◌, ◌++◌, length, map, take, drop, Option, Some}
 use Rattle.std.specs.Prelude.{None, if◌then◌else◌}
+use Rattle.kom_types.specs.declared.acts.Act.{Act}
 use Rattle.kom_types.specs.declared.acts.Act.TheVariants as act
 use Rattle.kom_types.specs.declared.acts.Record.{Record}
 use Rattle.kom_types.specs.declared.items.Item.{Item}
 use Rattle.kom_types.specs.Sessions.{Waiting, Session, drained_count}
 use Rattle.kom_model.specs.State.{State, session_of}
+use Rattle.kom_model.specs.Refusal.{refusal_of}
 use Rattle.kom_model.specs.After.{acted, sent, after}
 
 -- the items that wait, in order
@@ -49,6 +51,19 @@ drained_from number state =
 abbrev pub given_from : ℕ → State → List Item
 given_from number state = items_of (drained_from number state)
 
+-- the items that an act takes: those that a drain gives its session, which are none where it is
+-- refused
+abbrev pub taken_by : State → Act → List Item
+taken_by state (act.Connect user host) = []
+taken_by state (act.Call session reference call) = []
+taken_by state (act.Broken session) = []
+taken_by state (act.Drain session) = elim (refusal_of state (act.Drain session)) [
+  | None ↦ given_from session state
+  | Some refusal ↦ []
+]
+taken_by state act.Flush = []
+taken_by state (act.Close session) = []
+
 -- what one record gives to the session, as a list of lists
 abbrev pub given_by : State → ℕ → Record → List (List Item)
 given_by state number made = elim made.entry.act [
@@ -65,3 +80,10 @@ abbrev pub given_along : State → ℕ → List Record → List (List Item)
 given_along state number [] = []
 given_along state number (made ∷ history) =
     given_by state number made ++ given_along (after state made) number history
+
+-- What the drains that this pass made of a session give along a history, a list for each.
+abbrev pub given_by_pass : State → ℕ → ℕ → List Record → List (List Item)
+given_by_pass state pass number [] = []
+given_by_pass state pass number (made ∷ history) =
+    (if made.entry.pass == pass then given_by state number made else [])
+    ++ given_by_pass (after state made) pass number history

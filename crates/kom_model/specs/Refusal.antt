@@ -1,5 +1,6 @@
 -- Why an act is not made.
 use Rattle.std.specs.Prelude.{◌≡◌, ℕ, Bool, true, false, ◌&&◌, nat_lt, [], ◌∷◌, Option, Some, None}
+use Rattle.std.specs.Prelude.{IsSome}
 use Rattle.std.specs.Prelude.{if◌then◌else◌}
 use Rattle.kom_types.specs.declared.acts.Act.{Act}
 use Rattle.kom_types.specs.declared.acts.Act.TheVariants as act
@@ -66,3 +67,13 @@ refusal_of state (act.Close session) = close_refused (session_of session state)
 -- an act is possible where nothing refuses it
 abbrev pub IsPossible : State → Act → Type 0
 IsPossible state act = refusal_of state act ≡ None
+
+-- All acts take no memory but a Connect that is made: for a call that wants some, its answer says
+-- that it ran out.
+abbrev pub TakesNoMemory : State → Act → Type 0
+TakesNoMemory state (act.Connect user host) = IsSome (refusal_of state (act.Connect user host))
+TakesNoMemory state (act.Call session reference call) = Unit {0}
+TakesNoMemory state (act.Broken session) = Unit {0}
+TakesNoMemory state (act.Drain session) = Unit {0}
+TakesNoMemory state act.Flush = Unit {0}
+TakesNoMemory state (act.Close session) = Unit {0}

@@ -1,5 +1,6 @@
 ghost use Rattle.kom_model.specs.Laws.{GivesPrefixes, GivesStable, GivesAllBefore};
 ghost use Rattle.kom_model.specs.Laws.{GivesAllToDropped, StaysSound, FitsWithin};
+ghost use Rattle.kom_model.specs.Laws.{KeptFits, KeptMakes, FittingIsAll};
 
 /// A law alone: what drains give is a prefix of what the session is to be sent, of stable entries,
 /// and in the end all of it.
@@ -10,4 +11,11 @@ pub fn drains_give_all()
     ensures all_to_dropped { GivesAllToDropped }
     ensures sound { StaysSound }
     ensures fits { FitsWithin }
+{}
+
+/// A law alone: what a store keeps of a record, as far as the rows go, is the record.
+pub fn kept_effects_are_made()
+    ensures fits { KeptFits }
+    ensures makes { KeptMakes }
+    ensures all { FittingIsAll }
 {}

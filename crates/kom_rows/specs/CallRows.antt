@@ -9,7 +9,8 @@ use Rattle.kom_types.specs.declared.persons.NewPerson.{NewPerson}
 use Rattle.kom_types.specs.declared.replies.Reply.TheVariants as reply
 use Rattle.kom_types.specs.declared.session_changes.SessionChange.TheVariants as change
 use Rattle.kom_types.specs.tables.Persons.{password_hash}
-use Rattle.kom_rows.specs.Cast.{Cast, cast_over, one_seat, all_fit}
+use Rattle.kom_rows.specs.Cast.{Cast, cast_over, one_seat}
+use Rattle.kom_model.specs.Effects.{all_fit}
 use Rattle.kom_model.specs.Db.{empty_db}
 use Rattle.kom_model.specs.Initial.{initial, initial_effects}
 use Rattle.kom_model.specs.calls.Call.{answer, done}

@@ -1,6 +1,6 @@
 -- Who is there and asks, what there is, and what is said of calls, in the rows that were worked out
 -- by hand.
-use Rattle.std.specs.Prelude.{ℕ, Bool, true, false, ◌&&◌, List, [], ◌∷◌, ◌++◌, map, codes}
+use Rattle.std.specs.Prelude.{ℕ, Bool, true, false, List, [], ◌∷◌, ◌++◌, map, codes}
 use Rattle.kom_types.specs.declared.aux_items.AuxChange.{AuxChange}
 use Rattle.kom_types.specs.declared.aux_items.AuxInput.{AuxInput}
 use Rattle.kom_types.specs.declared.aux_items.AuxRow.{AuxRow}
@@ -22,14 +22,9 @@ use Rattle.kom_types.specs.declared.texts.Recipient.{Recipient}
 use Rattle.kom_types.specs.Sessions.{fresh_seat}
 use Rattle.kom_model.specs.declared.viewers.Viewer.{Viewer}
 use Rattle.kom_model.specs.Db.{Db, memberships_of, members_of}
-use Rattle.kom_model.specs.Effects.{fits, apply, apply_all}
+use Rattle.kom_model.specs.Effects.{apply_all}
 use Rattle.kom_model.specs.calls.Call.{Asked, Definition, answer, done, unguarded, decided}
 use Rattle.kom_model.specs.calls.Guards.{Guard}
-
--- each effect fits after those before it
-abbrev pub all_fit : List Effect → Db → Bool
-all_fit [] db = true
-all_fit (what ∷ effects) db = fits what db && all_fit effects (apply what db)
 
 -- a conference of this type that person 5 supervises
 abbrev pub makes : ℕ → List ℕ → ℕ → Effect

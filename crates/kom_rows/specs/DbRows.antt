@@ -9,9 +9,9 @@ use Rattle.kom_types.specs.declared.effects.PersonField.TheVariants as person_fi
 use Rattle.kom_types.specs.declared.memberships.MembershipRow.{MembershipRow}
 use Rattle.kom_types.specs.tables.Memberships.{without_membership}
 use Rattle.kom_rows.specs.Cast.{makes, makes_person, joins, is_invited, person, nobody}
-use Rattle.kom_rows.specs.Cast.{strong_nobody, conferences_in, persons_in, places_of, all_fit}
+use Rattle.kom_rows.specs.Cast.{strong_nobody, conferences_in, persons_in, places_of}
 use Rattle.kom_model.specs.Db.{Db, empty_db, conference_of, person_of, membership_of}
-use Rattle.kom_model.specs.Effects.{fits, apply_all, most_memberships}
+use Rattle.kom_model.specs.Effects.{fits, apply_all, most_memberships, all_fit}
 use Rattle.kom_model.specs.Rights.{supervises, sees, reads_conference}
 
 -- An open conference 1; persons 5, 6, 7 and 8; a secret conference 9, which the members of the

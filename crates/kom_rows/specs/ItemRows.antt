@@ -12,9 +12,9 @@ use Rattle.kom_types.specs.declared.replies.Reply.TheVariants as reply
 use Rattle.kom_rows.specs.Cast.{Cast, cast_over, one_seat, four_persons, three_conferences, makes}
 use Rattle.kom_rows.specs.Cast.{joins, is_invited, under, sends, links, sets_fields, item}
 use Rattle.kom_rows.specs.Cast.{new_item, adds, given, changes, after, early_of, person, nobody}
-use Rattle.kom_rows.specs.Cast.{strong_nobody, all_fit}
+use Rattle.kom_rows.specs.Cast.{strong_nobody}
 use Rattle.kom_model.specs.Db.{Db, empty_db, items_of, next_item_of}
-use Rattle.kom_model.specs.Effects.{fits, apply_all}
+use Rattle.kom_model.specs.Effects.{fits, apply_all, all_fit}
 use Rattle.kom_model.specs.Shown.{text_adder}
 use Rattle.kom_model.specs.calls.AuxItems.{modify_text_info, modify_conf_info}
 use Rattle.kom_model.specs.calls.Call.{Asked, Definition, answer, done, unguarded, decided}

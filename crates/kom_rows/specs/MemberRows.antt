@@ -17,9 +17,9 @@ use Rattle.kom_types.specs.declared.seats.Seat.{Seat}
 use Rattle.kom_types.specs.declared.session_changes.SessionChange.TheVariants as change
 use Rattle.kom_rows.specs.Cast.{Cast, cast_over, four_persons, three_conferences, makes, member}
 use Rattle.kom_rows.specs.Cast.{under_di, range, sends, seat, after, comes_to, answers, early_of}
-use Rattle.kom_rows.specs.Cast.{conferences_in, persons_in, places_of, all_fit}
+use Rattle.kom_rows.specs.Cast.{conferences_in, persons_in, places_of}
 use Rattle.kom_model.specs.Db.{Db, empty_db, membership_of, read_of}
-use Rattle.kom_model.specs.Effects.{fits, apply_all}
+use Rattle.kom_model.specs.Effects.{fits, apply_all, all_fit}
 use Rattle.kom_model.specs.calls.Call.{Asked, Definition, decided}
 use Rattle.kom_model.specs.calls.Guards.{refusal}
 use Rattle.kom_model.specs.calls.Memberships.{change_conference, sub_member, mark_as_read}

@@ -25,10 +25,10 @@ use Rattle.kom_types.specs.tables.Persons.{password_hash}
 use Rattle.kom_rows.specs.Cast.{Cast, cast_over, four_persons, makes, member, under, sends, links}
 use Rattle.kom_rows.specs.Cast.{lines, item, new_item, adds, given, changes, named, text}
 use Rattle.kom_rows.specs.Cast.{new_conference, new_person, seat, asks, after, comes_to, answers}
-use Rattle.kom_rows.specs.Cast.{early_of, all_fit}
+use Rattle.kom_rows.specs.Cast.{early_of}
 use Rattle.kom_model.specs.Db.{Db, empty_db}
 use Rattle.kom_model.specs.Decide.{decision_of, definition_of}
-use Rattle.kom_model.specs.Effects.{apply_all}
+use Rattle.kom_model.specs.Effects.{apply_all, all_fit}
 use Rattle.kom_model.specs.Sending.{Delivery}
 use Rattle.kom_model.specs.ToWhom.{messages_of}
 use Rattle.kom_model.specs.calls.Call.{Asked, Definition}

@@ -11,7 +11,8 @@ use Rattle.kom_types.specs.declared.replies.Reply.TheVariants as reply
 use Rattle.kom_types.specs.declared.texts.MiscInput.{MiscInput}
 use Rattle.kom_types.specs.tables.Persons.{password_hash}
 use Rattle.kom_rows.specs.Cast.{cast_over, one_seat, links, item, new_item, adds, given}
-use Rattle.kom_rows.specs.Cast.{named, text, new_conference, new_person, after, early_of, all_fit}
+use Rattle.kom_rows.specs.Cast.{named, text, new_conference, new_person, after, early_of}
+use Rattle.kom_model.specs.Effects.{all_fit}
 use Rattle.kom_model.specs.Db.{items_of}
 use Rattle.kom_model.specs.Initial.{initial}
 use Rattle.kom_rows.specs.ItemRows.{cast, rows, of_first, of_sixth, of_bo, tagged, replies, denied}

@@ -17,12 +17,12 @@ use Rattle.kom_types.specs.declared.texts.MiscInfo.{MiscInfo}
 use Rattle.kom_types.specs.declared.texts.MiscInfo.TheVariants as info
 use Rattle.kom_types.specs.declared.texts.TextStat.{TextStat}
 use Rattle.kom_rows.specs.Cast.{Cast, cast_over, four_persons, three_conferences, makes, member}
-use Rattle.kom_rows.specs.Cast.{under, under_di, range, sent, sends, links, lines, fields, all_fit}
+use Rattle.kom_rows.specs.Cast.{under, under_di, range, sent, sends, links, lines, fields}
 use Rattle.kom_rows.specs.Cast.{sets_fields, seat, after, comes_to, answers, early_of, person}
 use Rattle.kom_rows.specs.Cast.{nobody, strong_nobody, conferences_in, persons_in, places_of}
 use Rattle.kom_model.specs.Db.{Db, empty_db, conference_of, person_of, text_of, recipients_of}
 use Rattle.kom_model.specs.Db.{marks_of, marks_on, read_of, created_by, next_created_of}
-use Rattle.kom_model.specs.Effects.{fits, apply_all}
+use Rattle.kom_model.specs.Effects.{fits, apply_all, all_fit}
 use Rattle.kom_model.specs.Shown.{told_count, working_shown}
 use Rattle.kom_model.specs.calls.Call.{Asked, Definition, decided}
 use Rattle.kom_model.specs.calls.Conferences.{set_presentation, set_etc_motd, set_supervisor}

@@ -15,10 +15,10 @@ use Rattle.kom_types.specs.declared.texts.NewText.{NewText}
 use Rattle.kom_types.specs.declared.texts.Recipient.{Recipient}
 use Rattle.kom_model.specs.declared.viewers.Viewer.{Viewer}
 use Rattle.kom_rows.specs.Cast.{Cast, cast_over, one_seat, after, makes, makes_person, joins}
-use Rattle.kom_rows.specs.Cast.{person, nobody, strong_nobody, sent, sends, link, named, all_fit}
+use Rattle.kom_rows.specs.Cast.{person, nobody, strong_nobody, sent, sends, link, named}
 use Rattle.kom_model.specs.Db.{Db, next_text_of, next_local_of, next_created_of, locals_of}
 use Rattle.kom_model.specs.Db.{created_by}
-use Rattle.kom_model.specs.Effects.{fits, apply_all, last_drawn, longest_body}
+use Rattle.kom_model.specs.Effects.{fits, apply_all, last_drawn, longest_body, all_fit}
 use Rattle.kom_model.specs.Effects.{most_recipients, most_links, most_marks}
 use Rattle.kom_model.specs.Initial.{initial}
 use Rattle.kom_model.specs.Rights.{reads, may_submit}
