@@ -7,8 +7,9 @@ use Rattle.kom_types.specs.declared.acts.Entry.{Entry}
 use Rattle.kom_types.specs.declared.decisions.Decision.{Decision}
 use Rattle.kom_types.specs.declared.effects.Effect.{Effect}
 use Rattle.kom_model.specs.State.{State}
+use Rattle.kom_model.specs.Kept.{effects_of}
+use Rattle.kom_state.specs.Keepers.{appended}
 use Rattle.kom_core.specs.Deciding.{IsCall, Decides}
-use Rattle.kom_core.specs.Keeping.{appended, effects_of}
 
 -- no effects
 pub none_appended : (pending : Option (List Effect)) → appended [] pending ≡ pending

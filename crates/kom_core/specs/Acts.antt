@@ -1,5 +1,5 @@
 -- What an act does to a core.
-use Rattle.std.specs.Prelude.{◌≡◌, ◌+◌, false, List, [], Option, Some, None, IsSome}
+use Rattle.std.specs.Prelude.{◌≡◌, ℕ, ◌+◌, true, false, List, [], Option, Some, None}
 use Rattle.arrayvec.specs.ArrayVec.{ArrayVec}
 use Rattle.kom_types.specs.declared.acts.Act.{Act}
 use Rattle.kom_types.specs.declared.acts.Act.TheVariants as act
@@ -14,7 +14,7 @@ use Rattle.kom_types.specs.declared.answers.Refusal.TheVariants.{Gone, Full}
 use Rattle.kom_model.specs.State.{State}
 use Rattle.kom_model.specs.Refusal.{refusal_of}
 use Rattle.kom_model.specs.After.{MayFollow, after}
-use Rattle.kom_model.specs.Out.{given_from}
+use Rattle.kom_model.specs.Out.{taken_by}
 
 -- what a core holds: the state, and the record of its last act until that is handed out
 pub record Held : Type 0 where
@@ -29,18 +29,6 @@ kind_of state (act.Broken session) = kind.Taken
 kind_of state (act.Drain session) = kind.Items
 kind_of state act.Flush = kind.Taken
 kind_of state (act.Close session) = kind.Taken
-
--- the items that an act takes: those that a drain gives its session, which are none where it is
--- refused
-abbrev pub items_of : State → Act → List Item
-items_of state (act.Connect user host) = []
-items_of state (act.Call session reference call) = []
-items_of state (act.Broken session) = []
-items_of state (act.Drain session) =
-    elim (refusal_of state (act.Drain session))
-    [ None ↦ given_from session state | Some refusal ↦ [] ]
-items_of state act.Flush = []
-items_of state (act.Close session) = []
 
 -- the answer of a kind, with these items where it gives any
 abbrev pub answer_of : AnswerKind → ArrayVec Item → Answer
@@ -81,14 +69,12 @@ Kinded old entry new which = elim (refusal_of old entry.act) [
 abbrev pub Answered : State → Entry → Held → Answer → Type 0
 Answered old entry new given =
     (which : AnswerKind) × Kinded old entry new which
-    × IsAnswer which (items_of old entry.act) given
+    × IsAnswer which (taken_by old entry.act) given
 
--- All acts take no memory but a Connect that is made: for a call that wants some, its answer says
--- that it ran out.
-abbrev pub TakesNone : State → Act → Type 0
-TakesNone state (act.Connect user host) = IsSome (refusal_of state (act.Connect user host))
-TakesNone state (act.Call session reference call) = Unit {0}
-TakesNone state (act.Broken session) = Unit {0}
-TakesNone state (act.Drain session) = Unit {0}
-TakesNone state act.Flush = Unit {0}
-TakesNone state (act.Close session) = Unit {0}
+-- the record of a flush that the store refused
+abbrev pub refused_flush : ℕ → ℕ → Record
+refused_flush pass moment = record {
+  entry = record { pass = pass; moment = moment; act = act.Flush };
+  session = 0;
+  short = true;
+}

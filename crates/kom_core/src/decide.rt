@@ -11,7 +11,7 @@ use kom_model::{CallError, Refused};
 use kom_replies::printed_len;
 use kom_state::Asked;
 use kom_types::limits::LONGEST_SERVER_LINE;
-use kom_types::{Act, Call, Decision, Entry, Item, Memory, Reply, Sequence};
+use kom_types::{Act, Call, Decision, Entry, Item, Memory, Reply, Sequence, errors};
 use std::alloc::Global;
 
 /// What the call of an entry comes to. A firm call takes no memory.
@@ -63,7 +63,7 @@ fn limited(alloc: Global, reference: u32, decision: Decision) -> Decision
         refuse(
             alloc,
             Refused {
-                code: 46,
+                code: errors::LONG_ARRAY,
                 status: 0,
             },
         )

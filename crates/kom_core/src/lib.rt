@@ -5,10 +5,8 @@ mod answer_kind;
 mod calls;
 mod decide;
 mod fan_out;
-mod keeper;
 mod server_core;
 mod server_state;
 
 pub use answer_kind::AnswerKind;
-pub use keeper::{Keeper, Unkept};
 pub use server_core::Core;

@@ -1,15 +1,22 @@
-ghost use Rattle.std.specs.Prelude.{◌≡◌, ◌+◌, ◌^◌, ◌<◌, ◌≤◌, ◌||◌, IfOk, OnOk, OnErr, IsOk, None};
+ghost use Rattle.std.specs.Prelude.{◌≡◌, ◌+◌, ◌^◌, ◌<◌, ◌≤◌, ◌||◌, IfOk, OnOk, OnErr, IsOk, Some};
+ghost use Rattle.std.specs.Prelude.{None};
 ghost use Rattle.kom_model.specs.Effects.{IsProtected};
 ghost use Rattle.kom_model.specs.Initial.{initial};
 ghost use Rattle.kom_model.specs.State.{IsSound, opening};
-ghost use Rattle.kom_core.specs.Keeping.{appended, effects_kept};
-ghost use Rattle.kom_core.specs.Acts.{items_of, Answered, Kinded, IsUnchanged, TakesNone};
+ghost use Rattle.kom_model.specs.After.{after};
+ghost use Rattle.kom_model.specs.Legal.{HasUser};
+ghost use Rattle.kom_model.specs.Out.{taken_by};
+ghost use Rattle.kom_model.specs.Refusal.{TakesNoMemory, refusal_of};
+ghost use Rattle.kom_types.specs.declared.acts.Act.TheVariants as act;
+ghost use Rattle.kom_state.specs.Keepers.{appended};
+ghost use Rattle.kom_core.specs.Keeping.{kept_by};
+ghost use Rattle.kom_core.specs.Acts.{Answered, Kinded, IsUnchanged, refused_flush};
 
 use crate::answer_kind::AnswerKind;
-use crate::keeper::{Keeper, Unkept};
 use crate::server_state::ServerState;
 use arrayvec::ArrayVec;
-use kom_types::{Answer, Entry, Item, Memory, Moment, Record};
+use kom_state::{Keeper, Unkept};
+use kom_types::{Act, Answer, Entry, Item, Memory, Moment, Record};
 use std::alloc::Global;
 use std::marker::Model;
 
@@ -64,10 +71,11 @@ impl Core {
     /// Makes the act of an entry, whose record `last` then hands out, or returns why it is not
     /// made.
     pub fn act(&mut self, entry: Entry) -> Result<Answer, Memory>
-        requires { self.old.state.entries < 2 ^ 62 }
+        requires room { self.old.state.entries < 2 ^ 62 }
+        requires user { HasUser entry.act }
         ensures answered { IfOk result (Answered self.old.state entry self.new) }
         ensures memory { OnErr result (IsUnchanged self.old.state self.new) }
-        ensures none_taken { TakesNone self.old.state entry.act → IsOk result }
+        ensures none_taken { TakesNoMemory self.old.state entry.act → IsOk result }
         ensures counted { self.new.state.entries ≤ self.old.state.entries + 1 }
         ensures was_sound { IsSound self.old.state }
         ensures sound { IsSound self.new.state }
@@ -75,17 +83,19 @@ impl Core {
         self.act_kept(entry, &mut Unkept)
     }
 
-    /// Makes the act of an entry as `act` does, and gives a keeper the effects of a call that is
-    /// accepted, in one append before any is made. Where that runs out of memory, the call is
+    /// Makes the act of an entry as `act` does, and gives a keeper each effect of a call as it is
+    /// made. Room for all of them is taken before; where memory for it runs out, the call is
     /// answered so, and nothing is kept.
     pub fn act_kept<K: Keeper>(&mut self, entry: Entry, keeper: &mut K) -> Result<Answer, Memory>
-        requires { self.old.state.entries < 2 ^ 62 }
+        requires room { self.old.state.entries < 2 ^ 62 }
+        requires user { HasUser entry.act }
         ensures answered { IfOk result (Answered self.old.state entry self.new) }
         ensures kept { OnOk result (K.pending keeper.new
-            ≡ appended (effects_kept self.old.state self.new.last) (K.pending keeper.old)) }
+            ≡ appended (kept_by self.old.state self.new.last) (K.pending keeper.old)) }
         ensures memory { OnErr result (IsUnchanged self.old.state self.new) }
         ensures unkept { OnErr result (K.pending keeper.new ≡ K.pending keeper.old) }
-        ensures none_taken { TakesNone self.old.state entry.act → IsOk result }
+        ensures rest { K.stays keeper.old keeper.new }
+        ensures none_taken { TakesNoMemory self.old.state entry.act → IsOk result }
         ensures counted { self.new.state.entries ≤ self.old.state.entries + 1 }
         ensures was_sound { IsSound self.old.state }
         ensures sound { IsSound self.new.state }
@@ -103,11 +113,12 @@ impl Core {
         entry: Entry,
         items: &mut ArrayVec<Item, 64>,
     ) -> Result<AnswerKind, Memory>
-        requires { self.old.state.entries < 2 ^ 62 }
+        requires room { self.old.state.entries < 2 ^ 62 }
+        requires user { HasUser entry.act }
         ensures answered { IfOk result (Kinded self.old.state entry self.new) }
-        ensures given { items.new.items ≡ items_of self.old.state entry.act }
+        ensures given { items.new.items ≡ taken_by self.old.state entry.act }
         ensures memory { OnErr result (IsUnchanged self.old.state self.new) }
-        ensures none_taken { TakesNone self.old.state entry.act → IsOk result }
+        ensures none_taken { TakesNoMemory self.old.state entry.act → IsOk result }
         ensures counted { self.new.state.entries ≤ self.old.state.entries + 1 }
         ensures was_sound { IsSound self.old.state }
         ensures sound { IsSound self.new.state }
@@ -122,14 +133,16 @@ impl Core {
         items: &mut ArrayVec<Item, 64>,
         keeper: &mut K,
     ) -> Result<AnswerKind, Memory>
-        requires { self.old.state.entries < 2 ^ 62 }
+        requires room { self.old.state.entries < 2 ^ 62 }
+        requires user { HasUser entry.act }
         ensures answered { IfOk result (Kinded self.old.state entry self.new) }
-        ensures given { items.new.items ≡ items_of self.old.state entry.act }
+        ensures given { items.new.items ≡ taken_by self.old.state entry.act }
         ensures kept { OnOk result (K.pending keeper.new
-            ≡ appended (effects_kept self.old.state self.new.last) (K.pending keeper.old)) }
+            ≡ appended (kept_by self.old.state self.new.last) (K.pending keeper.old)) }
         ensures memory { OnErr result (IsUnchanged self.old.state self.new) }
         ensures unkept { OnErr result (K.pending keeper.new ≡ K.pending keeper.old) }
-        ensures none_taken { TakesNone self.old.state entry.act → IsOk result }
+        ensures rest { K.stays keeper.old keeper.new }
+        ensures none_taken { TakesNoMemory self.old.state entry.act → IsOk result }
         ensures counted { self.new.state.entries ≤ self.old.state.entries + 1 }
         ensures was_sound { IsSound self.old.state }
         ensures sound { IsSound self.new.state }
@@ -150,6 +163,27 @@ impl Core {
                 Ok(AnswerKind::Refused(refusal))
             }
         }
+    }
+
+    /// Makes the entry of a flush that the store refused, after which no act is made but a Close. It
+    /// takes no memory.
+    pub fn refuse_flush(&mut self, pass: u32, moment: Moment)
+        requires room { self.old.state.entries < 2 ^ 62 }
+        requires possible { refusal_of self.old.state act.Flush ≡ None }
+        ensures state { self.new.state ≡ after self.old.state (refused_flush pass moment) }
+        ensures handed { self.new.last ≡ Some (refused_flush pass moment) }
+        ensures sound { IsSound self.new.state }
+    {
+        self.server.refuse_flush(pass, moment);
+        self.last = Some(Record {
+            entry: Entry {
+                pass,
+                moment,
+                act: Act::Flush,
+            },
+            session: 0,
+            short: true,
+        });
     }
 
     /// Whether the server was shut down or its store refused a flush.

@@ -2,8 +2,12 @@ ghost use Rattle.std.specs.Prelude.{◌≡◌, ◌+◌, ◌^◌, ◌<◌, ◌||�
 ghost use Rattle.kom_model.specs.State.{IsSound, opening as opening_state};
 ghost use Rattle.kom_model.specs.Decide.{asked_in};
 ghost use Rattle.kom_model.specs.After.{moment_of as moment_of_entry};
-ghost use Rattle.kom_core.specs.Acts.{items_of, TakesNone};
-ghost use Rattle.kom_core.specs.Keeping.{appended, effects_come};
+ghost use Rattle.kom_model.specs.Out.{taken_by};
+ghost use Rattle.kom_model.specs.Refusal.{TakesNoMemory, refusal_of};
+ghost use Rattle.kom_model.specs.After.{after};
+ghost use Rattle.kom_state.specs.Keepers.{appended};
+ghost use Rattle.kom_core.specs.Acts.{refused_flush};
+ghost use Rattle.kom_core.specs.Keeping.{kept_in};
 ghost use Rattle.kom_core.specs.Steps.{Steps, counted};
 
 mod acting;
@@ -12,9 +16,8 @@ mod queueing;
 mod refusing;
 
 use crate::answer_kind::AnswerKind;
-use crate::keeper::Keeper;
 use arrayvec::ArrayVec;
-use kom_state::Asked;
+use kom_state::{Asked, Keeper};
 use kom_types::{Entry, Item, Memory, Moment, Refusal};
 use sessions::Sessions;
 use std::alloc::Global;
@@ -135,11 +138,12 @@ impl ServerState {
         requires none { items.old.items ≡ [] }
         ensures step { IfOk result (Steps self.old entry.now self.new) }
         ensures kept { IfOk result (λ came. K.pending keeper.new
-            ≡ appended (effects_come self.old entry.now came) (K.pending keeper.old)) }
+            ≡ appended (kept_in self.old entry.now came) (K.pending keeper.old)) }
         ensures err { OnErr result (self.new ≡ self.old) }
         ensures unkept { OnErr result (K.pending keeper.new ≡ K.pending keeper.old) }
-        ensures none_taken { TakesNone self.old entry.now.act → IsOk result }
-        ensures given { items.new.items ≡ items_of self.old entry.now.act }
+        ensures rest { K.stays keeper.old keeper.new }
+        ensures none_taken { TakesNoMemory self.old entry.now.act → IsOk result }
+        ensures given { items.new.items ≡ taken_by self.old entry.now.act }
     {
         if let Some(refusal) = self.refusal(&entry.act) {
             return Ok(Err(refusal));
@@ -147,6 +151,15 @@ impl ServerState {
         let made = self.change(entry, items, keeper)?;
         self.advance(entry.moment);
         Ok(Ok(made))
+    }
+
+    /// Makes the entry of a flush that the store refused.
+    pub(crate) fn refuse_flush(&mut self, pass: u32, moment: Moment)
+        requires { self.old.entries < 2 ^ 62 }
+        ensures { self.new ≡ after self.old (refused_flush pass moment) }
+    {
+        self.store_refused = true;
+        self.advance(moment);
     }
 
     /// Counts an entry that was made.

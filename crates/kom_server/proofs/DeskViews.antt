@@ -17,7 +17,7 @@ use Rattle.kom_model.specs.Refusal.{refusal_of}
 use Rattle.kom_model.specs.After.{MayFollow}
 use Rattle.kom_model.specs.Legal.{IsLegal, state_after}
 use Rattle.kom_model.specs.Out.{given_by, given_along, given_from}
-use Rattle.kom_core.specs.Acts.{items_of}
+use Rattle.kom_model.specs.Out.{taken_by}
 use Rattle.kom_server.specs.Passes.{PassView, start_of, connects_in}
 use Rattle.kom_server.specs.Faults.{FaultTable, first_of, fault_in, is_open_in, noted_at, noted_at_none, noted_everywhere}
 use Rattle.kom_server.specs.Desks.{Kept, opening_of, desk_view, AreNoted}
@@ -218,8 +218,8 @@ broken_refused old mid new moment session one given legal noted is_open refuses 
 -- ---- a drain
 
 drained_items : (state : State) (session : ℕ) → refusal_of state (act.Drain session) ≡ None →
-    items_of state (act.Drain session) ≡ given_from session state
-drained_items state session possible = rw (items_of, possible) refl
+    taken_by state (act.Drain session) ≡ given_from session state
+drained_items state session possible = rw (taken_by, possible) refl
 
 pub drains_made : (old new : Kept) (moment session : ℕ) (items : List Item) (value : ⊤) →
     (short : Bool) × Makes (start_of old.pass) old new moment (act.Drain session) short items →

@@ -10,3 +10,4 @@ pub mod DeskViews
 pub mod Within
 pub mod GrownHistories
 pub mod NewPasses
+pub mod Users

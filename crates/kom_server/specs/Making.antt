@@ -17,7 +17,8 @@ use Rattle.kom_model.specs.After.{MayFollow, after}
 use Rattle.kom_model.specs.Legal.{state_after}
 use Rattle.kom_core.specs.declared.answer_kind.AnswerKind.{AnswerKind}
 use Rattle.kom_core.specs.declared.answer_kind.AnswerKind.TheVariants as kind
-use Rattle.kom_core.specs.Acts.{kind_of, items_of}
+use Rattle.kom_model.specs.Out.{taken_by}
+use Rattle.kom_core.specs.Acts.{kind_of}
 use Rattle.kom_core.specs.Steps.{made_of}
 use Rattle.kom_server.specs.Passes.{PassView}
 use Rattle.kom_server.specs.Faults.{closed_at}
@@ -82,7 +83,7 @@ pub record Makes (start : State) (old new : Kept) (moment : ℕ) (what : Act) (s
   pub flushed : what ≡ act.Flush → short ≡ false
   pub number : new.pass.number ≡ old.pass.number
   pub opened : new.pass.opened ≡ old.pass.opened
-  pub taken : items ≡ items_of (state_after start old.pass.seen) what
+  pub taken : items ≡ taken_by (state_after start old.pass.seen) what
   pub faults : new.faults ≡ old.faults
 
 -- The desk did not make this act, and has noted nothing yet.

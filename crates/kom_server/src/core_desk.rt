@@ -1,11 +1,12 @@
 ghost use Rattle.std.specs.Prelude.{◌≡◌, ℕ, Bool, ◌+◌, ◌^◌, ◌<◌, ◌||◌, List, [], None, Some, IfOk};
-ghost use Rattle.std.specs.Prelude.{IfErr, IsOk, OnOk, OnErr};
+ghost use Rattle.std.specs.Prelude.{◌≤◌, length, IfErr, IsOk, OnOk, OnErr};
 ghost use Rattle.std.specs.List.{AllByRecursion};
 ghost use Rattle.kom_types.specs.declared.acts.Act.TheVariants as act;
 ghost use Rattle.kom_types.specs.declared.items.Item.{Item as TakenItem};
-ghost use Rattle.kom_core.specs.Acts.{items_of, TakesNone};
+ghost use Rattle.kom_model.specs.Out.{taken_by};
+ghost use Rattle.kom_model.specs.Refusal.{TakesNoMemory};
 ghost use Rattle.kom_links.specs.Records.{IsOpen};
-ghost use Rattle.kom_model.specs.Legal.{IsLegal, state_after};
+ghost use Rattle.kom_model.specs.Legal.{IsLegal, HasUser, state_after};
 ghost use Rattle.kom_server.specs.Passes.{start_of};
 ghost use Rattle.kom_server.specs.Faults.{FaultTable, fault_in, noted_at, noted_at_none};
 ghost use Rattle.kom_server.specs.Faults.{noted_everywhere};
@@ -174,6 +175,7 @@ impl CoreDesk {
     /// Connects a session, with room for its row and for the Close of each session that stands
     /// then.
     fn join(&mut self, moment: Moment, user: &[u8], host: &[u8]) -> Result<u32, DeskFault>
+        requires { length user.now ≤ 1024 }
         ensures made { IfOk result
             (Joins (start_of self.old.pass) self.old self.new moment user.now host.now) }
         ensures refused { IfErr result
@@ -236,6 +238,7 @@ impl CoreDesk {
 
 /// Makes an act that neither connects nor closes a session, and logs its record, with room left for
 /// the Close of each session that stands. What a drain takes is put into an array.
+#[tactic(auto, using(crate::proofs::Users::user_between))]
 fn make_between(
     core: &mut Core,
     pass: &mut Pass,
@@ -284,11 +287,12 @@ fn act_and_log(
 ) -> Result<AnswerKind, Memory>
     requires room { 0 < pass.old.room }
     requires bound { core.old.state.entries < 2 ^ 62 }
+    requires user { HasUser entry.act }
     ensures logged { IfOk result (Logged core.old.state core.new.state pass.old pass.new entry) }
     ensures state { OnErr result (core.new.state ≡ core.old.state) }
     ensures pass { OnErr result (pass.new ≡ pass.old) }
-    ensures none_taken { TakesNone core.old.state entry.act → IsOk result }
-    ensures given { items.new.items ≡ items_of core.old.state entry.act }
+    ensures none_taken { TakesNoMemory core.old.state entry.act → IsOk result }
+    ensures given { items.new.items ≡ taken_by core.old.state entry.act }
 {
     let answer = core.make(entry, items)?;
     log_last(core, pass);

@@ -4,6 +4,7 @@ pub mod Names
 pub mod Kept
 pub mod Using
 pub mod EffectLists
+pub mod Fittings
 pub mod Taken
 pub mod Making
 pub mod Rooms

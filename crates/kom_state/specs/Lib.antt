@@ -3,3 +3,4 @@ pub mod Secrecy
 pub mod Keeping
 pub mod Placed
 pub mod Room
+pub mod Keepers

@@ -1,11 +1,13 @@
 ghost use Rattle.std.specs.Prelude.{◌≡◌, true, List, [], ◌∷◌};
 ghost use Rattle.kom_types.specs.declared.effects.Effect.{Effect as Change};
-ghost use Rattle.kom_model.specs.Effects.{fits, made, apply, apply_all};
+ghost use Rattle.kom_model.specs.Effects.{fits, made, apply, apply_all, fitting};
+ghost use Rattle.kom_state.specs.Keepers.{appended, HasRoomFirst};
 ghost use Rattle.kom_state.specs.Room.{HasRoom, IsPossible, IsMade, is_of_person, set_of};
 
 mod item_effects;
 mod text_effects;
 
+use crate::keeper::{Keeper, Unkept};
 use crate::stored_rows::StoredRows;
 use conferences::fresh_conference;
 use kom_types::{
@@ -14,14 +16,38 @@ use kom_types::{
 use persons::fresh_person;
 
 impl StoredRows {
-    /// Makes those of the effects that fit, in their order; there is room for all. It takes no
-    /// memory.
-    pub fn apply_all(&mut self, effects: EffectList)
-        requires { HasRoom self.old.room effects }
-        ensures { self.new.db ≡ apply_all effects self.old.db }
+    /// Makes those of the effects that fit, in their order, and gives each of these to a keeper
+    /// first; there is room for all, here and there. It takes no memory.
+    pub fn apply_all<K: Keeper>(&mut self, effects: EffectList, keeper: &mut K)
+        requires room { HasRoom self.old.room effects }
+        requires kept_room { K.has_room keeper.old effects }
+        ensures db { self.new.db ≡ apply_all effects self.old.db }
+        ensures kept { K.pending keeper.new
+            ≡ appended (fitting effects self.old.db) (K.pending keeper.old) }
+        ensures rest { K.stays keeper.old keeper.new }
     {
         for effect in effects.into_vec() {
-            self.apply(effect);
+            self.apply_kept(effect, keeper);
+        }
+    }
+
+    /// Makes an effect if it fits, and gives it to a keeper first.
+    #[tactic(auto, using(crate::proofs::Fittings::fitting_fit, crate::proofs::Fittings::fitting_unfit))]
+    fn apply_kept<K: Keeper>(&mut self, effect: Effect, keeper: &mut K)
+        requires room { HasRoom self.old.room (effect ∷ []) }
+        requires kept_room { HasRoomFirst K.has_room keeper.old effect }
+        ensures db { self.new.db ≡ apply effect self.old.db }
+        ensures room { (rest : List Change) → HasRoom self.old.room (effect ∷ rest)
+            → HasRoom self.new.room rest }
+        ensures kept { K.pending keeper.new
+            ≡ appended (fitting (effect ∷ []) self.old.db) (K.pending keeper.old) }
+        ensures kept_room { (more : List Change) → K.has_room keeper.old (effect ∷ more)
+            → K.has_room keeper.new more }
+        ensures rest { K.stays keeper.old keeper.new }
+    {
+        if self.fits(&effect) {
+            keeper.keep(&effect);
+            self.apply_effect(effect);
         }
     }
 
@@ -32,9 +58,7 @@ impl StoredRows {
         ensures room { (rest : List Change) → HasRoom self.old.room (effect ∷ rest)
             → HasRoom self.new.room rest }
     {
-        if self.fits(&effect) {
-            self.apply_effect(effect);
-        }
+        self.apply_kept(effect, &mut Unkept);
     }
 
     /// Makes an effect that fits, for which there is room. It takes no memory.

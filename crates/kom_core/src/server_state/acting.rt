@@ -3,14 +3,16 @@ ghost use Rattle.kom_types.specs.declared.acts.Act.TheVariants as act;
 ghost use Rattle.kom_model.specs.State.{IsSound};
 ghost use Rattle.kom_model.specs.Refusal.{refusal_of};
 ghost use Rattle.kom_model.specs.Out.{given_from};
-ghost use Rattle.kom_core.specs.Acts.{items_of, TakesNone};
-ghost use Rattle.kom_core.specs.Keeping.{appended, effects_made};
+ghost use Rattle.kom_model.specs.Out.{taken_by};
+ghost use Rattle.kom_model.specs.Refusal.{TakesNoMemory};
+ghost use Rattle.kom_model.specs.Kept.{kept_of};
+ghost use Rattle.kom_state.specs.Keepers.{appended};
 ghost use Rattle.kom_core.specs.Steps.{Changes, ChangesBy, greeting, made_of};
 
 use super::{Made, ServerState, later};
 use crate::answer_kind::AnswerKind;
-use crate::keeper::Keeper;
 use arrayvec::ArrayVec;
+use kom_state::Keeper;
 use kom_types::{Act, Bytes, Entry, Item, Memory, Moment};
 use sessions::SessionRow;
 
@@ -28,12 +30,13 @@ impl ServerState {
         requires none { items.old.items ≡ [] }
         ensures step { IfOk result (Changes self.old entry.now self.new) }
         ensures kept { IfOk result (λ made. K.pending keeper.new ≡ appended
-            (effects_made self.old (made_of self.old entry.now made.short))
+            (kept_of self.old (made_of self.old entry.now made.short))
             (K.pending keeper.old)) }
         ensures err { OnErr result (self.new ≡ self.old) }
         ensures unkept { OnErr result (K.pending keeper.new ≡ K.pending keeper.old) }
-        ensures none_taken { TakesNone self.old entry.now.act → IsOk result }
-        ensures given { items.new.items ≡ items_of self.old entry.now.act }
+        ensures rest { K.stays keeper.old keeper.new }
+        ensures none_taken { TakesNoMemory self.old entry.now.act → IsOk result }
+        ensures given { items.new.items ≡ taken_by self.old entry.now.act }
     {
         match &entry.act {
             Act::Connect { user, host } => self.connect(entry.pass, entry.moment, user, host),

@@ -1,19 +1,20 @@
 ghost use Rattle.std.specs.Prelude.{◌≡◌, ℕ, [], Some, None, IfOk, IsOk, OnOk, OnErr};
 ghost use Rattle.std.specs.Prelude.{if◌then◌else◌};
 ghost use Rattle.kom_state.specs.Room.{IsOrderly};
-ghost use Rattle.kom_model.specs.Effects.{apply_all};
+ghost use Rattle.kom_model.specs.Effects.{apply_all, fitting};
 ghost use Rattle.kom_model.specs.After.{make_change, make_changes};
 ghost use Rattle.kom_core.specs.Deciding.{IsCall, DecidesFirm};
-ghost use Rattle.kom_core.specs.Keeping.{appended, effects_of};
+ghost use Rattle.kom_model.specs.Kept.{effects_of};
+ghost use Rattle.kom_state.specs.Keepers.{appended};
 ghost use Rattle.kom_core.specs.Steps.{ComesTo, CarriesOut, Answers, IsOf};
 
 use super::{ServerState, later};
 use crate::decide::decide;
 use crate::fan_out::fan_out;
-use crate::keeper::Keeper;
 use async_fanout::Delivery;
+use kom_state::Keeper;
 use kom_types::{
-    ChangeList, Decision, EffectList, Entry, Item, Memory, Moment, Reply, SessionChange,
+    ChangeList, Decision, EffectList, Entry, Item, Memory, Moment, Reply, SessionChange, errors,
 };
 
 impl ServerState {
@@ -31,8 +32,9 @@ impl ServerState {
         requires { IsCall entry.now.act }
         ensures answers { Answers self.old entry.now session reference result self.new }
         ensures kept { K.pending keeper.new
-            ≡ appended (if result then [] else effects_of self.old entry.now)
+            ≡ appended (if result then [] else fitting (effects_of self.old entry.now) self.old.db)
             (K.pending keeper.old) }
+        ensures rest { K.stays keeper.old keeper.new }
     {
         match self.carry_out(entry, keeper) {
             Ok((body, messages)) => {
@@ -41,7 +43,7 @@ impl ServerState {
                 false
             }
             Err(Memory) => {
-                let body = Reply::Refused(39, 0);
+                let body = Reply::Refused(errors::OUT_OF_MEMORY, 0);
                 self.queue(session, Item::Reply { reference, body });
                 true
             }
@@ -60,9 +62,11 @@ impl ServerState {
         ensures ok { IfOk result (λ both.
             CarriesOut self.old entry.now both.0 both.1.items self.new) }
         ensures kept { OnOk result (K.pending keeper.new
-            ≡ appended (effects_of self.old entry.now) (K.pending keeper.old)) }
+            ≡ appended (fitting (effects_of self.old entry.now) self.old.db)
+            (K.pending keeper.old)) }
         ensures err { OnErr result (self.new ≡ self.old) }
         ensures unkept { OnErr result (K.pending keeper.new ≡ K.pending keeper.old) }
+        ensures rest { K.stays keeper.old keeper.new }
         ensures firm { DecidesFirm self.old entry.now → IsOk result }
     {
         let (decision, messages) = self.comes_to(entry)?;
@@ -87,25 +91,26 @@ impl ServerState {
         Ok((decision, messages))
     }
 
-    /// Makes effects on the stored rows, in order, once a keeper has got them. Where memory runs
-    /// out, none is made or kept.
+    /// Makes those of the effects that fit on the stored rows, in order, and gives each of these to
+    /// a keeper first. Where memory for any of them runs out, none is made or kept.
     #[tactic(auto, using(crate::proofs::Keeping::none_appended))]
     fn apply<K: Keeper>(&mut self, effects: EffectList, keeper: &mut K) -> Result<(), Memory>
         requires { IsOrderly effects }
         ensures ok { OnOk result (
             self.new ≡ record self.old { db = apply_all effects self.old.db }) }
         ensures kept { OnOk result (
-            K.pending keeper.new ≡ appended effects (K.pending keeper.old)) }
+            K.pending keeper.new ≡ appended (fitting effects self.old.db) (K.pending keeper.old)) }
         ensures err { OnErr result (self.new ≡ self.old) }
         ensures unkept { OnErr result (K.pending keeper.new ≡ K.pending keeper.old) }
+        ensures rest { K.stays keeper.old keeper.new }
         ensures none { effects ≡ [] → IsOk result }
     {
         if effects.is_empty() {
             return Ok(());
         }
         self.rows.reserve(effects.as_slice())?;
-        keeper.append(effects.as_slice())?;
-        self.rows.apply_all(effects);
+        keeper.reserve(effects.as_slice())?;
+        self.rows.apply_all(effects, keeper);
         Ok(())
     }
 

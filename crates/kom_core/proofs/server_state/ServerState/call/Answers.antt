@@ -28,4 +28,5 @@ returns-in-Ok g c =
             ∙ sym (queue_all-push waiting_limits messages reply after),
       );
       kept = c.in-Ok.ensures.kept;
+      rest = c.in-Ok.ensures.rest;
     }

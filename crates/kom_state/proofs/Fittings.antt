@@ -1,0 +1,39 @@
+-- The effects that fit, one after another.
+use Rattle.std.proofs.Common.{◌≡◌, Bool, true, false, cond, List, [], ◌∷◌, ◌++◌, Option, Some, None, refl, sym, ap}
+use Rattle.std.proofs.Common.{◌∙◌, append_assoc}
+use Rattle.std.proofs.lemmas.List.{append-nil}
+use Rattle.kom_types.specs.declared.effects.Effect.{Effect}
+use Rattle.kom_model.specs.Db.{Db}
+use Rattle.kom_model.specs.Effects.{fits, apply, apply_all, fitting}
+use Rattle.kom_state.specs.Keepers.{appended}
+
+-- an effect that fits; and one that does not
+pub fitting_fit : (what : Effect) (db : Db) → fits what db ≡ true → fitting (what ∷ []) db ≡ what ∷ []
+fitting_fit what db fit = ap (λ (b : Bool). cond b (what ∷ []) []) fit
+
+pub fitting_unfit : (what : Effect) (db : Db) → fits what db ≡ false → fitting (what ∷ []) db ≡ []
+fitting_unfit what db unfit = ap (λ (b : Bool). cond b (what ∷ []) []) unfit
+
+chosen-append : (b : Bool) (what : Effect) (some more : List Effect) →
+    cond b (what ∷ (some ++ more)) (some ++ more) ≡ cond b (what ∷ some) some ++ more
+chosen-append true what some more = refl
+chosen-append false what some more = refl
+
+-- one effect more
+pub fitting-push : (effects : List Effect) (what : Effect) (db : Db) →
+    fitting (effects ++ what ∷ []) db ≡ fitting effects db ++ fitting (what ∷ []) (apply_all effects db)
+fitting-push [] what db = refl
+fitting-push (first ∷ effects) what db =
+    let next : Db = apply first db in
+    ap (λ (rest : List Effect). cond (fits first db) (first ∷ rest) rest) (fitting-push effects what next)
+    ∙ chosen-append (fits first db) first (fitting effects next) (fitting (what ∷ []) (apply_all effects next))
+
+-- no effects; and effects after others
+pub appended-none : (pending : Option (List Effect)) → appended [] pending ≡ pending
+appended-none None = refl
+appended-none (Some list) = ap (λ (all : List Effect). Some all) (append-nil list)
+
+pub appended-append : (some more : List Effect) (pending : Option (List Effect)) →
+    appended (some ++ more) pending ≡ appended more (appended some pending)
+appended-append some more None = refl
+appended-append some more (Some list) = ap (λ (all : List Effect). Some all) (sym (append_assoc list some more))
