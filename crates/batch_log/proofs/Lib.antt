@@ -1,0 +1,9 @@
+pub mod Chunks
+pub mod Ends
+pub mod Finding
+pub mod Looking
+pub mod Mending
+pub mod Parts
+pub mod Reading
+pub mod Torn
+pub mod Walking

@@ -1,0 +1,16 @@
+//! A log of batches on a disk that a stop may tear: what it appends counts once the gate before it
+//! is open.
+#![tactic(auto)]
+
+mod errors;
+mod gates;
+mod laws;
+mod log;
+mod repairs;
+mod walks;
+
+pub use errors::FlushFault;
+pub use laws::{batches_are_kept, batches_are_whole};
+pub use log::Log;
+pub use repairs::repair;
+pub use walks::{Found, Walked, look, read_block, walk};
