@@ -5,6 +5,7 @@ pub mod Shown
 pub mod Sending
 pub mod Messages
 pub mod Effects
+pub mod Whole
 pub mod Initial
 pub mod State
 pub mod Kinds
