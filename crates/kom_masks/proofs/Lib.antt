@@ -1,0 +1,9 @@
+pub mod Rows
+pub mod Listed
+pub mod Numbered
+pub mod Fields
+pub mod Memberships
+pub mod Reading
+pub mod Effects
+pub mod Stepping
+pub mod Accessors
