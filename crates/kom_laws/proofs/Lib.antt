@@ -1,5 +1,4 @@
 pub mod Rows
-pub mod Accessors
 pub mod Rights
 pub mod Shown
 pub mod Told

@@ -1,9 +1,10 @@
 -- What each message tells a person of a group is the same in the state without what is hidden from the group.
 use Rattle.std.proofs.Common.{◌≡◌, ℕ, Bool, true, false, ◌==◌, ◌||◌, ◌&&◌, not, List, [], ◌∷◌, length}
 use Rattle.std.proofs.Common.{Option, Some, None, refl, ap, ap₂, ◌∙◌, sym, inl, inr, true≢false, is_some}
-use Rattle.std.specs.Prelude.{map}
-use Rattle.std.specs.List.{find, filter_map, list_any}
-use Rattle.std.proofs.lemmas.Bool.{cases_Bool, both_ways, and_left, or_left, or_right}
+use Rattle.std.proofs.Common.{eqb-true}
+use Rattle.std.specs.Prelude.{map, option_map, IsTrue}
+use Rattle.std.specs.List.{AllByRecursion, find, filter_map, list_any}
+use Rattle.std.proofs.lemmas.Bool.{cases_Bool, both_ways, and_left, and_parts, or_left, or_right}
 use Rattle.kom_types.specs.declared.aux_items.Adder.{Adder}
 use Rattle.kom_types.specs.declared.aux_items.AuxRow.{AuxRow}
 use Rattle.kom_types.specs.declared.conferences.ConferenceHead.{ConferenceHead}
@@ -12,10 +13,13 @@ use Rattle.kom_types.specs.declared.messages.Message.{Message}
 use Rattle.kom_types.specs.declared.messages.Message.TheVariants as message
 use Rattle.kom_types.specs.declared.texts.Recipient.{Recipient}
 use Rattle.kom_types.specs.declared.texts.TextRow.{TextRow}
-use Rattle.kom_types.specs.tables.Conferences.{is_secret_conference}
-use Rattle.kom_types.specs.tables.Memberships.{is_passive}
+use Rattle.row_table.specs.Tables.{row_of}
+use Rattle.kom_types.specs.declared.memberships.MembershipRow.{MembershipRow}
+use Rattle.kom_types.specs.tables.Conferences.{is_secret_conference, head_of, number_of_conference}
+use Rattle.kom_types.specs.tables.Memberships.{is_passive, is_membership}
 use Rattle.kom_model.specs.declared.viewers.Viewer.{Viewer}
-use Rattle.kom_model.specs.Db.{Db, conference_of, conference_head_of, membership_kind_of, text_of, recipient_of}
+use Rattle.kom_model.specs.Db.{Db, conference_of, conference_head_of, membership_of, membership_kind_of, text_of}
+use Rattle.kom_model.specs.Db.{recipient_of}
 use Rattle.kom_model.specs.Effects.{IsProtected}
 use Rattle.kom_model.specs.Messages.{sending, told_if, takes, gets_text, is_heard, hears, deleted_text}
 use Rattle.kom_model.specs.Messages.{sub_recipient, text_aux_changed}
@@ -23,12 +27,14 @@ use Rattle.kom_model.specs.Rights.{is_let_in, sees, reads}
 use Rattle.kom_model.specs.Sending.{Sending}
 use Rattle.kom_model.specs.Shown.{items_shown}
 use Rattle.kom_model.specs.ToWhom.{of_deleted}
+use Rattle.kom_model.specs.Whole.{IsWhole, has_conference}
 use Rattle.kom_laws.specs.Groups.{Group, IsInGroup, is_unseen, is_unread}
-use Rattle.kom_laws.specs.Erasing.{erased_db, erased_conference, erased_text}
+use Rattle.kom_masks.specs.Masks.{masked_conference, masked_text}
+use Rattle.kom_laws.specs.Erasing.{erased_db, mask_of}
 use Rattle.kom_laws.specs.Laws.{told_to}
-use Rattle.kom_laws.proofs.Rows.{told, told-changed}
-use Rattle.kom_laws.proofs.Accessors.{kind-erased, same-conference, same-text, conference-seen, recipients-read}
-use Rattle.kom_laws.proofs.Accessors.{recipient-seen}
+use Rattle.kom_masks.proofs.Rows.{told, told-changed}
+use Rattle.kom_masks.proofs.Accessors.{kind-masked, same-conference, same-text, conference-seen, recipients-read}
+use Rattle.kom_masks.proofs.Accessors.{recipient-seen}
 use Rattle.kom_laws.proofs.Rights.{sees-erased, reads-erased, seen-by, read-by}
 use Rattle.kom_laws.proofs.Told.{in-of, owns-told, stat-told}
 
@@ -59,14 +65,14 @@ changed-told viewer test change send send' tests sends rows =
 pub takes-erased : (group : Group) (db : Db) (person conference : ℕ) →
     takes (erased_db group db) person conference ≡ takes db person conference
 takes-erased group db person conference =
-    ap (told false (λ kind. not (is_passive kind))) (kind-erased group db person conference)
+    ap (told false (λ kind. not (is_passive kind))) (kind-masked (mask_of group db) db person conference)
 
 pub hears-erased : (group : Group) (db : Db) (person recipient : ℕ) →
     hears (erased_db group db) person recipient ≡ hears db person recipient
 hears-erased group db person recipient =
-    ap (λ kind. recipient == 0 || told false is_heard kind) (kind-erased group db person recipient)
+    ap (λ kind. recipient == 0 || told false is_heard kind) (kind-masked (mask_of group db) db person recipient)
 
--- who takes the texts of a conference that is there sees it: then it is not hidden; nor is one that is not there
+-- who takes the texts of a conference sees it
 joined : (kind : Option ℕ) → told false (λ kind. not (is_passive kind)) kind ≡ true → is_some kind ≡ true
 joined None is = absurd (true≢false (sym is))
 joined (Some kind) is = refl
@@ -84,13 +90,37 @@ takes-sees db viewer conference there is =
     let_in-sees (λ head. is_let_in db viewer conference head.supervisor) (conference_head_of db conference) there
     (λ head. or_right _ _ (or_left _ _ (or_left _ _ (joined (membership_kind_of db viewer.person conference) is))))
 
-takes-seen : (group : Group) (db : Db) (viewer : Viewer) (conference : ℕ) → IsInGroup group viewer →
+-- the conference of a membership is there
+held-there : (conferences : List ConferenceRow) (person conference : ℕ) (rows : List MembershipRow) →
+    AllByRecursion (λ row. IsTrue (has_conference conferences row.conference)) rows →
+    is_some (find (is_membership person conference) rows) ≡ true → has_conference conferences conference ≡ true
+held-there conferences person conference [] held there = absurd (true≢false (sym there))
+held-there conferences person conference (row ∷ rows) held there =
+    elim (cases_Bool (is_membership person conference row)) [
+      | inl here ↦
+          let same = eqb-true row.conference conference
+          (and_parts (row.person == person) (row.conference == conference) here).1 in
+          rw (← same) held.0
+      | inr apart ↦ held-there conferences person conference rows held.1 (rw apart at there)
+    ]
+
+some-told : {X Y : Type 0} (tell : X → Y) (found : Option X) → is_some (option_map tell found) ≡ is_some found
+some-told tell None = refl
+some-told tell (Some row) = refl
+
+member-there : (db : Db) (person conference : ℕ) → IsWhole db →
+    is_some (membership_kind_of db person conference) ≡ true → is_some (conference_head_of db conference) ≡ true
+unfolding membership_kind_of membership_of conference_head_of conference_of
+member-there db person conference whole is =
+    some-told head_of (row_of number_of_conference conference db.conferences)
+    ∙ held-there db.conferences person conference db.memberships whole.memberships.conference_there
+    (sym (some-told (λ (row : MembershipRow). row.kind) (find (is_membership person conference) db.memberships)) ∙ is)
+
+takes-seen : (group : Group) (db : Db) (viewer : Viewer) (conference : ℕ) → IsWhole db → IsInGroup group viewer →
     takes db viewer.person conference ≡ true → is_unseen group db conference ≡ false
-takes-seen group db viewer conference in_group is = elim (cases_Bool (is_some (conference_head_of db conference))) [
-  | inl there ↦ seen-by group db viewer conference (in-of group viewer in_group)
-      (takes-sees db viewer conference there is)
-  | inr absent ↦ and_left _ _ absent
-]
+takes-seen group db viewer conference whole in_group is =
+    seen-by group db viewer conference (in-of group viewer in_group) (takes-sees db viewer conference
+    (member-there db viewer.person conference whole (joined (membership_kind_of db viewer.person conference) is)) is)
 
 -- who does not read a text is told nothing of it; and who is told of a text is the same
 unread-lost : (db : Db) (viewer : Viewer) (text : ℕ) → reads db viewer text ≡ false → gets_text db viewer text ≡ false
@@ -103,7 +133,7 @@ gets-erased group db viewer text protected in_group =
     reads-erased group db viewer text protected (in-of group viewer in_group) in
     elim (cases_Bool (reads db viewer text)) [
       | inl is ↦
-          let recipients = recipients-read group db text (read-by group db viewer text in_group is) in
+          let recipients = recipients-read (mask_of group db) db text (read-by group db viewer text in_group is) in
           λ i. may i && list_any (λ (row : Recipient). takes-erased group db viewer.person row.conference i)
           (recipients i)
       | inr fails ↦ unread-lost (erased_db group db) viewer text (may ∙ fails)
@@ -131,10 +161,11 @@ pub conference-told : (group : Group) (db : Db) (viewer : Viewer) (conference nu
 unfolding conference_of
 conference-told group db viewer conference number tell in_group =
     let test : ConferenceRow → Bool = λ row. row.number == conference in
-    changed-told viewer test (erased_conference group db) (to_seers (erased_db group db) conference number tell)
-    (to_seers db conference number tell) (λ row. same-conference test group db row refl)
+    changed-told viewer test (masked_conference (mask_of group db))
+    (to_seers (erased_db group db) conference number tell)
+    (to_seers db conference number tell) (λ row. same-conference test (mask_of group db) row refl)
     (λ row here. if-told _ _ _ _ (sees-erased group db viewer conference) (λ is. ap tell
-    (conference-seen group db conference row here
+    (conference-seen (mask_of group db) conference row here
     (seen-by group db viewer conference (in-of group viewer in_group) is)))) db.conferences
 
 unread-by : (group : Group) (db : Db) (viewer : Viewer) (text : ℕ) → IsInGroup group viewer →
@@ -146,7 +177,8 @@ unread-by group db viewer text in_group unread = elim (cases_Bool (reads db view
 
 -- the message of a text that is deleted
 row-deleted : (group : Group) (db : Db) (viewer : Viewer) (row : TextRow) → IsProtected db → IsInGroup group viewer →
-    (deleted_text (erased_db group db) (erased_text group db row)).told viewer ≡ (deleted_text db row).told viewer
+    (deleted_text (erased_db group db) (masked_text (mask_of group db) row)).told viewer
+    ≡ (deleted_text db row).told viewer
 row-deleted group db viewer row protected in_group =
     let gets : gets_text (erased_db group db) viewer row.number ≡ gets_text db viewer row.number =
     gets-erased group db viewer row.number protected in_group in
@@ -163,8 +195,8 @@ pub deleted-erased : (group : Group) (db : Db) (viewer : Viewer) (text : ℕ) �
 unfolding text_of
 deleted-erased group db viewer text protected in_group =
     let test : TextRow → Bool = λ row. row.number == text in
-    changed-told viewer test (erased_text group db) (deleted_text (erased_db group db)) (deleted_text db)
-    (λ row. same-text test group db row refl)
+    changed-told viewer test (masked_text (mask_of group db)) (deleted_text (erased_db group db)) (deleted_text db)
+    (λ row. same-text test (mask_of group db) row refl)
     (λ row here. row-deleted group db viewer row protected in_group) db.texts
 
 -- the message of a recipient that goes, to who takes the texts of the conference
@@ -176,25 +208,26 @@ not-taken : (text conference : ℕ) (found : Option Recipient) → to_takers fal
 not-taken text conference None = refl
 not-taken text conference (Some row) = refl
 
-pub recipient-told : (group : Group) (db : Db) (viewer : Viewer) (text conference : ℕ) → IsInGroup group viewer →
+pub recipient-told : (group : Group) (db : Db) (viewer : Viewer) (text conference : ℕ) → IsWhole db →
+    IsInGroup group viewer →
     told_to viewer (of_row (λ row. sub_recipient (erased_db group db) text conference row.tag)
     (recipient_of (erased_db group db) text conference))
     ≡ told_to viewer (of_row (λ row. sub_recipient db text conference row.tag) (recipient_of db text conference))
-recipient-told group db viewer text conference in_group =
+recipient-told group db viewer text conference whole in_group =
     let part : Option Recipient = recipient_of (erased_db group db) text conference in
-    let whole : Option Recipient = recipient_of db text conference in
+    let full : Option Recipient = recipient_of db text conference in
     let same : (taken : Bool) → takes db viewer.person conference ≡ taken →
-    to_takers taken text conference part ≡ to_takers taken text conference whole = λ taken. elim taken
+    to_takers taken text conference part ≡ to_takers taken text conference full = λ taken. elim taken
     as (λ taken. takes db viewer.person conference ≡ taken →
-    to_takers taken text conference part ≡ to_takers taken text conference whole) [
-      | true ↦ λ is. ap (to_takers true text conference) (recipient-seen group db text conference
-          (takes-seen group db viewer conference in_group is))
-      | false ↦ λ fails. not-taken text conference part ∙ sym (not-taken text conference whole)
+    to_takers taken text conference part ≡ to_takers taken text conference full) [
+      | true ↦ λ is. ap (to_takers true text conference) (recipient-seen (mask_of group db) db text conference
+          (takes-seen group db viewer conference whole in_group is))
+      | false ↦ λ fails. not-taken text conference part ∙ sym (not-taken text conference full)
     ] in
     row-told viewer _ part
     ∙ ap (λ taken. to_takers taken text conference part) (takes-erased group db viewer.person conference)
     ∙ same (takes db viewer.person conference) refl
-    ∙ sym (row-told viewer _ whole)
+    ∙ sym (row-told viewer _ full)
 
 -- the message of items of a text, to who gets what is told of that
 aux_changed-erased : (group : Group) (db : Db) (viewer : Viewer) (text : ℕ) (deleted added : List AuxRow) →

@@ -19,19 +19,22 @@ use Rattle.kom_model.specs.Kinds.{is_among}
 use Rattle.kom_model.specs.Rights.{is_member, is_active_member, stands_for, supervises, is_let_in, sees}
 use Rattle.kom_model.specs.Rights.{reads_conference, reads, reads_by_recipient, is_author, may_submit}
 use Rattle.kom_laws.specs.Groups.{Group, IsInGroup, IsOfGroup, is_unseen, is_unread, weak}
-use Rattle.kom_laws.specs.Erasing.{erased_db, keeps_recipient}
+use Rattle.kom_masks.specs.Masks.{stays_recipient}
+use Rattle.kom_laws.specs.Erasing.{erased_db, mask_of}
 use Rattle.kom_laws.specs.Laws.{HasSameRights, IsHiddenSame}
-use Rattle.kom_laws.proofs.Rows.{told, IfSome-found, any-thinned, any-same, any-among}
-use Rattle.kom_laws.proofs.Accessors.{head-erased, kind-erased, author-erased}
+use Rattle.kom_masks.proofs.Rows.{told}
+use Rattle.kom_laws.proofs.Rows.{IfSome-found, any-thinned, any-same, any-among}
+use Rattle.kom_masks.proofs.Accessors.{head-masked, kind-masked, author-masked}
 
 member-erased : (group : Group) (db : Db) (person conference : ℕ) →
     is_member (erased_db group db) person conference ≡ is_member db person conference
-member-erased group db person conference = ap (λ kind. is_some kind) (kind-erased group db person conference)
+member-erased group db person conference =
+    ap (λ kind. is_some kind) (kind-masked (mask_of group db) db person conference)
 
 active-erased : (group : Group) (db : Db) (person conference : ℕ) →
     is_active_member (erased_db group db) person conference ≡ is_active_member db person conference
 active-erased group db person conference =
-    ap (told false (λ kind. not (is_invitation kind))) (kind-erased group db person conference)
+    ap (told false (λ kind. not (is_invitation kind))) (kind-masked (mask_of group db) db person conference)
 
 stands-erased : (group : Group) (db : Db) (person supervisor : ℕ) →
     stands_for (erased_db group db) person supervisor ≡ stands_for db person supervisor
@@ -50,7 +53,7 @@ head-told : (group : Group) (db : Db) (tell tell' : ConferenceHead → Bool) →
     told false tell (conference_head_of (erased_db group db) conference)
     ≡ told false tell' (conference_head_of db conference)
 head-told group db tell tell' same conference =
-    ap₂ (λ tell found. told false tell found) (fun_ext same) (head-erased group db conference)
+    ap₂ (λ tell found. told false tell found) (fun_ext same) (head-masked (mask_of group db) db conference)
 
 pub supervises-erased : (group : Group) (db : Db) (person conference : ℕ) →
     supervises (erased_db group db) person conference ≡ supervises db person conference
@@ -114,9 +117,9 @@ as_weak viewer may not_strong is =
 -- what one of a group sees is not hidden from the group, nor is what one of it reads
 pub seen-by : (group : Group) (db : Db) (viewer : Viewer) (conference : ℕ) → IsOfGroup group viewer →
     sees db viewer conference ≡ true → is_unseen group db conference ≡ false
-seen-by group db viewer conference of_group is = and_right _ _ (not_from_true _ (any-among
+seen-by group db viewer conference of_group is = not_from_true _ (any-among
     (λ person. sees db (weak person) conference) (0 ∷ group.persons) viewer.person of_group.0
-    (as_weak viewer (λ viewer. sees db viewer conference) of_group.1 is)))
+    (as_weak viewer (λ viewer. sees db viewer conference) of_group.1 is))
 
 pub read-by : (group : Group) (db : Db) (viewer : Viewer) (text : ℕ) → IsInGroup group viewer →
     reads db viewer text ≡ true → is_unread group db text ≡ false
@@ -133,8 +136,8 @@ by_recipient-erased group db viewer text protected of_group =
     let pass : Recipient → Bool = λ row. reads_conference db viewer row.conference in
     let same : (row : Recipient) → reads_conference (erased_db group db) viewer row.conference ≡ pass row =
     λ row. reads_conference-erased group db viewer row.conference in
-    ap (λ pass. list_any pass (filter test (filter (keeps_recipient group db) db.recipients))) (fun_ext same)
-    ∙ any-thinned pass test (keeps_recipient group db)
+    ap (λ pass. list_any pass (filter test (filter (stays_recipient (mask_of group db)) db.recipients))) (fun_ext same)
+    ∙ any-thinned pass test (stays_recipient (mask_of group db))
     (λ row is. not_from_false _ (and_right _ _ (seen-by group db viewer row.conference of_group
     (reads-sees db viewer row.conference protected is)))) db.recipients
 
@@ -144,7 +147,7 @@ unfolding reads
 reads-erased group db viewer text protected of_group =
     ap₂ (λ (found : Option ℕ) (by : Bool).
     told false (λ author. viewer.strong || is_author viewer.person author || by) found)
-    (author-erased group db text) (by_recipient-erased group db viewer text protected of_group)
+    (author-masked (mask_of group db) db text) (by_recipient-erased group db viewer text protected of_group)
 
 pub rights-erased : (group : Group) (db : Db) (viewer : Viewer) → IsProtected db → IsOfGroup group viewer →
     HasSameRights viewer (erased_db group db) db
@@ -162,8 +165,7 @@ weak-of_group group person among = (or_right _ _ among, refl)
 
 pub hidden-erased : (group : Group) (db : Db) → IsProtected db → IsHiddenSame group (erased_db group db) db
 hidden-erased group db protected = record {
-  unseen = λ conference. ap₂ (λ (head : Option ConferenceHead) (test : ℕ → Bool). is_some head
-      && not (list_any test (0 ∷ group.persons))) (head-erased group db conference)
+  unseen = λ conference. ap (λ (test : ℕ → Bool). not (list_any test (0 ∷ group.persons)))
       (fun_ext (λ person. sees-erased group db (weak person) conference));
   unread = λ text. ap not (any-same (λ person. reads (erased_db group db) (weak person) text)
       (λ person. reads db (weak person) text) group.persons

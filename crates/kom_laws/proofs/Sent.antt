@@ -14,12 +14,14 @@ use Rattle.kom_model.specs.Db.{Db, person_of}
 use Rattle.kom_model.specs.Effects.{IsProtected}
 use Rattle.kom_model.specs.Messages.{told_if, new_membership, new_user_area}
 use Rattle.kom_model.specs.ToWhom.{text_added, items_named, items_made}
+use Rattle.kom_model.specs.Whole.{IsWhole}
 use Rattle.kom_model.specs.calls.Call.{Asked, seat_of}
 use Rattle.kom_model.specs.calls.Guards.{caller, viewer_at}
 use Rattle.kom_laws.specs.Groups.{Group, IsInGroup, is_unread}
-use Rattle.kom_laws.specs.Erasing.{erased_db, erased_person}
+use Rattle.kom_masks.specs.Masks.{masked_person}
+use Rattle.kom_laws.specs.Erasing.{erased_db, mask_of}
 use Rattle.kom_laws.specs.Laws.{IsSentSame, told_to}
-use Rattle.kom_laws.proofs.Accessors.{same-person, joined-erased, items-read}
+use Rattle.kom_masks.proofs.Accessors.{same-person, joined-masked, items-read}
 use Rattle.kom_laws.proofs.Messages.{alone, of_row, changed-told, takes-erased, hears-erased, conference-told}
 use Rattle.kom_laws.proofs.Messages.{deleted-erased, recipient-told, aux-told}
 use Rattle.kom_laws.proofs.Added.{made-erased}
@@ -44,16 +46,18 @@ module _ (group : Group) (asked : Asked) (viewer : Viewer) where
   area-told person text =
       let test : PersonRow → Bool = λ row. row.number == person in
       let tell : PersonRow → Option Message = λ row. (new_user_area person row.user_area text).told viewer in
-      changed-told viewer test (erased_person group) _ _ (λ row. same-person test group row refl)
-      (λ row here. same-person tell group row refl) asked.db.persons
+      changed-told viewer test (masked_person (mask_of group asked.db)) _ _
+      (λ row. same-person test (mask_of group asked.db) row refl)
+      (λ row here. same-person tell (mask_of group asked.db) row refl) asked.db.persons
 
   named-read : (text : ℕ) (numbers : List ℕ) → is_unread group asked.db text ≡ false →
       items_named part.db text numbers ≡ items_named asked.db text numbers
   named-read text numbers read = ap (λ (items : List AuxRow).
       filter_map (λ number. find (λ item. item.number == number) items) numbers)
-      (items-read group asked.db text read)
+      (items-read (mask_of group asked.db) asked.db text read)
 
-  module _ (decision : Decision) (protected : IsProtected asked.db) (in_group : IsInGroup group viewer) where
+  module _ (decision : Decision) (protected : IsProtected asked.db) (whole : IsWhole asked.db)
+      (in_group : IsInGroup group viewer) where
     pub sent-erased : IsSentSame viewer asked part.db decision
     sent-erased (call.ChangeName conference name) =
         conference-told group asked.db viewer conference 5 (λ row. message.NewName
@@ -68,7 +72,7 @@ module _ (group : Group) (asked : Asked) (viewer : Viewer) where
         ap (λ taken. alone (told_if taken (message.NewRecipient text conference tag)))
         (takes-erased group asked.db viewer.person conference)
     sent-erased (call.SubRecipient text conference) =
-        recipient-told group asked.db viewer text conference in_group
+        recipient-told group asked.db viewer text conference whole in_group
     sent-erased (call.SendMessage recipient text) =
         ap₂ (λ heard sender. alone (told_if heard (message.SendMessage
         (record { recipient = recipient; sender = sender; text = text }))))
@@ -83,5 +87,5 @@ module _ (group : Group) (asked : Asked) (viewer : Viewer) where
         (named-read given.object given.delete))
     sent-erased (call.AddMember conference person priority place kind) =
         ap (λ joined. told_to viewer (cond joined [] (new_membership person conference ∷ [])))
-        (joined-erased group asked.db person conference)
+        (joined-masked (mask_of group asked.db) asked.db person conference)
     sent-erased other = refl

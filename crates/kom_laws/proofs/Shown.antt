@@ -19,12 +19,14 @@ use Rattle.kom_model.specs.Shown.{shows_recipient, shows_membership, is_reserved
 use Rattle.kom_model.specs.Shown.{shows_reads, members_shown, memberships_shown, ranges_shown, told_count}
 use Rattle.kom_model.specs.Shown.{conference_told, conference_adder, items_shown}
 use Rattle.kom_laws.specs.Groups.{Group, IsOfGroup, is_unseen}
-use Rattle.kom_laws.specs.Erasing.{erased_db, erased_conference, erased_membership}
+use Rattle.kom_masks.specs.Masks.{masked_conference, masked_membership}
+use Rattle.kom_laws.specs.Erasing.{erased_db, mask_of}
 use Rattle.kom_laws.specs.Laws.{IsShownSame}
-use Rattle.kom_laws.proofs.Rows.{told, told-changed, filter-unchanged, filter-kept}
-use Rattle.kom_laws.proofs.Accessors.{same-conference, same-membership, conference-seen, not-hidden}
-use Rattle.kom_laws.proofs.Accessors.{flags-erased, memberships-erased, ranges-seen, next_local-seen, first_local-seen}
-use Rattle.kom_laws.proofs.Accessors.{items-seen}
+use Rattle.kom_masks.proofs.Rows.{told, told-changed}
+use Rattle.kom_laws.proofs.Rows.{filter-unchanged, filter-kept}
+use Rattle.kom_masks.proofs.Accessors.{same-conference, same-membership, conference-seen, not-hidden}
+use Rattle.kom_masks.proofs.Accessors.{flags-masked, memberships-masked, ranges-seen, next_local-seen, first_local-seen}
+use Rattle.kom_masks.proofs.Accessors.{items-seen}
 use Rattle.kom_laws.proofs.Rights.{supervises-erased, sees-erased, reads_conference-erased, seen-by}
 
 pub recipient-erased : (group : Group) (db : Db) (viewer : Viewer) (author : ℕ) (row : Recipient) →
@@ -54,7 +56,7 @@ shown-sees db viewer person conference kind is = (and_parts _ _ is).0
 
 reserved-erased : (group : Group) (db : Db) (person : ℕ) →
     is_reserved (erased_db group db) person ≡ is_reserved db person
-reserved-erased group db person = ap (told false (λ flags. is_on 128 flags)) (flags-erased group db person)
+reserved-erased group db person = ap (told false (λ flags. is_on 128 flags)) (flags-masked (mask_of group db) db person)
 
 reads_shown-erased : (group : Group) (db : Db) (viewer : Viewer) (person : ℕ) →
     shows_reads (erased_db group db) viewer person ≡ shows_reads db viewer person
@@ -64,7 +66,7 @@ reads_shown-erased group db viewer person =
 
 -- a membership in a conference that is seen is not changed
 membership-seen : (group : Group) (db : Db) (row : MembershipRow) → is_unseen group db row.conference ≡ false →
-    erased_membership group db row ≡ row
+    masked_membership (mask_of group db) row ≡ row
 membership-seen group db row seen = cond-false _ _ row seen
 
 members-erased : (group : Group) (db : Db) (viewer : Viewer) (conference : ℕ) → IsOfGroup group viewer →
@@ -73,11 +75,11 @@ unfolding members_of
 members-erased group db viewer conference of_group =
     let inner : MembershipRow → Bool = λ row. row.conference == conference in
     let outer : MembershipRow → Bool = λ row. shows_membership db viewer row.person conference row.kind in
-    let change : MembershipRow → MembershipRow = erased_membership group db in
+    let change : MembershipRow → MembershipRow = masked_membership (mask_of group db) in
     ap (λ (outer : MembershipRow → Bool). filter outer (filter inner (map change db.memberships)))
     (fun_ext (λ (row : MembershipRow). membership-erased group db viewer row.person conference row.kind))
-    ∙ filter-kept outer inner change (λ row. same-membership outer group db row refl)
-    (λ row. same-membership inner group db row refl)
+    ∙ filter-kept outer inner change (λ row. same-membership outer (mask_of group db) row refl)
+    (λ row. same-membership inner (mask_of group db) row refl)
     (λ row here shown. membership-seen group db row (not-hidden (is_unseen group db) row.conference conference here
     (seen-by group db viewer conference of_group (shown-sees db viewer row.person conference row.kind shown))))
     db.memberships
@@ -88,8 +90,9 @@ memberships_shown-erased group db viewer person of_group =
     let shows : MembershipRow → Bool = λ row. shows_membership db viewer row.person row.conference row.kind in
     ap₂ (λ (shows : MembershipRow → Bool) (rows : List MembershipRow). filter shows rows)
     (fun_ext (λ (row : MembershipRow). membership-erased group db viewer row.person row.conference row.kind))
-    (memberships-erased group db person)
-    ∙ filter-unchanged shows (erased_membership group db) (λ row. same-membership shows group db row refl)
+    (memberships-masked (mask_of group db) db person)
+    ∙ filter-unchanged shows (masked_membership (mask_of group db))
+    (λ row. same-membership shows (mask_of group db) row refl)
     (λ row shown. membership-seen group db row (seen-by group db viewer row.conference of_group
     (shown-sees db viewer row.person row.conference row.kind shown))) (memberships_of db person)
 
@@ -98,7 +101,7 @@ ranges_shown-erased : (group : Group) (db : Db) (viewer : Viewer) (row : Members
 ranges_shown-erased group db viewer row of_group is =
     ap₂ (λ (shows : Bool) (ranges : List ReadRange). cond shows ranges [])
     (reads_shown-erased group db viewer row.person)
-    (ranges-seen group db row.person row.conference (seen-by group db viewer row.conference of_group is))
+    (ranges-seen (mask_of group db) db row.person row.conference (seen-by group db viewer row.conference of_group is))
 
 -- who looks owns the same conferences
 owns-erased : (group : Group) (db : Db) (viewer : Viewer) (conference : ℕ) →
@@ -116,13 +119,13 @@ told-seen group db viewer row of_group seen =
     let members : members_shown (erased_db group db) viewer row.number ≡ members_shown db viewer row.number =
     members-erased group db viewer row.number of_group in
     let first : first_local_of (erased_db group db) row.number ≡ first_local_of db row.number =
-    first_local-seen group db row.number seen in
+    first_local-seen (mask_of group db) db row.number seen in
     let next : next_local_of (erased_db group db) row.number ≡ next_local_of db row.number =
-    next_local-seen group db row.number seen in
+    next_local-seen (mask_of group db) db row.number seen in
     let adder : conference_adder (erased_db group db) viewer row.number ≡ conference_adder db viewer row.number =
     owns-erased group db viewer row.number in
     let items : items_of (erased_db group db) false row.number ≡ items_of db false row.number =
-    items-seen group db row.number seen in
+    items-seen (mask_of group db) db row.number seen in
     λ i. record (conference_told db viewer row) {
       members = told_count (length (members i));
       first_local = first i;
@@ -138,11 +141,12 @@ unfolding conference_of
 conference-erased group db viewer number of_group is =
     let test : ConferenceRow → Bool = λ row. row.number == number in
     let seen : is_unseen group db number ≡ false = seen-by group db viewer number of_group is in
-    told-changed test (erased_conference group db) None
+    told-changed test (masked_conference (mask_of group db)) None
     (λ row. Some (conference_told (erased_db group db) viewer row)) (λ row. Some (conference_told db viewer row))
-    (λ row. same-conference test group db row refl)
+    (λ row. same-conference test (mask_of group db) row refl)
     (λ row here. ap (λ row. Some (conference_told (erased_db group db) viewer row))
-    (conference-seen group db number row here seen) ∙ ap (λ shown. Some shown) (told-seen group db viewer row of_group
+    (conference-seen (mask_of group db) number row here seen) ∙ ap (λ shown. Some shown)
+    (told-seen group db viewer row of_group
     (not-hidden (is_unseen group db) row.number number here seen))) db.conferences
 
 pub shown-erased : (group : Group) (db : Db) (viewer : Viewer) → IsOfGroup group viewer →

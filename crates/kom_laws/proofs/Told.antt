@@ -18,12 +18,13 @@ use Rattle.kom_model.specs.Shown.{memberships_shown, told_count, own_count, pers
 use Rattle.kom_model.specs.Shown.{recipient_infos, from_infos, into_info, text_head_of, stat_of, shown_stat}
 use Rattle.kom_model.specs.Shown.{text_adder, items_shown}
 use Rattle.kom_laws.specs.Groups.{Group, IsInGroup, IsOfGroup, is_unread}
-use Rattle.kom_laws.specs.Erasing.{erased_db, erased_person, erased_text}
+use Rattle.kom_masks.specs.Masks.{masked_person, masked_text}
+use Rattle.kom_laws.specs.Erasing.{erased_db, mask_of}
 use Rattle.kom_laws.specs.Laws.{IsToldSame}
-use Rattle.kom_laws.proofs.Rows.{told, told-changed}
-use Rattle.kom_laws.proofs.Accessors.{same-person, same-text, text-read, not-hidden, recipients-read}
-use Rattle.kom_laws.proofs.Accessors.{links_from-read, links_into-read, next_created-erased, first_created-erased}
-use Rattle.kom_laws.proofs.Accessors.{author-erased, items-read}
+use Rattle.kom_masks.proofs.Rows.{told, told-changed}
+use Rattle.kom_masks.proofs.Accessors.{same-person, same-text, text-read, not-hidden, recipients-read}
+use Rattle.kom_masks.proofs.Accessors.{links_from-read, links_into-read, next_created-masked, first_created-masked}
+use Rattle.kom_masks.proofs.Accessors.{author-masked, items-read}
 use Rattle.kom_laws.proofs.Rights.{read-by, supervises-erased}
 use Rattle.kom_laws.proofs.Shown.{recipient-erased, memberships_shown-erased}
 
@@ -45,7 +46,7 @@ other-told db viewer row not_strong other =
     λ i. record (person_told db viewer row) { read_texts = read i; text_fetches = fetched i }
 
 row-told : (group : Group) (db : Db) (viewer : Viewer) (row : PersonRow) → IsInGroup group viewer →
-    person_told db viewer (erased_person group row) ≡ person_told db viewer row
+    person_told db viewer (masked_person (mask_of group db) row) ≡ person_told db viewer row
 row-told group db viewer row in_group = elim (cases_Bool (is_among group.persons row.number)) [
   | inl among ↦ rw among refl
   | inr apart ↦
@@ -62,9 +63,9 @@ person-told : (group : Group) (db : Db) (viewer : Viewer) (row : PersonRow) → 
 unfolding marks_of
 person-told group db viewer row in_group =
     let first : first_created_of (erased_db group db) row.number ≡ first_created_of db row.number =
-    first_created-erased group db row.number in
+    first_created-masked (mask_of group db) db row.number in
     let next : next_created_of (erased_db group db) row.number ≡ next_created_of db row.number =
-    next_created-erased group db row.number in
+    next_created-masked (mask_of group db) db row.number in
     let memberships : memberships_shown (erased_db group db) viewer row.number
     ≡ memberships_shown db viewer row.number =
     memberships_shown-erased group db viewer row.number (in-of group viewer in_group) in
@@ -80,16 +81,17 @@ person-erased : (group : Group) (db : Db) (viewer : Viewer) (number : ℕ) → I
 unfolding person_of
 person-erased group db viewer number in_group =
     let test : PersonRow → Bool = λ row. row.number == number in
-    told-changed test (erased_person group) None (λ row. Some (person_told (erased_db group db) viewer row))
-    (λ row. Some (person_told db viewer row)) (λ row. same-person test group row refl)
-    (λ row here. ap (λ shown. Some shown) (person-told group db viewer (erased_person group row) in_group
+    told-changed test (masked_person (mask_of group db)) None (λ row. Some (person_told
+    (erased_db group db) viewer row))
+    (λ row. Some (person_told db viewer row)) (λ row. same-person test (mask_of group db) row refl)
+    (λ row here. ap (λ shown. Some shown) (person-told group db viewer (masked_person (mask_of group db) row) in_group
     ∙ row-told group db viewer row in_group)) db.persons
 
 recipients-told : (group : Group) (db : Db) (viewer : Viewer) (author text : ℕ) → is_unread group db text ≡ false →
     recipients_shown (erased_db group db) viewer author text ≡ recipients_shown db viewer author text
 recipients-told group db viewer author text read =
     ap₂ (λ (shows : Recipient → Bool) (rows : List Recipient). filter shows rows)
-    (fun_ext (recipient-erased group db viewer author)) (recipients-read group db text read)
+    (fun_ext (recipient-erased group db viewer author)) (recipients-read (mask_of group db) db text read)
 
 -- who looks owns the same texts
 pub owns-told : (group : Group) (db : Db) (viewer : Viewer) (text : ℕ) →
@@ -97,7 +99,7 @@ pub owns-told : (group : Group) (db : Db) (viewer : Viewer) (text : ℕ) →
 owns-told group db viewer text =
     let owned = ap₂ (λ (owns : ℕ → Bool) (found : Option ℕ). told viewer.strong owns found)
     (fun_ext (λ author. ap (λ supervised. is_author viewer.person author || supervised || viewer.strong)
-    (supervises-erased group db viewer.person author))) (author-erased group db text) in
+    (supervises-erased group db viewer.person author))) (author-masked (mask_of group db) db text) in
     λ i. record { person = viewer.person; owns = owned i }
 
 -- what is told of a text, where the same hangs on it
@@ -122,9 +124,9 @@ pub stat-told : (group : Group) (db : Db) (viewer : Viewer) (row : TextRow) → 
 unfolding marks_on
 stat-told group db viewer row read = stat-same (erased_db group db) db viewer (text_head_of row)
     (recipients-told group db viewer row.author row.number read)
-    (λ footnote. links_from-read group db row.number footnote read)
-    (λ footnote. links_into-read group db row.number footnote read) refl
-    (owns-told group db viewer row.number) (items-read group db row.number read)
+    (λ footnote. links_from-read (mask_of group db) db row.number footnote read)
+    (λ footnote. links_into-read (mask_of group db) db row.number footnote read) refl
+    (owns-told group db viewer row.number) (items-read (mask_of group db) db row.number read)
 
 text-erased : (group : Group) (db : Db) (viewer : Viewer) (number : ℕ) → IsInGroup group viewer →
     reads db viewer number ≡ true →
@@ -134,10 +136,10 @@ unfolding text_of
 text-erased group db viewer number in_group is =
     let test : TextRow → Bool = λ row. row.number == number in
     let read : is_unread group db number ≡ false = read-by group db viewer number in_group is in
-    told-changed test (erased_text group db) None (λ row. Some (shown_stat (erased_db group db) viewer row))
-    (λ row. Some (shown_stat db viewer row)) (λ row. same-text test group db row refl)
+    told-changed test (masked_text (mask_of group db)) None (λ row. Some (shown_stat (erased_db group db) viewer row))
+    (λ row. Some (shown_stat db viewer row)) (λ row. same-text test (mask_of group db) row refl)
     (λ row here. ap (λ row. Some (shown_stat (erased_db group db) viewer row))
-    (text-read group db number row here read) ∙ ap (λ shown. Some shown) (stat-told group db viewer row
+    (text-read (mask_of group db) number row here read) ∙ ap (λ shown. Some shown) (stat-told group db viewer row
     (not-hidden (is_unread group db) row.number number here read))) db.texts
 
 pub told-erased : (group : Group) (db : Db) (viewer : Viewer) → IsInGroup group viewer →

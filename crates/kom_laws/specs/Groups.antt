@@ -1,8 +1,8 @@
 -- A group of persons and their sessions, and what of the stored rows is hidden from it.
-use Rattle.std.specs.Prelude.{◌≡◌, ℕ, Bool, false, ◌&&◌, not, List, ◌∷◌, is_some, IsTrue}
+use Rattle.std.specs.Prelude.{◌≡◌, ℕ, Bool, false, not, List, ◌∷◌, IsTrue}
 use Rattle.std.specs.List.{list_any}
 use Rattle.kom_model.specs.declared.viewers.Viewer.{Viewer}
-use Rattle.kom_model.specs.Db.{Db, conference_head_of}
+use Rattle.kom_model.specs.Db.{Db}
 use Rattle.kom_model.specs.Kinds.{is_among}
 use Rattle.kom_model.specs.Rights.{sees, reads}
 
@@ -24,10 +24,10 @@ abbrev pub IsOfGroup : Group → Viewer → Type 0
 IsOfGroup group viewer =
     IsTrue (is_among (0 ∷ group.persons) viewer.person) × (viewer.strong ≡ false)
 
--- the conference is there, and neither nobody nor anybody of the group sees it
+-- neither nobody nor anybody of the group sees the conference
 abbrev pub is_unseen : Group → Db → ℕ → Bool
-is_unseen group db conference = is_some (conference_head_of db conference)
-    && not (list_any (λ person. sees db (weak person) conference) (0 ∷ group.persons))
+is_unseen group db conference =
+    not (list_any (λ person. sees db (weak person) conference) (0 ∷ group.persons))
 
 -- nobody of the group reads the text
 abbrev pub is_unread : Group → Db → ℕ → Bool

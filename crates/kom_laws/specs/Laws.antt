@@ -14,6 +14,7 @@ use Rattle.kom_model.specs.Db.{Db, conference_of, person_of, text_of}
 use Rattle.kom_model.specs.Effects.{IsProtected}
 use Rattle.kom_model.specs.Sending.{Sending}
 use Rattle.kom_model.specs.ToWhom.{sent_by}
+use Rattle.kom_model.specs.Whole.{IsWhole}
 use Rattle.kom_model.specs.Rights.{supervises, sees, reads_conference, reads, may_submit}
 use Rattle.kom_model.specs.Shown.{shows_recipient, shows_membership, is_reserved, shows_reads}
 use Rattle.kom_model.specs.Shown.{members_shown, memberships_shown, ranges_shown, time_shown}
@@ -78,7 +79,8 @@ pub record IsHiddenSame (group : Group) (one other : Db) : Type 0 where
   pub unread : (text : ℕ) → is_unread group one text ≡ is_unread group other text
 
 -- The laws of erasing: over all stored rows in which each secret conference is read-protected, and
--- for nobody and each person of a group.
+-- for nobody and each person of a group. That what a call sends is the same wants whole rows, since
+-- a membership in a conference that is not there would hear of its texts.
 pub record StandErased : Type 0 where
   pub rights : (group : Group) (db : Db) (viewer : Viewer) → IsProtected db
       → IsOfGroup group viewer → HasSameRights viewer (erased_db group db) db
@@ -87,7 +89,7 @@ pub record StandErased : Type 0 where
   pub told : (group : Group) (db : Db) (viewer : Viewer) → IsProtected db
       → IsInGroup group viewer → IsToldSame viewer (erased_db group db) db
   pub sent : (group : Group) (asked : Asked) (decision : Decision) (viewer : Viewer)
-      → IsProtected asked.db → IsInGroup group viewer
+      → IsProtected asked.db → IsWhole asked.db → IsInGroup group viewer
       → IsSentSame viewer asked (erased_db group asked.db) decision
   pub hidden : (group : Group) (db : Db) → IsProtected db
       → IsHiddenSame group (erased_db group db) db

@@ -9,7 +9,7 @@ returns c = record {
   rights = rights-erased;
   shown = λ group db viewer protected of_group. shown-erased group db viewer of_group;
   told = λ group db viewer protected in_group. told-erased group db viewer in_group;
-  sent = λ group asked decision viewer protected in_group.
-      sent-erased group asked viewer decision protected in_group;
+  sent = λ group asked decision viewer protected whole in_group.
+      sent-erased group asked viewer decision protected whole in_group;
   hidden = hidden-erased;
 }
