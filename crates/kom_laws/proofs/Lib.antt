@@ -5,3 +5,4 @@ pub mod Told
 pub mod Messages
 pub mod Added
 pub mod Sent
+pub mod whole

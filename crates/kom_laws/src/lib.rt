@@ -4,4 +4,4 @@
 
 mod laws;
 
-pub use laws::rights_stand_erased;
+pub use laws::{effects_leave_whole, rights_stand_erased};

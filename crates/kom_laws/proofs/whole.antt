@@ -1,0 +1,14 @@
+pub mod Counts
+pub mod Found
+pub mod Stays
+pub mod Pairs
+pub mod Memberships
+pub mod Marks
+pub mod Appended
+pub mod Conferences
+pub mod Texts
+pub mod OnConferences
+pub mod OnPersons
+pub mod OnTexts
+pub mod OnMembers
+pub mod Effects
