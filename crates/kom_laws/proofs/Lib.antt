@@ -6,3 +6,4 @@ pub mod Messages
 pub mod Added
 pub mod Sent
 pub mod whole
+pub mod fitting

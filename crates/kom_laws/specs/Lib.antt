@@ -2,3 +2,4 @@ pub mod Groups
 pub mod Erasing
 pub mod Laws
 pub mod Whole
+pub mod Fitting

@@ -1,3 +1,4 @@
+ghost use Rattle.kom_laws.specs.Fitting.{DecidedFit};
 ghost use Rattle.kom_laws.specs.Laws.{StandErased};
 ghost use Rattle.kom_laws.specs.Whole.{StandWhole};
 
@@ -10,4 +11,9 @@ pub fn rights_stand_erased()
 /// A law alone: effects leave whole rows whole, from no row on.
 pub fn effects_leave_whole()
     ensures { StandWhole }
+{}
+
+/// A law alone: what a call comes to fits in whole rows, for the calls that are named.
+pub fn decided_effects_fit()
+    ensures { DecidedFit }
 {}

@@ -1,0 +1,10 @@
+pub mod Guards
+pub mod Ranges
+pub mod Removing
+pub mod Deleting
+pub mod Persons
+pub mod Sessions
+pub mod Conferences
+pub mod Memberships
+pub mod Texts
+pub mod Calls
