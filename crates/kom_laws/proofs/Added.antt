@@ -19,10 +19,10 @@ use Rattle.kom_model.specs.Rights.{supervises, sees, reads_conference, reads, is
 use Rattle.kom_model.specs.Shown.{shows_recipient, recipients_shown, text_adder, text_head_of, stat_of}
 use Rattle.kom_model.specs.ToWhom.{only_added}
 use Rattle.kom_laws.specs.Groups.{Group}
-use Rattle.kom_laws.specs.Erasing.{erased_db}
+use Rattle.kom_laws.specs.Erasing.{erased_db, mask_of}
 use Rattle.kom_laws.specs.Laws.{told_to}
 use Rattle.kom_masks.proofs.Rows.{told}
-use Rattle.kom_laws.proofs.Rights.{supervises-erased, reads_conference-erased}
+use Rattle.kom_laws.proofs.Rights.{supervises-masked, reads_conference-masked}
 use Rattle.kom_laws.proofs.Shown.{recipient-erased}
 use Rattle.kom_laws.proofs.Told.{stat-same}
 use Rattle.kom_laws.proofs.Messages.{takes-erased}
@@ -38,12 +38,12 @@ module _ (group : Group) (db : Db) (effects : List Effect) (viewer : Viewer) whe
   -- other texts change no right over a conference
   supervises-added : (person conference : ℕ) → supervises part person conference ≡ supervises whole person conference
   unfolding supervises conference_head_of conference_of membership_kind_of membership_of
-  supervises-added person conference = supervises-erased group db person conference
+  supervises-added person conference = supervises-masked (mask_of group db) db person conference
 
   reads_conference-added : (conference : ℕ) →
       reads_conference part viewer conference ≡ reads_conference whole viewer conference
   unfolding reads_conference conference_head_of conference_of membership_kind_of membership_of
-  reads_conference-added conference = reads_conference-erased group db viewer conference
+  reads_conference-added conference = reads_conference-masked (mask_of group db) db viewer conference
 
   recipient-added : (author : ℕ) (row : Recipient) →
       shows_recipient part viewer author row ≡ shows_recipient whole viewer author row

@@ -35,7 +35,7 @@ use Rattle.kom_laws.specs.Laws.{told_to}
 use Rattle.kom_masks.proofs.Rows.{told, told-changed}
 use Rattle.kom_masks.proofs.Accessors.{kind-masked, same-conference, same-text, conference-seen, recipients-read}
 use Rattle.kom_masks.proofs.Accessors.{recipient-seen}
-use Rattle.kom_laws.proofs.Rights.{sees-erased, reads-erased, seen-by, read-by}
+use Rattle.kom_laws.proofs.Rights.{sees-masked, reads-erased, seen-by, read-by}
 use Rattle.kom_laws.proofs.Told.{in-of, owns-told, stat-told}
 
 -- what is sent of a row that may be there, and what that tells
@@ -164,7 +164,7 @@ conference-told group db viewer conference number tell in_group =
     changed-told viewer test (masked_conference (mask_of group db))
     (to_seers (erased_db group db) conference number tell)
     (to_seers db conference number tell) (λ row. same-conference test (mask_of group db) row refl)
-    (λ row here. if-told _ _ _ _ (sees-erased group db viewer conference) (λ is. ap tell
+    (λ row here. if-told _ _ _ _ (sees-masked (mask_of group db) db viewer conference) (λ is. ap tell
     (conference-seen (mask_of group db) conference row here
     (seen-by group db viewer conference (in-of group viewer in_group) is)))) db.conferences
 

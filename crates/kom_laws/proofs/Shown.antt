@@ -27,14 +27,15 @@ use Rattle.kom_laws.proofs.Rows.{filter-unchanged, filter-kept}
 use Rattle.kom_masks.proofs.Accessors.{same-conference, same-membership, conference-seen, not-hidden}
 use Rattle.kom_masks.proofs.Accessors.{flags-masked, memberships-masked, ranges-seen, next_local-seen, first_local-seen}
 use Rattle.kom_masks.proofs.Accessors.{items-seen}
-use Rattle.kom_laws.proofs.Rights.{supervises-erased, sees-erased, reads_conference-erased, seen-by}
+use Rattle.kom_laws.proofs.Rights.{supervises-masked, sees-masked, reads_conference-masked, seen-by}
 
 pub recipient-erased : (group : Group) (db : Db) (viewer : Viewer) (author : ℕ) (row : Recipient) →
     shows_recipient (erased_db group db) viewer author row ≡ shows_recipient db viewer author row
 recipient-erased group db viewer author row =
     ap₂ (λ seen read. seen && (not (row.tag == 15) || is_author viewer.person author
     || is_author viewer.person row.sender || read))
-    (sees-erased group db viewer row.conference) (reads_conference-erased group db viewer row.conference)
+    (sees-masked (mask_of group db) db viewer row.conference)
+    (reads_conference-masked (mask_of group db) db viewer row.conference)
 
 membership-erased : (group : Group) (db : Db) (viewer : Viewer) (person conference kind : ℕ) →
     shows_membership (erased_db group db) viewer person conference kind
@@ -43,10 +44,10 @@ unfolding shows_membership
 membership-erased group db viewer person conference kind =
     ap₂ (λ seen supervised. seen && (not (is_secret_membership kind) || viewer.strong || viewer.person == person
     || supervised || supervises (erased_db group db) viewer.person conference))
-    (sees-erased group db viewer conference) (supervises-erased group db viewer.person person)
+    (sees-masked (mask_of group db) db viewer conference) (supervises-masked (mask_of group db) db viewer.person person)
     ∙ ap (λ supervised. sees db viewer conference && (not (is_secret_membership kind) || viewer.strong
     || viewer.person == person || supervises db viewer.person person || supervised))
-    (supervises-erased group db viewer.person conference)
+    (supervises-masked (mask_of group db) db viewer.person conference)
 
 -- a membership is shown to who sees the conference
 shown-sees : (db : Db) (viewer : Viewer) (person conference kind : ℕ) →
@@ -62,7 +63,7 @@ reads_shown-erased : (group : Group) (db : Db) (viewer : Viewer) (person : ℕ) 
     shows_reads (erased_db group db) viewer person ≡ shows_reads db viewer person
 reads_shown-erased group db viewer person =
     ap₂ (λ reserved supervised. not reserved || viewer.strong || viewer.person == person || supervised)
-    (reserved-erased group db person) (supervises-erased group db viewer.person person)
+    (reserved-erased group db person) (supervises-masked (mask_of group db) db viewer.person person)
 
 -- a membership in a conference that is seen is not changed
 membership-seen : (group : Group) (db : Db) (row : MembershipRow) → is_unseen group db row.conference ≡ false →
@@ -108,7 +109,7 @@ owns-erased : (group : Group) (db : Db) (viewer : Viewer) (conference : ℕ) →
     conference_adder (erased_db group db) viewer conference ≡ conference_adder db viewer conference
 owns-erased group db viewer conference =
     let supervised : supervises (erased_db group db) viewer.person conference ≡ supervises db viewer.person conference =
-    supervises-erased group db viewer.person conference in
+    supervises-masked (mask_of group db) db viewer.person conference in
     λ i. record { person = viewer.person; owns = supervised i || viewer.strong }
 
 -- what is told of a conference that is seen
@@ -161,5 +162,5 @@ shown-erased group db viewer of_group = record {
   ranges = λ row is. ranges_shown-erased group db viewer row of_group is;
   time = λ row. ap (λ shows. cond shows row.last_time_read 0) (reads_shown-erased group db viewer row.person);
   conference = λ number is. conference-erased group db viewer number of_group is;
-  working = λ seat. ap (λ seen. cond seen seat.working 0) (sees-erased group db viewer seat.working);
+  working = λ seat. ap (λ seen. cond seen seat.working 0) (sees-masked (mask_of group db) db viewer seat.working);
 }

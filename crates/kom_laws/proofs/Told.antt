@@ -25,7 +25,7 @@ use Rattle.kom_masks.proofs.Rows.{told, told-changed}
 use Rattle.kom_masks.proofs.Accessors.{same-person, same-text, text-read, not-hidden, recipients-read}
 use Rattle.kom_masks.proofs.Accessors.{links_from-read, links_into-read, next_created-masked, first_created-masked}
 use Rattle.kom_masks.proofs.Accessors.{author-masked, items-read}
-use Rattle.kom_laws.proofs.Rights.{read-by, supervises-erased}
+use Rattle.kom_laws.proofs.Rights.{read-by, supervises-masked}
 use Rattle.kom_laws.proofs.Shown.{recipient-erased, memberships_shown-erased}
 
 -- a person of a group is one of those to whom the same is shown
@@ -99,7 +99,7 @@ pub owns-told : (group : Group) (db : Db) (viewer : Viewer) (text : ℕ) →
 owns-told group db viewer text =
     let owned = ap₂ (λ (owns : ℕ → Bool) (found : Option ℕ). told viewer.strong owns found)
     (fun_ext (λ author. ap (λ supervised. is_author viewer.person author || supervised || viewer.strong)
-    (supervises-erased group db viewer.person author))) (author-masked (mask_of group db) db text) in
+    (supervises-masked (mask_of group db) db viewer.person author))) (author-masked (mask_of group db) db text) in
     λ i. record { person = viewer.person; owns = owned i }
 
 -- what is told of a text, where the same hangs on it

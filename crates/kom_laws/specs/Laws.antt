@@ -20,7 +20,9 @@ use Rattle.kom_model.specs.Shown.{shows_recipient, shows_membership, is_reserved
 use Rattle.kom_model.specs.Shown.{members_shown, memberships_shown, ranges_shown, time_shown}
 use Rattle.kom_model.specs.Shown.{person_told, conference_told, shown_stat, working_shown}
 use Rattle.kom_laws.specs.Groups.{Group, IsInGroup, IsOfGroup, is_unseen, is_unread}
-use Rattle.kom_laws.specs.Erasing.{erased_db}
+use Rattle.kom_masks.specs.Laws.{HidesMore}
+use Rattle.kom_masks.specs.Masks.{Mask, masked_db}
+use Rattle.kom_laws.specs.Erasing.{erased_db, mask_of}
 
 -- what who looks may see and do is the same over two sets of stored rows
 pub record HasSameRights (viewer : Viewer) (one other : Db) : Type 0 where
@@ -80,7 +82,9 @@ pub record IsHiddenSame (group : Group) (one other : Db) : Type 0 where
 
 -- The laws of erasing: over all stored rows in which each secret conference is read-protected, and
 -- for nobody and each person of a group. That what a call sends is the same wants whole rows, since
--- a membership in a conference that is not there would hear of its texts.
+-- a membership in a conference that is not there would hear of its texts. Whatever a mask hides,
+-- the same conferences are unseen; and if it hides no more than is hidden from the group, the same
+-- texts are unread.
 pub record StandErased : Type 0 where
   pub rights : (group : Group) (db : Db) (viewer : Viewer) → IsProtected db
       → IsOfGroup group viewer → HasSameRights viewer (erased_db group db) db
@@ -93,3 +97,7 @@ pub record StandErased : Type 0 where
       → IsSentSame viewer asked (erased_db group asked.db) decision
   pub hidden : (group : Group) (db : Db) → IsProtected db
       → IsHiddenSame group (erased_db group db) db
+  pub unseen : (group : Group) (mask : Mask) (db : Db) (conference : ℕ)
+      → is_unseen group (masked_db mask db) conference ≡ is_unseen group db conference
+  pub masked : (group : Group) (mask : Mask) (db : Db) → IsProtected db
+      → HidesMore mask (mask_of group db) → IsHiddenSame group (masked_db mask db) db

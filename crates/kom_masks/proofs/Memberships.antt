@@ -90,8 +90,8 @@ module _ (mask : Mask) where
             ])
             ≡ map (masked_membership mask) (elim found [
               | None ↦ rows
-              | Some row ↦ closed_up person row.position (filter (λ row. not
-              (is_membership person conference row)) rows)
+              | Some row ↦ closed_up person row.position
+                  (filter (λ row. not (is_membership person conference row)) rows)
             ])
         by-found None = map-twice (masked_membership mask) membership-twice rows
         by-found (Some row) =

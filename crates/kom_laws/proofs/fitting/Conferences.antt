@@ -27,7 +27,8 @@ module _ (asked : Asked) (number : ℕ) where
       all_fit (change_name asked number name).rest.effects asked.db ≡ true
   unfolding fits
   change_name-fits name passes =
-      let pass = all-pass (owner_guards asked number ++ name_guard name ∷ free_guard asked.db number name ∷ []) passes in
+      let pass = all-pass (owner_guards asked number ++ name_guard name ∷ free_guard asked.db number name ∷ [])
+      passes in
       let both = pass-both (owner_guards asked number) (name_guard name ∷ free_guard asked.db number name ∷ []) pass in
       one-fits (effect.ConfNamed number name) asked.db (and_from _ _ (owned-there both.0)
       (and_from _ _ (name-short name both.1.0) (name-free asked.db number name both.1.1.0)))
@@ -66,7 +67,8 @@ module _ (asked : Asked) (number : ℕ) where
       all_fit (set_conf_type asked number kind).rest.effects asked.db ≡ true
   unfolding fits
   set_conf_type-fits kind passes =
-      let guards : List Guard = unless (may_become asked.db number kind) error.letterbox number ∷ type_guard kind ∷ [] in
+      let guards : List Guard =
+      unless (may_become asked.db number kind) error.letterbox number ∷ type_guard kind ∷ [] in
       let pass = all-pass (owner_guards asked number ++ guards) passes in
       let both = pass-both (owner_guards asked number) guards pass in
       one-fits (effect.ConfField number (field.Kind kind)) asked.db

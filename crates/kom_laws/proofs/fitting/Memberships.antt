@@ -199,7 +199,10 @@ module _ (asked : Asked) where
       (conference-there asked.db (caller asked) conference pass.1.1.0) where
         by : (found : Option MembershipRow) → membership_of asked.db person conference ≡ found →
             is_some (person_of asked.db person) ≡ true → is_some (conference_of asked.db conference) ≡ true →
-            all_fit (elim found [ None ↦ [] | Some row ↦ set_member row row.priority row.position kind ∷ [] ]) asked.db ≡ true
+            all_fit (elim found [
+              | None ↦ []
+              | Some row ↦ set_member row row.priority row.position kind ∷ []
+            ]) asked.db ≡ true
         by None found one other = refl
         by (Some row) found one other = again-fits person conference row.position row.priority kind row found one other
 
@@ -218,8 +221,10 @@ module _ (asked : Asked) where
         room pass = elim (cases_Bool (is_member asked.db person conference)) [
           | inl member ↦ or_left _ _ (member-there asked.db person conference member)
           | inr apart ↦
-              let new : AllPass (unless (may_join asked.db (caller asked) person conference) error.access_denied conference
-              ∷ unless (nat_lt (length (memberships_of asked.db person)) most_memberships) error.temporary_failure person
+              let new : AllPass
+              (unless (may_join asked.db (caller asked) person conference) error.access_denied conference
+              ∷ unless (nat_lt (length (memberships_of asked.db person)) most_memberships)
+              error.temporary_failure person
               ∷ []) = rw apart at pass in
               or_right _ _ (passed (nat_lt (length (memberships_of asked.db person)) most_memberships) _ person new.1.0)
         ]

@@ -55,7 +55,10 @@ module _ (asked : Asked) where
       (found-fits (λ seat. seat.number == session_meant asked number) asked.seats seated) where
         by : (found : Option Seat) →
             all_fit (elim found [ None ↦ [] | Some seat ↦ seat_left asked seat ]) asked.db ≡ true →
-            all_fit (elim found as (λ _. Decision) [ None ↦ done [] [] | Some seat ↦ ended asked seat ]).effects asked.db
+            all_fit (elim found as (λ _. Decision) [
+              | None ↦ done [] []
+              | Some seat ↦ ended asked seat
+            ]).effects asked.db
             ≡ true
         by None fit = refl
         by (Some seat) fit = fit

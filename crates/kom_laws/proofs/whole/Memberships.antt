@@ -41,7 +41,8 @@ keys-replaced : (given : MembershipRow) (rows : List MembershipRow) →
     map key_of (replaced_by given rows) ≡ map key_of rows
 keys-replaced given rows = keyed-mapped key_of
     (λ row. cond (is_membership given.person given.conference row) given row) here rows where
-      here : (row : MembershipRow) → key_of (cond (is_membership given.person given.conference row) given row) ≡ key_of row
+      here : (row : MembershipRow) →
+          key_of (cond (is_membership given.person given.conference row) given row) ≡ key_of row
       here row = elim (cases_Bool (is_membership given.person given.conference row)) [
         | inl is ↦
             let parts = and_parts (row.person == given.person) (row.conference == given.conference) is in

@@ -131,7 +131,11 @@ module _ (db : Db) (whole : IsWhole db) where
       let free = and_parts _ _ named in
       conferences-whole db whole (changed_row number_of_conference number (with_name name) db.conferences)
       db.next_conference (conferences-changed number (with_name name) db.conferences (λ row. refl)
-      (λ row found. record { letterbox = λ is. is; local = same-number row.next_local; item = same-number row.next_item }))
+      (λ row found. record {
+        letterbox = λ is. is;
+        local = same-number row.next_local;
+        item = same-number row.next_item;
+      }))
       (conferences-named db.conferences db.next_conference whole.conferences number name (leb-true _ _ free.0)
       (not-true _ free.1))
 

@@ -204,7 +204,10 @@ module _ (db : Db) (whole : IsWhole db) where
       (λ some. all-weaker (IsNumbered db.persons) (λ one. is_created person local one ≡ false)
       (unnumbered some next.1) db.texts whole.texts.numbered)) where
         unnumbered : 0 < local →
-            nat_le (elim (row_of number_of_person person db.persons) [ None ↦ 1 | Some row ↦ row.next_created ]) local ≡ true →
+            nat_le (elim (row_of number_of_person person db.persons) [
+              | None ↦ 1
+              | Some row ↦ row.next_created
+            ]) local ≡ true →
             (one : TextRow) → IsNumbered db.persons one → is_created person local one ≡ false
         unnumbered some next one numbered = elim (cases_Bool (is_created person local one)) [
           | inl is ↦

@@ -1,4 +1,4 @@
-use Rattle.kom_laws.proofs.Rights.{rights-erased, hidden-erased}
+use Rattle.kom_laws.proofs.Rights.{rights-erased, hidden-erased, hidden-masked, unseen-masked}
 use Rattle.kom_laws.proofs.Shown.{shown-erased}
 use Rattle.kom_laws.proofs.Told.{told-erased}
 use Rattle.kom_laws.proofs.Sent.{sent-erased}
@@ -12,4 +12,6 @@ returns c = record {
   sent = λ group asked decision viewer protected whole in_group.
       sent-erased group asked viewer decision protected whole in_group;
   hidden = hidden-erased;
+  unseen = unseen-masked;
+  masked = hidden-masked;
 }
