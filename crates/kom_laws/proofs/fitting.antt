@@ -2,6 +2,7 @@ pub mod Guards
 pub mod Ranges
 pub mod Removing
 pub mod Deleting
+pub mod Clearing
 pub mod Persons
 pub mod Sessions
 pub mod Conferences

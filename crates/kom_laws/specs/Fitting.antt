@@ -13,7 +13,7 @@ use Rattle.kom_model.specs.calls.Call.{Asked}
 -- the calls of which this is not proved yet: all others change no rows, or do so by effects that
 -- their guards speak of
 abbrev pub open_numbers : List ℕ
-open_numbers = 11 ∷ 62 ∷ 86 ∷ 87 ∷ 88 ∷ 89 ∷ 92 ∷ 93 ∷ []
+open_numbers = 62 ∷ 86 ∷ 87 ∷ 88 ∷ 89 ∷ 92 ∷ 93 ∷ []
 
 -- who is logged in at a session is there
 abbrev pub AreSeated : Asked → Type 0

@@ -19,6 +19,7 @@ use Rattle.kom_model.specs.calls.Sessions.{static_of}
 use Rattle.kom_model.specs.calls.Texts.{nearest_text}
 use Rattle.kom_laws.specs.Fitting.{AreSeated, DecidedFit, open_numbers}
 use Rattle.kom_laws.proofs.fitting.Conferences.{change_name-fits, set_field-fits, set_conf_type-fits}
+use Rattle.kom_laws.proofs.fitting.Clearing.{delete_conf-fits}
 use Rattle.kom_laws.proofs.fitting.Deleting.{delete_text-fits}
 use Rattle.kom_laws.proofs.fitting.Guards.{decided-fits}
 use Rattle.kom_laws.proofs.fitting.Memberships.{set_unread-fits, set_last_read-fits, set_read_ranges-fits}
@@ -161,7 +162,8 @@ rest-fits asked (call.FindPreviousConfNo start) whole seated among passes = near
 rest-fits asked (call.LocalToGlobalReverse conference ceiling count) whole seated among passes = refl
 rest-fits asked (call.Refused code status) whole seated among passes = refl
 rest-fits asked call.Logout whole seated among passes = logout-fits asked seated
-rest-fits asked (call.DeleteConf conference) whole seated among passes = absurd (true≢false (sym among))
+rest-fits asked (call.DeleteConf conference) whole seated among passes =
+    delete_conf-fits asked conference whole seated passes
 rest-fits asked (call.MarkAsRead conference locals) whole seated among passes =
     mark_as_read-fits asked conference locals whole seated passes
 rest-fits asked (call.DeleteText text) whole seated among passes = delete_text-fits asked text whole passes

@@ -39,8 +39,8 @@ same_recipient one row = is_recipient one.text one.conference row
 abbrev same_mark : MarkRow → MarkRow → Bool
 same_mark one row = is_mark one.person one.text row
 
-abbrev same_item : ℕ → ItemRow → ItemRow → Bool
-same_item text one row = is_item true text one.item.number row
+abbrev pub same_item : Bool → ℕ → ItemRow → ItemRow → Bool
+same_item on_text object one row = is_item on_text object one.item.number row
 
 equal : (n : ℕ) → (n == n) ≡ true
 equal n = eq-eqb n n refl
@@ -62,7 +62,7 @@ link-key x y row is =
       alike-same row.footnote y.footnote kind.1,
     ) refl
 
-recipient-own : (row : Recipient) → same_recipient row row ≡ true
+pub recipient-own : (row : Recipient) → same_recipient row row ≡ true
 recipient-own row = and_from _ _ (equal row.text) (equal row.conference)
 
 recipient-key : (x y row : Recipient) → same_recipient y row ≡ true → same_recipient x row ≡ same_recipient x y
@@ -70,7 +70,7 @@ recipient-key x y row is =
     let numbers = and_parts (row.text == y.text) (row.conference == y.conference) is in
     rw (eqb-true row.text y.text numbers.0, eqb-true row.conference y.conference numbers.1) refl
 
-mark-own : (row : MarkRow) → same_mark row row ≡ true
+pub mark-own : (row : MarkRow) → same_mark row row ≡ true
 mark-own row = and_from _ _ (equal row.person) (equal row.text)
 
 mark-key : (x y row : MarkRow) → same_mark y row ≡ true → same_mark x row ≡ same_mark x y
@@ -78,14 +78,15 @@ mark-key x y row is =
     let numbers = and_parts (row.person == y.person) (row.text == y.text) is in
     rw (eqb-true row.person y.person numbers.0, eqb-true row.text y.text numbers.1) refl
 
-item-own : (text : ℕ) (row : ItemRow) → is_item_of true text row ≡ true → same_item text row row ≡ true
-item-own text row of_text = and_from _ _ of_text (equal row.item.number)
+pub item-own : (on_text : Bool) (object : ℕ) (row : ItemRow) → is_item_of on_text object row ≡ true →
+    same_item on_text object row row ≡ true
+item-own on_text object row of_object = and_from _ _ of_object (equal row.item.number)
 
-item-key : (text : ℕ) (x y row : ItemRow) → is_item_of true text y ≡ true → same_item text y row ≡ true →
-    same_item text x row ≡ same_item text x y
-item-key text x y row of_text is =
-    let parts = and_parts (is_item_of true text row) (row.item.number == y.item.number) is in
-    rw (parts.0, of_text, eqb-true row.item.number y.item.number parts.1) refl
+pub item-key : (on_text : Bool) (object : ℕ) (x y row : ItemRow) → is_item_of on_text object y ≡ true →
+    same_item on_text object y row ≡ true → same_item on_text object x row ≡ same_item on_text object x y
+item-key on_text object x y row of_object is =
+    let parts = and_parts (is_item_of on_text object row) (row.item.number == y.item.number) is in
+    rw (parts.0, of_object, eqb-true row.item.number y.item.number parts.1) refl
 
 -- what each removal wants, and leaves
 link-fit : (db : Db) (row : TextLink) (rows : List TextLink) →
@@ -123,17 +124,17 @@ mark-made : (db : Db) (row : MarkRow) (rows : List MarkRow) →
 unfolding made
 mark-made db row rows = refl
 
--- an item of the text with a number is there, by the items that are told
-item-named : (text number : ℕ) (rows : List ItemRow) →
+-- an item of an object with a number is there, by the items that are told
+pub item-named : (on_text : Bool) (object number : ℕ) (rows : List ItemRow) →
     list_any (λ (item : AuxRow). item.number == number)
-    (map (λ (row : ItemRow). row.item) (filter (is_item_of true text) rows))
-    ≡ is_some (find (is_item true text number) rows)
-item-named text number [] = refl
-item-named text number (row ∷ rows) =
+    (map (λ (row : ItemRow). row.item) (filter (is_item_of on_text object) rows))
+    ≡ is_some (find (is_item on_text object number) rows)
+item-named on_text object number [] = refl
+item-named on_text object number (row ∷ rows) =
     let rest : list_any (λ (item : AuxRow). item.number == number)
-    (map (λ (row : ItemRow). row.item) (filter (is_item_of true text) rows))
-    ≡ is_some (find (is_item true text number) rows) = item-named text number rows in
-    elim (cases_Bool (is_item_of true text row)) [
+    (map (λ (row : ItemRow). row.item) (filter (is_item_of on_text object) rows))
+    ≡ is_some (find (is_item on_text object number) rows) = item-named on_text object number rows in
+    elim (cases_Bool (is_item_of on_text object row)) [
       | inl here ↦ elim (cases_Bool (row.item.number == number)) [
         | inl level ↦ rw here (rw level refl)
         | inr apart ↦ rw here (rw apart rest)
@@ -143,18 +144,18 @@ item-named text number (row ∷ rows) =
 
 item-fit : (text : ℕ) (db : Db) (row : ItemRow) (rows : List ItemRow) →
     fits (effect.AuxGone true text row.item.number) (record db { items = rows })
-    ≡ is_some (find (same_item text row) rows)
+    ≡ is_some (find (same_item true text row) rows)
 unfolding fits items_of
-item-fit text db row rows = item-named text row.item.number rows
+item-fit text db row rows = item-named true text row.item.number rows
 
 item-made : (text : ℕ) (db : Db) (row : ItemRow) (rows : List ItemRow) →
     made (effect.AuxGone true text row.item.number) (record db { items = rows })
-    ≡ record db { items = filter (λ other. not (same_item text row other)) rows }
+    ≡ record db { items = filter (λ other. not (same_item true text row other)) rows }
 unfolding made
 item-made text db row rows = refl
 
 -- ---- the call
-map-through : {X Y Z : Type 0} (tell : X → Y) (show : Y → Z) (rows : List X) →
+pub map-through : {X Y Z : Type 0} (tell : X → Y) (show : Y → Z) (rows : List X) →
     map show (map tell rows) ≡ map (λ row. show (tell row)) rows
 map-through tell show [] = refl
 map-through tell show (row ∷ rows) = ap (λ others. show (tell row) ∷ others) (map-through tell show rows)
@@ -182,7 +183,7 @@ module _ (db : Db) (whole : IsWhole db) (text : ℕ) where
       (filter is_marked db.marks) db.marks
 
   abbrev items_left : List ItemRow
-  items_left = taken (same_item text) (is_item_of true text) (item-own text) (item-key text)
+  items_left = taken (same_item true text) (is_item_of true text) (item-own true text) (item-key true text)
       (filter (is_item_of true text) db.items) db.items
 
   abbrev left : Db
@@ -210,7 +211,7 @@ module _ (db : Db) (whole : IsWhole db) (text : ℕ) where
       let told : (length (map (λ (row : ItemRow). row.item) (filter (is_item_of true text) items_left)) == 0) ≡ true =
       eq-eqb _ 0 (told-length (λ (row : ItemRow). row.item) (filter (is_item_of true text) items_left)
       ∙ count-none (is_item_of true text) items_left
-      (none-left (same_item text) (is_item_of true text) (item-own text) (item-key text) db.items)) in
+      (none-left (same_item true text) (is_item_of true text) (item-own true text) (item-key true text) db.items)) in
       let child : (row : TextLink) → touches row ≡ false → (row.child == text) ≡ false =
       λ row no. (or_parts (row.child == text) (row.parent == text) no).0 in
       let parent : (row : TextLink) → touches row ≡ false → (row.parent == text) ≡ false =
@@ -257,13 +258,13 @@ module _ (db : Db) (whole : IsWhole db) (text : ℕ) where
       (filter is_marked db.marks) db.marks
       (present same_mark is_marked (λ x is. mark-own x) (λ x y row is. mark-key x y row) db.marks
       (λ x. whole.marks.once x.person x.text))
-      (removed-fit (same_item text) (is_item_of true text) (item-own text) (item-key text)
+      (removed-fit (same_item true text) (is_item_of true text) (item-own true text) (item-key true text)
       (λ row. effect.AuxGone true text row.item.number)
       (λ rows. record db { links = links_left; recipients = recipients_left; marks = marks_left; items = rows })
       (item-fit text (record db { links = links_left; recipients = recipients_left; marks = marks_left }))
       (item-made text (record db { links = links_left; recipients = recipients_left; marks = marks_left })) last
       (filter (is_item_of true text) db.items) db.items
-      (present (same_item text) (is_item_of true text) (item-own text) (item-key text) db.items
+      (present (same_item true text) (is_item_of true text) (item-own true text) (item-key true text) db.items
       (λ x. whole.items.once true text x.item.number))
       (one-fits (effect.TextGone text) left (bare-fits there)))))
 

@@ -13,7 +13,7 @@ use Rattle.kom_masks.proofs.Rows.{find-thinned}
 use Rattle.kom_laws.proofs.whole.Counts.{all-weaker, count-kept, none-counted}
 
 -- what holds of rows, of those that pass, which pass
-all-passing : {X : Type 0} (P : X → Type 0) (keep : X → Bool) (rows : List X) → AllByRecursion P rows →
+pub all-passing : {X : Type 0} (P : X → Type 0) (keep : X → Bool) (rows : List X) → AllByRecursion P rows →
     AllByRecursion (λ row. P row × (keep row ≡ true)) (filter keep rows)
 all-passing P keep [] all = tt
 all-passing P keep (row ∷ rows) all = elim (cases_Bool (keep row)) [
@@ -76,7 +76,7 @@ module _ {X : Type 0} (same : X → X → Bool) (test : X → Bool)
         ((ap is_some left ∙ found.0.0, found.0.1), still others found.1 apart.1)
 
   -- a row that passes is found among all
-  found-among : (rows : List X) → AllByRecursion (λ x. test x ≡ true → is_some (find (same x) rows) ≡ true) rows
+  pub found-among : (rows : List X) → AllByRecursion (λ x. test x ≡ true → is_some (find (same x) rows) ≡ true) rows
   found-among [] = tt
   found-among (row ∷ rows) = (
     λ is. let here : same row row ≡ true = own row is in rw here refl,
@@ -103,8 +103,16 @@ module _ {X : Type 0} (same : X → X → Bool) (test : X → Bool)
       (λ x. test x ≡ true) (λ x both. both.1) (filter test rows) passing)
       (λ x. let most = once x in let less = count-kept (same x) test rows in omega (arith, most, less)))
 
+  -- the same of those that go in any order
+  pub present-of : (todo rows : List X) →
+      AllByRecursion (λ x. (is_some (find (same x) rows) ≡ true) × (test x ≡ true)) todo →
+      ((x : X) → length (filter (same x) todo) ≤ 1) → ArePresent todo rows
+  present-of todo rows found once = present-apart todo rows found
+      (apart-once todo (all-weaker (λ x. (is_some (find (same x) rows) ≡ true) × (test x ≡ true)) (λ x. test x ≡ true)
+      (λ x both. both.1) todo found) once)
+
   -- none is left that passes
-  gone-all : (todo rows : List X) →
+  pub gone-all : (todo rows : List X) →
       AllByRecursion (λ row. test row ≡ true → list_any (λ x. same x row) todo ≡ true) rows →
       AllByRecursion (λ row. test row ≡ false) (taken todo rows)
   gone-all [] rows named = all-weaker (λ row. test row ≡ true → false ≡ true) (λ row. test row ≡ false)
@@ -117,7 +125,7 @@ module _ {X : Type 0} (same : X → X → Bool) (test : X → Bool)
       (all-passing (λ row. test row ≡ true → (same x row || list_any (λ x. same x row) todo) ≡ true)
       (λ row. not (same x row)) rows named))
 
-  named-among : (rows : List X) →
+  pub named-among : (rows : List X) →
       AllByRecursion (λ row. test row ≡ true → list_any (λ x. same x row) (filter test rows) ≡ true) rows
   named-among [] = tt
   named-among (first ∷ rows) = (
@@ -148,3 +156,18 @@ module _ {X : Type 0} (same : X → X → Bool) (test : X → Bool)
       let left : apply (gone x) (put rows) ≡ put (filter (λ row. not (same x row)) rows) = rw here (make x rows) in
       and_from _ _ here (subst (λ db. all_fit (map gone todo ++ rest) db ≡ true) (sym left)
       (removed-fit gone put fit make rest todo (filter (λ row. not (same x row)) rows) present.1 after))
+
+  -- the same, where what is known of the rows is said of all of them
+  pub removed-hold : (gone : X → Effect) (Holds : List X → Db → Type 0) →
+      ((x : X) (rows : List X) (db : Db) → Holds rows db → fits (gone x) db ≡ is_some (find (same x) rows)) →
+      ((x : X) (rows : List X) (db : Db) → Holds rows db → is_some (find (same x) rows) ≡ true →
+      Holds (filter (λ row. not (same x row)) rows) (made (gone x) db)) →
+      (rest : List Effect) (todo rows : List X) (db : Db) → Holds rows db → ArePresent todo rows →
+      ((db : Db) → Holds (taken todo rows) db → all_fit rest db ≡ true) → all_fit (map gone todo ++ rest) db ≡ true
+  removed-hold gone Holds fit make rest [] rows db holds present after = after db holds
+  removed-hold gone Holds fit make rest (x ∷ todo) rows db holds present after =
+      let here : fits (gone x) db ≡ true = fit x rows db holds ∙ present.0 in
+      let left : apply (gone x) db ≡ made (gone x) db = rw here refl in
+      and_from _ _ here (subst (λ db. all_fit (map gone todo ++ rest) db ≡ true) (sym left)
+      (removed-hold gone Holds fit make rest todo (filter (λ row. not (same x row)) rows) (made (gone x) db)
+      (make x rows db holds present.0) present.1 after))

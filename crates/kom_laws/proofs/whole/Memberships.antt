@@ -25,7 +25,7 @@ same-key : {X : Type 0} (key : X → ℕ × ℕ) (pick : Bool) (changed row : X)
 same-key key true changed row same = same
 same-key key false changed row same = refl
 
-keys-closed : (person place : ℕ) (rows : List MembershipRow) →
+pub keys-closed : (person place : ℕ) (rows : List MembershipRow) →
     map key_of (closed_up person place rows) ≡ map key_of rows
 keys-closed person place rows = keyed-mapped key_of
     (λ row. cond (row.person == person && nat_lt place row.position) (at_place (row.position - 1) row) row)
