@@ -5,9 +5,9 @@ use Rattle.kom_types.specs.declared.calls.Call.{Call}
 use Rattle.kom_types.specs.calls.Numbers.{number_of_call}
 use Rattle.kom_model.specs.Db.{person_of}
 use Rattle.kom_model.specs.Decide.{decision_of}
-use Rattle.kom_model.specs.Effects.{IsProtected}
+use Rattle.kom_model.specs.Effects.{IsProtected, all_fit}
 use Rattle.kom_model.specs.Kinds.{is_among}
-use Rattle.kom_model.specs.Whole.{IsWhole, all_fit}
+use Rattle.kom_model.specs.Whole.{IsWhole}
 use Rattle.kom_model.specs.calls.Call.{Asked}
 
 -- the calls of which this is not proved yet: all others change no rows, or do so by effects that

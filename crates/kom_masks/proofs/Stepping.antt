@@ -7,8 +7,7 @@ use Rattle.std.proofs.lemmas.Bool.{cases_Bool, and_parts}
 use Rattle.kom_types.specs.declared.aux_items.ItemRow.{ItemRow}
 use Rattle.kom_types.specs.declared.effects.Effect.{Effect}
 use Rattle.kom_model.specs.Db.{Db}
-use Rattle.kom_model.specs.Effects.{made, fits, apply, apply_all}
-use Rattle.kom_model.specs.Whole.{all_fit}
+use Rattle.kom_model.specs.Effects.{made, fits, apply, apply_all, all_fit}
 use Rattle.kom_masks.specs.Laws.{HidesMore}
 use Rattle.kom_masks.specs.Masks.{Mask, masked_db, masked_conference, stays_recipient, masked_text, masked_membership}
 use Rattle.kom_masks.specs.Masks.{masked_read, masked_person, stays_link, stays_item}

@@ -4,8 +4,7 @@ use Rattle.std.specs.Prelude.{◌≡◌, ℕ, true, List}
 use Rattle.kom_types.specs.declared.effects.Effect.{Effect}
 use Rattle.kom_model.specs.Db.{Db, conference_head_of, membership_kind_of, person_flags_of}
 use Rattle.kom_model.specs.Db.{text_author_of}
-use Rattle.kom_model.specs.Effects.{made, apply_all}
-use Rattle.kom_model.specs.Whole.{all_fit}
+use Rattle.kom_model.specs.Effects.{made, apply_all, all_fit}
 use Rattle.kom_masks.specs.Masks.{Mask, masked_db}
 
 -- what one mask hides the other hides too

@@ -8,7 +8,6 @@ use Rattle.row_table.specs.Tables.{row_of, IsByNumber}
 use Rattle.kom_types.specs.AuxItems.{kind_of, most_items, longest_content}
 use Rattle.kom_types.specs.declared.aux_items.ItemRow.{ItemRow}
 use Rattle.kom_types.specs.declared.conferences.ConferenceRow.{ConferenceRow}
-use Rattle.kom_types.specs.declared.effects.Effect.{Effect}
 use Rattle.kom_types.specs.declared.memberships.MembershipRow.{MembershipRow}
 use Rattle.kom_types.specs.declared.memberships.ReadRange.{ReadRange}
 use Rattle.kom_types.specs.declared.persons.PersonRow.{PersonRow}
@@ -25,14 +24,9 @@ use Rattle.kom_types.specs.tables.Texts.{number_of_text, is_recipient, recipient
 use Rattle.kom_types.specs.tables.Texts.{links_from, links_into, is_mark}
 use Rattle.read_ranges.specs.Reads.{ReadRow}
 use Rattle.kom_model.specs.Db.{Db}
-use Rattle.kom_model.specs.Effects.{fits, apply, last_conference, longest_name, most_memberships}
+use Rattle.kom_model.specs.Effects.{last_conference, longest_name, most_memberships}
 use Rattle.kom_model.specs.Effects.{last_drawn, longest_body, most_recipients, most_links}
 use Rattle.kom_model.specs.Effects.{most_marks, is_recipient_tag}
-
--- each effect fits in the rows that those before it leave
-abbrev pub all_fit : List Effect → Db → Bool
-all_fit [] db = true
-all_fit (what ∷ effects) db = fits what db && all_fit effects (apply what db)
 
 -- a conference, a person, or a text, is there
 abbrev pub has_conference : List ConferenceRow → ℕ → Bool

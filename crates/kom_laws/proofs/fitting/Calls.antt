@@ -9,9 +9,10 @@ use Rattle.kom_types.specs.declared.replies.Reply.TheVariants as reply
 use Rattle.kom_types.specs.declared.seats.Seat.{Seat}
 use Rattle.kom_types.specs.declared.texts.TextRow.{TextRow}
 use Rattle.kom_types.specs.calls.Numbers.{number_of_call}
+use Rattle.kom_model.specs.Effects.{all_fit}
 use Rattle.kom_model.specs.Decide.{decision_of, definition_of}
 use Rattle.kom_model.specs.Kinds.{is_among}
-use Rattle.kom_model.specs.Whole.{IsWhole, all_fit}
+use Rattle.kom_model.specs.Whole.{IsWhole}
 use Rattle.kom_model.specs.calls.Call.{Asked, answer, done}
 use Rattle.kom_model.specs.calls.Conferences.{nearest}
 use Rattle.kom_model.specs.calls.Guards.{caller, seat_at, text_or_none_guard, conference_or_none_guard}

@@ -30,8 +30,8 @@ use Rattle.kom_types.specs.tables.Texts as Texts
 use Rattle.kom_types.specs.tables.Texts.{is_recipient, is_mark, by_text}
 use Rattle.kom_model.specs.Db.{Db, conference_of, person_of, membership_of, memberships_of, members_of, memberships_at}
 use Rattle.kom_model.specs.Db.{recipient_of, locals_of, mark_of, marks_of, items_of}
-use Rattle.kom_model.specs.Effects.{fits, made, apply}
-use Rattle.kom_model.specs.Whole.{IsWhole, all_fit, key_of}
+use Rattle.kom_model.specs.Effects.{fits, made, apply, all_fit}
+use Rattle.kom_model.specs.Whole.{IsWhole, key_of}
 use Rattle.kom_model.specs.calls.Call.{Asked}
 use Rattle.kom_model.specs.calls.Conferences.{delete_conf, gone_conference, gone_person, owner_guards}
 use Rattle.kom_model.specs.calls.Guards.{caller}

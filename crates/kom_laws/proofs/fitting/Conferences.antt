@@ -10,8 +10,7 @@ use Rattle.kom_types.specs.declared.effects.ConfField.TheVariants as field
 use Rattle.kom_types.specs.declared.effects.Effect.TheVariants as effect
 use Rattle.kom_types.specs.tables.Conferences.{is_letterbox, is_secret_conference, is_secret_protected}
 use Rattle.kom_model.specs.Db.{conference_of}
-use Rattle.kom_model.specs.Effects.{fits, may_set}
-use Rattle.kom_model.specs.Whole.{all_fit}
+use Rattle.kom_model.specs.Effects.{fits, may_set, all_fit}
 use Rattle.kom_model.specs.calls.Call.{Asked}
 use Rattle.kom_model.specs.calls.Conferences.{owner_guards, change_name, set_field, set_conf_type, may_become}
 use Rattle.kom_model.specs.calls.Guards.{Guard, caller, name_guard, free_guard, unless, type_guard}

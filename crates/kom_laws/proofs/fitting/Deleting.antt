@@ -18,8 +18,8 @@ use Rattle.kom_types.specs.tables.AuxItems.{is_item, is_item_of}
 use Rattle.kom_types.specs.tables.Texts.{is_recipient, is_link, is_mark}
 use Rattle.kom_model.specs.Db.{Db, text_of, recipient_of, recipients_of, link_of, links_of, links_from, links_into}
 use Rattle.kom_model.specs.Db.{mark_of, marks_on, items_of}
-use Rattle.kom_model.specs.Effects.{fits, made}
-use Rattle.kom_model.specs.Whole.{IsWhole, all_fit}
+use Rattle.kom_model.specs.Effects.{fits, made, all_fit}
+use Rattle.kom_model.specs.Whole.{IsWhole}
 use Rattle.kom_model.specs.calls.Call.{Asked}
 use Rattle.kom_model.specs.calls.Guards.{caller, login_guard, text_guard, unless}
 use Rattle.kom_model.specs.calls.Texts.{delete_text, gone_text, owns_text}

@@ -20,9 +20,8 @@ use Rattle.kom_model.specs.declared.viewers.Viewer.{Viewer}
 use Rattle.kom_model.specs.Db.{Db, conference_of, conference_head_of, person_of, text_of, text_author_of, membership_of}
 use Rattle.kom_model.specs.Db.{membership_kind_of, conferences_of}
 use Rattle.kom_model.specs.Decide.{limited, longest_reply}
-use Rattle.kom_model.specs.Effects.{fits, is_free, longest_name}
+use Rattle.kom_model.specs.Effects.{fits, is_free, longest_name, all_fit}
 use Rattle.kom_model.specs.Rights.{sees, reads, is_member}
-use Rattle.kom_model.specs.Whole.{all_fit}
 use Rattle.kom_model.specs.calls.Call.{Asked, Definition, decided, refuse}
 use Rattle.kom_model.specs.calls.Guards.{Guard, first_refusal, unless, refusal, caller, viewer_at, login_guard}
 use Rattle.kom_model.specs.calls.Guards.{conference_guard, text_guard, person_guard, free_guard, taken_by, name_guard}

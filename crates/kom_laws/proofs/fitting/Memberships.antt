@@ -16,10 +16,10 @@ use Rattle.kom_types.specs.tables.Memberships.{is_membership}
 use Rattle.read_ranges.specs.Changed.{rise_after, up_to, unmarked, all_marked, size_of}
 use Rattle.kom_model.specs.declared.viewers.Viewer.{Viewer}
 use Rattle.kom_model.specs.Db.{Db, conference_of, person_of, membership_of, membership_kind_of, memberships_of}
-use Rattle.kom_model.specs.Effects.{fits, made, most_memberships}
+use Rattle.kom_model.specs.Effects.{fits, made, most_memberships, all_fit}
 use Rattle.kom_model.specs.Rights.{is_member}
 use Rattle.kom_model.specs.Shown.{shows_membership}
-use Rattle.kom_model.specs.Whole.{all_fit, IsWhole, RiseApart}
+use Rattle.kom_model.specs.Whole.{IsWhole, RiseApart}
 use Rattle.kom_model.specs.calls.Call.{Asked}
 use Rattle.kom_model.specs.calls.Guards.{Guard, caller, login_guard, conference_guard, person_guard, supervisor_guard}
 use Rattle.kom_model.specs.calls.Guards.{unless}

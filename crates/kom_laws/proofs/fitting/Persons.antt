@@ -7,8 +7,7 @@ use Rattle.kom_types.specs.declared.effects.PersonField.TheVariants as field
 use Rattle.kom_types.specs.declared.persons.PasswordChange.{PasswordChange}
 use Rattle.kom_types.specs.tables.Persons.{password_hash}
 use Rattle.kom_model.specs.Db.{Db, person_of}
-use Rattle.kom_model.specs.Effects.{fits}
-use Rattle.kom_model.specs.Whole.{all_fit}
+use Rattle.kom_model.specs.Effects.{fits, all_fit}
 use Rattle.kom_model.specs.calls.Call.{Asked}
 use Rattle.kom_model.specs.calls.Guards.{caller, login_guard, person_guard, strong_guard, supervisor_guard}
 use Rattle.kom_model.specs.calls.Guards.{password_guard, size_guard, text_or_none_guard}

@@ -7,8 +7,7 @@ use Rattle.std.proofs.lemmas.Bool.{cases_Bool, and_from, or_left, or_right, not_
 use Rattle.std.proofs.lemmas.Bool.{false_from_ne_true}
 use Rattle.kom_types.specs.declared.effects.Effect.{Effect}
 use Rattle.kom_model.specs.Db.{Db}
-use Rattle.kom_model.specs.Effects.{fits, made, apply}
-use Rattle.kom_model.specs.Whole.{all_fit}
+use Rattle.kom_model.specs.Effects.{fits, made, apply, all_fit}
 use Rattle.kom_masks.proofs.Rows.{find-thinned}
 use Rattle.kom_laws.proofs.whole.Counts.{all-weaker, count-kept, none-counted}
 

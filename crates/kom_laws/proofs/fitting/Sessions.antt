@@ -10,8 +10,7 @@ use Rattle.kom_types.specs.declared.effects.Counter.TheVariants as counter
 use Rattle.kom_types.specs.declared.effects.Effect.TheVariants as effect
 use Rattle.kom_types.specs.declared.seats.Seat.{Seat}
 use Rattle.kom_model.specs.Db.{Db, person_of}
-use Rattle.kom_model.specs.Effects.{fits}
-use Rattle.kom_model.specs.Whole.{all_fit}
+use Rattle.kom_model.specs.Effects.{fits, all_fit}
 use Rattle.kom_model.specs.calls.Call.{Asked, done}
 use Rattle.kom_model.specs.calls.Sessions.{counts, seat_left, logout, disconnect, session_meant, ended}
 use Rattle.kom_laws.specs.Fitting.{AreSeated}

@@ -14,10 +14,9 @@ use Rattle.kom_model.specs.declared.viewers.Viewer.{Viewer}
 use Rattle.kom_model.specs.Db.{Db, conference_of, text_of, recipient_of, recipients_of, next_local_of}
 use Rattle.kom_model.specs.Db.{link_of}
 use Rattle.kom_model.specs.Db.{links_from, links_into, mark_of, marks_of}
-use Rattle.kom_model.specs.Effects.{fits, made, is_recipient_tag, most_recipients, last_drawn, most_links}
+use Rattle.kom_model.specs.Effects.{fits, made, is_recipient_tag, most_recipients, last_drawn, most_links, all_fit}
 use Rattle.kom_model.specs.Effects.{most_marks}
 use Rattle.kom_model.specs.Shown.{shows_recipient}
-use Rattle.kom_model.specs.Whole.{all_fit}
 use Rattle.kom_model.specs.calls.Call.{Asked}
 use Rattle.kom_model.specs.calls.Guards.{caller, login_guard, text_guard, conference_guard, submit_guard, unless}
 use Rattle.kom_model.specs.calls.Texts.{get_text, body_of, add_recipient, new_recipient, written, local_guard}
