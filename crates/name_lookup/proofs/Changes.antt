@@ -111,8 +111,8 @@ module _ (number : ℕ) (name : List ℕ) (old new : List (ℕ × List ℕ)) (up
           rw (known, ne_eqb number asked other, ne_eqb asked number (λ e. other (sym e))) (add-zero _)
 
   IsByLetters-insert : IsByLetters old order →
-      IsPartitionPoint (λ one. is_lt (compared None (name_in old one) name) ≡ true)
-      (λ one. is_lt (compared None (name_in old one) name) ≡ false) (others number order) place →
+      IsPartitionPoint (λ one. is_lt (compared (name_in old one) name) ≡ true)
+      (λ one. is_lt (compared (name_in old one) name) ≡ false) (others number order) place →
       IsByLetters new (insert (others number order) place number)
   IsByLetters-insert sorted point =
       let rest = others number order in
@@ -130,8 +130,8 @@ module _ (number : ℕ) (name : List ℕ) (old new : List (ℕ × List ℕ)) (up
       (λ d inside. rw (← other place d inside, itself) (point.1 place d (omega arith) inside))
 
   pub IsOrder-put : IsOrder old order → taken name (without_name number (rows_of old)) ≡ None →
-      IsPartitionPoint (λ one. is_lt (compared None (name_in old one) name) ≡ true)
-      (λ one. is_lt (compared None (name_in old one) name) ≡ false) (others number order) place →
+      IsPartitionPoint (λ one. is_lt (compared (name_in old one) name) ≡ true)
+      (λ one. is_lt (compared (name_in old one) name) ≡ false) (others number order) place →
       IsOrder new (insert (others number order) place number)
   IsOrder-put is free point = record {
     by_letters = IsByLetters-insert is.by_letters point;

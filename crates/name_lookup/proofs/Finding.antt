@@ -9,20 +9,13 @@ use Rattle.std.proofs.lemmas.List.Sorted.{sum_by-IsPermutation}
 use Rattle.std.specs.Cmp.Lexicographic.{slice_cmp}
 use Rattle.std.proofs.lemmas.Cmp.{lists_total, nat_cmp_total, tied_itself}
 use Rattle.kom_types.specs.Names.{clash, finds, outside}
-use Rattle.name_lookup.specs.Letters.{letters, first_len, up_to}
+use Rattle.name_lookup.specs.Letters.{letters, letters_of}
 use Rattle.std.specs.Map.{lookup}
 use Rattle.name_lookup.specs.NamedRows.{Named, taken, found}
 use Rattle.name_lookup.specs.Order.{compared, name_in, rows_of, StandsOnce, IsOrder}
 use Rattle.name_lookup.proofs.Lists.{count_by-cons, count_by-hit, count_by-miss, count_by-filter}
 use Rattle.name_lookup.proofs.Rows.{AllAbove, IsRising, name_at, name_at-none, name_at-rows_of, IsRising-rows_of}
 use Rattle.name_lookup.proofs.Clashes.{folds_alike, taken_is, taken_none}
-use Rattle.name_lookup.proofs.Words.{finds_alike}
-
-alike_within : (limit : Option ℕ) (name other : List ℕ) → up_to limit name ≡ up_to limit other →
-    is_eq (compared limit name other) ≡ true
-alike_within limit name other alike =
-    ap (λ first. is_eq (slice_cmp nat_cmp first (up_to limit other))) alike
-    ∙ ap is_eq (tied_itself (lists_total nat_cmp_total) (up_to limit other))
 
 -- ---- numbers that rise are told apart by their counts
 abbrev Rises : List ℕ → Type 0
@@ -195,12 +188,10 @@ module _ (entries : List (ℕ × List ℕ)) (order : List ℕ) where
           sym (taken_is name number held (rows_of entries) is.none_clash
           (name_at-rows_of number entries ∙ known) hit)
 
--- a name that a pattern finds has the letters of its first word
-pub finds_within : (pattern name : List ℕ) → finds pattern name ≡ true →
-    is_eq (compared (Some (first_len pattern)) name pattern) ≡ true
-finds_within pattern name hit = alike_within (Some (first_len pattern)) name pattern (finds_alike pattern name hit)
-
 -- names that clash have the same letters
-pub clash_within : (name held : List ℕ) → clash name held ≡ true → is_eq (compared None held name) ≡ true
+pub clash_within : (name held : List ℕ) → clash name held ≡ true → is_eq (compared held name) ≡ true
 clash_within name held alike =
-    alike_within None held name (ap (λ bytes. letters false (outside false bytes)) (sym (folds_alike name held alike)))
+    let same : letters_of held ≡ letters_of name =
+    ap (λ bytes. letters false (outside false bytes)) (sym (folds_alike name held alike)) in
+    ap (λ first. is_eq (slice_cmp nat_cmp first (letters_of name))) same
+    ∙ ap is_eq (tied_itself (lists_total nat_cmp_total) (letters_of name))

@@ -5,3 +5,6 @@ pub mod Clashes
 pub mod Orders
 pub mod Changes
 pub mod Finding
+pub mod Skips
+pub mod Looks
+pub mod Walks

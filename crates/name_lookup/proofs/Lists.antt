@@ -22,17 +22,6 @@ module _ {X : Type 0} (p : X → Bool) where
       rw here (ap (λ rest. x ∷ rest) (filter_everything xs (All-tail (λ x. p x ≡ true) x xs all)))
 
   -- a test that asks for less first changes nothing
-  pub filter-filter : (q : X → Bool) → ((x : X) → p x ≡ true → q x ≡ true) → (xs : List X) →
-      filter p (filter q xs) ≡ filter p xs
-  filter-filter q weaker [] = refl
-  filter-filter q weaker (x ∷ xs) = by (filter-filter q weaker xs) (cases_Bool (p x)) (cases_Bool (q x))
-    where
-      by : filter p (filter q xs) ≡ filter p xs →
-          (p x ≡ true) ⊎ (p x ≡ false) → (q x ≡ true) ⊎ (q x ≡ false) → filter p (filter q (x ∷ xs)) ≡ filter p (x ∷ xs)
-      by rest (inl hit) other = rw (weaker x hit, hit) (ap (λ rest. x ∷ rest) rest)
-      by rest (inr miss) (inl hit) = rw (hit, miss) rest
-      by rest (inr miss) (inr out) = rw (out, miss) rest
-
   pub find-filter : (q : X → Bool) → ((x : X) → p x ≡ true → q x ≡ true) → (xs : List X) →
       find p (filter q xs) ≡ find p xs
   find-filter q weaker [] = refl

@@ -1,36 +1,20 @@
 -- The order of the letters of names.
-use Rattle.std.proofs.Common.{◌≡◌, ℕ, ◌+◌, ◌≤◌, Bool, true, false, cond, eqb, List, [], ◌∷◌, length, take, drop, get_or, filter, count_by, Option, Some, None, is_some, nat_cmp, is_lt, is_eq, Ordering, Less, Equal, Greater, refl, sym, ap, ◌∙◌, suc, zero, true≢false, arith, IsSortedBy, get_or-drop, length-drop, position, option_map}
+use Rattle.std.proofs.Common.{◌≡◌, ℕ, ◌+◌, ◌<◌, ◌≤◌, Bool, true, false, cond, eqb, List, length, take, drop, get_or, filter, count_by, Option, None, is_some, nat_cmp, is_lt, is_eq, Ordering, Less, Equal, Greater, refl, sym, ap, ◌∙◌, true≢false, arith, get_or-drop, length-drop, position, option_map}
 use Rattle.std.specs.Cmp.Lexicographic.{slice_cmp}
 use Rattle.std.specs.List.{AllWithin}
 use Rattle.std.specs.List.Sorted.{IsPartitionedBy, IsPartitionPoint, IsNonDecreasingBy}
 use Rattle.std.specs.Map.{lookup}
 use Rattle.std.proofs.lemmas.Bool.{ne_eqb}
-use Rattle.std.specs.Ordering.{ordering_then, ordering_index}
+use Rattle.std.specs.Ordering.{ordering_index}
 use Rattle.std.proofs.lemmas.Cmp.{lists_total, nat_cmp_total, tied_itself}
 use Rattle.std.proofs.lemmas.List.Sorted.{searchable_from_sorted}
-use Rattle.name_lookup.specs.Letters.{letters_of, up_to}
-use Rattle.name_lookup.specs.Order.{compared, name_in, IsByLetters, StandsOnce}
+use Rattle.name_lookup.specs.Letters.{letters_of}
+use Rattle.name_lookup.specs.Order.{compared, name_in, letters_in, IsByLetters, StandsOnce}
 use Rattle.name_lookup.proofs.Lists.{filter_run, position-absent, position-drop}
 
 -- by their letters
 abbrev pub cmp : List ℕ → List ℕ → Ordering
 cmp = slice_cmp nat_cmp
-
--- letters in order are in order as far as a limit
-take_keeps : (limit : ℕ) (low high : List ℕ) → is_lt (cmp high low) ≡ false →
-    is_lt (cmp (take limit high) (take limit low)) ≡ false
-take_keeps zero low high up = refl
-take_keeps (suc limit) [] [] up = refl
-take_keeps (suc limit) (x ∷ low) [] up = absurd (true≢false up)
-take_keeps (suc limit) [] (y ∷ high) up = refl
-take_keeps (suc limit) (x ∷ low) (y ∷ high) up = by (take_keeps limit low high) (nat_cmp y x) up
-  where
-    by : (is_lt (cmp high low) ≡ false → is_lt (cmp (take limit high) (take limit low)) ≡ false) →
-        (o : Ordering) → is_lt (ordering_then o (cmp high low)) ≡ false →
-        is_lt (ordering_then o (cmp (take limit high) (take limit low))) ≡ false
-    by rest Less up = absurd (true≢false up)
-    by rest Equal up = rest up
-    by rest Greater up = refl
 
 not_above : (first second : Ordering) → ordering_index first ≤ ordering_index second → is_lt second ≡ true →
     is_lt first ≡ true
@@ -48,57 +32,61 @@ equal_between Greater Equal le low eq = absurd (omega arith)
 equal_between Greater Less le low eq = absurd (true≢false (sym eq))
 equal_between Greater Greater le low eq = absurd (true≢false (sym eq))
 
+not_low : (first second : Ordering) → ordering_index first ≤ ordering_index second → first ≡ Equal →
+    is_lt second ≡ false
+not_low first Less le eq = absurd (omega (arith, ap ordering_index eq))
+not_low first Equal le eq = refl
+not_low first Greater le eq = refl
+
 not_equal : (order : Ordering) → is_lt order ≡ true → is_eq order ≡ false
 not_equal Less lt = refl
 not_equal Equal lt = absurd (true≢false (sym lt))
 not_equal Greater lt = refl
 
 module _ (entries : List (ℕ × List ℕ)) where
-  -- the order as far as a limit
-  by_limit : (limit : Option ℕ) (order : List ℕ) → IsByLetters entries order →
-      IsSortedBy (λ x y. is_lt (cmp (up_to limit (name_in entries x)) (up_to limit (name_in entries y)))) order
-  by_limit None order sorted = sorted
-  by_limit (Some limit) order sorted = λ k d low high.
-      take_keeps limit (letters_of (name_in entries (get_or order k d)))
-      (letters_of (name_in entries (get_or order (k + 1) d)))
-      (sorted k d low high)
+  -- how the names stand to some letters does not fall along the order
+  pub rises : (letters order : List ℕ) → IsByLetters entries order →
+      IsNonDecreasingBy (λ number. ordering_index (cmp (letters_in entries number) letters)) order
+  rises letters order sorted =
+      searchable_from_sorted (lists_total nat_cmp_total) (letters_in entries) order letters sorted
 
-  -- how the names stand to another one does not fall along the order
-  pub rises : (limit : Option ℕ) (name order : List ℕ) → IsByLetters entries order →
-      IsNonDecreasingBy (λ number. ordering_index (compared limit (name_in entries number) name)) order
-  rises limit name order sorted =
-      searchable_from_sorted (lists_total nat_cmp_total) (λ number. up_to limit (name_in entries number)) order
-      (up_to limit name) (by_limit limit order sorted)
+  pub below_first : (letters order : List ℕ) → IsByLetters entries order →
+      IsPartitionedBy (λ number. is_lt (cmp (letters_in entries number) letters)) order
+  below_first letters order sorted = λ i j d le lt below.
+      not_above _ _ (rises letters order sorted i j d le lt) below
 
-  pub below_first : (limit : Option ℕ) (name order : List ℕ) → IsByLetters entries order →
-      IsPartitionedBy (λ number. is_lt (compared limit (name_in entries number) name)) order
-  below_first limit name order sorted = λ i j d le lt below.
-      not_above _ _ (rises limit name order sorted i j d le lt) below
+  -- what comes later is not below
+  pub not_below_later : (order : List ℕ) → IsByLetters entries order → (i j d : ℕ) → i ≤ j → j < length order →
+      is_lt (cmp (letters_in entries (get_or order j d)) (letters_in entries (get_or order i d))) ≡ false
+  not_below_later order sorted i j d le lt =
+      let first = letters_in entries (get_or order i d) in
+      not_low (cmp first first) (cmp (letters_in entries (get_or order j d)) first)
+      (rises first order sorted i j d le lt) (tied_itself (lists_total nat_cmp_total) first)
 
-  pub equal_first : (limit : Option ℕ) (name order : List ℕ) (start : ℕ) → IsByLetters entries order →
-      AllWithin (λ number. is_lt (compared limit (name_in entries number) name) ≡ false) order start (length order) →
-      IsPartitionedBy (λ number. is_eq (compared limit (name_in entries number) name)) (drop start order)
-  equal_first limit name order start sorted from i j d le lt equal =
+  pub equal_first : (name order : List ℕ) (start : ℕ) → IsByLetters entries order →
+      AllWithin (λ number. is_lt (compared (name_in entries number) name) ≡ false) order start (length order) →
+      IsPartitionedBy (λ number. is_eq (compared (name_in entries number) name)) (drop start order)
+  equal_first name order start sorted from i j d le lt equal =
       let long = length-drop start order in
-      let ord : ℕ → Ordering = λ number. compared limit (name_in entries number) name in
+      let ord : ℕ → Ordering = λ number. compared (name_in entries number) name in
       let at : (k : ℕ) → get_or (drop start order) k d ≡ get_or order (start + k) d =
       λ k. get_or-drop start order k d in
-      let up = rises limit name order sorted (start + i) (start + j) d (omega arith) (omega arith) in
+      let up = rises (letters_of name) order sorted (start + i) (start + j) d (omega arith) (omega arith) in
       let low = from (start + i) d (omega arith) (omega arith) in
       ap (λ number. is_eq (ord number)) (at i)
       ∙ equal_between (ord (get_or order (start + i) d)) (ord (get_or order (start + j) d)) up low
       (sym (ap (λ number. is_eq (ord number)) (at j)) ∙ equal)
 
   -- the names that have the letters of another one stand together
-  pub run_is : (limit : Option ℕ) (name order : List ℕ) (start len : ℕ) →
-      IsPartitionPoint (λ number. is_lt (compared limit (name_in entries number) name) ≡ true)
-      (λ number. is_lt (compared limit (name_in entries number) name) ≡ false) order start →
-      IsPartitionPoint (λ number. is_eq (compared limit (name_in entries number) name) ≡ true)
-      (λ number. is_eq (compared limit (name_in entries number) name) ≡ false) (drop start order) len →
-      take len (drop start order) ≡ filter (λ number. is_eq (compared limit (name_in entries number) name)) order
-  run_is limit name order start len first point =
-      filter_run (λ number. is_eq (compared limit (name_in entries number) name)) order start len
-      (λ k d low high. not_equal (compared limit (name_in entries (get_or order k d)) name) (first.0 k d low high))
+  pub run_is : (name order : List ℕ) (start len : ℕ) →
+      IsPartitionPoint (λ number. is_lt (compared (name_in entries number) name) ≡ true)
+      (λ number. is_lt (compared (name_in entries number) name) ≡ false) order start →
+      IsPartitionPoint (λ number. is_eq (compared (name_in entries number) name) ≡ true)
+      (λ number. is_eq (compared (name_in entries number) name) ≡ false) (drop start order) len →
+      take len (drop start order) ≡ filter (λ number. is_eq (compared (name_in entries number) name)) order
+  run_is name order start len first point =
+      filter_run (λ number. is_eq (compared (name_in entries number) name)) order start len
+      (λ k d low high. not_equal (compared (name_in entries (get_or order k d)) name) (first.0 k d low high))
       point.0 point.1
 
   pub once_at_most : (number : ℕ) (order : List ℕ) → StandsOnce entries order → count_by (eqb number) order ≤ 1
@@ -116,7 +104,7 @@ module _ (entries : List (ℕ × List ℕ)) where
 
   -- a name that is below that of a number is the name of another one
   other_below : (number : ℕ) (name order : List ℕ) (start : ℕ) → name_in entries number ≡ name →
-      AllWithin (λ one. is_lt (compared None (name_in entries one) name) ≡ true) order 0 start →
+      AllWithin (λ one. is_lt (compared (name_in entries one) name) ≡ true) order 0 start →
       AllWithin (λ one. eqb number one ≡ false) order 0 start
   other_below number name order start held below = λ k d low high.
       let one = get_or order k d in
@@ -130,7 +118,7 @@ module _ (entries : List (ℕ × List ℕ)) where
 
   -- the place of a number, after the names that are below its own
   pub place_is : (number : ℕ) (name order : List ℕ) (start : ℕ) (found : Option ℕ) → name_in entries number ≡ name →
-      AllWithin (λ one. is_lt (compared None (name_in entries one) name) ≡ true) order 0 start → start ≤ length order →
+      AllWithin (λ one. is_lt (compared (name_in entries one) name) ≡ true) order 0 start → start ≤ length order →
       found ≡ position (eqb number) (drop start order) →
       option_map (λ i. start + i) found ≡ position (eqb number) order
   place_is number name order start found held below le at =

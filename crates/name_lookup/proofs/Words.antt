@@ -1,12 +1,10 @@
 -- The letters of a name are those of its words, and a pattern finds by letters what it finds by words.
-use Rattle.std.proofs.Common.{◌≡◌, ℕ, ◌+◌, Bool, true, false, cond, not, ◌&&◌, eqb, List, [], ◌∷◌, ◌++◌, map, take, drop, refl, sym, ap, ap₂, inl, inr, ◌⊎◌, append-nil, Option, Some, None, MatchOption, is_some, length, ◌≤◌, length-append, ◌∙◌, true≢false, arith, one-add, add-one, append_assoc}
-use Rattle.std.specs.List.{AllByRecursion, prefix_len, starts_with}
-use Rattle.std.proofs.lemmas.Bool.{and_parts, cases_Bool, eqb-true}
+use Rattle.std.proofs.Common.{◌≡◌, ℕ, Bool, true, false, cond, ◌&&◌, eqb, List, [], ◌∷◌, ◌++◌, map, refl, sym, ap, ap₂, append-nil, Option, Some, None, MatchOption, is_some, ◌∙◌, true≢false, arith, one-add, add-one, append_assoc}
+use Rattle.std.specs.List.{AllByRecursion, starts_with}
 use Rattle.std.proofs.lemmas.Bool.Decides.{nat_tests}
-use Rattle.std.proofs.lemmas.List.{length-map}
 use Rattle.kom_types.specs.ByteKind.{is_blank}
 use Rattle.kom_types.specs.Names.{fold, outside, with_word, words_after, words_of, are_prefixes, are_some, finds}
-use Rattle.name_lookup.specs.Letters.{word_end, letters, letters_of, first_len, after_word, up_to}
+use Rattle.name_lookup.specs.Letters.{word_end, letters, letters_of, after_word, matches}
 
 -- ---- the letters of words
 abbrev joined : List (List ℕ) → List ℕ
@@ -47,7 +45,7 @@ letters_of-joined : (name : List ℕ) → joined (words_of name) ≡ letters_of 
 letters_of-joined name = joined-words_after [] (outside false (map fold name))
 
 -- ---- words have letters, and no blank among them
-abbrev HasNoBlank : List ℕ → Type 0
+abbrev pub HasNoBlank : List ℕ → Type 0
 HasNoBlank word = AllByRecursion (λ letter. eqb letter 32 ≡ false) word
 
 abbrev AreWords : List (List ℕ) → Type 0
@@ -95,62 +93,20 @@ pub begins : (before after : List ℕ) (first : Option ℕ) →
 begins before after None gives = sym (ap is_begun gives.0)
 begins before after (Some letter) gives = sym (ap is_begun gives)
 
-length-outside : (inside : Bool) (bytes : List ℕ) → length (outside inside bytes) ≤ length bytes
-length-outside inside [] = omega arith
-length-outside true (byte ∷ bytes) = omega (arith, length-outside (not (eqb byte 41)) bytes)
-length-outside false (byte ∷ bytes) = by (eqb byte 40) (length-outside true bytes) (length-outside false bytes)
-  where
-    by : (opens : Bool) → length (outside true bytes) ≤ length bytes → length (outside false bytes) ≤ length bytes →
-        length (cond opens (outside true bytes) (byte ∷ outside false bytes)) ≤ length (byte ∷ bytes)
-    by true inner outer = omega arith
-    by false inner outer = omega arith
-
-length-word_end : (in_word : Bool) → length (word_end in_word) ≤ 1
-length-word_end true = omega arith
-length-word_end false = omega arith
-
-length-letters : (in_word : Bool) (bytes : List ℕ) → length (letters in_word bytes) ≤ length bytes + 1
-length-letters in_word [] = omega (arith, length-word_end in_word)
-length-letters in_word (byte ∷ bytes) = by (is_blank byte) (length-letters false bytes) (length-letters true bytes)
-  where
-    by : (blank : Bool) → length (letters false bytes) ≤ length bytes + 1 →
-        length (letters true bytes) ≤ length bytes + 1 →
-        length (cond blank (word_end in_word ++ letters false bytes) (byte ∷ letters true bytes))
-        ≤ length (byte ∷ bytes) + 1
-    by true apart within =
-        omega (arith, length-append (word_end in_word) (letters false bytes), length-word_end in_word)
-    by false apart within = omega arith
-
-pub length-letters_of : (name : List ℕ) → length (letters_of name) ≤ length name + 1
-length-letters_of name =
-    omega (
-      arith,
-      length-letters false (outside false (map fold name)),
-      length-outside false (map fold name),
-      length-map name fold,
-    )
-
 -- ---- a pattern by its letters
-abbrev pub is_space : ℕ → Bool
-is_space letter = eqb letter 32
-
-abbrev pub first_is : ℕ → List ℕ → Bool
-first_is asked [] = false
-first_is asked (letter ∷ name) = eqb letter asked
-
--- whether a pattern of these letters finds a name of those
-abbrev pub matches : List ℕ → List ℕ → Bool
-matches [] name = true
-matches (asked ∷ pattern) name =
-    cond (is_space asked) (matches pattern (after_word name))
-    (first_is asked name && matches pattern (drop 1 name))
-
-after_word-joined : (word rest : List ℕ) → HasNoBlank word → after_word (word ++ (32 ∷ rest)) ≡ rest
+pub after_word-joined : (word rest : List ℕ) → HasNoBlank word → after_word (word ++ (32 ∷ rest)) ≡ rest
 after_word-joined [] rest none = refl
 after_word-joined (letter ∷ word) rest none =
     let here : eqb letter 32 ≡ false = none.0 in
     let rest' = after_word-joined word rest none.1 in
     rw (here, one-add, add-one) (rw add-one at rest')
+
+pub after_word-none : (letters : List ℕ) → HasNoBlank letters → after_word letters ≡ []
+after_word-none [] none = refl
+after_word-none (letter ∷ letters) none =
+    let here : eqb letter 32 ≡ false = none.0 in
+    let rest = after_word-none letters none.1 in
+    rw (here, one-add, add-one) (rw add-one at rest)
 
 matches-word : (word pattern held name : List ℕ) → HasNoBlank word → HasNoBlank held →
     matches (word ++ (32 ∷ pattern)) (held ++ (32 ∷ name)) ≡ (starts_with eqb held word && matches pattern name)
@@ -182,30 +138,3 @@ finds-letters pattern name =
     (AreWords-words_after [] (outside false (map fold pattern)) tt)
     (AreWords-words_after [] (outside false (map fold name)) tt))
     ∙ ap₂ matches (letters_of-joined pattern) (letters_of-joined name)
-
--- ---- what is found begins with the first word
-begins_alike : (pattern name : List ℕ) → matches pattern name ≡ true →
-    take (prefix_len (λ letter. not (is_space letter)) pattern) name
-    ≡ take (prefix_len (λ letter. not (is_space letter)) pattern) pattern
-begins_alike [] name found = refl
-begins_alike (asked ∷ pattern) name found = by (begins_alike pattern) name (cases_Bool (is_space asked)) found
-  where
-    by : ((held : List ℕ) → matches pattern held ≡ true →
-        take (prefix_len (λ letter. not (is_space letter)) pattern) held
-        ≡ take (prefix_len (λ letter. not (is_space letter)) pattern) pattern) →
-        (held : List ℕ) → (is_space asked ≡ true) ⊎ (is_space asked ≡ false) →
-        matches (asked ∷ pattern) held ≡ true →
-        take (prefix_len (λ letter. not (is_space letter)) (asked ∷ pattern)) held
-        ≡ take (prefix_len (λ letter. not (is_space letter)) (asked ∷ pattern)) (asked ∷ pattern)
-    by rest held (inl blank) hit = rw blank refl
-    by rest [] (inr other) hit = absurd (true≢false (sym (rw other at hit)))
-    by rest (letter ∷ held) (inr other) hit =
-        let parts = and_parts (eqb letter asked) (matches pattern held) (rw other at hit) in
-        rw (other, one-add)
-        (ap₂ (λ first later. first ∷ later) (eqb-true letter asked parts.0) (rest held parts.1))
-
--- a name that a pattern finds has the letters of its first word
-pub finds_alike : (pattern name : List ℕ) → finds pattern name ≡ true →
-    up_to (Some (first_len pattern)) name ≡ up_to (Some (first_len pattern)) pattern
-finds_alike pattern name found =
-    begins_alike (letters_of pattern) (letters_of name) (sym (finds-letters pattern name) ∙ found)

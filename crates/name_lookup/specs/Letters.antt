@@ -1,7 +1,7 @@
 -- The letters of names, by which they stand in order.
-use Rattle.std.specs.Prelude.{ℕ, Bool, true, false, not, ◌==◌, List, [], ◌∷◌, ◌++◌, map, take}
-use Rattle.std.specs.Prelude.{Option, Some, None, if◌then◌else◌}
-use Rattle.std.specs.List.{prefix_len, after_first}
+use Rattle.std.specs.Prelude.{ℕ, Bool, true, false, ◌==◌, List, [], ◌∷◌, ◌++◌, map}
+use Rattle.std.specs.Prelude.{◌&&◌, drop, if◌then◌else◌}
+use Rattle.std.specs.List.{after_first}
 use Rattle.kom_types.specs.ByteKind.{is_blank}
 use Rattle.kom_types.specs.Names.{fold, outside}
 use Rattle.name_lookup.specs.declared.letters.Place.{Place}
@@ -29,15 +29,33 @@ letters_after place bytes = letters place.in_word (outside place.inside bytes)
 abbrev pub letters_left : Letters → List ℕ
 letters_left walk = letters_after walk.place (map fold walk.rest.now)
 
--- the number of the letters of the first word
-abbrev pub first_len : List ℕ → ℕ
-first_len name = prefix_len (λ letter. not (letter == 32)) (letters_of name)
-
 -- the letters after the blank of the first word
 abbrev pub after_word : List ℕ → List ℕ
 after_word rest = after_first (λ letter. letter == 32) rest
 
--- so many of the letters at most, or all
-abbrev pub up_to : Option ℕ → List ℕ → List ℕ
-up_to None name = letters_of name
-up_to (Some limit) name = take limit (letters_of name)
+-- the letters up to the blank of the first word and with it, or all; and those before it
+abbrev pub through_word : List ℕ → List ℕ
+through_word [] = []
+through_word (letter ∷ rest) =
+    if letter == 32 then letter ∷ [] else letter ∷ through_word rest
+
+abbrev pub first_word : List ℕ → List ℕ
+first_word [] = []
+first_word (letter ∷ rest) = if letter == 32 then [] else letter ∷ first_word rest
+
+-- whether a blank ends the first word
+abbrev pub ends_word : List ℕ → Bool
+ends_word [] = false
+ends_word (letter ∷ rest) = if letter == 32 then true else ends_word rest
+
+-- whether a name's next letter is this one
+abbrev pub first_is : ℕ → List ℕ → Bool
+first_is asked [] = false
+first_is asked (letter ∷ name) = letter == asked
+
+-- whether a pattern of these letters finds a name of those
+abbrev pub matches : List ℕ → List ℕ → Bool
+matches [] name = true
+matches (asked ∷ pattern) name =
+    if asked == 32 then matches pattern (after_word name)
+    else first_is asked name && matches pattern (drop 1 name)

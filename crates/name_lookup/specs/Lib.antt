@@ -1,3 +1,4 @@
 pub mod NamedRows
 pub mod Letters
 pub mod Order
+pub mod Steps

@@ -2,8 +2,9 @@ ghost use Rattle.std.specs.Prelude.{◌≡◌, ◌<◌, ◌≤◌, [], None, IfO
 ghost use Rattle.name_lookup.specs.NamedRows.{with_name, without_name, taken, found, NoneClash};
 
 use crate::alphabet::clashes;
-use crate::matching::{finds, first_len};
+use crate::letters::Letters;
 use crate::order::{first_at, name_of, run_of, take_out};
+use crate::walking::walk;
 use indexmap::IndexMap;
 use kom_types::{Bytes, Memory, Numbers};
 use std::alloc::Global;
@@ -63,7 +64,7 @@ impl Index {
         ensures { self.new.names ≡ with_name number name self.old.names }
     {
         take_out(&self.kept, &mut self.order, number);
-        let place = first_at(&self.kept, self.order.as_slice(), name.as_slice(), None);
+        let place = first_at(&self.kept, self.order.as_slice(), name.as_slice());
         self.order.insert(place, number).unwrap();
         self.kept.insert(number, name).unwrap();
     }
@@ -83,7 +84,7 @@ impl Index {
         ensures none_clash { NoneClash self.now.names }
     {
         let kept = &self.kept;
-        run_of(kept, self.order.as_slice(), name, None)
+        run_of(kept, self.order.as_slice(), name)
             .iter()
             .copied()
             .find(|number| clashes(name, name_of(kept, *number)))
@@ -93,13 +94,13 @@ impl Index {
     pub(crate) fn find(&self, pattern: &[u8]) -> Result<Numbers, Memory>
         ensures { IfOk result (λ numbers. numbers ≡ found pattern.now self.now.names) }
     {
-        let kept = &self.kept;
-        let limit = Some(first_len(pattern));
-        let mut numbers: Vec<u32> = run_of(kept, self.order.as_slice(), pattern, limit)
-            .iter()
-            .copied()
-            .filter(|number| finds(pattern, name_of(kept, *number)))
-            .collect(self.alloc())?;
+        let letters: Vec<u8> = Letters::of(pattern).collect(self.alloc())?;
+        let mut numbers = walk(
+            &self.kept,
+            self.order.as_slice(),
+            letters.as_slice(),
+            self.alloc(),
+        )?;
         numbers.sort_unstable();
         Ok(Numbers::of(numbers))
     }

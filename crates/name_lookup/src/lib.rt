@@ -7,6 +7,8 @@ mod letters;
 mod matching;
 mod names;
 mod order;
+mod steps;
+mod walking;
 
 pub use alphabet::{fold_byte, is_name};
 pub use names::Names;

@@ -2,9 +2,10 @@ ghost use Rattle.std.specs.Prelude.{◌≡◌, ◌≤◌, true, false, filter, l
 ghost use Rattle.std.specs.List.Sorted.{IsPartitionPoint};
 ghost use Rattle.std.specs.Ordering.{is_lt, is_eq};
 ghost use Rattle.std.specs.Vec.{vec_capacity, vec_len};
-ghost use Rattle.name_lookup.specs.Order.{name_in, compared, IsByLetters, IsOrder};
+ghost use Rattle.name_lookup.specs.Order.{name_in, letters_in, compared, letters_cmp};
+ghost use Rattle.name_lookup.specs.Order.{IsByLetters, IsOrder};
 
-use crate::matching::compare;
+use crate::matching::{compare, compare_letters};
 use indexmap::IndexMap;
 use kom_types::Bytes;
 
@@ -18,36 +19,38 @@ pub(crate) fn name_of(kept: &IndexMap<u32, Bytes>, number: u32) -> &[u8]
     }
 }
 
-/// The first place whose name is not below another one, by so many letters or by all.
-pub(crate) fn first_at(
-    kept: &IndexMap<u32, Bytes>,
-    order: &[u32],
-    name: &[u8],
-    limit: Option<usize>,
-) -> usize
+/// The first place whose name is not below another one, by its letters.
+pub(crate) fn first_at(kept: &IndexMap<u32, Bytes>, order: &[u32], name: &[u8]) -> usize
     requires { IsByLetters kept.now.entries order.now }
     ensures bound { result ≤ length order.now }
     ensures first { IsPartitionPoint
-        (λ number. is_lt (compared limit (name_in kept.now.entries number) name.now) ≡ true)
-        (λ number. is_lt (compared limit (name_in kept.now.entries number) name.now) ≡ false)
+        (λ number. is_lt (compared (name_in kept.now.entries number) name.now) ≡ true)
+        (λ number. is_lt (compared (name_in kept.now.entries number) name.now) ≡ false)
         order.now result }
 {
-    order.partition_point(|number| compare(name_of(kept, *number), name, limit).is_lt())
+    order.partition_point(|number| compare(name_of(kept, *number), name).is_lt())
 }
 
-/// The numbers whose names have the letters of another one, so many or all: they stand together.
-pub(crate) fn run_of<'a>(
-    kept: &IndexMap<u32, Bytes>,
-    order: &'a [u32],
-    name: &[u8],
-    limit: Option<usize>,
-) -> &'a [u32]
+/// The first place whose name is not below some letters, by its own.
+pub(crate) fn first_from(kept: &IndexMap<u32, Bytes>, order: &[u32], letters: &[u8]) -> usize
+    requires { IsByLetters kept.now.entries order.now }
+    ensures bound { result ≤ length order.now }
+    ensures first { IsPartitionPoint
+        (λ number. is_lt (letters_cmp (letters_in kept.now.entries number) letters.now) ≡ true)
+        (λ number. is_lt (letters_cmp (letters_in kept.now.entries number) letters.now) ≡ false)
+        order.now result }
+{
+    order.partition_point(|number| compare_letters(name_of(kept, *number), letters).is_lt())
+}
+
+/// The numbers whose names have the letters of another one: they stand together.
+pub(crate) fn run_of<'a>(kept: &IndexMap<u32, Bytes>, order: &'a [u32], name: &[u8]) -> &'a [u32]
     requires { IsByLetters kept.now.entries order.now }
     ensures { result.now ≡ filter
-        (λ number. is_eq (compared limit (name_in kept.now.entries number) name.now)) order.now }
+        (λ number. is_eq (compared (name_in kept.now.entries number) name.now)) order.now }
 {
-    let from = &order[first_at(kept, order, name, limit)..];
-    let len = from.partition_point(|number| compare(name_of(kept, *number), name, limit).is_eq());
+    let from = &order[first_at(kept, order, name)..];
+    let len = from.partition_point(|number| compare(name_of(kept, *number), name).is_eq());
     &from[..len]
 }
 
@@ -57,7 +60,7 @@ fn place_of(kept: &IndexMap<u32, Bytes>, order: &[u32], number: u32) -> Option<u
     ensures { result ≡ position (nat_eq number) order.now }
 {
     let name = kept.get(&number)?.as_slice();
-    let start = first_at(kept, order, name, None);
+    let start = first_at(kept, order, name);
     let place = order[start..].iter().position(|one| number == *one)?;
     Some(start + place)
 }

@@ -15,9 +15,9 @@ returns c =
     let from = slice_range order start (length order) in
     let whole : from ≡ drop start order = take_rest order start in
     let parted :
-    IsPartitionedBy (λ number. is_eq (compared c.args.limit (name_in entries number) c.args.name.now)) from =
-    rw whole (equal_first entries c.args.limit c.args.name.now order start c.requires c.first_at.ensures.first.1) in
-    rw whole (run_is entries c.args.limit c.args.name.now order start len c.first_at.ensures.first
+    IsPartitionedBy (λ number. is_eq (compared (name_in entries number) c.args.name.now)) from =
+    rw whole (equal_first entries c.args.name.now order start c.requires c.first_at.ensures.first.1) in
+    rw whole (run_is entries c.args.name.now order start len c.first_at.ensures.first
     (rw whole at (IsPartitionPoint-from_clause
-    (λ number. is_eq (compared c.args.limit (name_in entries number) c.args.name.now))
+    (λ number. is_eq (compared (name_in entries number) c.args.name.now))
     from len c.partition_point-len.ensures.partitioned parted (λ a r q k. search rules))))

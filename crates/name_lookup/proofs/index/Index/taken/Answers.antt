@@ -1,4 +1,4 @@
-use Rattle.std.proofs.Common.{◌≡◌, ◌∙◌, ap, sym, find, filter, is_eq, None, rules, tests}
+use Rattle.std.proofs.Common.{◌≡◌, ◌∙◌, ap, sym, find, filter, is_eq, rules, tests}
 use Rattle.std.proofs.lemmas.Iterator.{YieldsList-from_slice}
 use Rattle.std.proofs.lemmas.Iterator.Adapters.{option_map_id}
 use Rattle.std.proofs.lemmas.Iterator.Consumers.{YieldsList-from_copied}
@@ -20,11 +20,11 @@ returns-clause-number c =
     sym (option_map_id c.find.result)
     ∙ find_from_yields_List (λ one. clash name (name_in entries one)) _ _ c.find.result c.find.ensures.ran
     (YieldsList-from_copied (YieldsList-from_slice run (cc))) (λ x b q k. search (rules, tests)) in
-    let whole : run ≡ filter (λ one. is_eq (compared None (name_in entries one) name)) order =
-    c.run_of.ensures ∙ ap (filter (λ one. is_eq (compared None (name_in entries one) name))) c.as_slice.ensures.value in
+    let whole : run ≡ filter (λ one. is_eq (compared (name_in entries one) name)) order =
+    c.run_of.ensures ∙ ap (filter (λ one. is_eq (compared (name_in entries one) name))) c.as_slice.ensures.value in
     let all : c.find.result ≡ find (λ one. clash name (name_in entries one)) order =
     walked ∙ ap (find (λ one. clash name (name_in entries one))) whole
-    ∙ find-filter (λ one. clash name (name_in entries one)) (λ one. is_eq (compared None (name_in entries one) name))
+    ∙ find-filter (λ one. clash name (name_in entries one)) (λ one. is_eq (compared (name_in entries one) name))
     (λ one alike. clash_within name (name_in entries one) alike) order in
     taken_walked entries order name c.find.result c.self.invariant all
     ∙ ap (λ value. taken name value.names) c.self.view_is
