@@ -3,14 +3,14 @@ use Rattle.std.specs.Prelude.{ℕ, ◌+◌, ◌≤◌, ◌==◌, List, if◌then
 use Rattle.std.specs.List.{IsDistinct}
 use Rattle.kom_types.specs.declared.texts.Recipient.{Recipient}
 use Rattle.kom_types.specs.tables.Texts.{is_recipient}
-use Rattle.row_slots.specs.DenseLists.{dense_room_in}
+use Rattle.row_slots.specs.DenseLists.{DenseRooms, dense_room_in}
 
 -- The recipients in the order of adding; how many more fit without memory; and the room of each
--- text's list, from text 0 on.
+-- text's list.
 pub record Received : Type 0 where
   pub recipients : List Recipient
   pub spare : ℕ
-  pub texts : List ℕ
+  pub texts : DenseRooms
 
 -- how many more recipients of a text its list has room for
 abbrev pub room_of_text : Received → ℕ → ℕ

@@ -1,13 +1,14 @@
 -- The lists and the rooms of keys that are numbered one after the other, and those after a change of one list.
-use Rattle.std.proofs.Common.{◌≡◌, ℕ, zero, suc, ◌-◌, ◌<◌, ◌≤◌, true, List, [], ◌∷◌, length, slice_get, Option, Some, None, option_map, nat_eq, unwrap_or, inl, inr, refl, sym, ◌∙◌, ap, subst, arith}
+use Rattle.std.proofs.Common.{◌≡◌, ℕ, zero, suc, ◌-◌, ◌<◌, ◌≤◌, List, [], ◌∷◌, length, slice_get, Option, Some, None, option_map, unwrap_or, inl, inr, refl, ◌∙◌, ap, sym, subst, arith}
 use Rattle.std.specs.Option.{option_map_or}
-use Rattle.std.specs.Set.{is_member}
 use Rattle.std.proofs.Math.ListN.{set}
-use Rattle.std.proofs.lemmas.Bool.{cases_eq, false≢true}
+use Rattle.std.proofs.lemmas.Bool.{cases_eq}
 use Rattle.std.proofs.lemmas.Option.{slice_get-map}
 use Rattle.smallvec.specs.SmallVec.{SmallVec, small_vec_len}
 use Rattle.row_slots.specs.declared.dense_lists.DenseLists.{DenseLists}
 use Rattle.row_slots.specs.DenseLists.{dense_room, dense_rooms, dense_room_in, HasOnlyDenseChanged}
+use Rattle.row_slots.specs.Lists.{room_of, rooms_of, room_in}
+use Rattle.row_slots.proofs.Rooms.{room_in-rooms_of}
 
 -- ---- the rooms of all keys
 
@@ -15,14 +16,14 @@ use Rattle.row_slots.specs.DenseLists.{dense_room, dense_rooms, dense_room_in, H
 pub dense_room_in-dense_rooms : (lists : DenseLists) (key : ℕ) →
     dense_room_in (dense_rooms lists) key ≡ dense_room lists key
 dense_room_in-dense_rooms lists key =
-    ap (λ o. unwrap_or o 0)
-    (slice_get-map (λ (list : SmallVec ℕ). list.capacity - small_vec_len list) lists.lists.items key)
-    ∙ by (slice_get lists.lists.items key)
+    ap (λ o. unwrap_or o (room_in (rooms_of lists.far) key))
+    (slice_get-map (λ (list : SmallVec ℕ). list.capacity - small_vec_len list) lists.near.items key)
+    ∙ by (slice_get lists.near.items key)
   where
     by : (o : Option (SmallVec ℕ)) →
-        unwrap_or (option_map (λ list. list.capacity - small_vec_len list) o) 0
-        ≡ option_map_or (λ list. list.capacity - small_vec_len list) o 0
-    by None = refl
+        unwrap_or (option_map (λ list. list.capacity - small_vec_len list) o) (room_in (rooms_of lists.far) key)
+        ≡ option_map_or (λ list. list.capacity - small_vec_len list) o (room_of lists.far key)
+    by None = room_in-rooms_of lists.far key
     by (Some list) = refl
 
 pub dense_rooms_stay : (old new : DenseLists) → ((key : ℕ) → dense_room old key ≤ dense_room new key) → (key : ℕ) →
@@ -37,15 +38,6 @@ no_dense_room_falls old new key only le other = elim (cases_eq other key) [
   | inl is ↦ subst (λ k. dense_room old k ≤ dense_room new k) (sym is) le
   | inr unlike ↦ omega (arith, only.rooms other unlike)
 ]
-
--- ---- the list of a key that has a number
-
--- one is kept for it
-pub has_list : (lists : List (SmallVec ℕ)) (key number : ℕ) →
-    is_member nat_eq (option_map_or (λ list. list.items) (slice_get lists key) []) number ≡ true → key < length lists
-has_list [] key number there = absurd (false≢true there)
-has_list (list ∷ lists) zero number there = omega arith
-has_list (list ∷ lists) (suc key) number there = omega (arith, has_list lists key number there)
 
 -- ---- one list is another
 

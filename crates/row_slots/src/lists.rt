@@ -1,4 +1,4 @@
-ghost use Rattle.std.specs.Prelude.{◌≡◌, ℕ, ◌+◌, ◌≤◌, ◌<◌, [], ◌∷◌, ◌++◌};
+ghost use Rattle.std.specs.Prelude.{◌≡◌, ℕ, ◌+◌, ◌≤◌, ◌<◌, [], ◌∷◌, ◌++◌, ◌↔◌};
 ghost use Rattle.std.specs.Prelude.{nat_eq, insert, position, OnOk, IsOk, IsTrue};
 ghost use Rattle.std.specs.Set.{remove_key, is_member};
 ghost use Rattle.row_slots.specs.Lists.{list_of, room_of, HasList, HasOnlyChanged};
@@ -33,6 +33,13 @@ impl Lists {
         }
     }
 
+    /// Whether no key was used.
+    pub(crate) fn is_empty(&self) -> bool
+        ensures { IsTrue result ↔ (self.now.map.entries ≡ []) }
+    {
+        self.map.is_empty()
+    }
+
     /// The list of a key.
     pub fn list(&self, key: u32) -> &[u32]
         ensures { result.now ≡ list_of self.now key }
@@ -51,7 +58,7 @@ impl Lists {
     }
 
     /// How many more numbers fit into the list of a key without memory.
-    fn room(&self, key: u32) -> usize
+    pub(crate) fn room(&self, key: u32) -> usize
         ensures { result ≡ room_of self.now key }
     {
         match self.map.get(&key) {
