@@ -756,11 +756,11 @@ pub record WorkedMessages : Type 0 where
       ≡ tells_sessions (on 6 7 9 14 0 ∷ on 7 7 0 13 0 ∷ on 8 8 0 12 128 ∷ [])
       ∷ tells_sessions (on 6 7 9 14 0 ∷ on 7 7 0 13 0 ∷ [])
       ∷ tells_sessions (on 8 8 0 12 128 ∷ []) ∷ tells_sessions [] ∷ []
-  -- idle for longer than is told
+  -- idle for longer than is told: also for longer than the time that is told then
   pub tells_a_long_time :
       map (λ most. definition_of much_later (call.WhoIsOnDynamic false true most))
-      (0 ∷ 4294967294 ∷ [])
-      ≡ tells_sessions (on 8 8 0 4294967295 128 ∷ []) ∷ tells_sessions [] ∷ []
+      (0 ∷ 4294967294 ∷ 4294967295 ∷ [])
+      ≡ tells_sessions (on 8 8 0 4294967295 128 ∷ []) ∷ tells_sessions [] ∷ tells_sessions [] ∷ []
   -- where nobody is logged in, nobody is invisible
   pub tells_of_nobody_as_visible :
       map (λ invisible. definition_of (record di { seats = nobody_hides ∷ [] })
