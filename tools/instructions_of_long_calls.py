@@ -1,0 +1,82 @@
+#!/usr/bin/env python3
+"""Counts the instructions that the built program `komd` takes for calls that could hold up all others, and prints ratios.
+
+usage: tools/instructions_of_long_calls.py [KOMD]      (KOMD: the built program, crates/komd/out/komd if left out)
+
+With 10 conferences, or 60,000, a name is looked up that is found once, and one that is found nowhere, and one more conference is
+made: where all names begin with the same words, where each begins with a word of its own, and where all have the same words and
+tell themselves apart in parentheses. Then texts are made with 100 comments, or with 1,000. Counted by callgrind: the instructions of a
+run with some such calls less those of the same run without them.
+"""
+import sys
+
+from instructions_of_memberships import ROOT, instructions, login
+
+FEW, MANY = 10, 60_000
+LINKS, MORE_LINKS = 100, 1_000
+LOOK_UPS, MADE, WRITTEN = 100, 100, 10
+# The first conference that a stream makes.
+FIRST = 6
+
+
+def hollerith(text):
+    return b"%dH%s" % (len(text), text)
+
+
+NAMES = {
+    "names of the same first words": (lambda n: b"Conference of number %d" % n, lambda n: b"conf of number %d" % n),
+    "names of different first words": (lambda n: b"%d is a conference" % n, lambda n: b"%d i a c" % n),
+    "names that differ in parentheses": (lambda n: b"Meeting (%d)" % n, lambda n: b"meeting nowhere"),
+}
+
+
+def made(name):
+    return b"2 88 %s 00000000 0 { }" % hollerith(name)
+
+
+def conferences(size, name_of):
+    return [b"A5Hceder", login(5)] + [made(name_of(number)) for number in range(FIRST, FIRST + size)]
+
+
+def tell(name, few, many, counts):
+    print(f"{name}: {few:.0f} instructions with {counts[0]}, {many:.0f} with {counts[1]}, {many / few:.2f} times", flush=True)
+
+
+def compare_names(program, kind):
+    name_of, pattern_of = NAMES[kind]
+    found, missed, one_more = [], [], []
+    for size in (FEW, MANY):
+        lines = conferences(size, name_of)
+        before = instructions(program, lines)
+
+        def each(calls):
+            return (instructions(program, lines + calls) - before) / len(calls)
+
+        last = FIRST + size - 1
+        found.append(each([b"3 76 %s 0 1" % hollerith(pattern_of(last))] * LOOK_UPS))
+        missed.append(each([b"3 76 %s 0 1" % hollerith(pattern_of(last) + b"x")] * LOOK_UPS))
+        one_more.append(each([made(name_of(last + more)) for more in range(1, MADE + 1)]))
+    for name, (few, many) in (("lookup-z-name", found), ("lookup-z-name, none found", missed), ("create-conf", one_more)):
+        tell(f"{name}, {kind}", few, many, (FEW, MANY))
+
+
+def compare_links(program):
+    texts = [login(5), b"2 88 5HTexts 00000000 0 { }"] + [b"3 86 5HHello 1 { 0 %d } 0 { }" % FIRST] * MORE_LINKS
+    before = instructions(program, [b"A5Hceder"] + texts)
+    each = []
+    for links in (LINKS, MORE_LINKS):
+        misc = b" ".join(b"2 %d" % number for number in range(1, links + 1))
+        calls = [b"4 86 5HHello %d { 0 %d %s } 0 { }" % (links + 1, FIRST, misc)] * WRITTEN
+        each.append((instructions(program, [b"A5Hceder"] + texts + calls) - before) / WRITTEN)
+    tell("create-text with so many comments", each[0], each[1], (LINKS, MORE_LINKS))
+
+
+def main(words):
+    program = words[0] if words else ROOT / "crates" / "komd" / "out" / "komd"
+    for kind in NAMES:
+        compare_names(program, kind)
+    compare_links(program)
+
+
+if __name__ == "__main__":
+    main(sys.argv[1:])
