@@ -1,8 +1,8 @@
 -- What is written is read again, whatever follows it.
-use Rattle.std.proofs.Common.{◌≡◌, ℕ, zero, suc, ◌+◌, ◌*◌, ◌<◌, ◌≤◌, ◌^◌, Bool, true, false, cond, List, [], ◌∷◌, ◌++◌}
-use Rattle.std.proofs.Common.{length, take, drop, refl, sym, ap, ◌∙◌, append_assoc, length-append, arith, ltb}
-use Rattle.std.proofs.Common.{Option, Some, None, get_or}
-use Rattle.std.specs.Int.{Width, w16, w32, w64, byte_len, to_le_bytes, from_le_bytes, to_be_bytes, from_be_bytes}
+use Rattle.std.proofs.Common.{◌≡◌, ℕ, ◌*◌, ◌<◌, ◌≤◌, ◌^◌, Bool, true, false, cond, List, [], ◌∷◌, ◌++◌}
+use Rattle.std.proofs.Common.{length, drop, refl, ap, ◌∙◌, append_assoc, length-append, arith, ltb}
+use Rattle.std.proofs.Common.{Option, Some, None}
+use Rattle.std.specs.Int.{Width, w16, w32, w64, byte_len, to_le_bytes, from_le_bytes, to_be_bytes}
 use Rattle.std.specs.List.{AllByRecursion}
 use Rattle.std.proofs.lemmas.Bool.{le-ltb}
 use Rattle.std.proofs.lemmas.List.{take_at, drop_at}
@@ -57,6 +57,7 @@ limited_8_again greatest n rest most small =
 
 text_again : (most : ℕ) (bytes rest : List ℕ) → length bytes ≤ most → length bytes < 2 ^ 32
     → value_at (Text most) (coded_value (Text most) bytes ++ rest) ≡ Whole bytes rest
+unfolding value_at
 text_again most bytes rest few small =
     ap (λ (l : List ℕ). and_then (limited_at w32 most l) bytes_at)
     (append_assoc (to_le_bytes w32 (length bytes)) bytes rest)
@@ -92,6 +93,7 @@ so_many_ranges_again ranges rest are =
 
 ranges_again : (ranges : List ReadRange) (rest : List ℕ) → IsIn Ranges ranges
     → value_at Ranges (coded_value Ranges ranges ++ rest) ≡ Whole ranges rest
+unfolding value_at
 ranges_again ranges rest is =
     ap (λ (l : List ℕ). and_then (number_at l) so_many_ranges_at)
     (append_assoc (to_le_bytes w32 (length ranges)) (coded_ranges ranges) rest)
@@ -101,6 +103,7 @@ ranges_again ranges rest is =
 
 one_of_again : (greatest : List ℕ) (set : Setting) (rest : List ℕ) → IsIn (OneOf greatest) set
     → value_at (OneOf greatest) (coded_value (OneOf greatest) set ++ rest) ≡ Whole set rest
+unfolding value_at
 one_of_again greatest set rest is = by_greatest (greatest_of set.part greatest) is where
   by_greatest : (found : Option ℕ) → IsAtMost found set.value
       → set_at set.part found (to_le_bytes w64 set.value ++ rest) ≡ Whole set rest
@@ -110,6 +113,7 @@ one_of_again greatest set rest is = by_greatest (greatest_of set.part greatest) 
 -- what stands in a field is read again
 pub value_again : (field : Field) (value : Of field) (rest : List ℕ) → IsIn field value
     → value_at field (coded_value field value ++ rest) ≡ Whole value rest
+unfolding value_at
 value_again Byte n rest is = refl
 value_again Half n rest is = half_again n rest is
 value_again Flag true rest is = refl

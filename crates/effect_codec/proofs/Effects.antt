@@ -1,5 +1,5 @@
 -- What the table says of effects: each has a row, and what stands in the row's fields makes it again.
-use Rattle.std.proofs.Common.{◌≡◌, ◌≢◌, ℕ, Bool, true, false, List, [], ◌∷◌, ◌++◌, refl, sym, ap, subst, ◌∙◌, Option, Some, None}
+use Rattle.std.proofs.Common.{◌≡◌, ℕ, true, false, List, ◌++◌, refl, sym, ap, subst, ◌∙◌, Option, Some}
 use Rattle.kom_types.specs.declared.effects.ConfField.{ConfField}
 use Rattle.kom_types.specs.declared.effects.ConfField.TheVariants as field
 use Rattle.kom_types.specs.declared.effects.Counter.{Counter}
@@ -8,10 +8,10 @@ use Rattle.kom_types.specs.declared.effects.Effect.{Effect}
 use Rattle.kom_types.specs.declared.effects.Effect.TheVariants as effect
 use Rattle.kom_types.specs.declared.effects.PersonField.{PersonField}
 use Rattle.kom_types.specs.declared.effects.PersonField.TheVariants as person
-use Rattle.effect_codec.specs.Fields.{Read, Whole, Short, Wrong, Values, AreIn, coded, made_of}
+use Rattle.effect_codec.specs.Fields.{Whole, Values, AreIn, coded, made_of}
 use Rattle.effect_codec.specs.Table.{Row, row_of, told, conf_field, conf_setting, person_field, person_setting}
 use Rattle.effect_codec.specs.Table.{counter_of, counter_number}
-use Rattle.effect_codec.specs.Coding.{coded_effect, coded_row, effect_at, kind_at, IsInRange}
+use Rattle.effect_codec.specs.Coding.{coded_row, effect_at, kind_at, IsInRange}
 use Rattle.effect_codec.specs.Laws.{ReadsAgain, BeginsNoOther}
 use Rattle.effect_codec.proofs.Again.{made_again}
 

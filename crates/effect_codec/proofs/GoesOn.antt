@@ -1,5 +1,5 @@
 -- What is too short lacks some of an effect's bytes.
-use Rattle.std.proofs.Common.{◌≡◌, ◌≢◌, ℕ, zero, suc, ◌+◌, ◌-◌, ◌*◌, ◌<◌, ◌≤◌, ◌^◌, Bool, true, false, cond, ◌⊎◌, inl, inr}
+use Rattle.std.proofs.Common.{◌≡◌, ℕ, zero, suc, ◌-◌, ◌*◌, ◌<◌, ◌≤◌, ◌^◌, Bool, true, false, cond, ◌⊎◌, inl, inr}
 use Rattle.std.proofs.Common.{List, [], ◌∷◌, ◌++◌, length, take, drop, refl, sym, ap, subst, ◌∙◌, append_assoc, append-nil}
 use Rattle.std.proofs.Common.{length-append, arith, ltb, get_or, Option, Some, None, ◌/◌, ◌%◌}
 use Rattle.std.specs.Prelude.{◌&&◌}
@@ -11,16 +11,15 @@ use Rattle.kom_types.specs.declared.effects.Effect.{Effect}
 use Rattle.kom_types.specs.declared.effects.Effect.TheVariants as effect
 use Rattle.kom_types.specs.declared.memberships.ReadRange.{ReadRange}
 use Rattle.effect_codec.specs.Fields.{Field, Byte, Half, Flag, Number, Small, Moment, Text, Fixed, Ranges, OneOf, Of}
-use Rattle.effect_codec.specs.Fields.{Setting, IsIn, IsAtMost, IsRange, bit, coded_value, coded_range, coded_ranges, Read}
-use Rattle.effect_codec.specs.Fields.{Whole, Short, Wrong, and_then, bytes_at, number_at, half_at, byte_at, limited_at}
+use Rattle.effect_codec.specs.Fields.{IsIn, IsAtMost, IsRange, coded_value, coded_ranges, Read}
+use Rattle.effect_codec.specs.Fields.{Whole, Short, Wrong, and_then, bytes_at, number_at, byte_at, limited_at}
 use Rattle.effect_codec.specs.Fields.{flag_of, ranges_of, so_many_ranges_at, set_at, greatest_of, value_at, Values, AreIn}
 use Rattle.effect_codec.specs.Fields.{coded, Makes, made_of, made_at, last_moment}
 use Rattle.effect_codec.specs.Table.{Row, rows, row_of, set}
-use Rattle.effect_codec.specs.Coding.{coded_effect, coded_row, effect_at, kind_at, IsInRange}
+use Rattle.effect_codec.specs.Coding.{coded_effect, effect_at, kind_at, IsInRange}
 use Rattle.effect_codec.specs.Laws.{AreBytes, GoesOn}
-use Rattle.effect_codec.proofs.Again.{length-coded_ranges}
 use Rattle.effect_codec.proofs.Stays.{read_of, le_same}
-use Rattle.effect_codec.proofs.Spelled.{Spells, le_4, le_8, limited_4_spelled, number_spelled, byte_spelled, value_spelled}
+use Rattle.effect_codec.proofs.Spelled.{Spells, le_4, le_8, limited_4_spelled, number_spelled, value_spelled}
 use Rattle.effect_codec.proofs.Spelled.{ranges_here, length-ranges_of}
 use Rattle.effect_codec.proofs.Spellings.{RowSpells, rows_spell, row_found}
 
@@ -225,6 +224,7 @@ fixed_goes_on many bytes short = record {
 
 text_goes_on : (most : ℕ) (bytes : List ℕ) → AreBytes bytes → value_at (Text most) bytes ≡ Short
     → FieldCompletes (Text most) bytes
+unfolding value_at
 text_goes_on most bytes are is = by_rule (and_then_short (limited_at w32 most bytes) bytes_at is) where
   by_rule : (limited_at w32 most bytes ≡ Short)
       ⊎ ((value : ℕ) × (between : List ℕ) × (limited_at w32 most bytes ≡ Whole value between)
@@ -256,6 +256,7 @@ text_goes_on most bytes are is = by_rule (and_then_short (limited_at w32 most by
       }
 
 ranges_go_on : (bytes : List ℕ) → AreBytes bytes → value_at Ranges bytes ≡ Short → FieldCompletes Ranges bytes
+unfolding value_at
 ranges_go_on bytes are is = by_rule (and_then_short (number_at bytes) so_many_ranges_at is) where
   filled_ranges : (many : ℕ) (between : List ℕ) → AreBytes between → length between < 8 * many
       → Spells (coded_ranges (ranges_of many (between ++ zeros (8 * many - length between))))
@@ -334,17 +335,20 @@ set_goes_on greatest part (Some last) between found_is are is = by_rule
 
 one_of_goes_on : (greatest bytes : List ℕ) → has_value (OneOf greatest) ≡ true → AreBytes bytes
     → value_at (OneOf greatest) bytes ≡ Short → FieldCompletes (OneOf greatest) bytes
+unfolding value_at
 one_of_goes_on greatest [] has are is = any_value (OneOf greatest) has
 one_of_goes_on greatest (part ∷ between) has are is =
     set_goes_on greatest part (greatest_of part greatest) between refl (λ i. are (suc i)) is
 
 flag_goes_on : (bytes : List ℕ) → value_at Flag bytes ≡ Short → FieldCompletes Flag bytes
+unfolding value_at
 flag_goes_on [] is = any_value Flag refl
 flag_goes_on (byte ∷ bytes) is = absurd (flag_never_short byte bytes is)
 
 -- what is too short for a field goes on to something that may stand there
 value_goes_on : (field : Field) (bytes : List ℕ) → has_value field ≡ true → AreBytes bytes
     → value_at field bytes ≡ Short → FieldCompletes field bytes
+unfolding value_at
 value_goes_on Byte bytes has are is = from_nothing Byte bytes has (byte_goes_on bytes is)
 value_goes_on Half bytes has are is = half_goes_on bytes are (read_short (from_be_bytes w16) 2 bytes is)
 value_goes_on Flag bytes has are is = flag_goes_on bytes is

@@ -1,4 +1,6 @@
 pub mod Again
+pub mod Ranges
+pub mod Found
 pub mod Effects
 pub mod Stays
 pub mod Spelled

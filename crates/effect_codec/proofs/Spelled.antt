@@ -1,14 +1,14 @@
 -- What is read as an effect is spelled so.
-use Rattle.std.proofs.Common.{◌≡◌, ℕ, zero, suc, ◌+◌, ◌*◌, ◌<◌, ◌≤◌, ◌^◌, ◌==◌, Bool, true, false, cond, not, List, [], ◌∷◌, ◌++◌}
+use Rattle.std.proofs.Common.{◌≡◌, ℕ, zero, suc, ◌+◌, ◌*◌, ◌<◌, ◌≤◌, ◌^◌, Bool, true, false, cond, List, [], ◌∷◌, ◌++◌}
 use Rattle.std.proofs.Common.{length, take, drop, refl, sym, ap, subst, ◌∙◌, append_assoc, arith, ltb, get_or, Option, Some, None}
 use Rattle.std.specs.Int.{Width, w16, w32, w64, byte_len, to_le_bytes, from_le_bytes, to_be_bytes, from_be_bytes}
 use Rattle.std.specs.List.{AllByRecursion}
-use Rattle.std.proofs.lemmas.Bool.{ltb-true, ltb-false}
+use Rattle.std.proofs.lemmas.Bool.{ltb-false}
 use Rattle.std.proofs.lemmas.List.{get_or-take, get_or-drop, length-take-le, length-drop, drop-drop}
 use Rattle.std.proofs.lemmas.Nat.{le_bytes_4, le_bytes_8, be_bytes_2}
 use Rattle.kom_types.specs.declared.memberships.ReadRange.{ReadRange}
 use Rattle.effect_codec.specs.Fields.{Field, Byte, Half, Flag, Number, Small, Moment, Text, Fixed, Ranges, OneOf, Of}
-use Rattle.effect_codec.specs.Fields.{Setting, IsIn, IsAtMost, IsRange, bit, coded_value, coded_range, coded_ranges, Read}
+use Rattle.effect_codec.specs.Fields.{Setting, IsIn, IsAtMost, IsRange, bit, coded_value, coded_ranges, Read}
 use Rattle.effect_codec.specs.Fields.{Whole, Short, Wrong, and_then, bytes_at, number_at, half_at, byte_at, limited_at}
 use Rattle.effect_codec.specs.Fields.{flag_of, ranges_of, so_many_ranges_at, set_at, greatest_of, value_at, Values, AreIn}
 use Rattle.effect_codec.specs.Fields.{coded, Makes, made_of, made_at, last_moment}
@@ -197,6 +197,7 @@ flag_of_bit (suc (suc n)) between found rest is = absurd (cc is)
 
 flag_spelled : (bytes : List ℕ) (found : Bool) (rest : List ℕ) → AreBytes bytes
     → value_at Flag bytes ≡ Whole found rest → Spells (bit found ∷ []) (Unit {0}) bytes rest
+unfolding value_at
 flag_spelled bytes found rest are is =
     let both = and_then_whole (byte_at bytes) flag_of found rest is in
     let byte = byte_spelled bytes both.0 both.1 are both.2 in
@@ -209,6 +210,7 @@ flag_spelled bytes found rest are is =
 
 text_spelled : (most : ℕ) (bytes found rest : List ℕ) → AreBytes bytes → value_at (Text most) bytes ≡ Whole found rest
     → Spells (coded_value (Text most) found) (IsIn (Text most) found) bytes rest
+unfolding value_at
 text_spelled most bytes found rest are is =
     let both = and_then_whole (limited_at w32 most bytes) bytes_at found rest is in
     let size = limited_4_spelled most bytes both.0 both.1 are both.2 in
@@ -261,6 +263,7 @@ length-ranges_of (suc many) bytes = ap suc (length-ranges_of many (drop 8 bytes)
 
 ranges_spelled : (bytes : List ℕ) (found : List ReadRange) (rest : List ℕ) → AreBytes bytes
     → value_at Ranges bytes ≡ Whole found rest → Spells (coded_value Ranges found) (IsIn Ranges found) bytes rest
+unfolding value_at
 ranges_spelled bytes found rest are is =
     let both = and_then_whole (number_at bytes) so_many_ranges_at found rest is in
     let many : ℕ = both.0 in
@@ -303,6 +306,7 @@ set_spelled part (Some greatest) bytes found rest are is =
 one_of_spelled : (greatest : List ℕ) (bytes : List ℕ) (found : Setting) (rest : List ℕ) → AreBytes bytes
     → value_at (OneOf greatest) bytes ≡ Whole found rest
     → Spells (coded_value (OneOf greatest) found) (IsIn (OneOf greatest) found) bytes rest
+unfolding value_at
 one_of_spelled greatest bytes found rest are is =
     let next : ℕ → List ℕ → Read Setting = λ part after. set_at part (greatest_of part greatest) after in
     let both = and_then_whole (byte_at bytes) next found rest is in
@@ -323,6 +327,7 @@ one_of_spelled greatest bytes found rest are is =
 -- what was read of a field is spelled so, and may stand in it
 pub value_spelled : (field : Field) (bytes : List ℕ) (found : Of field) (rest : List ℕ) → AreBytes bytes
     → value_at field bytes ≡ Whole found rest → Spells (coded_value field found) (IsIn field found) bytes rest
+unfolding value_at
 value_spelled Byte bytes found rest are is = byte_spelled bytes found rest are is
 value_spelled Half bytes found rest are is = half_spelled bytes found rest are is
 value_spelled Flag bytes found rest are is = flag_spelled bytes found rest are is

@@ -1,22 +1,18 @@
 -- What is read as an effect begins with the bytes of that effect.
-use Rattle.std.proofs.Common.{◌≡◌, ◌≢◌, ℕ, zero, suc, ◌<◌, ◌≤◌, ◌==◌, Bool, true, false, not, cond, List, [], ◌∷◌, ◌++◌, refl, sym, ap, subst, ◌∙◌}
+use Rattle.std.proofs.Common.{◌≡◌, ℕ, zero, suc, ◌==◌, Bool, true, false, not, cond, List, [], ◌∷◌, ◌++◌, refl, sym, ap, subst, ◌∙◌}
 use Rattle.std.proofs.Common.{Option, Some, None}
 use Rattle.std.specs.Prelude.{find}
 use Rattle.std.specs.List.{AllByRecursion}
 use Rattle.std.proofs.lemmas.Bool.{eqb-true}
-use Rattle.kom_types.specs.declared.effects.ConfField.{ConfField}
-use Rattle.kom_types.specs.declared.effects.Counter.{Counter}
 use Rattle.kom_types.specs.declared.effects.Effect.{Effect}
-use Rattle.kom_types.specs.declared.effects.Effect.TheVariants as effect
-use Rattle.kom_types.specs.declared.effects.PersonField.{PersonField}
-use Rattle.effect_codec.specs.Fields.{Field, OneOf, Setting, IsIn, IsAtMost, greatest_of, Read, Whole, Short, Wrong, Values}
-use Rattle.effect_codec.specs.Fields.{AreIn, coded, made_of, made_at}
+use Rattle.effect_codec.specs.Fields.{OneOf, Setting, IsIn, IsAtMost, greatest_of, Whole, Values}
+use Rattle.effect_codec.specs.Fields.{AreIn, made_of}
 use Rattle.effect_codec.specs.Table.{Row, rows, row_of, conf_parts, conf_field, conf_setting, person_parts, person_field}
 use Rattle.effect_codec.specs.Table.{person_setting, counters, counter_of, counter_number, set}
 use Rattle.effect_codec.specs.Table as table
-use Rattle.effect_codec.specs.Coding.{coded_effect, coded_row, effect_at, kind_at, IsInRange}
+use Rattle.effect_codec.specs.Coding.{coded_effect, coded_row, kind_at, IsInRange}
 use Rattle.effect_codec.specs.Laws.{AreBytes, IsSpelled}
-use Rattle.effect_codec.proofs.Spelled.{Spells, MadeOf, made_spelled}
+use Rattle.effect_codec.proofs.Spelled.{MadeOf, made_spelled}
 
 -- what is set of a conference, or of a person, or counted, is one of the parts that are listed
 conf_setting_again : (given : Setting) → IsIn (OneOf conf_parts) given → conf_setting (conf_field given) ≡ given

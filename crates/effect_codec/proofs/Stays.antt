@@ -1,5 +1,5 @@
 -- What is read stays read when more bytes follow, and what is wrong stays wrong.
-use Rattle.std.proofs.Common.{◌≡◌, ◌≢◌, ℕ, zero, suc, ◌+◌, ◌-◌, ◌*◌, ◌^◌, ◌<◌, ◌≤◌, Bool, true, false, cond, List, [], ◌∷◌, ◌++◌}
+use Rattle.std.proofs.Common.{◌≡◌, ◌≢◌, ℕ, zero, suc, ◌-◌, ◌*◌, ◌^◌, ◌<◌, ◌≤◌, Bool, true, false, cond, List, [], ◌∷◌, ◌++◌}
 use Rattle.std.proofs.Common.{length, take, drop, refl, sym, ap, subst, ◌∙◌, length-append, append-nil, arith, ltb, get_or}
 use Rattle.std.proofs.Common.{Option, Some, None}
 use Rattle.std.specs.Int.{Width, w16, w32, w64, byte_len, byte_worth, sum_through, from_le_bytes, from_be_bytes}
@@ -8,12 +8,12 @@ use Rattle.std.proofs.lemmas.Bool.{le-ltb, lt-ltb, ltb-true, ltb-false}
 use Rattle.std.proofs.lemmas.List.{take-append-le, drop-append-le, get_or_append_left, length-drop}
 use Rattle.kom_types.specs.declared.effects.Effect.{Effect}
 use Rattle.kom_types.specs.declared.memberships.ReadRange.{ReadRange}
-use Rattle.effect_codec.specs.Fields.{Field, Byte, Half, Flag, Number, Small, Moment, Text, Fixed, Ranges, OneOf, Of}
-use Rattle.effect_codec.specs.Fields.{Setting, Read, Whole, Short, Wrong, and_then, bytes_at, number_at, half_at, byte_at}
+use Rattle.effect_codec.specs.Fields.{Field, Byte, Half, Flag, Number, Small, Moment, Text, Fixed, Ranges, OneOf}
+use Rattle.effect_codec.specs.Fields.{Read, Whole, Short, Wrong, and_then, bytes_at, number_at, half_at, byte_at}
 use Rattle.effect_codec.specs.Fields.{limited_at, flag_of, ranges_of, so_many_ranges_at, set_at, greatest_of, value_at, Makes}
 use Rattle.effect_codec.specs.Fields.{made_at, last_moment}
 use Rattle.effect_codec.specs.Table.{Row, row_of}
-use Rattle.effect_codec.specs.Coding.{coded_effect, effect_at, kind_at, IsInRange}
+use Rattle.effect_codec.specs.Coding.{coded_effect, effect_at, kind_at}
 use Rattle.effect_codec.specs.Laws.{StaysShort, StaysWrong}
 use Rattle.effect_codec.proofs.Effects.{effect_again}
 
@@ -179,6 +179,7 @@ set_stays part (Some greatest) bytes more =
 
 value_stays : (field : Field) (bytes more : List ℕ)
     → Stays (value_at field bytes) more (value_at field (bytes ++ more))
+unfolding value_at
 value_stays Byte bytes more = byte_stays bytes more
 value_stays Half bytes more = half_stays bytes more
 value_stays Flag bytes more = and_then_stays (byte_at bytes) (byte_at (bytes ++ more)) flag_of more

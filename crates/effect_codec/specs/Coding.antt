@@ -1,8 +1,9 @@
 -- The bytes of an effect, and what bytes are to the reader of effects.
-use Rattle.std.specs.Prelude.{◌≡◌, ◌≤◌, ◌<◌, ℕ, List, [], ◌∷◌, ◌++◌, length, drop, Option, Some}
-use Rattle.std.specs.Prelude.{None, Result, Ok, Err}
+use Rattle.std.specs.Prelude.{ℕ, List, ◌∷◌, Option, Some}
+use Rattle.std.specs.Prelude.{None}
 use Rattle.kom_types.specs.declared.effects.Effect.{Effect}
-use Rattle.effect_codec.specs.Fields.{Read, Whole, Short, Wrong, Values, AreIn, AreShort, coded, made_at}
+use Rattle.effect_codec.specs.Fields.{Read, Wrong, Values, AreIn, AreShort, coded, made_at}
+use Rattle.effect_codec.specs.Fields.{and_then, byte_at}
 use Rattle.effect_codec.specs.Table.{Row, row_of, told}
 
 -- the bytes of an effect: its kind, and its fields one after the other
@@ -31,5 +32,4 @@ kind_at (Some row) bytes = row_at row bytes
 -- what bytes are: an effect, and the bytes after it; too few; or none that begin with an effect,
 -- whatever follows them
 abbrev pub effect_at : List ℕ → Read Effect
-effect_at [] = Short
-effect_at (kind ∷ bytes) = kind_at (row_of kind) bytes
+effect_at bytes = and_then (byte_at bytes) (λ kind rest. kind_at (row_of kind) rest)

@@ -71,7 +71,8 @@ IsIn (Fixed many) bytes = length bytes ≡ many
 IsIn Ranges ranges = (length ranges < 2 ^ 32) × AllByRecursion IsRange ranges
 IsIn (OneOf greatest) set = IsAtMost (greatest_of set.part greatest) set.value
 
--- the length of what stands in a field is one that it may have
+-- The length of what stands in a field is one that it may have. Of ranges only those whose numbers
+-- fit are so many that four bytes tell it.
 abbrev pub IsShort : (field : Field) → Of field → Type 0
 IsShort Byte n = Unit {0}
 IsShort Half n = Unit {0}
@@ -81,7 +82,7 @@ IsShort Small n = Unit {0}
 IsShort Moment n = Unit {0}
 IsShort (Text most) bytes = length bytes ≤ most
 IsShort (Fixed many) bytes = Unit {0}
-IsShort Ranges ranges = length ranges < 2 ^ 32
+IsShort Ranges ranges = AllByRecursion IsRange ranges → length ranges < 2 ^ 32
 IsShort (OneOf greatest) set = Unit {0}
 
 abbrev pub bit : Bool → ℕ
@@ -174,7 +175,7 @@ set_at part (Some greatest) bytes =
     (λ value rest. Whole (record { part = part; value = value }) rest)
 
 -- what bytes are to a field
-abbrev pub value_at : (field : Field) → List ℕ → Read (Of field)
+unfoldable pub value_at : (field : Field) → List ℕ → Read (Of field)
 value_at Byte bytes = byte_at bytes
 value_at Half bytes = half_at bytes
 value_at Flag bytes = flag_at bytes

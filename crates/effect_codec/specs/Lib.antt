@@ -2,3 +2,4 @@ pub mod Fields
 pub mod Table
 pub mod Coding
 pub mod Laws
+pub mod Giving

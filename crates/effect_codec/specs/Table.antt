@@ -1,7 +1,6 @@
 -- The table of effects: the kind of each in one byte, and its fields. Kinds, fields and their order
 -- are the store's own choice.
-use Rattle.std.specs.Prelude.{ℕ, Bool, not, ◌==◌, List, [], ◌∷◌, Option, find, if◌then◌else◌}
-use Rattle.kom_types.specs.declared.aux_items.AuxRow.{AuxRow}
+use Rattle.std.specs.Prelude.{ℕ, not, ◌==◌, List, [], ◌∷◌, Option, find, if◌then◌else◌}
 use Rattle.kom_types.specs.declared.effects.ConfField.{ConfField}
 use Rattle.kom_types.specs.declared.effects.ConfField.TheVariants as field
 use Rattle.kom_types.specs.declared.effects.Counter.{Counter}
@@ -10,8 +9,6 @@ use Rattle.kom_types.specs.declared.effects.Effect.{Effect}
 use Rattle.kom_types.specs.declared.effects.Effect.TheVariants as effect
 use Rattle.kom_types.specs.declared.effects.PersonField.{PersonField}
 use Rattle.kom_types.specs.declared.effects.PersonField.TheVariants as person
-use Rattle.kom_types.specs.declared.texts.Recipient.{Recipient}
-use Rattle.kom_types.specs.declared.texts.TextLink.{TextLink}
 use Rattle.effect_codec.specs.Fields.{Field, Byte, Half, Flag, Number, Small, Moment, Text, Fixed}
 use Rattle.effect_codec.specs.Fields.{Ranges, OneOf, Setting, Values, ◌▸◌, Makes, last_moment}
 

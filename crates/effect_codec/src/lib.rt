@@ -2,5 +2,13 @@
 #![tactic(auto)]
 
 mod laws;
+mod reader;
+mod reading;
+mod rows;
+mod settings;
+mod sizes;
+mod stop;
 
 pub use laws::{effects_are_read_again, readings_stay};
+pub use reading::{ReadError, read};
+pub use sizes::coded_len;
