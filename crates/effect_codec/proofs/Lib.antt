@@ -1,5 +1,6 @@
 pub mod Again
 pub mod Ranges
+pub mod Puts
 pub mod Found
 pub mod Effects
 pub mod Stays

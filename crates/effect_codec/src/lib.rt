@@ -1,6 +1,7 @@
 //! Effects as bytes, as the store keeps them.
 #![tactic(auto)]
 
+mod fields;
 mod laws;
 mod reader;
 mod reading;
@@ -8,7 +9,9 @@ mod rows;
 mod settings;
 mod sizes;
 mod stop;
+mod writing;
 
 pub use laws::{effects_are_read_again, readings_stay};
 pub use reading::{ReadError, read};
 pub use sizes::coded_len;
+pub use writing::append;

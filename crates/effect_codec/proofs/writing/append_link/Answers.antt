@@ -1,0 +1,12 @@
+use Rattle.std.proofs.Common.{refl}
+use Rattle.effect_codec.proofs.Puts.{puts_4, amount_put}
+use Rattle.effect_codec.proofs.writing.append_link.Goals as goal
+
+pub returns-clause-items : goal.returns-clause-items
+returns-clause-items c =
+    puts_4 _ _ _ _ _ _ _ _ _ _
+    c.put_start.ensures.items
+    c.put_flag.ensures.items
+    c.put_numbers.ensures.items
+    (amount_put _ _ _ _ c.seconds.ensures.value c.put_amount.ensures.items)
+    refl
