@@ -1,0 +1,14 @@
+pub mod Writing
+pub mod Seats
+pub mod Stepping
+pub mod Starting
+pub mod Histories
+pub mod Growing
+pub mod ChangedFaults
+pub mod TrueFaults
+pub mod Refusals
+pub mod DeskViews
+pub mod Standing
+pub mod Locking
+pub mod Answering
+pub mod Resting

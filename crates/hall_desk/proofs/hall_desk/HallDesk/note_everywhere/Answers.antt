@@ -1,0 +1,31 @@
+use Rattle.std.proofs.Common.{Some, subst, sym}
+use Rattle.hall_desk.specs.Passes.{pass_view}
+use Rattle.hall_desk.specs.Faults.{FaultTable}
+use Rattle.hall_desk.specs.Desks.{AreNoted}
+use Rattle.hall_desk.proofs.TrueFaults.{noted_all}
+use Rattle.hall_desk.proofs.Resting.{rests_noted, known_inside, same_outside, pass_outside}
+use Rattle.hall_desk.proofs.hall_desk.HallDesk.note_everywhere.Goals as goal
+
+pub invariant_of-self : goal.invariant_of-self
+invariant_of-self g c =
+    rests_noted g.B.Acts.made g.B.Acts.server c.self.inside.hall.now c.self.inside.pass c.self.inside.faults
+    c.note_everywhere.new.self c.self.invariant
+    (subst (λ (table : FaultTable). AreNoted (g.B.Acts.server c.self.inside.hall.now.opening)
+    (pass_view g.B.Acts.made c.self.inside.pass) table) (sym c.note_everywhere.ensures)
+    (noted_all (g.B.Acts.server c.self.inside.hall.now.opening) (pass_view g.B.Acts.made c.self.inside.pass)
+    c.args.fault c.self.inside.faults
+    (λ session. known_inside g.B.Acts.made g.B.Acts.server c.self.inside.hall.now c.self.inside.pass
+    c.self.inside.faults c.args.self.now session
+    (Some c.args.fault) c.self.view_is (c.requires session))
+    c.self.invariant.stands.noted))
+
+pub returns-clause-same : goal.returns-clause-same
+returns-clause-same g c =
+    same_outside g.B.Acts.made g.B.Acts.server c.self.inside.hall.now c.self.inside.pass c.self.inside.pass
+    c.self.inside.faults c.note_everywhere.new.self
+    c.args.self.now c.self.view_is
+
+pub returns-clause-pass : goal.returns-clause-pass
+returns-clause-pass g c =
+    pass_outside g.B.Acts.made g.B.Acts.server c.self.inside.hall.now c.self.inside.pass c.self.inside.faults
+    c.args.self.now c.self.view_is

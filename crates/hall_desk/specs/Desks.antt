@@ -1,0 +1,123 @@
+-- What the desk of a pass in a hall is.
+use Rattle.std.specs.Prelude.{◌≡◌, ◌≢◌, ℕ, ◌^◌, ◌<◌, ◌≤◌, ◌⊎◌, Bool, true, List, [], ◌∷◌, ◌++◌}
+use Rattle.std.specs.Prelude.{Option, Some, None}
+use Rattle.std.specs.List.{AllByRecursion}
+use Rattle.atomic_table.specs.Seated.{TableId}
+use Rattle.kom_types.specs.declared.acts.Record.{Record}
+use Rattle.kom_types.specs.declared.answers.Why.TheVariants as why
+use Rattle.kom_types.specs.Sessions.{Session}
+use Rattle.kom_links.specs.declared.desk.DeskFault.{DeskFault}
+use Rattle.kom_links.specs.declared.desk.DeskFault.TheVariants as fault
+use Rattle.kom_links.specs.DeskCalls.{DeskView}
+use Rattle.kom_links.specs.Records.{is_open}
+use Rattle.kom_model.specs.State.{State, session_of}
+use Rattle.kom_model.specs.Refusal.{most_sessions}
+use Rattle.kom_model.specs.Legal.{state_after}
+use Rattle.kom_model.specs.Out.{given_by_pass}
+use Rattle.kom_state_lock.specs.Passes.{HallModel, PassModel, IsPassOf, HoldsNoTurn}
+use Rattle.hall_desk.specs.declared.faults.Noted.{Noted}
+use Rattle.hall_desk.specs.Acts.{IsOpening}
+use Rattle.hall_desk.specs.Passes.{PassView, pass_view, Knows, connects_in}
+use Rattle.hall_desk.specs.Faults.{FaultTable, fault_in, is_open_in}
+
+-- At some moment of a history that begins in this state the row of a session passed this test.
+abbrev pub WasOnce : State → (Session → Bool) → ℕ → List Record → Type 0
+WasOnce start test session history =
+    (before rest : List Record) × (row : Session) × (history ≡ before ++ rest)
+    × (session_of session (state_after start before) ≡ Some row) × (test row ≡ true)
+
+-- more would have waited for the session than may
+abbrev pub WasOverrun : State → ℕ → List Record → Type 0
+WasOverrun start session history = WasOnce start (λ row. row.overrun) session history
+
+-- a call ended the session
+abbrev pub WasDropped : State → ℕ → List Record → Type 0
+WasDropped start session history = WasOnce start (λ row. row.seat.ended) session history
+
+-- the server was shut down, or its store refused a flush
+abbrev pub WasStopped : State → List Record → Type 0
+WasStopped start history = (before rest : List Record) × (history ≡ before ++ rest)
+    × (((state_after start before).stopped ≡ true)
+    ⊎ ((state_after start before).store_refused ≡ true))
+
+-- all numbers of sessions were drawn, or a ticket that has no turn
+abbrev pub WasFull : ℕ → ℕ → List Record → Type 0
+WasFull number drawn history =
+    ((number ≡ most_sessions) × (connects_in history ≡ most_sessions))
+    ⊎ ((2 ^ 62 ≤ number) × (number < drawn))
+
+-- The cause of a fault at a session, in the history that led to it and among the tickets that were
+-- drawn. Memory may always run out.
+abbrev pub IsKnown : State → List Record → ℕ → ℕ → Option DeskFault → Type 0
+IsKnown start history drawn session None = Unit {0}
+IsKnown start history drawn session (Some fault.Memory) = Unit {0}
+IsKnown start history drawn session (Some (fault.Full number)) = WasFull number drawn history
+IsKnown start history drawn session (Some (fault.Gone why.Absent)) = ⊥
+IsKnown start history drawn session (Some (fault.Gone why.Dropped)) =
+    WasDropped start session history
+IsKnown start history drawn session (Some (fault.Gone why.Overrun)) =
+    WasOverrun start session history
+IsKnown start history drawn session (Some (fault.Gone why.Stopped)) = WasStopped start history
+
+-- what the desk has: the table of its hall and the state in which the hall's history begins, its
+-- pass, and the first faults that it answered
+pub record Kept : Type 0 where
+  pub table : TableId
+  pub start : State
+  pub pass : PassView
+  pub faults : FaultTable
+
+-- What contracts see of a desk that has these. What a session was given is what the drains of this
+-- pass gave it.
+abbrev pub desk_view : Kept → DeskView
+desk_view kept = record {
+  pass = kept.pass.number;
+  mine = kept.pass.mine;
+  gave_to = λ session. given_by_pass kept.start kept.pass.number session kept.pass.seen;
+  fault_to = fault_in kept.faults;
+  lock_full = kept.pass.waits;
+}
+
+-- no two rows are of one session
+abbrev pub AreApart : List Noted → Type 0
+AreApart [] = Unit {0}
+AreApart (row ∷ rows) = AllByRecursion (λ other. other.session ≢ row.session) rows × AreApart rows
+
+-- The rows of a table of faults are those of sessions that were connected, one for each at most;
+-- the open ones are those that the pass has open; and each fault has its cause.
+pub record AreNoted (start : State) (pass : PassView) (table : FaultTable) : Type 0 where
+  pub apart : AreApart table.rows
+  pub drawn : AllByRecursion (λ row.
+      (row.session ≢ 0) × (row.session ≤ connects_in pass.seen)) table.rows
+  pub opened : (session : ℕ) → is_open_in table session ≡ is_open session pass.mine
+  pub known : (session : ℕ) →
+      IsKnown start pass.seen pass.drawn session (fault_in table session)
+
+-- What holds of a desk: the history begins with a server before its first entry, what the pass
+-- knows is true, and so is what was noted.
+pub record Stands (kept : Kept) : Type 0 where
+  pub opening : IsOpening kept.start
+  pub knows : Knows kept.start kept.pass
+  pub noted : AreNoted kept.start kept.pass kept.faults
+
+module _ {B E : Type 0} (made : E → Record) (server : B → State) where
+  -- a desk in a hall
+  abbrev pub kept_in : HallModel B → PassModel B E → FaultTable → Kept
+  kept_in hall pass faults = record {
+    table = hall.table;
+    start = server hall.opening;
+    pass = pass_view made pass;
+    faults = faults;
+  }
+
+  -- The same between two calls: its pass is one of the hall, and holds no turn.
+  pub record Rests (hall : HallModel B) (pass : PassModel B E) (faults : FaultTable)
+      : Type 0 where
+    pub of_hall : IsPassOf hall pass
+    pub free : HoldsNoTurn pass.turn
+    pub stands : Stands (kept_in hall pass faults)
+
+-- another state of the same desk
+pub record IsSame (old new : Kept) : Type 0 where
+  pub table : new.table ≡ old.table
+  pub start : new.start ≡ old.start

@@ -1,0 +1,56 @@
+ghost use Rattle.std.specs.Prelude.{◌≡◌, ◌<◌, ◌^◌, ◌||◌, List, IfOk, IsOk, OnErr};
+ghost use Rattle.kom_types.specs.declared.acts.Record.{Record as Made};
+ghost use Rattle.kom_model.specs.State.{State as Server};
+ghost use Rattle.kom_model.specs.Legal.{IsByOwner};
+ghost use Rattle.kom_model.specs.Out.{taken_by};
+ghost use Rattle.kom_model.specs.Refusal.{TakesNoMemory};
+ghost use Rattle.hall_desk.specs.Acts.{Comes, HasUser, IsLed};
+
+use arrayvec::ArrayVec;
+use kom_state_lock::Booked;
+use kom_types::{Entry, Item, Memory, Refusal};
+
+/// A server that a hall keeps: it makes acts, and each entry of its history has the record of one.
+pub trait Acts: Booked {
+    /// The record of an entry of the history.
+    ghost made: { Self.Entry → Made };
+
+    /// The server as plain rows.
+    ghost server: { Self → Server };
+
+    /// Makes the act of an entry, and puts the items that a drain takes into an array, in place of
+    /// what stood there; or returns why the act is not made. A flush that the store refuses is made
+    /// as a short one.
+    fn make(
+        &mut self,
+        entry: Entry,
+        items: &mut ArrayVec<Item, 64>,
+    ) -> Result<Result<Self::Entry, Refusal>, Memory>
+        requires room { (server self.old).entries < 2 ^ 62 }
+        requires own { IsByOwner (server self.old) entry }
+        requires user { HasUser entry.act }
+        ensures comes { IfOk result
+            (Comes Self.follows Self.stays made server self.old entry self.new) }
+        ensures taken { items.new.items ≡ taken_by (server self.old) entry.act }
+        ensures memory { OnErr result (Self.stays self.old self.new) }
+        ensures none_taken { TakesNoMemory (server self.old) entry.act → IsOk result };
+
+    /// Whether the server was shut down or its store refused a flush.
+    fn stopped(&self) -> bool
+        ensures { result ≡ ((server self.now).stopped || (server self.now).store_refused) };
+
+    /// The session of an entry's record.
+    fn session(entry: &Self::Entry) -> u32
+        ensures { result ≡ (made entry.now).session };
+
+    /// Whether an entry's record is short.
+    fn is_short(entry: &Self::Entry) -> bool
+        ensures { result ≡ (made entry.now).short };
+
+    /// An entry names the pass that its record names.
+    ghost names: { (entry : Self.Entry) → Self.pass_of entry ≡ (made entry).entry.pass };
+
+    /// A history leads where its records do.
+    ghost leads: { (opening : Self) (history : List Self.Entry) (value : Self)
+        → Self.led opening history value → IsLed made server opening history value };
+}

@@ -1,0 +1,105 @@
+ghost use Rattle.std.specs.Prelude.{◌≡◌, OnErr, []};
+ghost use Rattle.kom_state_lock.specs.Passes.{IsPassOf, HoldsNoTurn};
+ghost use Rattle.hall_desk.specs.Acts.{HasUser, IsOpening};
+ghost use Rattle.hall_desk.specs.Passes.{pass_view, Knows};
+ghost use Rattle.hall_desk.specs.Turns.{IsOfOpen, Ends, Tells, fault_from};
+
+use crate::acts::Acts;
+use arrayvec::ArrayVec;
+use kom_links::DeskFault;
+use kom_state_lock::{Full, Hall, Pass};
+use kom_types::{Entry, Item, Memory, Refusal};
+use std::sync::Wait;
+
+/// An act that was made: its session, and whether its record is short.
+#[derive(Clone, Copy, Debug)]
+pub(crate) struct Made {
+    pub session: u32,
+    pub short: bool,
+}
+
+/// Makes the act of an entry in one turn, and logs its record. What a drain takes is put into an
+/// array, in place of what stood there.
+pub(crate) fn turn<R: Wait, B: Acts>(
+    rt: &R,
+    hall: &Hall<B>,
+    pass: &mut Pass<B>,
+    entry: Entry,
+    items: &mut ArrayVec<Item, 64>,
+) -> Result<Made, DeskFault>
+    requires pass { IsPassOf hall.now pass.old }
+    requires free { HoldsNoTurn pass.old.turn }
+    requires opening { IsOpening (B.server hall.now.opening) }
+    requires knows { Knows (B.server hall.now.opening) (pass_view B.made pass.old) }
+    requires own { entry.pass ≡ pass.old.number }
+    requires open { IsOfOpen (pass_view B.made pass.old).mine entry.act }
+    requires user { HasUser entry.act }
+    ensures pass { IsPassOf hall.now pass.new }
+    ensures free { HoldsNoTurn pass.new.turn }
+    ensures knows { Knows (B.server hall.now.opening) (pass_view B.made pass.new) }
+    ensures ends { Ends (B.server hall.now.opening) (pass_view B.made pass.old)
+        (pass_view B.made pass.new) entry items.new.items result }
+    ensures none_taken { OnErr result (items.new.items ≡ []) }
+{
+    let mut held = match hall.take(rt, pass) {
+        Ok(held) => held,
+        Err(Full(ticket)) => {
+            items.clear();
+            return Err(DeskFault::Full(ticket));
+        }
+    };
+    match held.value().make(entry, items) {
+        Ok(Ok(logged)) => {
+            let made = Made {
+                session: B::session(&logged),
+                short: B::is_short(&logged),
+            };
+            hall.log(pass, &mut held, logged);
+            hall.put(pass, held);
+            Ok(made)
+        }
+        Ok(Err(refusal)) => {
+            hall.put(pass, held);
+            Err(fault_of(refusal))
+        }
+        Err(Memory) => {
+            hall.put(pass, held);
+            Err(DeskFault::Memory)
+        }
+    }
+}
+
+/// Asks in one turn, which logs nothing, whether the server was shut down or its store refused a
+/// flush.
+pub(crate) fn ask<R: Wait, B: Acts>(
+    rt: &R,
+    hall: &Hall<B>,
+    pass: &mut Pass<B>,
+) -> Result<bool, DeskFault>
+    requires pass { IsPassOf hall.now pass.old }
+    requires free { HoldsNoTurn pass.old.turn }
+    requires knows { Knows (B.server hall.now.opening) (pass_view B.made pass.old) }
+    ensures pass { IsPassOf hall.now pass.new }
+    ensures free { HoldsNoTurn pass.new.turn }
+    ensures knows { Knows (B.server hall.now.opening) (pass_view B.made pass.new) }
+    ensures tells { Tells (B.server hall.now.opening) (pass_view B.made pass.old)
+        (pass_view B.made pass.new) result }
+{
+    let mut held = match hall.take(rt, pass) {
+        Ok(held) => held,
+        Err(Full(ticket)) => return Err(DeskFault::Full(ticket)),
+    };
+    let stopped = held.value().stopped();
+    hall.put(pass, held);
+    Ok(stopped)
+}
+
+/// The fault of a refusal.
+fn fault_of(refusal: Refusal) -> DeskFault
+    ensures { result ≡ fault_from refusal }
+{
+    match refusal {
+        Refusal::Gone(why) => DeskFault::Gone(why),
+        Refusal::Full(number) => DeskFault::Full(number),
+    }
+}
