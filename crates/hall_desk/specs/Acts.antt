@@ -1,7 +1,5 @@
 -- What a server in a hall does, and where a history leads.
-use Rattle.std.specs.Prelude.{◌≡◌, ◌≤◌, List, length, map, Result, Ok, Err, Some}
-use Rattle.kom_types.specs.declared.acts.Act.{Act}
-use Rattle.kom_types.specs.declared.acts.Act.TheVariants as act
+use Rattle.std.specs.Prelude.{◌≡◌, List, map, Result, Ok, Err, Some}
 use Rattle.kom_types.specs.declared.acts.Entry.{Entry}
 use Rattle.kom_types.specs.declared.acts.Record.{Record}
 use Rattle.kom_types.specs.declared.answers.Refusal.{Refusal}
@@ -10,15 +8,6 @@ use Rattle.kom_model.specs.Db.{Db}
 use Rattle.kom_model.specs.Refusal.{refusal_of}
 use Rattle.kom_model.specs.After.{MayFollow, after}
 use Rattle.kom_model.specs.Legal.{IsLegal, AreByOwners, state_after}
-
--- the user of a greeting has at most 1,024 bytes
-abbrev pub HasUser : Act → Type 0
-HasUser (act.Connect user host) = length user ≤ 1024
-HasUser (act.Call session reference call) = Unit {0}
-HasUser (act.Broken session) = Unit {0}
-HasUser (act.Drain session) = Unit {0}
-HasUser act.Flush = Unit {0}
-HasUser (act.Close session) = Unit {0}
 
 -- the act of this entry was made on a server, by this record
 pub record IsMadeBy (old new : State) (entry : Entry) (made : Record) : Type 0 where

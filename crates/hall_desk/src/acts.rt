@@ -1,10 +1,10 @@
 ghost use Rattle.std.specs.Prelude.{◌≡◌, ◌<◌, ◌^◌, ◌||◌, List, IfOk, IsOk, OnErr};
 ghost use Rattle.kom_types.specs.declared.acts.Record.{Record as Made};
 ghost use Rattle.kom_model.specs.State.{State as Server};
-ghost use Rattle.kom_model.specs.Legal.{IsByOwner};
+ghost use Rattle.kom_model.specs.Legal.{HasUser, IsByOwner};
 ghost use Rattle.kom_model.specs.Out.{taken_by};
 ghost use Rattle.kom_model.specs.Refusal.{TakesNoMemory};
-ghost use Rattle.hall_desk.specs.Acts.{Comes, HasUser, IsLed};
+ghost use Rattle.hall_desk.specs.Acts.{Comes, IsLed};
 
 use arrayvec::ArrayVec;
 use kom_state_lock::Booked;

@@ -7,7 +7,8 @@ ghost use Rattle.kom_links.specs.DeskCalls.{Connects, Acts as MakesAct, Calls, D
 ghost use Rattle.kom_links.specs.DeskCalls.{Closes, AsksStopped};
 ghost use Rattle.kom_state_lock.specs.Passes.{IsPassOf, HoldsNoTurn};
 ghost use Rattle.kom_state_lock.specs.declared.views.Turn.TheVariants.{Resting};
-ghost use Rattle.hall_desk.specs.Acts.{IsOpening, HasUser};
+ghost use Rattle.kom_model.specs.Legal.{HasUser};
+ghost use Rattle.hall_desk.specs.Acts.{IsOpening};
 ghost use Rattle.hall_desk.specs.Passes.{pass_view};
 ghost use Rattle.hall_desk.specs.Faults.{fault_in, noted_at, noted_at_none, noted_everywhere};
 ghost use Rattle.hall_desk.specs.Faults.{closed_at};

@@ -1,6 +1,7 @@
 ghost use Rattle.std.specs.Prelude.{◌≡◌, OnErr, []};
 ghost use Rattle.kom_state_lock.specs.Passes.{IsPassOf, HoldsNoTurn};
-ghost use Rattle.hall_desk.specs.Acts.{HasUser, IsOpening};
+ghost use Rattle.kom_model.specs.Legal.{HasUser};
+ghost use Rattle.hall_desk.specs.Acts.{IsOpening};
 ghost use Rattle.hall_desk.specs.Passes.{pass_view, Knows};
 ghost use Rattle.hall_desk.specs.Turns.{IsOfOpen, Ends, Tells, fault_from};
 

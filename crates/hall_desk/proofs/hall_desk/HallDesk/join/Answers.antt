@@ -1,6 +1,6 @@
 use Rattle.std.proofs.Common.{true, [], ◌∷◌, ◌++◌, None, Ok, Err, ap, subst, sym, ◌∙◌}
 use Rattle.kom_types.specs.declared.acts.Entry.{Entry}
-use Rattle.hall_desk.specs.Acts.{HasUser}
+use Rattle.kom_model.specs.Legal.{HasUser}
 use Rattle.hall_desk.specs.Faults.{FaultTable}
 use Rattle.hall_desk.proofs.Resting.{open_inside, none_served, own_inside, ends_outside, same_outside, faults_outside, stands_outside, rests_joined, rests_refused}
 use Rattle.hall_desk.proofs.hall_desk.HallDesk.join.Goals as goal

@@ -1,6 +1,6 @@
 use Rattle.std.proofs.Common.{Ok, Err, subst, sym}
 use Rattle.kom_links.specs.DeskCalls.{DeskView, Connects, IsConnectFault}
-use Rattle.hall_desk.specs.Acts.{HasUser}
+use Rattle.kom_model.specs.Legal.{HasUser}
 use Rattle.hall_desk.specs.Desks.{desk_view}
 use Rattle.hall_desk.specs.Turns.{IsConnect}
 use Rattle.hall_desk.proofs.Refusals.{IsTurnTold, connect_told}
