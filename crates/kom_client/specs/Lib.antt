@@ -1,0 +1,4 @@
+pub mod Keys
+pub mod Replies
+pub mod Client
+pub mod Rows
