@@ -104,7 +104,7 @@ module _ (side : Side) where
 
   -- a line that goes on with these bytes
   pub lines_go_on : (place : ℕ) (text prefix bytes : List ℕ) → IsGoing (walk side (text ++ prefix))
-      → length text + length prefix ≤ longest_line side → place + length prefix ≤ longest_stream
+      → length text + length prefix ≤ longest_line → place + length prefix ≤ longest_stream
       → lines_from side place text (prefix ++ bytes) ≡ lines_from side (place + length prefix) (text ++ prefix) bytes
   lines_go_on place text [] bytes going short early =
       let same : place ≡ place + 0 = omega arith in
@@ -124,7 +124,7 @@ module _ (side : Side) where
 
   -- a line that ends with the last of so many bytes
   pub lines_end : (place : ℕ) (text bytes : List ℕ) (count : ℕ) (tokens : List Token) → 1 ≤ count → count ≤ length bytes
-      → walk side (text ++ take count bytes) ≡ Ended tokens → length text + count ≤ longest_line side
+      → walk side (text ++ take count bytes) ≡ Ended tokens → length text + count ≤ longest_line
       → place + count ≤ longest_stream
       → lines_from side place text bytes
       ≡ with_line tokens (place + count - 1) (lines_from side (place + count) [] (drop count bytes))
@@ -154,7 +154,7 @@ module _ (side : Side) where
 
   -- a line that is at fault
   pub lines_unfit : (place : ℕ) (text bytes : List ℕ) (at : ℕ) → IsUnfitAt side text bytes at
-      → length text + at ≤ longest_line side
+      → length text + at ≤ longest_line
       → place + at ≤ longest_stream → FailsAt side place text bytes (found.Malformed (place + at))
   lines_unfit place text bytes at unfit short early =
       let inside = unfit.within in
@@ -318,7 +318,7 @@ module _ (side : Side) where
   pub fault_long : (s : Step) (place : ℕ) (text rest : List ℕ) (spans : List Span) (lexer : Lexer) → 0 < length rest
       → (s ≡ step.Unfit → ⊥) → IsBegun side text spans lexer
       → Does side s lexer (text ++ take 0 (take 1 rest)) (drop 0 (take 1 rest))
-      → place < longest_stream → longest_line side ≤ length text
+      → place < longest_stream → longest_line ≤ length text
       → FailsAt side place text rest (found.LineTooLong place)
   fault_long s place text [] spans lexer some fit begun does early long = absurd (omega arith)
   fault_long s place text (byte ∷ rest) spans lexer some fit begun does early long =
@@ -341,7 +341,7 @@ module _ (side : Side) where
       let grows : Grows old new piece = subst (Grows old new) all taken.0 in
       let going : IsGoing (walk side (old.text.items ++ piece)) =
       subst (λ (t : List ℕ). IsGoing (walk side t)) grows.text (line_goes new taken.1) in
-      let short : length old.text.items + length piece ≤ longest_line side =
+      let short : length old.text.items + length piece ≤ longest_line =
       omega (arith, taken.1.short, ap length grows.text, length-append old.text.items piece) in
       record {
         grows = grows;
@@ -361,7 +361,7 @@ module _ (side : Side) where
       let grows = taken.0 in
       let going : IsGoing (walk side (old.text.items ++ window)) =
       subst (λ (t : List ℕ). IsGoing (walk side t)) grows.text (line_goes new taken.1) in
-      let short : length old.text.items + length window ≤ longest_line side =
+      let short : length old.text.items + length window ≤ longest_line =
       omega (arith, taken.1.short, ap length grows.text, length-append old.text.items window) in
       record {
         rest = fails.rest;
@@ -373,7 +373,7 @@ module _ (side : Side) where
       }
 
   pub scans_to : (count place : ℕ) (old new : BegunLine) (window piece : List ℕ) → IsWindow window piece
-      → place + length window ≤ longest_stream → length old.text.items + length window ≤ longest_line side
+      → place + length window ≤ longest_stream → length old.text.items + length window ≤ longest_line
       → Grows old new (take count window) × EndsIn side old.text.items window new.spans.items count
       → ScansTo side count place old piece new
   scans_to count place old new window piece w early short taken =
@@ -402,7 +402,7 @@ module _ (side : Side) where
       }
 
   pub scans_unfit : (at place : ℕ) (old : BegunLine) (window piece : List ℕ) → IsWindow window piece
-      → place + length window ≤ longest_stream → length old.text.items + length window ≤ longest_line side
+      → place + length window ≤ longest_stream → length old.text.items + length window ≤ longest_line
       → IsUnfitAt side old.text.items window at → FailsAt side place old.text.items piece (found.Malformed (place + at))
   scans_unfit at place old window piece w early short unfit =
       let within = unfit.within in

@@ -100,27 +100,27 @@ module _ (side : Side) where
 
   -- ---- the verdict on a byte
 
-  short_line : (place : ℕ) (prefix : List ℕ) → length prefix ≤ longest_line side
+  short_line : (place : ℕ) (prefix : List ℕ) → length prefix ≤ longest_line
       → line_verdict side place prefix ≡ verdict place false (line_form side prefix)
   short_line place prefix short =
-      ap (λ (b : Bool). verdict place b (line_form side prefix)) (le-ltb (longest_line side) (length prefix) short)
+      ap (λ (b : Bool). verdict place b (line_form side prefix)) (le-ltb longest_line (length prefix) short)
 
-  long_line : (place : ℕ) (prefix : List ℕ) → longest_line side < length prefix
+  long_line : (place : ℕ) (prefix : List ℕ) → longest_line < length prefix
       → line_verdict side place prefix ≡ verdict place true (line_form side prefix)
   long_line place prefix long =
-      ap (λ (b : Bool). verdict place b (line_form side prefix)) (lt-ltb (longest_line side) (length prefix) long)
+      ap (λ (b : Bool). verdict place b (line_form side prefix)) (lt-ltb longest_line (length prefix) long)
 
   -- ---- one byte of a line
 
   pub line_goes_on : (place : ℕ) (text : List ℕ) (byte : ℕ) (bytes : List ℕ) → place < longest_stream
-      → length (text ++ byte ∷ []) ≤ longest_line side → line_form side (text ++ byte ∷ []) ≡ Prefix
+      → length (text ++ byte ∷ []) ≤ longest_line → line_form side (text ++ byte ∷ []) ≡ Prefix
       → lines_from side place text (byte ∷ bytes) ≡ lines_from side (place + 1) (text ++ byte ∷ []) bytes
   line_goes_on place text byte bytes early short e =
       lines-cons place text byte bytes GoesOn
       (short_line place (text ++ byte ∷ []) short ∙ prefix_goes_on place (line_form side (text ++ byte ∷ [])) early e)
 
   pub line_ends : (place : ℕ) (text : List ℕ) (byte : ℕ) (bytes : List ℕ) (tokens : List Token) → place < longest_stream
-      → length (text ++ byte ∷ []) ≤ longest_line side → line_form side (text ++ byte ∷ []) ≡ Whole tokens
+      → length (text ++ byte ∷ []) ≤ longest_line → line_form side (text ++ byte ∷ []) ≡ Whole tokens
       → lines_from side place text (byte ∷ bytes) ≡ with_line tokens place (lines_from side (place + 1) [] bytes)
   line_ends place text byte bytes tokens early short e =
       lines-cons place text byte bytes (Ends tokens)
@@ -131,17 +131,17 @@ module _ (side : Side) where
       → lines_from side place text (byte ∷ bytes) ≡ stopped_in text (Some (Malformed place))
   line_unfit place text byte bytes e =
       lines-cons place text byte bytes (Fails (Malformed place))
-      (unfit_fails place (ltb (longest_line side) (length (text ++ byte ∷ []))) (line_form side (text ++ byte ∷ [])) e)
+      (unfit_fails place (ltb longest_line (length (text ++ byte ∷ []))) (line_form side (text ++ byte ∷ [])) e)
 
   pub line_late : (place : ℕ) (text : List ℕ) (byte : ℕ) (bytes : List ℕ) → longest_stream ≤ place
       → lines_from side place text (byte ∷ bytes) ≡ stopped_in text (Some (Malformed place))
   line_late place text byte bytes late =
       lines-cons place text byte bytes (Fails (Malformed place))
-      (late_fails place (ltb (longest_line side) (length (text ++ byte ∷ [])))
+      (late_fails place (ltb longest_line (length (text ++ byte ∷ [])))
       (line_form side (text ++ byte ∷ [])) late)
 
   pub line_too_long : (place : ℕ) (text : List ℕ) (byte : ℕ) (bytes : List ℕ) → place < longest_stream
-      → longest_line side < length (text ++ byte ∷ []) → Fits (line_form side (text ++ byte ∷ []))
+      → longest_line < length (text ++ byte ∷ []) → Fits (line_form side (text ++ byte ∷ []))
       → lines_from side place text (byte ∷ bytes) ≡ stopped_in text (Some (LineTooLong place))
   line_too_long place text byte bytes early long fits =
       lines-cons place text byte bytes (Fails (LineTooLong place))

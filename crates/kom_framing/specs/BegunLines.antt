@@ -26,7 +26,7 @@ fault_seen (fault.LineTooLong place) = stream.LineTooLong place
 -- what is kept is that of a line that goes on
 pub record IsLine (side : Side) (line : BegunLine) : Type 0 where
   pub begun : IsBegun side line.text.items line.spans.items line.lexer
-  pub short : length line.text.items ≤ stream.longest_line side
+  pub short : length line.text.items ≤ stream.longest_line
 
 abbrev pub IsGoing : LexerState → Type 0
 IsGoing (Going tokens mode) = Unit {0}

@@ -11,7 +11,7 @@ use crate::fault::Fault;
 use crate::lexer::{Lexer, Span, Step};
 use crate::line::Line;
 use crate::units::Unit;
-use kom_types::limits::{LONGEST_CLIENT_LINE, LONGEST_SERVER_LINE, LONGEST_STREAM};
+use kom_types::limits::{LONGEST_LINE, LONGEST_STREAM};
 use kom_types::{Memory, Side};
 use smallvec::SmallVec;
 use std::alloc::Global;
@@ -78,7 +78,7 @@ impl BegunLine {
         requires early { place ≤ stream.longest_stream }
         ensures { Scans side result place self.old piece.now self.new }
     {
-        let window = window_of(side, self.text.len(), place, piece);
+        let window = window_of(self.text.len(), place, piece);
         match self.take(side, window)? {
             Reading::Goes(_) => {
                 if window.len() == piece.len() {
@@ -95,7 +95,7 @@ impl BegunLine {
     // Takes the bytes of a window that belong to the line, or leaves the line as it was.
     fn take(&mut self, side: Side, window: &[u8]) -> Result<Reading, Memory>
         requires line { IsLine side self.old }
-        requires room { length self.old.text.items + length window.now ≤ stream.longest_line side }
+        requires room { length self.old.text.items + length window.now ≤ stream.longest_line }
         ensures { Takes side result self.old window.now self.new }
     {
         let known = self.spans.len();
@@ -116,7 +116,7 @@ impl BegunLine {
     // Takes the bytes of a window that belong to the line.
     fn try_take(&mut self, side: Side, window: &[u8]) -> Result<Reading, Memory>
         requires line { IsLine side self.old }
-        requires room { length self.old.text.items + length window.now ≤ stream.longest_line side }
+        requires room { length self.old.text.items + length window.now ≤ stream.longest_line }
         ensures { Tries side result self.old window.now self.new }
     {
         match read_window(
@@ -144,7 +144,7 @@ impl BegunLine {
         requires line { IsLine side self.now }
         requires some { 0 < length rest.now }
         requires full { place < stream.longest_stream
-            → stream.longest_line side ≤ length self.now.text.items }
+            → stream.longest_line ≤ length self.now.text.items }
         ensures { FailsAt side place self.now.text.items rest.now result }
     {
         match self.lexer.step(side, self.text.as_slice(), &rest[..1], 0) {
@@ -169,33 +169,23 @@ impl BegunLine {
 }
 
 // The bytes at the start of a piece that a line of so many bytes may have.
-fn window_of(side: Side, begun: usize, place: u64, piece: &[u8]) -> &[u8]
-    requires begun { begun ≤ stream.longest_line side }
+fn window_of(begun: usize, place: u64, piece: &[u8]) -> &[u8]
+    requires begun { begun ≤ stream.longest_line }
     requires early { place ≤ stream.longest_stream }
     ensures prefix { result.now ≡ take (length result.now) piece.now }
     ensures within { length result.now ≤ length piece.now }
-    ensures short { begun + length result.now ≤ stream.longest_line side }
+    ensures short { begun + length result.now ≤ stream.longest_line }
     ensures place { place + length result.now ≤ stream.longest_stream }
     ensures full { length result.now ≢ length piece.now
         → place + length result.now < stream.longest_stream
-        → stream.longest_line side ≤ begun + length result.now }
+        → stream.longest_line ≤ begun + length result.now }
 {
-    let count = piece.len().min(longest_line(side) - begun);
+    let count = piece.len().min(LONGEST_LINE - begun);
     let left = LONGEST_STREAM - place;
     if left < count as u64 {
         &piece[..left as usize]
     } else {
         &piece[..count]
-    }
-}
-
-// How many bytes a line has at most, its line feed counted.
-fn longest_line(side: Side) -> usize
-    ensures { result ≡ stream.longest_line side }
-{
-    match side {
-        Side::Client => LONGEST_CLIENT_LINE,
-        Side::Server => LONGEST_SERVER_LINE,
     }
 }
 
@@ -208,7 +198,7 @@ fn read_window(
     spans: &mut LineSpans,
 ) -> Result<Reading, Memory>
     requires begun { IsBegun side text.now spans.old.items lexer }
-    requires room { length text.now + length window.now ≤ stream.longest_line side }
+    requires room { length text.now + length window.now ≤ stream.longest_line }
     ensures reads { Reads side result text.now window.now spans.new.items }
     ensures extends { Extends spans.old.items spans.new.items }
 {

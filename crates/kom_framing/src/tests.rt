@@ -288,24 +288,24 @@ fn a_line_has_at_most_2097152_bytes(rt: HostRuntime) -> Result<(), Fail> {
 }
 
 #[test]
-fn a_line_of_replies_has_at_most_4194304_bytes(rt: HostRuntime) -> Result<(), Fail> {
-    let longest = long_line(rt.alloc(), b"LysKOM\n=1 4194292H", 4_194_292, b"\n")?;
-    let longer = long_line(rt.alloc(), b"LysKOM\n=1 4194293H", 4_194_293, b"\n")?;
-    let unfit = long_line(rt.alloc(), b"LysKOM\n", 4_194_304, b"+\n")?;
+fn a_line_of_replies_has_at_most_2097152_bytes(rt: HostRuntime) -> Result<(), Fail> {
+    let longest = long_line(rt.alloc(), b"LysKOM\n=1 2097140H", 2_097_140, b"\n")?;
+    let longer = long_line(rt.alloc(), b"LysKOM\n=1 2097141H", 2_097_141, b"\n")?;
+    let unfit = long_line(rt.alloc(), b"LysKOM\n", 2_097_152, b"+\n")?;
     // With the first step a piece ends with the last byte that the line may have.
-    for step in [4_194_310, 5_000_000] {
+    for step in [2_097_158, 3_000_000] {
         let splitter = Splitter::of_replies(rt.alloc());
         let (units, fault) = outcome_by(splitter, rt.alloc(), longest.as_slice(), 1, step)?;
-        assert!(rt; units.as_slice().ends_with(b" \"@4194310;"));
-        assert_eq!(rt; units.len(), 4_194_292 + 17);
+        assert!(rt; units.as_slice().ends_with(b" \"@2097158;"));
+        assert_eq!(rt; units.len(), 2_097_140 + 17);
         assert_eq!(rt; fault, None);
         let splitter = Splitter::of_replies(rt.alloc());
         let (units, fault) = outcome_by(splitter, rt.alloc(), longer.as_slice(), 1, step)?;
         assert_eq!(rt; units.as_slice(), b"A;".as_slice());
-        assert_eq!(rt; fault, Some(FeedRefusal::LineTooLong(4_194_311)));
+        assert_eq!(rt; fault, Some(FeedRefusal::LineTooLong(2_097_159)));
         let splitter = Splitter::of_replies(rt.alloc());
         let (_, fault) = outcome_by(splitter, rt.alloc(), unfit.as_slice(), 1, step)?;
-        assert_eq!(rt; fault, Some(FeedRefusal::Malformed(4_194_311)));
+        assert_eq!(rt; fault, Some(FeedRefusal::Malformed(2_097_159)));
     }
     Ok(())
 }

@@ -24,9 +24,8 @@ pub record Split : Type 0 where
   pub fault : Option Fault
 
 -- how many bytes a line has at most, its line feed counted
-abbrev pub longest_line : Side → ℕ
-longest_line side.Client = 2097152
-longest_line side.Server = 4194304
+abbrev pub longest_line : ℕ
+longest_line = 2097152
 
 -- how many bytes a stream has at most
 abbrev pub longest_stream : ℕ
@@ -53,7 +52,7 @@ verdict place too_long (Whole unit) = elim (nat_lt place longest_stream) [
 
 abbrev pub line_verdict : Side → ℕ → List ℕ → Verdict (List Token)
 line_verdict side place prefix =
-    verdict place (nat_lt (longest_line side) (length prefix)) (line_form side prefix)
+    verdict place (nat_lt longest_line (length prefix)) (line_form side prefix)
 
 abbrev pub greeting_verdict : Side → ℕ → List ℕ → Verdict (List ℕ)
 greeting_verdict side place prefix = verdict place false (greeting_form side prefix)

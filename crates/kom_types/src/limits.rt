@@ -8,13 +8,13 @@ pub const LAST_MOMENT: u64 = 253_402_300_799;
 /// How many bytes a stream has at most. (docs/protocol.md, "The stream".)
 pub const LONGEST_STREAM: u64 = 1 << 62;
 
-/// How many bytes a client's line has at most, its line feed counted. (docs/protocol.md, "The
-/// stream".)
-pub const LONGEST_CLIENT_LINE: usize = 2_097_152;
+/// How many bytes a line that is read has at most, its line feed counted, a server's line by a
+/// client too. (docs/protocol.md, "The stream".)
+pub const LONGEST_LINE: usize = 2_097_152;
 
-/// How many bytes a server's line has at most, its line feed counted, and so that of a reply.
-/// (docs/protocol.md, "The stream".)
-pub const LONGEST_SERVER_LINE: usize = 4_194_304;
+/// How many bytes the line of a reply has at most, its line feed counted. (docs/protocol.md, "The
+/// stream".)
+pub const LONGEST_REPLY: usize = 4_194_304;
 
 /// How many elements an array has at most that a client sends. (docs/protocol.md, "Calls".)
 pub const LONGEST_ARRAY: u32 = 2_048;
