@@ -4,23 +4,22 @@ use Rattle.std.specs.List.Sorted.{IsPartitionPoint}
 use Rattle.std.specs.Map.{lookup}
 use Rattle.std.specs.Ordering.{ordering_reverse}
 use Rattle.std.proofs.lemmas.Bool.{cases_eq, not-true, eq-eqb, ne_eqb, cond-true, cond-false}
-use Rattle.std.proofs.lemmas.Cmp.{lists_total, nat_cmp_total}
 use Rattle.std.proofs.lemmas.List.Elements.{filter_passes, All-contains, Contains-get_or}
 use Rattle.std.proofs.lemmas.List.Kept.{IsSortedBy-filter}
 use Rattle.std.proofs.lemmas.List.Sorted.{ranks_by}
 use Rattle.std.proofs.lemmas.List.Sums.{sum_by-insert}
-use Rattle.name_lookup.specs.Letters.{letters_of}
+use Rattle.name_lookup.specs.declared.order.By.TheVariants.{Name}
 use Rattle.name_lookup.specs.NamedRows.{taken, without_name}
-use Rattle.name_lookup.specs.Order.{compared, name_in, rows_of, IsByLetters, StandsOnce, IsOrder}
+use Rattle.name_lookup.specs.Order.{name_cmp, name_in, is_below, rows_of, IsByName, StandsOnce, IsOrder}
 use Rattle.name_lookup.proofs.Clashes.{IsFree-from_taken, NoneClash-with_name, NoneClash-filter}
 use Rattle.name_lookup.proofs.Lists.{count_by-filter, IsSortedBy-agree, IsSortedBy-insert}
-use Rattle.name_lookup.proofs.Orders.{cmp}
+use Rattle.name_lookup.proofs.Orders.{name_total}
 use Rattle.name_lookup.proofs.Rows.{IsRising-rows_of, rows_put, rows_removed}
 
-below_back : (low high : List ℕ) → is_lt (cmp low high) ≡ true → is_lt (cmp high low) ≡ false
+below_back : (low high : List ℕ) → is_lt (name_cmp low high) ≡ true → is_lt (name_cmp high low) ≡ false
 below_back low high below =
-    let back : cmp high low ≡ ordering_reverse (cmp low high) = (lists_total nat_cmp_total).antisymm high low in
-    ap is_lt back ∙ by (cmp low high) below
+    let back : name_cmp high low ≡ ordering_reverse (name_cmp low high) = name_total.antisymm high low in
+    ap is_lt back ∙ by (name_cmp low high) below
   where
     by : (order : Ordering) → is_lt order ≡ true → is_lt (ordering_reverse order) ≡ false
     by Less lt = refl
@@ -41,11 +40,11 @@ others_are number order one there =
     not-true (eqb number one) (All-contains (λ x. not (eqb number x) ≡ true) (others number order) one
     (filter_passes (λ x. not (eqb number x)) order) there)
 
-pub IsByLetters-filtered : (number : ℕ) (entries : List (ℕ × List ℕ)) (order : List ℕ) → IsByLetters entries order →
-    IsByLetters entries (others number order)
-IsByLetters-filtered number entries order sorted =
-    let key : ℕ → List ℕ = λ one. letters_of (name_in entries one) in
-    IsSortedBy-filter (λ x y. is_lt (cmp (key x) (key y))) (ranks_by (lists_total nat_cmp_total) key)
+pub IsByName-filtered : (number : ℕ) (entries : List (ℕ × List ℕ)) (order : List ℕ) → IsByName entries order →
+    IsByName entries (others number order)
+IsByName-filtered number entries order sorted =
+    let key : ℕ → List ℕ = name_in entries in
+    IsSortedBy-filter (λ x y. is_lt (name_cmp (key x) (key y))) (ranks_by name_total key)
     (λ one. not (eqb number one)) order sorted
 
 module _ (number : ℕ) (name : Option (List ℕ)) (old new : List (ℕ × List ℕ)) (updated : Updated number name old new)
@@ -54,14 +53,13 @@ module _ (number : ℕ) (name : Option (List ℕ)) (old new : List (ℕ × List 
     name_in-other one other =
         ap (λ known. unwrap_or known []) (updated one ∙ cond-false (eqb number one) name (lookup (eqb one) old) other)
 
-    IsByLetters-others : (order : List ℕ) → IsByLetters old order → IsByLetters new (others number order)
-    IsByLetters-others order sorted =
-        let key : ℕ → List ℕ = λ one. letters_of (name_in old one) in
-        IsSortedBy-agree (λ x y. is_lt (cmp (key x) (key y)))
-        (λ x y. is_lt (cmp (letters_of (name_in new x)) (letters_of (name_in new y)))) (others number order)
-        (λ x y at at'. ap₂ (λ m n. is_lt (cmp (letters_of m) (letters_of n)))
+    IsByName-others : (order : List ℕ) → IsByName old order → IsByName new (others number order)
+    IsByName-others order sorted =
+        IsSortedBy-agree (λ x y. is_lt (name_cmp (name_in old x) (name_in old y)))
+        (λ x y. is_lt (name_cmp (name_in new x) (name_in new y))) (others number order)
+        (λ x y at at'. ap₂ (λ m n. is_lt (name_cmp m n))
         (name_in-other x (others_are number order x at)) (name_in-other y (others_are number order y at')))
-        (IsByLetters-filtered number old order sorted)
+        (IsByName-filtered number old order sorted)
 
     count_by-others : (order : List ℕ) → StandsOnce old order → (asked : ℕ) → count_by (eqb asked) (others number order)
         ≡ cond (eqb number asked) 0 (cond (is_some (lookup (eqb asked) old)) 1 0)
@@ -87,7 +85,7 @@ module _ (number : ℕ) (old new : List (ℕ × List ℕ)) (updated : Updated nu
 
   pub IsOrder-removed : (order : List ℕ) → IsOrder old order → IsOrder new (others number order)
   IsOrder-removed order is = record {
-    by_letters = IsByLetters-others number None old new updated order is.by_letters;
+    by_name = IsByName-others number None old new updated order is.by_name;
     once = StandsOnce-others order is.once;
     none_clash = rw (rows_removed number old new updated) (NoneClash-filter _ (rows_of old) is.none_clash);
   }
@@ -110,11 +108,11 @@ module _ (number : ℕ) (name : List ℕ) (old new : List (ℕ × List ℕ)) (up
       by (inr other) known =
           rw (known, ne_eqb number asked other, ne_eqb asked number (λ e. other (sym e))) (add-zero _)
 
-  IsByLetters-insert : IsByLetters old order →
-      IsPartitionPoint (λ one. is_lt (compared (name_in old one) name) ≡ true)
-      (λ one. is_lt (compared (name_in old one) name) ≡ false) (others number order) place →
-      IsByLetters new (insert (others number order) place number)
-  IsByLetters-insert sorted point =
+  IsByName-insert : IsByName old order →
+      IsPartitionPoint (λ one. is_below old Name name one ≡ true)
+      (λ one. is_below old Name name one ≡ false) (others number order) place →
+      IsByName new (insert (others number order) place number)
+  IsByName-insert sorted point =
       let rest = others number order in
       let itself : name_in new number ≡ name =
       ap (λ known. unwrap_or known [])
@@ -123,18 +121,18 @@ module _ (number : ℕ) (name : List ℕ) (old new : List (ℕ × List ℕ)) (up
       let other : (k : ℕ) (d : ℕ) → k < length rest → name_in old (get_or rest k d) ≡ name_in new (get_or rest k d) =
       λ k d lt. sym (name_in-other number (Some name) old new updated (get_or rest k d)
       (others_are number order (get_or rest k d) (Contains-get_or rest k d lt))) in
-      IsSortedBy-insert (λ x y. is_lt (cmp (letters_of (name_in new x)) (letters_of (name_in new y)))) rest number place
-      within (IsByLetters-others number (Some name) old new updated order sorted)
-      (λ k d low. below_back (letters_of (name_in new (get_or rest k d))) (letters_of (name_in new number))
+      IsSortedBy-insert (λ x y. is_lt (name_cmp (name_in new x) (name_in new y))) rest number place
+      within (IsByName-others number (Some name) old new updated order sorted)
+      (λ k d low. below_back (name_in new (get_or rest k d)) (name_in new number)
       (rw (← other k d (omega arith), itself) (point.0 k d (omega arith) low)))
       (λ d inside. rw (← other place d inside, itself) (point.1 place d (omega arith) inside))
 
   pub IsOrder-put : IsOrder old order → taken name (without_name number (rows_of old)) ≡ None →
-      IsPartitionPoint (λ one. is_lt (compared (name_in old one) name) ≡ true)
-      (λ one. is_lt (compared (name_in old one) name) ≡ false) (others number order) place →
+      IsPartitionPoint (λ one. is_below old Name name one ≡ true)
+      (λ one. is_below old Name name one ≡ false) (others number order) place →
       IsOrder new (insert (others number order) place number)
   IsOrder-put is free point = record {
-    by_letters = IsByLetters-insert is.by_letters point;
+    by_name = IsByName-insert is.by_name point;
     once = StandsOnce-insert is.once;
     none_clash = rw (rows_put number name old new updated)
         (NoneClash-with_name number name (rows_of old) (IsRising-rows_of old) is.none_clash

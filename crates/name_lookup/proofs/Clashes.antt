@@ -14,7 +14,7 @@ folds_alike first second same = (bytes_eq-Decides (map fold first) (map fold sec
 clash_from : (first second : List ℕ) → map fold first ≡ map fold second → clash first second ≡ true
 clash_from first second same = (bytes_eq-Decides (map fold first) (map fold second)).1 same
 
-clash_back : (first second : List ℕ) → clash first second ≡ true → clash second first ≡ true
+pub clash_back : (first second : List ℕ) → clash first second ≡ true → clash second first ≡ true
 clash_back first second same = clash_from second first (sym (folds_alike first second same))
 
 -- two names that clash with a third

@@ -1,21 +1,21 @@
 -- What a walk of the order finds is what the rows have.
-use Rattle.std.proofs.Common.{◌≡◌, ℕ, ◌+◌, ◌<◌, ◌≤◌, ◌⊎◌, Bool, true, false, cond, eqb, List, [], ◌∷◌, map, filter, find, count_by, Option, Some, None, is_some, unwrap_or, refl, sym, ap, ap₂, ◌∙◌, suc, inl, inr, true≢false, arith, IsPermutation, is_eq, nat_cmp}
+use Rattle.std.proofs.Common.{◌≡◌, ℕ, ◌+◌, ◌<◌, ◌≤◌, ◌⊎◌, true, false, cond, eqb, List, [], ◌∷◌, map, filter, length, get_or, count_by, Option, Some, None, is_some, unwrap_or, refl, sym, ap, ap₂, ◌∙◌, suc, inl, inr, true≢false, arith, Contains, IsPermutation}
 use Rattle.std.specs.List.{AllByRecursion}
-use Rattle.std.specs.List.Sorted.{IsNonDecreasing}
+use Rattle.std.specs.List.Sorted.{IsNonDecreasing, IsPartitionPoint}
 use Rattle.std.proofs.lemmas.Bool.{cases_Bool, cases_eq, cases_order, eq-eqb, ne_eqb, false_from_ne_true}
-use Rattle.std.proofs.lemmas.Option.{none-some, same_Some}
-use Rattle.std.proofs.lemmas.List.Elements.{recursion_from_All}
+use Rattle.std.proofs.lemmas.Option.{same_Some}
+use Rattle.std.proofs.lemmas.List.{get_or_default}
+use Rattle.std.proofs.lemmas.List.Elements.{recursion_from_All, Contains-get_or}
 use Rattle.std.proofs.lemmas.List.Sorted.{sum_by-IsPermutation}
-use Rattle.std.specs.Cmp.Lexicographic.{slice_cmp}
-use Rattle.std.proofs.lemmas.Cmp.{lists_total, nat_cmp_total, tied_itself}
-use Rattle.kom_types.specs.Names.{clash, finds, outside}
-use Rattle.name_lookup.specs.Letters.{letters, letters_of}
+use Rattle.kom_types.specs.Names.{clash, finds}
+use Rattle.name_lookup.specs.declared.order.By.TheVariants.{Name}
 use Rattle.std.specs.Map.{lookup}
 use Rattle.name_lookup.specs.NamedRows.{Named, taken, found}
-use Rattle.name_lookup.specs.Order.{compared, name_in, rows_of, StandsOnce, IsOrder}
-use Rattle.name_lookup.proofs.Lists.{count_by-cons, count_by-hit, count_by-miss, count_by-filter}
+use Rattle.name_lookup.specs.Order.{name_in, is_below, rows_of, StandsOnce, IsOrder}
+use Rattle.name_lookup.proofs.Lists.{count_by-cons, count_by-hit, count_by-miss, count_by-filter, counted_at, Contains-counted}
 use Rattle.name_lookup.proofs.Rows.{AllAbove, IsRising, name_at, name_at-none, name_at-rows_of, IsRising-rows_of}
-use Rattle.name_lookup.proofs.Clashes.{folds_alike, taken_is, taken_none}
+use Rattle.name_lookup.proofs.Clashes.{taken_is, taken_none}
+use Rattle.name_lookup.proofs.Orders.{clash_itself, first_alike}
 
 -- ---- numbers that rise are told apart by their counts
 abbrev Rises : List ℕ → Type 0
@@ -139,59 +139,60 @@ module _ (entries : List (ℕ × List ℕ)) (order : List ℕ) where
       ∙ sym (count-found number pattern rows rising))
 
   -- ---- the name that clashes
-  found_one : (p : ℕ → Bool) (number : ℕ) (xs : List ℕ) → find p xs ≡ Some number →
-      (p number ≡ true) × (0 < count_by (eqb number) xs)
-  found_one p number [] at = absurd (none-some number at)
-  found_one p number (x ∷ xs) at = by (found_one p number xs) (cases_Bool (p x))
-    where
-      by : (find p xs ≡ Some number → (p number ≡ true) × (0 < count_by (eqb number) xs)) →
-          (p x ≡ true) ⊎ (p x ≡ false) → (p number ≡ true) × (0 < count_by (eqb number) (x ∷ xs))
-      by rest (inl hit) =
-          let same : x ≡ number = same_Some x number (rw hit at at) in
-          (rw (← same) hit, rw same (omega (arith, count-head number xs)))
-      by rest (inr miss) =
-          let later = rest (rw miss at at) in
-          (later.0, omega (arith, count_by-cons (eqb number) x xs, later.1))
-
-  not_found : (p : ℕ → Bool) (number : ℕ) (xs : List ℕ) → find p xs ≡ None → p number ≡ true →
-      count_by (eqb number) xs ≡ 0
-  not_found p number [] none hit = refl
-  not_found p number (x ∷ xs) none hit = by (not_found p number xs) (cases_Bool (p x))
-    where
-      by : (find p xs ≡ None → p number ≡ true → count_by (eqb number) xs ≡ 0) →
-          (p x ≡ true) ⊎ (p x ≡ false) → count_by (eqb number) (x ∷ xs) ≡ 0
-      by rest (inl here) = absurd (none-some x (sym (rw here at none)))
-      by rest (inr miss) =
-          let other : eqb number x ≡ false = ne_eqb number x (λ e. true≢false (sym hit ∙ rw e miss)) in
-          count_by-miss (eqb number) x xs other ∙ rest (rw miss at none) hit
-
-  pub taken_walked : (name : List ℕ) (result : Option ℕ) → IsOrder entries order →
-      result ≡ find (λ one. clash name (name_in entries one)) order → result ≡ taken name (rows_of entries)
-  taken_walked name None is same =
-      let rows = rows_of entries in
-      let free : (number : ℕ) (held : List ℕ) → name_at number rows ≡ Some held → clash name held ≡ false =
-      λ number held at. false_from_ne_true (clash name held) (λ hit.
-      let known : lookup (eqb number) entries ≡ Some held = sym (name_at-rows_of number entries) ∙ at in
-      let none = not_found (λ one. clash name (name_in entries one)) number order (sym same) (rw known hit) in
-      let once : count_by (eqb number) order ≡ 1 = rw known at (is.once number) in
-      absurd (omega (arith, none, once))) in
-      sym (taken_none name rows (IsRising-rows_of entries) free)
-  taken_walked name (Some number) is same =
-      let one = found_one (λ one. clash name (name_in entries one)) number order (sym same) in
-      by (lookup (eqb number) entries) refl one.0 (is.once number) one.1
+  pub taken_there : (name : List ℕ) (number : ℕ) → IsOrder entries order → Contains order number →
+      clash name (name_in entries number) ≡ true → taken name (rows_of entries) ≡ Some number
+  taken_there name number is at alike =
+      by (lookup (eqb number) entries) refl alike (is.once number)
+      (counted_at (eqb number) order at.0 at.1 (λ d.
+      eq-eqb number (get_or order at.0 d) (sym at.2 ∙ get_or_default order at.0 number d at.1)))
     where
       by : (held : Option (List ℕ)) → lookup (eqb number) entries ≡ held → clash name (unwrap_or held []) ≡ true →
           count_by (eqb number) order ≡ cond (is_some held) 1 0 → 0 < count_by (eqb number) order →
-          Some number ≡ taken name (rows_of entries)
+          taken name (rows_of entries) ≡ Some number
       by None known hit none there = absurd (omega (arith, none, there))
       by (Some held) known hit once there =
-          sym (taken_is name number held (rows_of entries) is.none_clash
-          (name_at-rows_of number entries ∙ known) hit)
+          taken_is name number held (rows_of entries) is.none_clash (name_at-rows_of number entries ∙ known) hit
 
--- names that clash have the same letters
-pub clash_within : (name held : List ℕ) → clash name held ≡ true → is_eq (compared held name) ≡ true
-clash_within name held alike =
-    let same : letters_of held ≡ letters_of name =
-    ap (λ bytes. letters false (outside false bytes)) (sym (folds_alike name held alike)) in
-    ap (λ first. is_eq (slice_cmp nat_cmp first (letters_of name))) same
-    ∙ ap is_eq (tied_itself (lists_total nat_cmp_total) (letters_of name))
+  -- a number that has a name stands in the order
+  Contains-known : (number : ℕ) (name : List ℕ) → StandsOnce entries order → lookup (eqb number) entries ≡ Some name →
+      Contains order number
+  Contains-known number name once known =
+      let one : count_by (eqb number) order ≡ 1 = rw known at (once number) in
+      Contains-counted number order (omega (arith, one))
+
+  name_known : (number k : ℕ) (name : List ℕ) → lookup (eqb number) entries ≡ Some name → get_or order k 0 ≡ number →
+      name_in entries (get_or order k 0) ≡ name
+  name_known number k name known at = ap (name_in entries) at ∙ ap (λ held. unwrap_or held []) known
+
+  module _ (name : List ℕ) (place : ℕ) (is : IsOrder entries order)
+      (point : IsPartitionPoint (λ number. is_below entries Name name number ≡ true)
+      (λ number. is_below entries Name name number ≡ false) order place) where
+    alike_first : (number : ℕ) (held : List ℕ) → lookup (eqb number) entries ≡ Some held → clash name held ≡ true →
+        (place < length order) × (clash name (name_in entries (get_or order place 0)) ≡ true)
+    alike_first number held known alike =
+        let there : Contains order number = Contains-known number held is.once known in
+        let at : get_or order there.0 0 ≡ number = get_or_default order there.0 0 number there.1 ∙ there.2 in
+        first_alike entries name order place there.0 is.by_name there.1 point
+        (ap (clash name) (name_known number there.0 held known at) ∙ alike)
+
+    pub taken_nowhere : (place < length order → clash name (name_in entries (get_or order place 0)) ≡ false) →
+        taken name (rows_of entries) ≡ None
+    taken_nowhere apart = taken_none name (rows_of entries) (IsRising-rows_of entries) (λ number held at.
+        false_from_ne_true (clash name held) (λ alike.
+        let known : lookup (eqb number) entries ≡ Some held = sym (name_at-rows_of number entries) ∙ at in
+        let first : (place < length order) × (clash name (name_in entries (get_or order place 0)) ≡ true) =
+        alike_first number held known alike in
+        true≢false (sym first.1 ∙ apart first.0)))
+
+    -- a number stands where its name would be put
+    pub stands_first : (number : ℕ) → lookup (eqb number) entries ≡ Some name →
+        (place < length order) × (get_or order place 0 ≡ number)
+    stands_first number known =
+        let first : (place < length order) × (clash name (name_in entries (get_or order place 0)) ≡ true) =
+        alike_first number name known (clash_itself name) in
+        let here : taken name (rows_of entries) ≡ Some (get_or order place 0) =
+        taken_there name (get_or order place 0) is (Contains-get_or order place 0 first.0) first.1 in
+        let this : taken name (rows_of entries) ≡ Some number =
+        taken_there name number is (Contains-known number name is.once known)
+        (ap (λ held. clash name (unwrap_or held [])) known ∙ clash_itself name) in
+        (first.0, same_Some (get_or order place 0) number (sym here ∙ this))

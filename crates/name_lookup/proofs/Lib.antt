@@ -8,3 +8,5 @@ pub mod Finding
 pub mod Skips
 pub mod Looks
 pub mod Walks
+pub mod BlockLists
+pub mod Searching

@@ -1,58 +1,17 @@
 -- What a test keeps of a list, how many it counts, and lists in order.
-use Rattle.std.proofs.Common.{◌≡◌, ℕ, ◌+◌, ◌-◌, ◌<◌, ◌≤◌, ◌⊎◌, Bool, true, false, cond, not, eqb, ltb, List, [], ◌∷◌, ◌++◌, length, take, drop, get_or, filter, find, insert, remove, position, count_by, Some, None, option_map, refl, sym, ap, ap₂, subst, ◌∙◌, suc, zero, inl, inr, arith, one-add, All, Contains, IsSortedBy, append-nil, zero-add, get_or-take, get_or-drop, length-take, length-drop, take-append-drop}
-use Rattle.std.specs.List.{AllWithin, position_or_len}
-use Rattle.std.proofs.lemmas.Bool.{cases_Bool, cases_lt, cases_eq, cases_order, eq-eqb, ne_eqb, lt-ltb, le-ltb}
+use Rattle.std.proofs.Common.{◌≡◌, ℕ, ◌+◌, ◌-◌, ◌<◌, ◌≤◌, ◌⊎◌, Bool, true, false, cond, not, eqb, List, [], ◌∷◌, length, get_or, filter, insert, remove, count_by, refl, sym, ap, subst, ◌∙◌, suc, zero, inl, inr, arith, All, Contains, IsSortedBy, zero-add}
+use Rattle.std.proofs.lemmas.Bool.{cases_Bool, cases_eq, cases_order, eq-eqb, ne_eqb}
 use Rattle.std.proofs.lemmas.List.Edits.{length-insert, get_or-insert_below, get_or-insert_at, get_or-insert_above}
-use Rattle.std.proofs.lemmas.List.Elements.{All-tail, All-nil, All-cons, filter-append, Contains-get_or}
-use Rattle.std.proofs.lemmas.Option.{none-some, same_Some}
+use Rattle.std.proofs.lemmas.List.Elements.{All-tail, All-nil, All-cons, Contains-get_or}
 use Rattle.std.proofs.lemmas.List.Sums.{sum_by-cons}
 
 -- ---- filters
 module _ {X : Type 0} (p : X → Bool) where
-  pub filter_nothing : (xs : List X) → All (λ x. p x ≡ false) xs → filter p xs ≡ []
-  filter_nothing [] none = refl
-  filter_nothing (x ∷ xs) none =
-      let here : p x ≡ false = none 0 x (omega arith) in
-      rw here (filter_nothing xs (All-tail (λ x. p x ≡ false) x xs none))
-
   pub filter_everything : (xs : List X) → All (λ x. p x ≡ true) xs → filter p xs ≡ xs
   filter_everything [] all = refl
   filter_everything (x ∷ xs) all =
       let here : p x ≡ true = all 0 x (omega arith) in
       rw here (ap (λ rest. x ∷ rest) (filter_everything xs (All-tail (λ x. p x ≡ true) x xs all)))
-
-  -- a test that asks for less first changes nothing
-  pub find-filter : (q : X → Bool) → ((x : X) → p x ≡ true → q x ≡ true) → (xs : List X) →
-      find p (filter q xs) ≡ find p xs
-  find-filter q weaker [] = refl
-  find-filter q weaker (x ∷ xs) = by (find-filter q weaker xs) (cases_Bool (p x)) (cases_Bool (q x))
-    where
-      by : find p (filter q xs) ≡ find p xs →
-          (p x ≡ true) ⊎ (p x ≡ false) → (q x ≡ true) ⊎ (q x ≡ false) → find p (filter q (x ∷ xs)) ≡ find p (x ∷ xs)
-      by rest (inl hit) other = rw (weaker x hit, hit) refl
-      by rest (inr miss) (inl hit) = rw (hit, miss) rest
-      by rest (inr miss) (inr out) = rw (out, miss) rest
-
-  -- what passes stands together
-  pub filter_run : (xs : List X) (start len : ℕ) → AllWithin (λ x. p x ≡ false) xs 0 start →
-      AllWithin (λ x. p x ≡ true) (drop start xs) 0 len →
-      AllWithin (λ x. p x ≡ false) (drop start xs) len (length (drop start xs)) →
-      take len (drop start xs) ≡ filter p xs
-  filter_run xs start len before within after =
-      let run = drop start xs in
-      let first : filter p (take start xs) ≡ [] =
-      filter_nothing (take start xs) (λ k d lt. let low : k < start = omega (arith, length-take start xs) in
-      ap p (get_or-take start xs k d low) ∙ before k d (omega arith) low) in
-      let middle : filter p (take len run) ≡ take len run =
-      filter_everything (take len run) (λ k d lt. let low : k < len = omega (arith, length-take len run) in
-      ap p (get_or-take len run k d low) ∙ within k d (omega arith) low) in
-      let last : filter p (drop len run) ≡ [] =
-      filter_nothing (drop len run) (λ k d lt. ap p (get_or-drop len run k d)
-      ∙ after (len + k) d (omega arith) (omega (arith, length-drop len run))) in
-      sym (ap (filter p) (sym (take-append-drop start xs)) ∙ filter-append p (take start xs) run
-      ∙ ap (λ l. l ++ filter p run) first ∙ ap (filter p) (sym (take-append-drop len run))
-      ∙ filter-append p (take len run) (drop len run)
-      ∙ ap₂ (λ l m. l ++ m) middle last ∙ append-nil (take len run))
 
 -- ---- what is counted
 pub count_by-cons : {X : Type 0} (p : X → Bool) (x : X) (xs : List X) →
@@ -105,101 +64,43 @@ none_counted p (x ∷ xs) none = by (none_counted p xs) (cases_Bool (p x))
 pub filter_absent : {X : Type 0} (p : X → Bool) (xs : List X) → count_by p xs ≡ 0 → filter (λ x. not (p x)) xs ≡ xs
 filter_absent p xs none = filter_everything (λ x. not (p x)) xs (none_counted p xs none)
 
+pub counted_at : {X : Type 0} (p : X → Bool) (xs : List X) (i : ℕ) → i < length xs →
+    ((d : X) → p (get_or xs i d) ≡ true) → 0 < count_by p xs
+counted_at p [] i lt hit = absurd (omega arith)
+counted_at p (x ∷ xs) zero lt hit = omega (arith, count_by-hit p x xs (hit x))
+counted_at p (x ∷ xs) (suc i) lt hit =
+    omega (arith, count_by-cons p x xs, counted_at p xs i (omega arith) hit)
+
 -- what is counted at most once is taken out at its place
-pub filter_out : {X : Type 0} (p : X → Bool) (xs : List X) → count_by p xs ≤ 1 → position_or_len p xs < length xs →
-    remove xs (position_or_len p xs) ≡ filter (λ x. not (p x)) xs
-filter_out p [] once there = absurd (omega arith)
-filter_out p (x ∷ xs) once there = by (filter_out p xs) (cases_Bool (p x)) there
+pub filter_at : {X : Type 0} (p : X → Bool) (xs : List X) (i : ℕ) → count_by p xs ≤ 1 → i < length xs →
+    ((d : X) → p (get_or xs i d) ≡ true) → remove xs i ≡ filter (λ x. not (p x)) xs
+filter_at p [] i once lt hit = absurd (omega arith)
+filter_at p (x ∷ xs) zero once lt hit =
+    let here : p x ≡ true = hit x in
+    rw here (sym (filter_absent p xs (omega (arith, once, count_by-hit p x xs here))))
+filter_at {X} p (x ∷ xs) (suc i) once lt hit =
+    let there : 0 < count_by p xs = counted_at p xs i (omega arith) hit in
+    by (cases_Bool (p x)) there (filter_at p xs i)
   where
-    by : (count_by p xs ≤ 1 → position_or_len p xs < length xs →
-        remove xs (position_or_len p xs) ≡ filter (λ x. not (p x)) xs) →
-        (p x ≡ true) ⊎ (p x ≡ false) → position_or_len p (x ∷ xs) < length (x ∷ xs) →
-        remove (x ∷ xs) (position_or_len p (x ∷ xs)) ≡ filter (λ x. not (p x)) (x ∷ xs)
-    by rest (inl hit) at =
-        rw hit (sym (filter_absent p xs (omega (arith, once, count_by-hit p x xs hit))))
-    by rest (inr miss) at =
-        let at' : position_or_len p xs < length xs = let at'' = rw miss at at in omega arith in
-        rw (miss, one-add) (ap (λ later. x ∷ later) (rest (omega (arith, once, count_by-miss p x xs miss)) at'))
+    by : (p x ≡ true) ⊎ (p x ≡ false) → 0 < count_by p xs →
+        (count_by p xs ≤ 1 → i < length xs → ((d : X) → p (get_or xs i d) ≡ true) →
+        remove xs i ≡ filter (λ x. not (p x)) xs) → x ∷ remove xs i ≡ filter (λ x. not (p x)) (x ∷ xs)
+    by (inl here) there rest = absurd (omega (arith, once, count_by-hit p x xs here))
+    by (inr miss) there rest =
+        rw miss (ap (λ later. x ∷ later) (rest (omega (arith, once, count_by-miss p x xs miss)) (omega arith) hit))
 
--- ---- the place of what passes
-count_by-absent : {X : Type 0} (p : X → Bool) (xs : List X) → length xs ≤ position_or_len p xs → count_by p xs ≡ 0
-count_by-absent p [] past = refl
-count_by-absent p (x ∷ xs) past = by (count_by-absent p xs) (cases_Bool (p x)) past
+-- a number that is counted stands somewhere
+pub Contains-counted : (number : ℕ) (xs : List ℕ) → 0 < count_by (eqb number) xs → Contains xs number
+Contains-counted number [] there = absurd (omega arith)
+Contains-counted number (x ∷ xs) there = by (Contains-counted number xs) (cases_eq number x)
   where
-    by : (length xs ≤ position_or_len p xs → count_by p xs ≡ 0) → (p x ≡ true) ⊎ (p x ≡ false) →
-        length (x ∷ xs) ≤ position_or_len p (x ∷ xs) → count_by p (x ∷ xs) ≡ 0
-    by rest (inl hit) at = let at' = rw hit at at in absurd (omega arith)
-    by rest (inr miss) at =
-        let at' : length xs ≤ position_or_len p xs = let at'' = rw miss at at in omega arith in
-        count_by-miss p x xs miss ∙ rest at'
-
-count_by-there : {X : Type 0} (p : X → Bool) (xs : List X) → position_or_len p xs < length xs → 0 < count_by p xs
-count_by-there p [] there = absurd (omega arith)
-count_by-there p (x ∷ xs) there = by (count_by-there p xs) (cases_Bool (p x)) there
-  where
-    by : (position_or_len p xs < length xs → 0 < count_by p xs) → (p x ≡ true) ⊎ (p x ≡ false) →
-        position_or_len p (x ∷ xs) < length (x ∷ xs) → 0 < count_by p (x ∷ xs)
-    by rest (inl hit) at = omega (arith, count_by-hit p x xs hit)
-    by rest (inr miss) at =
-        let at' : position_or_len p xs < length xs = let at'' = rw miss at at in omega arith in
-        omega (arith, count_by-miss p x xs miss, rest at')
-
--- what is not counted has no place
-pub position-absent : {X : Type 0} (p : X → Bool) (xs : List X) → count_by p xs ≡ 0 → position p xs ≡ None
-position-absent p xs none = by (cases_lt (position_or_len p xs) (length xs))
-  where
-    by : (position_or_len p xs < length xs) ⊎ (length xs ≤ position_or_len p xs) → position p xs ≡ None
-    by (inl there) = absurd (omega (arith, none, count_by-there p xs there))
-    by (inr past) = rw (le-ltb (position_or_len p xs) (length xs) past) refl
-
--- without the one that has a place, if one has it
-pub filter_at : {X : Type 0} (p : X → Bool) (xs : List X) (i : ℕ) → count_by p xs ≤ 1 → position p xs ≡ Some i →
-    remove xs i ≡ filter (λ x. not (p x)) xs
-filter_at p xs i once at = by (cases_lt (position_or_len p xs) (length xs))
-  where
-    by : (position_or_len p xs < length xs) ⊎ (length xs ≤ position_or_len p xs) →
-        remove xs i ≡ filter (λ x. not (p x)) xs
-    by (inl there) =
-        let same : position_or_len p xs ≡ i =
-        same_Some _ _ (rw (lt-ltb (position_or_len p xs) (length xs) there) at at) in
-        rw (← same) (filter_out p xs once there)
-    by (inr past) = absurd (none-some i (rw (le-ltb (position_or_len p xs) (length xs) past) at at))
-
-pub filter_nowhere : {X : Type 0} (p : X → Bool) (xs : List X) → position p xs ≡ None →
-    filter (λ x. not (p x)) xs ≡ xs
-filter_nowhere p xs none = by (cases_lt (position_or_len p xs) (length xs))
-  where
-    by : (position_or_len p xs < length xs) ⊎ (length xs ≤ position_or_len p xs) → filter (λ x. not (p x)) xs ≡ xs
-    by (inl there) =
-        absurd (none-some (position_or_len p xs) (sym (rw (lt-ltb (position_or_len p xs) (length xs) there) at none)))
-    by (inr past) = filter_absent p xs (count_by-absent p xs past)
-
-position_or_len-drop : {X : Type 0} (p : X → Bool) (xs : List X) (start : ℕ) → start ≤ length xs →
-    AllWithin (λ x. p x ≡ false) xs 0 start → position_or_len p xs ≡ start + position_or_len p (drop start xs)
-position_or_len-drop p xs zero le none = sym (zero-add (position_or_len p xs))
-position_or_len-drop p [] (suc start) le none = absurd (omega arith)
-position_or_len-drop p (x ∷ xs) (suc start) le none =
-    let here : p x ≡ false = none 0 x (omega arith) (omega arith) in
-    let rest = position_or_len-drop p xs start (omega arith)
-    (λ k d low high. none (suc k) d (omega arith) (omega arith)) in
-    rw here (omega (arith, rest))
-
--- a place after those that do not pass
-pub position-drop : {X : Type 0} (p : X → Bool) (xs : List X) (start : ℕ) → start ≤ length xs →
-    AllWithin (λ x. p x ≡ false) xs 0 start →
-    position p xs ≡ option_map (λ i. start + i) (position p (drop start xs))
-position-drop p xs start le none =
-    by (position_or_len p (drop start xs)) (position_or_len-drop p xs start le none)
-    (cases_lt (position_or_len p (drop start xs)) (length (drop start xs)))
-  where
-    by : (at : ℕ) → position_or_len p xs ≡ start + at → (at < length (drop start xs)) ⊎ (length (drop start xs) ≤ at) →
-        position p xs ≡ option_map (λ i. start + i) (cond (ltb at (length (drop start xs))) (Some at) None)
-    by at is (inl there) =
-        let there' : start + at < length xs = omega (arith, length-drop start xs) in
-        rw (is, lt-ltb at (length (drop start xs)) there, lt-ltb (start + at) (length xs) there') refl
-    by at is (inr past) =
-        let past' : length xs ≤ start + at = omega (arith, length-drop start xs) in
-        rw (is, le-ltb at (length (drop start xs)) past, le-ltb (start + at) (length xs) past') refl
+    by : (0 < count_by (eqb number) xs → Contains xs number) → (number ≡ x) ⊎ (number ≡ x → ⊥) →
+        Contains (x ∷ xs) number
+    by rest (inl same) = (0, omega arith, sym same)
+    by rest (inr other) =
+        let later : Contains xs number =
+        rest (omega (arith, there, count_by-miss (eqb number) x xs (ne_eqb number x other))) in
+        (suc later.0, (let lt : later.0 < length xs = later.1 in omega arith), later.2)
 
 -- ---- order
 module _ {X : Type 0} (lt : X → X → Bool) where

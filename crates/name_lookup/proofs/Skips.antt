@@ -6,12 +6,12 @@ use Rattle.name_lookup.specs.Letters.{after_word, first_word, through_word, ends
 use Rattle.std.proofs.lemmas.List.{take_all, take-append-le}
 use Rattle.name_lookup.specs.declared.steps.Step.TheVariants.{Found, Seek, End}
 use Rattle.name_lookup.specs.Steps.{NoneUpTo, NoneFrom, Tells}
-use Rattle.name_lookup.proofs.Orders.{cmp}
+use Rattle.name_lookup.specs.Order.{letters_cmp}
 use Rattle.name_lookup.proofs.Words.{HasNoBlank, after_word-joined, after_word-none}
 
 -- ---- letters in order
 abbrev lt : List ℕ → List ℕ → Bool
-lt low high = is_lt (cmp low high)
+lt low high = is_lt (letters_cmp low high)
 
 not_below_itself : (xs : List ℕ) → lt xs xs ≡ false
 not_below_itself xs = ap is_lt (tied_itself (lists_total nat_cmp_total) xs)

@@ -1,10 +1,14 @@
--- Names that are kept by number, and the order of their letters.
-use Rattle.std.specs.Prelude.{◌≡◌, ℕ, List, [], ◌∷◌, is_some, unwrap_or, if◌then◌else◌}
-use Rattle.std.specs.Prelude.{count_by, nat_eq, IsSortedByKey}
+-- Names that are kept by number, and the order in which they stand.
+use Rattle.std.specs.Prelude.{◌≡◌, ℕ, ◌-◌, Bool, true, List, [], ◌∷◌, map, length, slice_get}
+use Rattle.std.specs.Prelude.{is_some, unwrap_or, count_by, nat_eq, IsSortedByKey, if◌then◌else◌}
 use Rattle.std.specs.Cmp.Lexicographic.{slice_cmp}
 use Rattle.std.specs.Map.{lookup}
-use Rattle.std.specs.Ordering.{nat_cmp}
+use Rattle.std.specs.Option.{option_map_or}
+use Rattle.std.specs.Ordering.{nat_cmp, is_lt, on, then_cmp}
 use Rattle.std.specs.declared.cmp.Ordering.{Ordering}
+use Rattle.kom_types.specs.Names.{fold}
+use Rattle.name_lookup.specs.declared.order.By.{By}
+use Rattle.name_lookup.specs.declared.order.By.TheVariants.{Name, Letters}
 use Rattle.name_lookup.specs.NamedRows.{Named, with_name, NoneClash}
 use Rattle.name_lookup.specs.Letters.{letters_of}
 
@@ -13,12 +17,18 @@ pub record Indexed : Type 0 where
   pub names : List Named
   pub spare : ℕ
 
--- how two lists of letters stand to each other, and those of two names
+-- how two lists of letters stand to each other
 abbrev pub letters_cmp : List ℕ → List ℕ → Ordering
 letters_cmp = slice_cmp nat_cmp
 
-abbrev pub compared : List ℕ → List ℕ → Ordering
-compared name other = letters_cmp (letters_of name) (letters_of other)
+-- how two names stand to each other: by their letters, and names of the same letters by all bytes
+abbrev pub name_cmp : List ℕ → List ℕ → Ordering
+name_cmp = then_cmp (on letters_of letters_cmp) (on (map fold) letters_cmp)
+
+-- how a name stands to another one, or its letters to some letters
+abbrev pub compared : By → List ℕ → List ℕ → Ordering
+compared Name name asked = name_cmp name asked
+compared Letters name asked = letters_cmp (letters_of name) asked
 
 -- numbers with their names, by rising number
 abbrev pub rows_of : List (ℕ × List ℕ) → List Named
@@ -33,10 +43,17 @@ name_in entries number = unwrap_or (lookup (nat_eq number) entries) []
 abbrev pub letters_in : List (ℕ × List ℕ) → ℕ → List ℕ
 letters_in entries number = letters_of (name_in entries number)
 
--- the numbers stand in the order of the letters of their names
-abbrev pub IsByLetters : List (ℕ × List ℕ) → List ℕ → Type 0
-IsByLetters entries order =
-    IsSortedByKey (letters_in entries) letters_cmp order
+-- whether the name of a number comes before what is asked for, and that of the last of some numbers
+abbrev pub is_below : List (ℕ × List ℕ) → By → List ℕ → ℕ → Bool
+is_below entries by asked number = is_lt (compared by (name_in entries number) asked)
+
+abbrev pub ends_below : List (ℕ × List ℕ) → By → List ℕ → List ℕ → Bool
+ends_below entries by asked numbers =
+    option_map_or (is_below entries by asked) (slice_get numbers (length numbers - 1)) true
+
+-- the numbers stand in the order of their names
+abbrev pub IsByName : List (ℕ × List ℕ) → List ℕ → Type 0
+IsByName entries order = IsSortedByKey (name_in entries) name_cmp order
 
 -- each number that has a name stands once in the order
 abbrev pub StandsOnce : List (ℕ × List ℕ) → List ℕ → Type 0
@@ -45,6 +62,6 @@ StandsOnce entries order = (number : ℕ) → count_by (nat_eq number) order
 
 -- the order of names by number, of which no two clash
 pub record IsOrder (entries : List (ℕ × List ℕ)) (order : List ℕ) : Type 0 where
-  pub by_letters : IsByLetters entries order
+  pub by_name : IsByName entries order
   pub once : StandsOnce entries order
   pub none_clash : NoneClash (rows_of entries)

@@ -1,24 +1,26 @@
-ghost use Rattle.std.specs.Prelude.{◌≡◌, ◌<◌, ◌≤◌, [], None, IfOk, OnOk};
+ghost use Rattle.std.specs.Prelude.{◌≡◌, ◌<◌, ◌≤◌, [], None, filter, not, nat_eq, IfOk, OnOk};
 ghost use Rattle.name_lookup.specs.NamedRows.{with_name, without_name, taken, found, NoneClash};
+ghost use Rattle.name_lookup.specs.Order.{IsOrder};
 
 use crate::alphabet::clashes;
+use crate::blocks::Blocks;
 use crate::letters::Letters;
-use crate::order::{first_at, name_of, run_of, take_out};
+use crate::order::{By, name_of};
 use crate::walking::walk;
 use indexmap::IndexMap;
 use kom_types::{Bytes, Memory, Numbers};
 use std::alloc::Global;
 use std::marker::Model;
 
-/// Names by number, and their numbers in the order of the names' letters.
+/// Names by number, and their numbers in the order of the names.
 #[derive(Drop)]
 pub(crate) struct Index {
     kept: IndexMap<u32, Bytes>,
-    order: Vec<u32>,
+    order: Blocks,
 }
 
 impl Model for Index {
-    ghost use Rattle.std.specs.Prelude.{◌-◌, min, vec_len, vec_capacity};
+    ghost use Rattle.std.specs.Prelude.{min};
     ghost use Rattle.indexmap.specs.IndexMap.{spare};
     ghost use Rattle.name_lookup.specs.Order.{Indexed, rows_of, IsOrder};
 
@@ -26,10 +28,10 @@ impl Model for Index {
 
     ghost view = { λ index. record {
       names = rows_of index.kept.entries;
-      spare = min (spare index.kept) (vec_capacity index.order - vec_len index.order);
+      spare = min (spare index.kept) index.order.spare;
     } };
 
-    ghost invariant = { λ index. IsOrder index.kept.entries index.order.items };
+    ghost invariant = { λ index. IsOrder index.kept.entries index.order.numbers };
 }
 
 impl Index {
@@ -38,12 +40,12 @@ impl Index {
     {
         Index {
             kept: IndexMap::new(alloc),
-            order: Vec::new(alloc),
+            order: Blocks::new(alloc),
         }
     }
 
     pub(crate) fn alloc(&self) -> Global {
-        *self.order.allocator()
+        self.order.alloc()
     }
 
     /// Makes room for one more name.
@@ -52,7 +54,7 @@ impl Index {
         ensures spare { self.old.spare ≤ self.new.spare }
         ensures ok { OnOk result (0 < self.new.spare) }
     {
-        self.order.reserve(1)?;
+        self.order.reserve()?;
         self.kept.reserve(1)?;
         Ok(())
     }
@@ -64,8 +66,8 @@ impl Index {
         ensures { self.new.names ≡ with_name number name self.old.names }
     {
         take_out(&self.kept, &mut self.order, number);
-        let place = first_at(&self.kept, self.order.as_slice(), name.as_slice());
-        self.order.insert(place, number).unwrap();
+        let place = self.order.first_at(&self.kept, name.as_slice(), By::Name);
+        self.order.insert(place, number);
         self.kept.insert(number, name).unwrap();
     }
 
@@ -83,11 +85,15 @@ impl Index {
         ensures number { result ≡ taken name.now self.now.names }
         ensures none_clash { NoneClash self.now.names }
     {
-        let kept = &self.kept;
-        run_of(kept, self.order.as_slice(), name)
-            .iter()
-            .copied()
-            .find(|number| clashes(name, name_of(kept, *number)))
+        let place = self.order.first_at(&self.kept, name, By::Name);
+        if place >= self.order.len() {
+            return None;
+        }
+        let number = self.order.get(place);
+        if clashes(name, name_of(&self.kept, number)) {
+            return Some(number);
+        }
+        None
     }
 
     /// The numbers of the names that a pattern finds, rising.
@@ -95,13 +101,21 @@ impl Index {
         ensures { IfOk result (λ numbers. numbers ≡ found pattern.now self.now.names) }
     {
         let letters: Vec<u8> = Letters::of(pattern).collect(self.alloc())?;
-        let mut numbers = walk(
-            &self.kept,
-            self.order.as_slice(),
-            letters.as_slice(),
-            self.alloc(),
-        )?;
+        let mut numbers = walk(&self.kept, &self.order, letters.as_slice())?;
         numbers.sort_unstable();
         Ok(Numbers::of(numbers))
+    }
+}
+
+/// Takes a number out of the order, if it is there.
+fn take_out(kept: &IndexMap<u32, Bytes>, order: &mut Blocks, number: u32)
+    requires { IsOrder kept.now.entries order.old.numbers }
+    ensures rest { order.new.numbers
+        ≡ filter (λ one. not (nat_eq number one)) order.old.numbers }
+    ensures spare { order.old.spare ≤ order.new.spare }
+{
+    if let Some(name) = kept.get(&number) {
+        let place = order.first_at(kept, name.as_slice(), By::Name);
+        order.remove(place);
     }
 }

@@ -2,11 +2,14 @@
 #![tactic(auto)]
 
 mod alphabet;
+mod blocks;
+mod changing;
 mod index;
 mod letters;
 mod matching;
 mod names;
 mod order;
+mod spots;
 mod steps;
 mod walking;
 

@@ -15,15 +15,15 @@ use Rattle.name_lookup.proofs.index.Index.find.Goals as goal
 pub returns : goal.returns
 returns c =
     let entries = c.self.inside.kept.entries in
-    let order = c.self.inside.order.items in
+    let order = c.self.inside.order.numbers in
     let pattern = c.args.pattern.now in
     let letters : c.in_ok-letters.letters.items ≡ letters_of pattern =
     IfOk-at_ok _ c.in_ok-letters.was (items_from_collect c.collect.result c.collect.ensures.ran
     (YieldsList-from_first (λ x. x) letters_left (letters_of pattern) c.of.ensures)) in
     let walked : c.in_ok-numbers.numbers.items
-    ≡ filter (λ (one : ℕ). matches c.as_slice-2.result.now (letters_in entries one)) order =
-    rw c.as_slice.ensures.value at c.in_ok-numbers.ensures in
-    let given : c.as_slice-2.result.now ≡ letters_of pattern = c.as_slice-2.ensures.value ∙ letters in
+    ≡ filter (λ (one : ℕ). matches c.as_slice.result.now (letters_in entries one)) order =
+    c.in_ok-numbers.ensures in
+    let given : c.as_slice.result.now ≡ letters_of pattern = c.as_slice.ensures.value ∙ letters in
     let by_letters : c.in_ok-numbers.numbers.items
     ≡ filter (λ (one : ℕ). matches (letters_of pattern) (letters_in entries one)) order =
     walked ∙ ap (λ (l : List ℕ). filter (λ (one : ℕ). matches l (letters_in entries one)) order) given in

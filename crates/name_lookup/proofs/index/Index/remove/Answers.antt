@@ -1,4 +1,4 @@
-use Rattle.std.proofs.Common.{◌≡◌, ◌∙◌, ap, min, ◌-◌, vec_len, vec_capacity, arith, None}
+use Rattle.std.proofs.Common.{◌≡◌, ◌∙◌, ap, min, arith, None}
 use Rattle.std.specs.HashMap.{spare}
 use Rattle.name_lookup.specs.NamedRows.{without_name}
 use Rattle.name_lookup.proofs.Changes.{Updated, IsOrder-removed}
@@ -14,7 +14,7 @@ pub invariant_of-self : goal.invariant_of-self
 invariant_of-self c =
     rw c.take_out.ensures.rest
     (IsOrder-removed c.args.number c.self.inside.kept.entries c.swap_remove.new.self.entries (updated c)
-    c.self.inside.order.items c.self.invariant)
+    c.self.inside.order.numbers c.self.invariant)
 
 pub returns-clause-names : goal.returns-clause-names
 returns-clause-names c =
@@ -23,7 +23,6 @@ returns-clause-names c =
 
 pub returns-clause-spare : goal.returns-clause-spare
 returns-clause-spare c =
-    let room : min (spare c.self.inside.kept) (vec_capacity c.self.inside.order - vec_len c.self.inside.order)
-    ≡ c.args.self.now.spare =
+    let room : min (spare c.self.inside.kept) c.self.inside.order.spare ≡ c.args.self.now.spare =
     ap (λ value. value.spare) c.self.view_is in
-    omega (arith, c.swap_remove.ensures.room.0)
+    omega (arith, c.swap_remove.ensures.room.0, c.take_out.ensures.spare)
