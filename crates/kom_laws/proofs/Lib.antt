@@ -5,5 +5,6 @@ pub mod Told
 pub mod Messages
 pub mod Added
 pub mod Sent
-pub mod whole
 pub mod fitting
+pub mod Kept
+pub mod Viewers

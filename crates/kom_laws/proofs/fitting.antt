@@ -1,4 +1,5 @@
 pub mod Guards
+pub mod Items
 pub mod Ranges
 pub mod Removing
 pub mod Deleting
@@ -6,6 +7,8 @@ pub mod Clearing
 pub mod Persons
 pub mod Sessions
 pub mod Conferences
+pub mod Making
 pub mod Memberships
 pub mod Texts
+pub mod NewTexts
 pub mod Calls

@@ -14,6 +14,7 @@ use Rattle.kom_model.specs.Db.{Db, conference_of, person_of, text_of}
 use Rattle.kom_model.specs.Effects.{IsProtected}
 use Rattle.kom_model.specs.Sending.{Sending}
 use Rattle.kom_model.specs.ToWhom.{sent_by}
+use Rattle.kom_model.specs.Viewers.{viewer_of}
 use Rattle.kom_model.specs.Whole.{IsWhole}
 use Rattle.kom_model.specs.Rights.{supervises, sees, reads_conference, reads, may_submit}
 use Rattle.kom_model.specs.Shown.{shows_recipient, shows_membership, is_reserved, shows_reads}
@@ -83,8 +84,8 @@ pub record IsHiddenSame (group : Group) (one other : Db) : Type 0 where
 -- The laws of erasing: over all stored rows in which each secret conference is read-protected, and
 -- for nobody and each person of a group. That what a call sends is the same wants whole rows, since
 -- a membership in a conference that is not there would hear of its texts. Whatever a mask hides,
--- the same conferences are unseen; and if it hides no more than is hidden from the group, the same
--- texts are unread.
+-- who looks from a seat is the same, and as strong, and the same conferences are unseen; and if it
+-- hides no more than is hidden from the group, the same texts are unread.
 pub record StandErased : Type 0 where
   pub rights : (group : Group) (db : Db) (viewer : Viewer) → IsProtected db
       → IsOfGroup group viewer → HasSameRights viewer (erased_db group db) db
@@ -95,6 +96,8 @@ pub record StandErased : Type 0 where
   pub sent : (group : Group) (asked : Asked) (decision : Decision) (viewer : Viewer)
       → IsProtected asked.db → IsWhole asked.db → IsInGroup group viewer
       → IsSentSame viewer asked (erased_db group asked.db) decision
+  pub viewer : (mask : Mask) (db : Db) (seat : Seat)
+      → viewer_of (masked_db mask db) seat ≡ viewer_of db seat
   pub hidden : (group : Group) (db : Db) → IsProtected db
       → IsHiddenSame group (erased_db group db) db
   pub unseen : (group : Group) (mask : Mask) (db : Db) (conference : ℕ)

@@ -1,5 +1,4 @@
 pub mod Groups
 pub mod Erasing
 pub mod Laws
-pub mod Whole
 pub mod Fitting

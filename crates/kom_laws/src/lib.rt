@@ -4,4 +4,4 @@
 
 mod laws;
 
-pub use laws::{decided_effects_fit, effects_leave_whole, rights_stand_erased};
+pub use laws::{decided_effects_fit, rights_stand_erased};

@@ -24,8 +24,8 @@ use Rattle.kom_masks.specs.Masks.{masked_text, masked_membership, masked_read, m
 use Rattle.kom_masks.specs.Masks.{blank_person, blank_text}
 use Rattle.kom_masks.proofs.Listed.{map-twice, filter-twice, filter-appended, filter-filtered}
 use Rattle.kom_masks.proofs.Numbered.{masked-twice, picked-masked, changed-masked, added-masked, gone-masked}
-use Rattle.kom_masks.proofs.Fields.{field-blank, field-number, person_field-blank, person_field-number}
-use Rattle.kom_masks.proofs.Fields.{counted-blank, counted-number}
+use Rattle.kom_model.proofs.Fields.{field-number, person_field-number, counted-number}
+use Rattle.kom_masks.proofs.Fields.{field-blank, person_field-blank, counted-blank}
 use Rattle.kom_masks.proofs.Memberships.{membership-twice, read-set, gone-membership, set-membership}
 use Rattle.kom_masks.proofs.Reading.{read-twice, readers-gone, reader-set, ranges-set}
 

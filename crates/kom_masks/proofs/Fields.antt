@@ -27,28 +27,11 @@ field-blank (field.KeepCommented days) row = refl
 field-blank (field.Expire days) row = refl
 field-blank (field.LastWritten at) row = refl
 
-pub field-number : (what : ConfField) (row : ConferenceRow) → (Conferences.with_field what row).number ≡ row.number
-field-number (field.Presentation text) row = refl
-field-number (field.Motd text) row = refl
-field-number (field.Supervisor conference) row = refl
-field-number (field.PermittedSubmitters conference) row = refl
-field-number (field.SuperConference conference) row = refl
-field-number (field.Kind kind) row = refl
-field-number (field.Nice days) row = refl
-field-number (field.KeepCommented days) row = refl
-field-number (field.Expire days) row = refl
-field-number (field.LastWritten at) row = refl
-
 pub person_field-blank : (what : PersonField) (row : PersonRow) →
     blank_person (Persons.with_field what (blank_person row)) ≡ blank_person (Persons.with_field what row)
 person_field-blank (person_field.Privileges privileges) row = refl
 person_field-blank (person_field.Flags flags) row = refl
 person_field-blank (person_field.UserArea text) row = refl
-
-pub person_field-number : (what : PersonField) (row : PersonRow) → (Persons.with_field what row).number ≡ row.number
-person_field-number (person_field.Privileges privileges) row = refl
-person_field-number (person_field.Flags flags) row = refl
-person_field-number (person_field.UserArea text) row = refl
 
 pub counted-blank : (what : Counter) (by : ℕ) (row : PersonRow) →
     blank_person (counted what by (blank_person row)) ≡ blank_person (counted what by row)
@@ -59,12 +42,3 @@ counted-blank counter.ReadTexts by row = refl
 counted-blank counter.TextFetches by row = refl
 counted-blank counter.CreatedPersons by row = refl
 counted-blank counter.CreatedConferences by row = refl
-
-pub counted-number : (what : Counter) (by : ℕ) (row : PersonRow) → (counted what by row).number ≡ row.number
-counted-number counter.TimePresent by row = refl
-counted-number counter.CreatedLines by row = refl
-counted-number counter.CreatedBytes by row = refl
-counted-number counter.ReadTexts by row = refl
-counted-number counter.TextFetches by row = refl
-counted-number counter.CreatedPersons by row = refl
-counted-number counter.CreatedConferences by row = refl

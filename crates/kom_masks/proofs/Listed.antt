@@ -1,7 +1,7 @@
 -- Lists of rows that a mask goes over, before a change and after it, or after it alone.
 use Rattle.std.proofs.Common.{◌≡◌, Bool, List, [], ◌∷◌, ◌++◌, refl, ap, ap₂, ◌∙◌, inl, inr}
-use Rattle.std.specs.Prelude.{map, option_map}
-use Rattle.std.specs.List.{filter, find, list_any}
+use Rattle.std.specs.Prelude.{map}
+use Rattle.std.specs.List.{filter, list_any}
 use Rattle.std.proofs.Common.{◌||◌}
 use Rattle.std.proofs.lemmas.Bool.{cases_Bool}
 use Rattle.kom_masks.proofs.Rows.{filter-changed}
@@ -62,15 +62,7 @@ pub map-filtered : {X : Type 0} (mask : X → X) (test : X → Bool) → ((row :
 map-filtered mask test tests twice rows =
     ap (map mask) (filter-changed test mask tests rows) ∙ map-twice mask twice (filter test rows)
 
--- what is found of rows that are masked
-pub find-masked : {X : Type 0} (test : X → Bool) (mask : X → X) → ((row : X) → test (mask row) ≡ test row) →
-    (rows : List X) → find test (map mask rows) ≡ option_map mask (find test rows)
-find-masked test mask tests [] = refl
-find-masked test mask tests (row ∷ rows) = elim (cases_Bool (test row)) [
-  | inl here ↦ rw (tests row) (rw here refl)
-  | inr there ↦ rw (tests row) (rw there (find-masked test mask tests rows))
-]
-
+-- whether any of rows that are masked passes a test
 pub any-masked : {X : Type 0} (test : X → Bool) (mask : X → X) → ((row : X) → test (mask row) ≡ test row) →
     (rows : List X) → list_any test (map mask rows) ≡ list_any test rows
 any-masked test mask tests [] = refl

@@ -12,7 +12,8 @@ use Rattle.kom_types.specs.tables.Memberships.{membership_of}
 use Rattle.read_ranges.specs.Reads.{read_at}
 use Rattle.kom_masks.specs.Masks.{Mask, masked_membership, blank_membership}
 use Rattle.kom_masks.proofs.Rows.{filter-changed, same-changed}
-use Rattle.kom_masks.proofs.Listed.{map-twice, find-masked}
+use Rattle.kom_model.proofs.whole.Found.{find-mapped}
+use Rattle.kom_masks.proofs.Listed.{map-twice}
 use Rattle.kom_masks.proofs.Numbered.{picked-masked}
 
 module _ (mask : Mask) where
@@ -80,7 +81,7 @@ module _ (mask : Mask) where
         | None ↦ map (masked_membership mask) rows
         | Some row ↦ closed_up person row.position (filter (λ row. not (is_membership person conference row))
             (map (masked_membership mask) rows))
-      ])) (find-masked (is_membership person conference) (masked_membership mask) (is-masked person conference) rows)
+      ])) (find-mapped (is_membership person conference) (masked_membership mask) (is-masked person conference) rows)
       ∙ by-found (membership_of person conference rows) where
         by-found : (found : Option MembershipRow) →
             map (masked_membership mask) (elim (option_map (masked_membership mask) found) [
@@ -206,7 +207,7 @@ module _ (mask : Mask) where
       ap (λ (found : Option MembershipRow). map (masked_membership mask) (elim found [
         | None ↦ with_new given (map (masked_membership mask) rows)
         | Some old ↦ set_again given old (map (masked_membership mask) rows)
-      ])) (find-masked (is_membership given.person given.conference) (masked_membership mask)
+      ])) (find-mapped (is_membership given.person given.conference) (masked_membership mask)
       (is-masked given.person given.conference) rows)
       ∙ by-found (membership_of given.person given.conference rows) refl where
         by-found : (found : Option MembershipRow) → membership_of given.person given.conference rows ≡ found →

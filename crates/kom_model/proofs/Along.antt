@@ -126,7 +126,7 @@ history_moves n state (made ∷ history) sound legal =
           }
       | inr stays ↦
           let along : MovesAlong n next history =
-          history_moves n next history (IsSound-after state made sound) legal.1 in
+          history_moves n next history (IsSound-after state made legal.0.user sound) legal.1 in
           record {
             rest = along.rest;
             moves = moves_then (taken_by n state made) (taken_along n next history) along.rest (waiting_for n state)

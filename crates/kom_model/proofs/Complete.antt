@@ -82,12 +82,12 @@ taken_before n state flush drain between sound legal flushes whole nothing =
     let history : List Record = flush ∷ between in
     let next : State = after state flush in
     let end : State = state_after next between in
-    let sound' : IsSound end = IsSound-state_after state history sound in
+    let sound' : IsSound end = IsSound-state_after state history legal sound in
     let stable : state.entries ≤ end.stable =
     omega (
       arith,
       flushed-stable state flush flushes whole,
-      stable-state_after next between (IsSound-after state flush sound),
+      stable-state_after next between legal.1 (IsSound-after state flush legal.0.user sound),
     ) in
     let early = ordered-found n state.entries state.sessions sound.ordered in
     let late : AllFrom state.entries (waiting_for n end) =
@@ -111,7 +111,8 @@ gives_all_before state n before between flush drain sound legal flushes whole no
     (λ last. (drain.entry.act ≡ act.Drain n) × MayFollow last drain × (given_from n last ≡ []))
     (state_after-append state before history) nothing in
     let later : (more : List Waiting) × (waiting_for n middle ++ more ≡ taken_along n middle history) =
-    taken_before n middle flush drain between (IsSound-state_after state before sound) parts.1 flushes whole nothing' in
+    taken_before n middle flush drain between (IsSound-state_after state before parts.0 sound) parts.1 flushes whole
+    nothing' in
     let along : MovesAlong n state before = history_moves n state before sound parts.0 in
     let waits : along.rest ≡ waiting_for n middle = along.waits (λ over.
     drained-there n end drain nothing'.0 nothing'.1 (IsOver-state_after n middle history over)) in

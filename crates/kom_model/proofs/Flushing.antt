@@ -7,7 +7,7 @@ use Rattle.kom_types.specs.Sessions.{waiting_limits}
 use Rattle.kom_model.specs.State.{State, IsSound}
 use Rattle.kom_model.specs.After.{moment_of, decision_at, deliveries, acted, after}
 use Rattle.kom_model.specs.Effects.{apply_all}
-use Rattle.kom_model.specs.Legal.{state_after}
+use Rattle.kom_model.specs.Legal.{IsLegal, state_after}
 use Rattle.kom_model.proofs.Queueing.{queue_all-rows}
 use Rattle.kom_model.proofs.Changing.{make_changes-rows}
 use Rattle.kom_model.proofs.Soundness.{IsSound-after}
@@ -40,12 +40,16 @@ stable-after state made sound =
     stable_step state made.entry.pass made.entry.moment made.entry.act made.session made.short sound in
     omega (arith, same, step)
 
-pub stable-state_after : (state : State) (history : List Record) → IsSound state →
+pub stable-state_after : (state : State) (history : List Record) → IsLegal state history → IsSound state →
     state.stable ≤ (state_after state history).stable
-stable-state_after state [] sound = omega arith
-stable-state_after state (made ∷ history) sound =
+stable-state_after state [] legal sound = omega arith
+stable-state_after state (made ∷ history) legal sound =
     let next : State = after state made in
-    omega (arith, stable-after state made sound, stable-state_after next history (IsSound-after state made sound))
+    omega (
+      arith,
+      stable-after state made sound,
+      stable-state_after next history legal.1 (IsSound-after state made legal.0.user sound),
+    )
 
 flushed_step : (state : State) (pass moment : ℕ) (what : Act) (session : ℕ) (short : Bool) → what ≡ act.Flush →
     short ≡ false → state.entries ≤ (after state (record {

@@ -1,9 +1,15 @@
+pub mod Fields
+pub mod whole
 pub mod Finding
 pub mod Order
 pub mod Keeping
 pub mod Numbers
 pub mod Queueing
 pub mod Changing
+pub mod Deciding
+pub mod Guards
+pub mod Seating
+pub mod Leaving
 pub mod Protection
 pub mod Soundness
 pub mod Kept

@@ -1,6 +1,6 @@
 -- One step of the server.
-use Rattle.std.specs.Prelude.{◌≡◌, ℕ, ◌+◌, max, not, ◌||◌, Bool, true, false, List, [], ◌∷◌, ◌++◌}
-use Rattle.std.specs.Prelude.{map, filter, if◌then◌else◌}
+use Rattle.std.specs.Prelude.{◌≡◌, ℕ, ◌+◌, ◌≤◌, max, not, ◌||◌, Bool, true, false, List, [], ◌∷◌}
+use Rattle.std.specs.Prelude.{◌++◌, length, map, filter, if◌then◌else◌}
 use Rattle.kom_types.specs.Errors as error
 use Rattle.kom_types.specs.declared.acts.Act.{Act}
 use Rattle.kom_types.specs.declared.acts.Act.TheVariants as act
@@ -14,7 +14,7 @@ use Rattle.kom_types.specs.declared.session_changes.SessionChange.{SessionChange
 use Rattle.kom_types.specs.Sessions.{Session, Limits, waiting_limits, fresh_session, is_session}
 use Rattle.kom_types.specs.Sessions.{queued, drained, changed_session, changed, is_stop}
 use Rattle.kom_model.specs.State.{State}
-use Rattle.kom_model.specs.Effects.{apply_all}
+use Rattle.kom_model.specs.Effects.{apply_all, longest_user_name}
 use Rattle.kom_model.specs.Decide.{asked_in, decision_of, is_firm}
 use Rattle.kom_model.specs.Refusal.{IsPossible}
 use Rattle.kom_model.specs.Sending.{Delivery}
@@ -46,9 +46,19 @@ MayBeShort state moment (act.Broken session) true = ⊥
 MayBeShort state moment (act.Drain session) true = ⊥
 MayBeShort state moment (act.Close session) true = ⊥
 
+-- the user of a greeting has at most 1,024 bytes
+abbrev pub HasUser : Act → Type 0
+HasUser (act.Connect user host) = length user ≤ longest_user_name
+HasUser (act.Call session reference call) = Unit {0}
+HasUser (act.Broken session) = Unit {0}
+HasUser (act.Drain session) = Unit {0}
+HasUser act.Flush = Unit {0}
+HasUser (act.Close session) = Unit {0}
+
 -- a record may follow in a history that led to this state
 pub record MayFollow (state : State) (made : Record) : Type 0 where
   pub possible : IsPossible state made.entry.act
+  pub user : HasUser made.entry.act
   pub session : made.session ≡ session_in state made.entry.act
   pub short : MayBeShort state made.entry.moment made.entry.act made.short
 

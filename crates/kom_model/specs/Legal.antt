@@ -1,12 +1,12 @@
 -- Histories of the one-thread server.
-use Rattle.std.specs.Prelude.{◌≡◌, ℕ, ◌≤◌, List, [], ◌∷◌, length, Option, Some, None, IfSome}
+use Rattle.std.specs.Prelude.{◌≡◌, ℕ, List, [], ◌∷◌, Option, Some, None, IfSome}
 use Rattle.kom_types.specs.declared.acts.Act.{Act}
 use Rattle.kom_types.specs.declared.acts.Act.TheVariants as act
 use Rattle.kom_types.specs.declared.acts.Entry.{Entry}
 use Rattle.kom_types.specs.declared.acts.Record.{Record}
 use Rattle.kom_model.specs.State.{State, session_of}
-use Rattle.kom_model.specs.Effects.{longest_user_name}
 use Rattle.kom_model.specs.After.{MayFollow, after}
+pub use Rattle.kom_model.specs.After.{HasUser}
 
 -- each record may follow in the state that those before it leave
 abbrev pub IsLegal : State → List Record → Type 0
@@ -17,15 +17,6 @@ IsLegal state (made ∷ history) = MayFollow state made × IsLegal (after state 
 abbrev pub state_after : State → List Record → State
 state_after state [] = state
 state_after state (made ∷ history) = state_after (after state made) history
-
--- the user of a greeting has at most 1,024 bytes
-abbrev pub HasUser : Act → Type 0
-HasUser (act.Connect user host) = length user ≤ longest_user_name
-HasUser (act.Call session reference call) = Unit {0}
-HasUser (act.Broken session) = Unit {0}
-HasUser (act.Drain session) = Unit {0}
-HasUser act.Flush = Unit {0}
-HasUser (act.Close session) = Unit {0}
 
 -- the session for which an act is made, if there is one before it
 abbrev pub session_served : Act → Option ℕ

@@ -1,6 +1,6 @@
 -- To whom a message goes: to the sessions in which somebody was logged in before the entry, and
 -- which accepted its number then. (Protocol A, "Asynchronous Messages".)
-use Rattle.std.specs.Prelude.{ℕ, ◌^◌, Bool, ◌==◌, ◌||◌, not, List, Option, Some, None}
+use Rattle.std.specs.Prelude.{ℕ, ◌^◌, Bool, ◌==◌, ◌||◌, not, List, Option, None}
 use Rattle.std.specs.Prelude.{option_map, if◌then◌else◌}
 use Rattle.std.specs.List.{filter_map}
 use Rattle.kom_types.specs.Bits.{is_on}

@@ -23,7 +23,9 @@ use Rattle.kom_types.specs.tables.Persons.{number_of_person}
 use Rattle.kom_types.specs.tables.Texts.{number_of_text, is_recipient, recipients_of, is_link}
 use Rattle.kom_types.specs.tables.Texts.{links_from, links_into, is_mark}
 use Rattle.read_ranges.specs.Reads.{ReadRow}
-use Rattle.kom_model.specs.Db.{Db}
+use Rattle.kom_types.specs.declared.effects.Effect.{Effect}
+use Rattle.kom_model.specs.Db.{Db, empty_db}
+use Rattle.kom_model.specs.Effects.{fits, made, apply_all}
 use Rattle.kom_model.specs.Effects.{last_conference, longest_name, most_memberships}
 use Rattle.kom_model.specs.Effects.{last_drawn, longest_body, most_recipients, most_links}
 use Rattle.kom_model.specs.Effects.{most_marks, is_recipient_tag}
@@ -76,11 +78,13 @@ abbrev pub is_apart : List ConferenceRow → ConferenceRow → Bool
 is_apart rows one = not (list_any
     (λ row. not (row.number == one.number) && clash row.name one.name) rows)
 
--- The conferences: their numbers rise, and lie below the next one; their names are short, and no
--- two clash.
+-- The conferences: their numbers rise, from 1 on, and lie below the next one; their names are short,
+-- and no two clash.
 pub record AreConferences (rows : List ConferenceRow) (next : ℕ) : Type 0 where
   pub rising : IsByNumber number_of_conference rows
+  pub positive : AllByRecursion (λ row. 0 < row.number) rows
   pub drawn : AllByRecursion (λ row. row.number < next) rows
+  pub begun : 0 < next
   pub limited : next ≤ last_conference + 1
   pub short : AllByRecursion (λ row. length row.name ≤ longest_name) rows
   pub apart : AllByRecursion (λ row. IsTrue (is_apart rows row)) rows
@@ -197,3 +201,10 @@ pub record IsWhole (db : Db) : Type 0 where
   pub links : AreLinks db.links db.texts
   pub marks : AreMarks db.marks db.persons db.texts
   pub items : AreItems db.items db.texts db.conferences
+
+-- The laws of whole rows: no row is whole, an effect that fits leaves whole rows whole, and so do
+-- effects one after the other, since one that does not fit changes nothing.
+pub record StandWhole : Type 0 where
+  pub empty : IsWhole empty_db
+  pub one : (what : Effect) (db : Db) → fits what db ≡ true → IsWhole db → IsWhole (made what db)
+  pub all : (effects : List Effect) (db : Db) → IsWhole db → IsWhole (apply_all effects db)

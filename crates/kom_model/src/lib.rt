@@ -9,7 +9,7 @@ mod text_heads;
 mod viewers;
 
 pub use call_errors::{CallError, Refused};
-pub use laws::{drains_give_all, kept_effects_are_made};
+pub use laws::{drains_give_all, effects_leave_whole, kept_effects_are_made};
 pub use stored::Rows;
 pub use text_heads::TextHead;
 pub use viewers::Viewer;

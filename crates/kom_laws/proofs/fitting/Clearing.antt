@@ -32,22 +32,22 @@ use Rattle.kom_model.specs.Db.{Db, conference_of, person_of, membership_of, memb
 use Rattle.kom_model.specs.Db.{recipient_of, locals_of, mark_of, marks_of, items_of}
 use Rattle.kom_model.specs.Effects.{fits, made, apply, all_fit}
 use Rattle.kom_model.specs.Whole.{IsWhole, key_of}
+use Rattle.kom_model.specs.State.{AreSeated}
 use Rattle.kom_model.specs.calls.Call.{Asked}
 use Rattle.kom_model.specs.calls.Conferences.{delete_conf, gone_conference, gone_person, owner_guards}
 use Rattle.kom_model.specs.calls.Guards.{caller}
 use Rattle.kom_model.specs.calls.Sessions.{seat_left, all_left}
-use Rattle.kom_masks.proofs.Fields.{counted-number}
-use Rattle.kom_masks.proofs.Listed.{find-masked}
-use Rattle.kom_laws.specs.Fitting.{AreSeated}
+use Rattle.kom_model.proofs.Fields.{counted-number}
+use Rattle.kom_model.proofs.whole.Found.{find-mapped}
 use Rattle.kom_laws.proofs.fitting.Deleting.{same_item, item-own, item-key, item-named, map-through}
 use Rattle.kom_laws.proofs.fitting.Guards.{all-pass, conference-there, one-fits}
 use Rattle.kom_laws.proofs.fitting.Removing.{taken, present, present-of, found-among, named-among, gone-all}
 use Rattle.kom_laws.proofs.fitting.Removing.{none-left, removed-hold, all-passing}
-use Rattle.kom_laws.proofs.whole.Counts.{all-weaker, count-none, count-kept}
-use Rattle.kom_laws.proofs.whole.Marks.{count-marks}
-use Rattle.kom_laws.proofs.whole.Memberships.{count-memberships, keys-closed}
-use Rattle.kom_laws.proofs.whole.OnConferences.{told-length}
-use Rattle.kom_laws.proofs.whole.Pairs.{is_pair, all-unkeyed, filter-keyed, count-keyed}
+use Rattle.kom_model.proofs.whole.Counts.{all-weaker, count-none, count-kept}
+use Rattle.kom_model.proofs.whole.Marks.{count-marks}
+use Rattle.kom_model.proofs.whole.Memberships.{count-memberships, keys-closed}
+use Rattle.kom_model.proofs.whole.OnConferences.{told-length}
+use Rattle.kom_model.proofs.whole.Pairs.{is_pair, all-unkeyed, filter-keyed, count-keyed}
 
 equal : (n : ℕ) → (n == n) ≡ true
 equal n = eq-eqb n n refl
@@ -173,7 +173,7 @@ module _ (number : ℕ) (base : Db) where
     unfolding made
     counted-left person what by db left = record {
       conference = left.conference;
-      person = ap is_some (find-masked (λ (row : PersonRow). row.number == number)
+      person = ap is_some (find-mapped (λ (row : PersonRow). row.number == number)
           (λ row. cond (row.number == person) (counted what by row) row)
           (λ row. ap (λ n. n == number) (same row)) db.persons)
           ∙ some-told (λ row. cond (row.number == person) (counted what by row) row)
@@ -197,10 +197,9 @@ module _ (number : ℕ) (base : Db) where
 
     left-all : (asked : Asked) (rest : List Effect) →
         ((db : Db) → Left number base recipients marks keys items db → all_fit rest db ≡ true) → (seats : List Seat) →
-        AllByRecursion (λ seat. (seat.person == 0
-        || is_some (row_of number_of_person seat.person base.persons)) ≡ true) seats → (db : Db) →
-        Left number base recipients marks keys items db →
+        AreSeated base seats → (db : Db) → Left number base recipients marks keys items db →
         all_fit (flat_map (seat_left asked) (filter (λ seat. seat.person == number) seats) ++ rest) db ≡ true
+    unfolding person_of
     left-all asked rest after [] seated db left = after db left
     left-all asked rest after (seat ∷ seats) seated db left = elim (cases_Bool (seat.person == number)) [
       | inr other ↦ rw other (left-all asked rest after seats seated.1 db left)
@@ -210,7 +209,8 @@ module _ (number : ℕ) (base : Db) where
           | inl none ↦ rw none (left-all asked rest after seats seated.1 db left)
           | inr long ↦
               let at : seat.person ≡ number = eqb-true seat.person number same in
-              let there : is_some (row_of number_of_person seat.person base.persons) ≡ true = rw some at seated.0 in
+              let there : is_some (row_of number_of_person seat.person base.persons) ≡ true =
+              rw some at seated.0.person in
               let here : is_some (row_of number_of_person number base.persons) ≡ true = rw at at there in
               let by : ℕ = asked.moment - seat.login in
               let fit = counted-fits by db left here in
@@ -562,7 +562,7 @@ module _ (asked : Asked) (number : ℕ) (whole : IsWhole asked.db) where
   first-left there =
       record { conference = there; person = refl; recipients = refl; marks = refl; keys = refl; items = refl }
 
-  all-left : AreSeated asked → is_some (row_of number_of_conference number base.conferences) ≡ true →
+  all-left : AreSeated base asked.seats → is_some (row_of number_of_conference number base.conferences) ≡ true →
       all_fit (all_left asked number
       ++ (gone_recipients ++ (gone_marks ++ (gone_keys ++ (gone_items ++ last))))) base ≡ true
   unfolding person_of
@@ -602,7 +602,8 @@ module _ (asked : Asked) (number : ℕ) (whole : IsWhole asked.db) where
       ∙ append_assoc (a ++ b ++ c) d (e ++ (f ++ g)) ∙ append_assoc (a ++ b) c (d ++ (e ++ (f ++ g)))
       ∙ append_assoc a b (c ++ (d ++ (e ++ (f ++ g))))
 
-  gone_conference-fits : AreSeated asked → is_some (row_of number_of_conference number base.conferences) ≡ true →
+  gone_conference-fits : AreSeated base asked.seats →
+      is_some (row_of number_of_conference number base.conferences) ≡ true →
       all_fit (gone_conference asked number) base ≡ true
   gone_conference-fits seated there =
       let listed : gone_conference asked number ≡ all_left asked number ++ gone_recipients ++ gone_marks ++ gone_keys
@@ -614,7 +615,7 @@ module _ (asked : Asked) (number : ℕ) (whole : IsWhole asked.db) where
       (effect.ConfGone number ∷ []))
       ∙ sym listed) (all-left seated there)
 
-  pub delete_conf-fits : AreSeated asked → (delete_conf asked number).early ≡ None →
+  pub delete_conf-fits : AreSeated base asked.seats → (delete_conf asked number).early ≡ None →
       all_fit (delete_conf asked number).rest.effects base ≡ true
   unfolding conference_of
   delete_conf-fits seated passes =

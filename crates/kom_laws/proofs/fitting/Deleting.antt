@@ -25,9 +25,9 @@ use Rattle.kom_model.specs.calls.Guards.{caller, login_guard, text_guard, unless
 use Rattle.kom_model.specs.calls.Texts.{delete_text, gone_text, owns_text}
 use Rattle.kom_laws.proofs.fitting.Guards.{one-fits, all-pass, text-there}
 use Rattle.kom_laws.proofs.fitting.Removing.{taken, present, none-left, removed-fit}
-use Rattle.kom_laws.proofs.whole.Appended.{alike-same}
-use Rattle.kom_laws.proofs.whole.Counts.{all-weaker, count-none}
-use Rattle.kom_laws.proofs.whole.OnConferences.{told-length}
+use Rattle.kom_model.proofs.whole.Appended.{alike-same}
+use Rattle.kom_model.proofs.whole.Counts.{all-weaker, count-none}
+use Rattle.kom_model.proofs.whole.OnConferences.{told-length}
 
 -- a link, a recipient, a mark and an item of a text are each the same as another of the same numbers
 abbrev same_link : TextLink → TextLink → Bool

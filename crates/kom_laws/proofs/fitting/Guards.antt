@@ -1,8 +1,8 @@
 -- What guards that let a call pass say of the stored rows.
-use Rattle.std.proofs.Common.{◌≡◌, ℕ, Bool, true, false, cond, not, ◌==◌, ◌||◌, ◌&&◌, List, [], ◌∷◌, ◌++◌, length}
+use Rattle.std.proofs.Common.{◌≡◌, ℕ, Bool, true, false, cond, not, ◌==◌, ◌||◌, ◌&&◌, List, [], ◌∷◌, length}
 use Rattle.std.proofs.Common.{Option, Some, None, refl, sym, inl, inr, true≢false, nat_le}
 use Rattle.std.specs.Prelude.{is_some, option_map}
-use Rattle.std.specs.List.{AllByRecursion, find, list_any}
+use Rattle.std.specs.List.{find, list_any}
 use Rattle.std.proofs.lemmas.Bool.{cases_Bool, cond_both}
 use Rattle.kom_types.specs.declared.conferences.ConferenceRow.{ConferenceRow}
 use Rattle.kom_types.specs.declared.decisions.Decision.{Decision}
@@ -22,12 +22,13 @@ use Rattle.kom_model.specs.Db.{membership_kind_of, conferences_of}
 use Rattle.kom_model.specs.Decide.{limited, longest_reply}
 use Rattle.kom_model.specs.Effects.{fits, is_free, longest_name, all_fit}
 use Rattle.kom_model.specs.Rights.{sees, reads, is_member}
+use Rattle.kom_model.specs.State.{AreSeated}
 use Rattle.kom_model.specs.calls.Call.{Asked, Definition, decided, refuse}
-use Rattle.kom_model.specs.calls.Guards.{Guard, first_refusal, unless, refusal, caller, viewer_at, login_guard}
-use Rattle.kom_model.specs.calls.Guards.{conference_guard, text_guard, person_guard, free_guard, taken_by, name_guard}
+use Rattle.kom_model.specs.calls.Guards.{Guard, unless, refusal, caller, viewer_at, login_guard}
+use Rattle.kom_model.specs.calls.Guards.{conference_guard, text_guard, free_guard, taken_by, name_guard}
 use Rattle.kom_model.specs.calls.Guards.{size_guard}
 use Rattle.kom_masks.proofs.Rows.{told}
-use Rattle.kom_laws.specs.Fitting.{AreSeated}
+pub use Rattle.kom_model.proofs.Guards.{AllPass, all-pass, pass-both, passed, numbered-passed, person-there}
 
 -- ---- what a definition comes to
 pub one-fits : (what : Effect) (db : Db) → fits what db ≡ true → all_fit (what ∷ []) db ≡ true
@@ -51,31 +52,7 @@ decided-fits reference definition db fit =
       by None rest fit = fit refl
       by (Some refused) rest fit = refl
 
--- ---- guards one by one
-abbrev pub AllPass : List Guard → Type 0
-AllPass [] = Unit {0}
-AllPass (guard ∷ guards) = (guard ≡ None) × AllPass guards
-
-pub all-pass : (guards : List Guard) → first_refusal guards ≡ None → AllPass guards
-all-pass [] passes = tt
-all-pass (None ∷ guards) passes = (refl, all-pass guards passes)
-all-pass (Some refused ∷ guards) passes = absurd cc
-
-pub pass-both : (guards others : List Guard) → AllPass (guards ++ others) → AllPass guards × AllPass others
-pass-both [] others pass = (tt, pass)
-pass-both (guard ∷ guards) others pass =
-    let rest = pass-both guards others pass.1 in ((pass.0, rest.0), rest.1)
-
--- a guard that lets pass holds; so does one that first wants a number
-pub passed : (holds : Bool) (code status : ℕ) → unless holds code status ≡ None → holds ≡ true
-passed true code status passes = refl
-passed false code status passes = cc
-
-pub numbered-passed : (zero holds : Bool) (code code' status : ℕ) →
-    cond zero (refusal code 0) (unless holds code' status) ≡ None → holds ≡ true
-numbered-passed true holds code code' status passes = cc
-numbered-passed false holds code code' status passes = passed holds code' status passes
-
+-- ---- rows that are there
 -- what is told of a row is told of one that is there
 told-there : {X Y : Type 0} (tell : X → Y) (says : Y → Bool) (found : Option X) →
     told false says (option_map tell found) ≡ true → is_some found ≡ true
@@ -111,12 +88,8 @@ pub text-there : (db : Db) (viewer : Viewer) (text : ℕ) → text_guard db view
 text-there db viewer text passes = reads-there db viewer text
     (numbered-passed (text == 0) (reads db viewer text) _ _ text passes)
 
-pub person-there : (db : Db) (person : ℕ) → person_guard db person ≡ None → is_some (person_of db person) ≡ true
-person-there db person passes =
-    numbered-passed (person == 0) (is_some (person_of db person)) _ _ person passes
-
 -- who has logged in is there
-pub caller-there : (asked : Asked) → AreSeated asked → login_guard (caller asked) ≡ None →
+pub caller-there : (asked : Asked) → AreSeated asked.db asked.seats → login_guard (caller asked) ≡ None →
     is_some (person_of asked.db (caller asked).person) ≡ true
 caller-there asked seated passes = by asked.seats seated
     (passed (not ((caller asked).person == 0)) _ 0 passes) where
@@ -124,14 +97,13 @@ caller-there asked seated passes = by asked.seats seated
       there true is some either = absurd (true≢false (sym some))
       there false is some either = either
 
-      by : (seats : List Seat) →
-          AllByRecursion (λ seat. (seat.person == 0 || is_some (person_of asked.db seat.person)) ≡ true) seats →
+      by : (seats : List Seat) → AreSeated asked.db seats →
           not ((viewer_at asked.db (find (λ (seat : Seat). seat.number == asked.session) seats)).person == 0) ≡ true →
           is_some (person_of asked.db (viewer_at asked.db
           (find (λ (seat : Seat). seat.number == asked.session) seats)).person) ≡ true
       by [] seated is = absurd (true≢false (sym is))
       by (seat ∷ seats) seated is = elim (cases_Bool (seat.number == asked.session)) [
-        | inl here ↦ rw here (there (seat.person == 0) _ (rw here at is) seated.0)
+        | inl here ↦ rw here (there (seat.person == 0) _ (rw here at is) seated.0.person)
         | inr apart ↦ rw apart (by seats seated.1 (rw apart at is))
       ]
 

@@ -20,6 +20,7 @@ use Rattle.kom_model.specs.Effects.{fits, made, most_memberships, all_fit}
 use Rattle.kom_model.specs.Rights.{is_member}
 use Rattle.kom_model.specs.Shown.{shows_membership}
 use Rattle.kom_model.specs.Whole.{IsWhole, RiseApart}
+use Rattle.kom_model.specs.State.{AreSeated}
 use Rattle.kom_model.specs.calls.Call.{Asked}
 use Rattle.kom_model.specs.calls.Guards.{Guard, caller, login_guard, conference_guard, person_guard, supervisor_guard}
 use Rattle.kom_model.specs.calls.Guards.{unless}
@@ -30,7 +31,6 @@ use Rattle.kom_model.specs.calls.Memberships.{set_member}
 use Rattle.kom_model.specs.calls.Memberships.{secret_guard, joins_guards, may_join, is_near, joins}
 use Rattle.kom_model.specs.calls.Memberships.{had_read, mark_as_read, mark_as_unread, local_guards}
 use Rattle.kom_model.specs.calls.Memberships.{all_locals_guards}
-use Rattle.kom_laws.specs.Fitting.{AreSeated}
 use Rattle.kom_laws.proofs.fitting.Guards.{AllPass, one-fits, all-pass, pass-both, passed, conference-there}
 use Rattle.kom_laws.proofs.fitting.Guards.{person-there}
 use Rattle.kom_laws.proofs.fitting.Guards.{member-there, caller-there}
@@ -137,7 +137,7 @@ module _ (asked : Asked) where
       let some = eqb-false local 0 (not-true _ (passed (not (local == 0)) _ 0 both.0.0)) in
       (omega (arith, some), some-locals highest locals both.1)
 
-  pub mark_as_read-fits : (conference : ℕ) (locals : List ℕ) → IsWhole asked.db → AreSeated asked →
+  pub mark_as_read-fits : (conference : ℕ) (locals : List ℕ) → IsWhole asked.db → AreSeated asked.db asked.seats →
       (mark_as_read asked conference locals).early ≡ None →
       all_fit (mark_as_read asked conference locals).rest.effects asked.db ≡ true
   unfolding fits made person_of

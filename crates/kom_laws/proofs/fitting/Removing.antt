@@ -9,7 +9,7 @@ use Rattle.kom_types.specs.declared.effects.Effect.{Effect}
 use Rattle.kom_model.specs.Db.{Db}
 use Rattle.kom_model.specs.Effects.{fits, made, apply, all_fit}
 use Rattle.kom_masks.proofs.Rows.{find-thinned}
-use Rattle.kom_laws.proofs.whole.Counts.{all-weaker, count-kept, none-counted}
+use Rattle.kom_model.proofs.whole.Counts.{all-weaker, count-kept, none-counted}
 
 -- what holds of rows, of those that pass, which pass
 pub all-passing : {X : Type 0} (P : X → Type 0) (keep : X → Bool) (rows : List X) → AllByRecursion P rows →

@@ -17,16 +17,16 @@ use Rattle.kom_model.specs.Db.{links_from, links_into, mark_of, marks_of}
 use Rattle.kom_model.specs.Effects.{fits, made, is_recipient_tag, most_recipients, last_drawn, most_links, all_fit}
 use Rattle.kom_model.specs.Effects.{most_marks}
 use Rattle.kom_model.specs.Shown.{shows_recipient}
+use Rattle.kom_model.specs.State.{AreSeated}
 use Rattle.kom_model.specs.calls.Call.{Asked}
 use Rattle.kom_model.specs.calls.Guards.{caller, login_guard, text_guard, conference_guard, submit_guard, unless}
 use Rattle.kom_model.specs.calls.Texts.{get_text, body_of, add_recipient, new_recipient, written, local_guard}
 use Rattle.kom_model.specs.calls.Texts.{sub_recipient, shows_to, may_take, author_of, add_comment, sub_comment}
 use Rattle.kom_model.specs.calls.Texts.{add_footnote, sub_footnote, linked, unlinked_guard, into_guard, from_guard}
 use Rattle.kom_model.specs.calls.Texts.{linked_guard, owns_text, linker_of, made_text, mark_text, unmark_text}
-use Rattle.kom_laws.specs.Fitting.{AreSeated}
 use Rattle.kom_laws.proofs.fitting.Conferences.{found-set}
 use Rattle.kom_laws.proofs.fitting.Guards.{one-fits, all-pass, passed, conference-there, text-there, caller-there}
-use Rattle.kom_laws.proofs.whole.Found.{has-changed}
+use Rattle.kom_model.proofs.whole.Found.{has-changed}
 
 -- an effect that fits, and one that fits after it
 two-fit : (first second : Effect) (db : Db) → fits first db ≡ true → fits second (made first db) ≡ true →
@@ -43,7 +43,8 @@ shown-recipient db caller text conference is = by (recipient_of db text conferen
   by (Some row) is = refl
 
 module _ (asked : Asked) where
-  pub get_text-fits : (text start end : ℕ) → AreSeated asked → (get_text asked text start end).early ≡ None →
+  pub get_text-fits : (text start end : ℕ) → AreSeated asked.db asked.seats →
+      (get_text asked text start end).early ≡ None →
       all_fit (get_text asked text start end).rest.effects asked.db ≡ true
   unfolding fits
   get_text-fits text start end seated passes =
@@ -158,7 +159,7 @@ module _ (asked : Asked) where
       passes in
       unlinked-fits child parent true (passed (is_some (link_of asked.db child parent true)) _ child pass.1.1.1.0)
 
-  pub mark_text-fits : (text kind : ℕ) → AreSeated asked → (mark_text asked text kind).early ≡ None →
+  pub mark_text-fits : (text kind : ℕ) → AreSeated asked.db asked.seats → (mark_text asked text kind).early ≡ None →
       all_fit (mark_text asked text kind).rest.effects asked.db ≡ true
   unfolding fits
   mark_text-fits text kind seated passes =

@@ -3,11 +3,9 @@ use Rattle.std.specs.Prelude.{ℕ, ◌+◌, ◌-◌, Bool, false, ◌==◌, ◌|
 use Rattle.std.specs.Prelude.{List, [], ◌∷◌, ◌++◌, length, map, filter, take, drop, min, bit_or}
 use Rattle.std.specs.Prelude.{Some, None, if◌then◌else◌}
 use Rattle.kom_types.specs.Errors as error
-use Rattle.kom_types.specs.Bits.{is_on}
 use Rattle.kom_types.specs.declared.effects.Counter.TheVariants as counter
 use Rattle.kom_types.specs.declared.effects.Effect.{Effect}
 use Rattle.kom_types.specs.declared.effects.Effect.TheVariants as effect
-use Rattle.kom_types.specs.declared.memberships.Member.{Member}
 use Rattle.kom_types.specs.declared.memberships.Membership.{Membership}
 use Rattle.kom_types.specs.declared.memberships.MembershipRow.{MembershipRow}
 use Rattle.kom_types.specs.declared.memberships.RangesShown.{RangesShown}
@@ -23,7 +21,7 @@ use Rattle.kom_types.specs.tables.Persons.{last_count}
 use Rattle.read_ranges.specs.Changed.{size_of, all_marked, unmarked, up_to, has_unread}
 use Rattle.kom_model.specs.declared.viewers.Viewer.{Viewer}
 use Rattle.kom_model.specs.Db.{Db, conference_of, membership_of, membership_kind_of}
-use Rattle.kom_model.specs.Db.{memberships_of, members_of, read_of, next_local_of, first_local_of}
+use Rattle.kom_model.specs.Db.{memberships_of, read_of, next_local_of, first_local_of}
 use Rattle.kom_model.specs.Effects.{most_memberships}
 use Rattle.kom_model.specs.Rights.{is_member, supervises, reads_conference}
 use Rattle.kom_model.specs.Shown.{shows_membership}

@@ -17,4 +17,4 @@ pub returns-clause-all_to_dropped : goal.returns-clause-all_to_dropped
 returns-clause-all_to_dropped c = gives_all_to_dropped
 
 pub returns-clause-sound : goal.returns-clause-sound
-returns-clause-sound c = λ state history sound legal. IsSound-state_after state history sound
+returns-clause-sound c = λ state history sound legal. IsSound-state_after state history legal sound

@@ -5,17 +5,22 @@ use Rattle.std.specs.Fmt.{digits}
 use Rattle.kom_types.specs.declared.acts.Record.{Record}
 use Rattle.kom_types.specs.Times.{time_of, day_from, month_from}
 use Rattle.kom_types.specs.Printing.{print_of}
+use Rattle.kom_model.specs.Db.{empty_db}
 use Rattle.kom_model.specs.State.{State}
 use Rattle.kom_model.specs.Decide.{decision_of, is_firm}
 use Rattle.kom_model.specs.ToWhom.{messages_of}
 use Rattle.kom_model.specs.Refusal.{IsPossible}
-use Rattle.kom_model.specs.After.{MayFollow, MayBeShort, session_in}
+use Rattle.kom_model.specs.After.{MayFollow, MayBeShort, HasUser, session_in}
+use Rattle.kom_model.proofs.Opening.{IsSound-opening}
+use Rattle.kom_model.proofs.whole.Effects.{empty-whole}
+use Rattle.kom_rows.specs.HistoryRows.{connect, connect_again}
 use Rattle.kom_rows.proofs.model.worked_histories.Goals as goal
 
-may : (state : State) (made : Record) → IsPossible state made.entry.act →
+may : (state : State) (made : Record) → IsPossible state made.entry.act → HasUser made.entry.act →
     made.session ≡ session_in state made.entry.act → MayBeShort state made.entry.moment made.entry.act made.short →
     MayFollow state made
-may state made possible session short = record { possible = possible; session = session; short = short }
+may state made possible user session short =
+    record { possible = possible; user = user; session = session; short = short }
 
 pub returns : goal.returns
 unfolding IsDistinct digits time_of day_from month_from print_of decision_of is_firm messages_of
@@ -23,10 +28,10 @@ returns c = record {
   connected = refl;
   answered = refl;
   closed = refl;
-  sound = record { drawn = tt; distinct = tt; ordered = tt; stable = omega arith; protected = tt };
+  sound = IsSound-opening empty_db tt empty-whole;
   legal = (
-    may _ _ refl refl tt,
-    (may _ _ refl refl tt, (may _ _ refl refl tt, (may _ _ refl refl tt, (may _ _ refl refl tt, tt)))),
+    may _ connect refl (omega arith) refl tt,
+    (may _ _ refl tt refl tt, (may _ _ refl tt refl tt, (may _ _ refl tt refl tt, (may _ _ refl tt refl tt, tt)))),
   );
   sent = refl;
   given = refl;
@@ -34,7 +39,10 @@ returns c = record {
   flushed_before_the_call = refl;
   at_fault = refl;
   moment_that_does_not_fall = refl;
-  numbers_rise = (may _ _ refl refl tt, (may _ _ refl refl tt, (may _ _ refl refl tt, tt)));
+  numbers_rise = (
+    may _ connect refl (omega arith) refl tt,
+    (may _ _ refl tt refl tt, (may _ connect_again refl (omega arith) refl tt, tt)),
+  );
   another_session = refl;
   absent_call = refl;
   absent_drain = refl;
@@ -79,7 +87,7 @@ returns c = record {
   overrun_before_stopped = refl;
   dropped_before_overrun = refl;
   drained_before_overrun = refl;
-  refused_flush = may _ _ refl refl tt;
+  refused_flush = may _ _ refl tt refl tt;
   refused_flush_leaves = refl;
   then_connect = refl;
   then_call = refl;

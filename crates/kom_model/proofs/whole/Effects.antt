@@ -6,14 +6,14 @@ use Rattle.kom_types.specs.declared.effects.Effect.TheVariants as effect
 use Rattle.kom_model.specs.Db.{Db, empty_db}
 use Rattle.kom_model.specs.Effects.{fits, made, apply, apply_all, most_links}
 use Rattle.kom_model.specs.Whole.{IsWhole}
-use Rattle.kom_laws.proofs.whole.OnConferences.{conf_added-whole, conf_gone-whole, conf_named-whole, conf_field-whole}
-use Rattle.kom_laws.proofs.whole.OnMembers.{member_set-whole, member_gone-whole, read_set-whole}
-use Rattle.kom_laws.proofs.whole.OnPersons.{person_added-whole, person_gone-whole, person_field-whole, password-whole}
-use Rattle.kom_laws.proofs.whole.OnPersons.{logged_in-whole, counted-whole, created-whole}
-use Rattle.kom_laws.proofs.whole.OnTexts.{text_added-whole, text_gone-whole, recipient_added-whole}
-use Rattle.kom_laws.proofs.whole.OnTexts.{recipient_gone-whole}
-use Rattle.kom_laws.proofs.whole.OnTexts.{link_added-whole, link_gone-whole, mark_set-whole, mark_gone-whole}
-use Rattle.kom_laws.proofs.whole.OnTexts.{aux_added-whole, aux_gone-whole}
+use Rattle.kom_model.proofs.whole.OnConferences.{conf_added-whole, conf_gone-whole, conf_named-whole, conf_field-whole}
+use Rattle.kom_model.proofs.whole.OnMembers.{member_set-whole, member_gone-whole, read_set-whole}
+use Rattle.kom_model.proofs.whole.OnPersons.{person_added-whole, person_gone-whole, person_field-whole, password-whole}
+use Rattle.kom_model.proofs.whole.OnPersons.{logged_in-whole, counted-whole, created-whole}
+use Rattle.kom_model.proofs.whole.OnTexts.{text_added-whole, text_gone-whole, recipient_added-whole}
+use Rattle.kom_model.proofs.whole.OnTexts.{recipient_gone-whole}
+use Rattle.kom_model.proofs.whole.OnTexts.{link_added-whole, link_gone-whole, mark_set-whole, mark_gone-whole}
+use Rattle.kom_model.proofs.whole.OnTexts.{aux_added-whole, aux_gone-whole}
 
 pub made-whole : (what : Effect) (db : Db) → fits what db ≡ true → IsWhole db → IsWhole (made what db)
 made-whole (effect.ConfAdded number name kind at creator supervisor) db fit whole =
@@ -56,7 +56,15 @@ effects-whole (what ∷ effects) db whole = effects-whole effects (apply what db
 
 pub empty-whole : IsWhole empty_db
 empty-whole = record {
-  conferences = record { rising = tt; drawn = tt; limited = omega arith; short = tt; apart = tt };
+  conferences = record {
+    rising = tt;
+    positive = tt;
+    drawn = tt;
+    begun = omega arith;
+    limited = omega arith;
+    short = tt;
+    apart = tt;
+  };
   persons = record { rising = tt; housed = tt };
   texts = record {
     rising = tt;

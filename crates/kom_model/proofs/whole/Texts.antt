@@ -13,8 +13,8 @@ use Rattle.kom_types.specs.tables.Persons.{number_of_person}
 use Rattle.kom_types.specs.tables.Texts.{number_of_text, with_created_local}
 use Rattle.kom_model.specs.Effects.{last_drawn, longest_body, without_number}
 use Rattle.kom_model.specs.Whole.{ArePersons, AreTexts, IsNumbered, has_letterbox, has_drawn_created, is_created}
-use Rattle.kom_laws.proofs.whole.Counts.{all-along, all-weaker, all-kept, all-mapped, all-picked, all-with_row}
-use Rattle.kom_laws.proofs.whole.Counts.{rising-mapped, count-kept, count-mapped, count-with_row, count-none}
+use Rattle.kom_model.proofs.whole.Counts.{all-along, all-weaker, all-kept, all-mapped, all-picked, all-with_row}
+use Rattle.kom_model.proofs.whole.Counts.{rising-mapped, count-kept, count-mapped, count-with_row, count-none}
 
 -- ---- persons
 module _ (rows : List PersonRow) (conferences : List ConferenceRow) (whole : ArePersons rows conferences) where

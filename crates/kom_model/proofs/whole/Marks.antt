@@ -10,9 +10,9 @@ use Rattle.kom_types.specs.declared.texts.TextRow.{TextRow}
 use Rattle.kom_types.specs.tables.Texts.{is_mark, mark_of, marks_of, by_text, with_mark, without_mark}
 use Rattle.kom_model.specs.Effects.{most_marks}
 use Rattle.kom_model.specs.Whole.{AreMarks, has_person, has_text}
-use Rattle.kom_laws.proofs.whole.Counts.{none-found, count-none, count-placed}
-use Rattle.kom_laws.proofs.whole.Pairs.{ArePairs, is_pair, is_of, all-keyed, all-unkeyed, filter-keyed, count-keyed}
-use Rattle.kom_laws.proofs.whole.Pairs.{keyed-more, keyed-mapped, pairs-kept, pairs-more}
+use Rattle.kom_model.proofs.whole.Counts.{none-found, count-none, count-placed}
+use Rattle.kom_model.proofs.whole.Pairs.{ArePairs, is_pair, is_of, all-keyed, all-unkeyed, filter-keyed, count-keyed}
+use Rattle.kom_model.proofs.whole.Pairs.{keyed-more, keyed-mapped, pairs-kept, pairs-more}
 
 -- of whom, and on what, a mark is
 abbrev mark_key : MarkRow → ℕ × ℕ

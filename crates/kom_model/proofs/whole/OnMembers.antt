@@ -11,7 +11,7 @@ use Rattle.read_ranges.specs.Reads.{ReadRow}
 use Rattle.kom_model.specs.Db.{Db, conference_of, person_of, membership_of, memberships_of}
 use Rattle.kom_model.specs.Effects.{fits, made, member_row}
 use Rattle.kom_model.specs.Whole.{IsWhole, AreMemberships, RiseApart}
-use Rattle.kom_laws.proofs.whole.Memberships.{memberships-set, memberships-gone, memberships-read}
+use Rattle.kom_model.proofs.whole.Memberships.{memberships-set, memberships-gone, memberships-read}
 
 -- ---- ranges that rise, with those that touch made one
 rise-before : (least : ℕ) (one : ReadRange) (ranges : List ReadRange) → least ≤ one.first → one.first ≤ one.last →

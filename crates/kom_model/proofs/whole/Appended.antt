@@ -15,7 +15,7 @@ use Rattle.kom_types.specs.tables.AuxItems.{is_item, is_item_of}
 use Rattle.kom_types.specs.tables.Texts.{is_recipient, recipients_of, is_link, links_from, links_into}
 use Rattle.kom_model.specs.Effects.{is_recipient_tag, most_recipients, most_links}
 use Rattle.kom_model.specs.Whole.{AreRecipients, AreLinks, AreItems, has_text, has_drawn_local, has_drawn_item}
-use Rattle.kom_laws.proofs.whole.Counts.{all-kept, all-more, count-kept, most-more, count-none, none-found}
+use Rattle.kom_model.proofs.whole.Counts.{all-kept, all-more, count-kept, most-more, count-none, none-found}
 
 -- two bits that are alike are the same
 pub alike-same : (one other : Bool) → alike one other ≡ true → one ≡ other

@@ -21,8 +21,8 @@ use Rattle.kom_model.specs.Whole.{IsWhole, AreConferences, ArePersons, AreTexts,
 use Rattle.kom_model.specs.Whole.{AreLinks, AreMarks, AreItems, IsNumbered, has_conference, has_person, has_text}
 use Rattle.kom_model.specs.Whole.{has_letterbox, has_drawn_local, has_drawn_created, has_conference_item}
 use Rattle.kom_model.specs.Whole.{has_text_item, has_drawn_item}
-use Rattle.kom_laws.proofs.whole.Counts.{all-along, all-of}
-use Rattle.kom_laws.proofs.whole.Found.{has-with_row, has-without, has-changed, has-mapped}
+use Rattle.kom_model.proofs.whole.Counts.{all-along, all-of}
+use Rattle.kom_model.proofs.whole.Found.{has-with_row, has-without, has-changed, has-mapped}
 
 -- what of conferences, persons and texts is kept where their numbers pass a test
 pub record ConferencesStay (stays : ℕ → Bool) (old new : List ConferenceRow) : Type 0 where

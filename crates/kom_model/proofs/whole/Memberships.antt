@@ -15,9 +15,9 @@ use Rattle.kom_types.specs.tables.Memberships.{with_new, set_again, replaced_by}
 use Rattle.read_ranges.specs.Reads.{ReadRow, is_read_of, with_reader, without_reader, with_read, read_at}
 use Rattle.kom_model.specs.Effects.{most_memberships}
 use Rattle.kom_model.specs.Whole.{AreMemberships, RiseApart, key_of, read_key_of, has_person, has_conference}
-use Rattle.kom_laws.proofs.whole.Counts.{all-kept, all-more, all-picked, none-found, count-none, count-placed}
-use Rattle.kom_laws.proofs.whole.Pairs.{ArePairs, is_pair, is_of, all-keyed, all-unkeyed, filter-keyed, count-keyed}
-use Rattle.kom_laws.proofs.whole.Pairs.{keyed-more, keyed-mapped, pairs-kept, pairs-more}
+use Rattle.kom_model.proofs.whole.Counts.{all-kept, all-more, all-picked, none-found, count-none, count-placed}
+use Rattle.kom_model.proofs.whole.Pairs.{ArePairs, is_pair, is_of, all-keyed, all-unkeyed, filter-keyed, count-keyed}
+use Rattle.kom_model.proofs.whole.Pairs.{keyed-more, keyed-mapped, pairs-kept, pairs-more}
 
 -- a change that leaves the person and the conference of a row
 same-key : {X : Type 0} (key : X → ℕ × ℕ) (pick : Bool) (changed row : X) → key changed ≡ key row →

@@ -27,18 +27,19 @@ use Rattle.kom_model.specs.Db.{Db, conference_of, person_of, text_of, recipient_
 use Rattle.kom_model.specs.Db.{links_into, mark_of, marks_of, marks_on, next_local_of, next_item_of, items_of}
 use Rattle.kom_model.specs.Effects.{fits, made}
 use Rattle.kom_model.specs.Whole.{IsWhole, AreLinks, AreMarks, has_drawn_local, has_drawn_item}
-use Rattle.kom_laws.proofs.whole.Appended.{recipients-kept, recipients-more, links-kept, links-more, items-kept}
-use Rattle.kom_laws.proofs.whole.Appended.{items-more}
-use Rattle.kom_laws.proofs.whole.Appended.{alike-same}
-use Rattle.kom_laws.proofs.whole.Conferences.{conferences-same}
-use Rattle.kom_laws.proofs.whole.Counts.{all-weaker, all-along, none-counted}
-use Rattle.kom_laws.proofs.whole.Found.{passes, has-made}
-use Rattle.kom_laws.proofs.whole.Marks.{marks-set, marks-gone}
-use Rattle.kom_laws.proofs.whole.OnConferences.{none-told, told-length}
-use Rattle.kom_laws.proofs.whole.Stays.{conferences-changed, texts-added, texts-gone, texts-changed, recipients-written}
-use Rattle.kom_laws.proofs.whole.Stays.{links-written, marks-written, items-written, conferences-whole, texts-whole}
-use Rattle.kom_laws.proofs.whole.Stays.{other_than, same-number, next-drawn}
-use Rattle.kom_laws.proofs.whole.Texts.{texts-more, texts-fewer, texts-item}
+use Rattle.kom_model.proofs.whole.Appended.{recipients-kept, recipients-more, links-kept, links-more, items-kept}
+use Rattle.kom_model.proofs.whole.Appended.{items-more}
+use Rattle.kom_model.proofs.whole.Appended.{alike-same}
+use Rattle.kom_model.proofs.whole.Conferences.{conferences-same}
+use Rattle.kom_model.proofs.whole.Counts.{all-weaker, all-along, none-counted}
+use Rattle.kom_model.proofs.whole.Found.{passes, has-made}
+use Rattle.kom_model.proofs.whole.Marks.{marks-set, marks-gone}
+use Rattle.kom_model.proofs.whole.OnConferences.{none-told, told-length}
+use Rattle.kom_model.proofs.whole.Stays.{conferences-changed, texts-added, texts-gone, texts-changed}
+use Rattle.kom_model.proofs.whole.Stays.{recipients-written, links-written, marks-written, items-written}
+use Rattle.kom_model.proofs.whole.Stays.{conferences-whole, texts-whole}
+use Rattle.kom_model.proofs.whole.Stays.{other_than, same-number, next-drawn}
+use Rattle.kom_model.proofs.whole.Texts.{texts-more, texts-fewer, texts-item}
 
 -- the number that comes next lies above all that were drawn, and below one more than it
 module _ {R : Type 0} (next : R → ℕ) where

@@ -23,17 +23,17 @@ use Rattle.kom_types.specs.tables.Texts.{number_of_text, with_created_local}
 use Rattle.kom_model.specs.Db.{Db, conference_of, person_of, text_of, memberships_of, marks_of, next_created_of}
 use Rattle.kom_model.specs.Effects.{fits, made, without_number, may_number}
 use Rattle.kom_model.specs.Whole.{IsWhole, IsNumbered, is_created, has_drawn_created}
-use Rattle.kom_masks.proofs.Fields.{person_field-number, counted-number}
-use Rattle.kom_laws.proofs.whole.Counts.{all-weaker, all-of, none-counted}
-use Rattle.kom_laws.proofs.whole.Found.{passes, has-made}
-use Rattle.kom_laws.proofs.whole.Marks.{count-marks}
-use Rattle.kom_laws.proofs.whole.Memberships.{count-memberships}
-use Rattle.kom_laws.proofs.whole.Stays.{persons-added, persons-gone, persons-changed, texts-changed, texts-mapped}
-use Rattle.kom_laws.proofs.whole.Stays.{memberships-owned, marks-owned, recipients-written, links-written}
-use Rattle.kom_laws.proofs.whole.Stays.{marks-written}
-use Rattle.kom_laws.proofs.whole.Stays.{items-written, persons-whole, texts-whole, all, other_than, same-number}
-use Rattle.kom_laws.proofs.whole.Stays.{next-drawn}
-use Rattle.kom_laws.proofs.whole.Texts.{persons-more, persons-fewer, persons-same, texts-left, texts-created}
+use Rattle.kom_model.proofs.Fields.{person_field-number, counted-number}
+use Rattle.kom_model.proofs.whole.Counts.{all-weaker, all-of, none-counted}
+use Rattle.kom_model.proofs.whole.Found.{passes, has-made}
+use Rattle.kom_model.proofs.whole.Marks.{count-marks}
+use Rattle.kom_model.proofs.whole.Memberships.{count-memberships}
+use Rattle.kom_model.proofs.whole.Stays.{persons-added, persons-gone, persons-changed, texts-changed, texts-mapped}
+use Rattle.kom_model.proofs.whole.Stays.{memberships-owned, marks-owned, recipients-written, links-written}
+use Rattle.kom_model.proofs.whole.Stays.{marks-written}
+use Rattle.kom_model.proofs.whole.Stays.{items-written, persons-whole, texts-whole, all, other_than, same-number}
+use Rattle.kom_model.proofs.whole.Stays.{next-drawn}
+use Rattle.kom_model.proofs.whole.Texts.{persons-more, persons-fewer, persons-same, texts-left, texts-created}
 
 -- a field that is set, or a counter, leaves the number that the next text gets
 field-created : (what : PersonField) (row : PersonRow) → row.next_created ≤ (Persons.with_field what row).next_created

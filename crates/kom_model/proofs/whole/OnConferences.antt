@@ -20,12 +20,12 @@ use Rattle.kom_types.specs.tables.Persons.{number_of_person}
 use Rattle.kom_model.specs.Db.{Db, conference_of, person_of, members_of, locals_of, conferences_of, items_of}
 use Rattle.kom_model.specs.Effects.{fits, made, may_set}
 use Rattle.kom_model.specs.Whole.{IsWhole}
-use Rattle.kom_masks.proofs.Fields.{field-number}
-use Rattle.kom_laws.proofs.whole.Conferences.{conferences-more, conferences-fewer, conferences-same, conferences-named}
-use Rattle.kom_laws.proofs.whole.Counts.{all-weaker, none-counted, none-found}
-use Rattle.kom_laws.proofs.whole.Stays.{ConferenceStays, conferences-added, conferences-gone, conferences-changed}
-use Rattle.kom_laws.proofs.whole.Stays.{persons-housed, memberships-held, recipients-held, items-held, other_than}
-use Rattle.kom_laws.proofs.whole.Stays.{conferences-whole, same-number}
+use Rattle.kom_model.proofs.Fields.{field-number}
+use Rattle.kom_model.proofs.whole.Conferences.{conferences-more, conferences-fewer, conferences-same, conferences-named}
+use Rattle.kom_model.proofs.whole.Counts.{all-weaker, none-counted, none-found}
+use Rattle.kom_model.proofs.whole.Stays.{ConferenceStays, conferences-added, conferences-gone, conferences-changed}
+use Rattle.kom_model.proofs.whole.Stays.{persons-housed, memberships-held, recipients-held, items-held, other_than}
+use Rattle.kom_model.proofs.whole.Stays.{conferences-whole, same-number}
 
 -- two bits that are alike
 box-kept : (one other : Bool) → alike one other ≡ true → other ≡ true → one ≡ true

@@ -13,7 +13,7 @@ use Rattle.kom_types.specs.Names.{clash, fold}
 use Rattle.kom_types.specs.tables.Conferences.{number_of_conference, with_name}
 use Rattle.kom_model.specs.Effects.{last_conference, longest_name}
 use Rattle.kom_model.specs.Whole.{AreConferences, is_apart}
-use Rattle.kom_laws.proofs.whole.Counts.{all-along, all-weaker, all-kept, all-mapped, all-picked, all-with_row}
+use Rattle.kom_model.proofs.whole.Counts.{all-along, all-weaker, all-kept, all-mapped, all-picked, all-with_row}
 
 -- ---- names that clash
 clash-back : (first second : List ℕ) → clash first second ≡ true → clash second first ≡ true
@@ -73,9 +73,12 @@ module _ (rows : List ConferenceRow) (next : ℕ) (whole : AreConferences rows n
       none-any (bars given.number given.name) rows free in
       record {
         rising = IsByNumber-with_row number_of_conference given rows whole.rising;
+        positive = all-with_row number_of_conference (λ row. 0 < row.number) given rows
+            (omega (arith, whole.begun, new)) whole.positive;
         drawn = all-with_row number_of_conference (λ row. row.number < given.number + 1) given rows (omega arith)
             (all-weaker (λ row. row.number < next) (λ row. row.number < given.number + 1)
             (λ row less. omega (arith, less, new)) rows whole.drawn);
+        begun = omega arith;
         limited = omega arith;
         short = all-with_row number_of_conference (λ row. length row.name ≤ longest_name) given rows short whole.short;
         apart = all-with_row number_of_conference
@@ -92,7 +95,9 @@ module _ (rows : List ConferenceRow) (next : ℕ) (whole : AreConferences rows n
   pub conferences-fewer : (gone : ℕ) → AreConferences (without_row number_of_conference gone rows) next
   conferences-fewer gone = record {
     rising = IsByNumber-without_row number_of_conference gone rows whole.rising;
+    positive = all-kept _ (λ row. not (row.number == gone)) rows whole.positive;
     drawn = all-kept _ (λ row. not (row.number == gone)) rows whole.drawn;
+    begun = whole.begun;
     limited = whole.limited;
     short = all-kept _ (λ row. not (row.number == gone)) rows whole.short;
     apart = all-kept (λ one. is_apart (without_row number_of_conference gone rows) one ≡ true)
@@ -110,8 +115,11 @@ module _ (rows : List ConferenceRow) (next : ℕ) (whole : AreConferences rows n
       AreConferences (changed_row number_of_conference at change rows) next
   conferences-same at change numbers names = record {
     rising = IsByNumber-changed_row number_of_conference change numbers at rows whole.rising;
+    positive = all-picked (λ row. 0 < row.number) (λ row. 0 < row.number) (λ row. row.number == at) change
+        (λ row is less. omega (arith, less, numbers row)) (λ row less. less) rows whole.positive;
     drawn = all-picked (λ row. row.number < next) (λ row. row.number < next) (λ row. row.number == at) change
         (λ row is less. omega (arith, less, numbers row)) (λ row less. less) rows whole.drawn;
+    begun = whole.begun;
     limited = whole.limited;
     short = all-picked (λ row. length row.name ≤ longest_name) (λ row. length row.name ≤ longest_name)
         (λ row. row.number == at) change (λ row is less. rw (names row) less) (λ row less. less) rows whole.short;
@@ -134,8 +142,11 @@ module _ (rows : List ConferenceRow) (next : ℕ) (whole : AreConferences rows n
       let others : AllByRecursion (λ row. bars number name row ≡ false) rows = none-any (bars number name) rows free in
       record {
         rising = IsByNumber-changed_row number_of_conference (with_name name) (λ row. refl) number rows whole.rising;
+        positive = all-picked (λ row. 0 < row.number) (λ row. 0 < row.number) (λ row. row.number == number)
+            (with_name name) (λ row is less. less) (λ row less. less) rows whole.positive;
         drawn = all-picked (λ row. row.number < next) (λ row. row.number < next) (λ row. row.number == number)
             (with_name name) (λ row is less. less) (λ row less. less) rows whole.drawn;
+        begun = whole.begun;
         limited = whole.limited;
         short = all-picked (λ row. length row.name ≤ longest_name) (λ row. length row.name ≤ longest_name)
             (λ row. row.number == number) (with_name name) (λ row is less. short) (λ row less. less) rows whole.short;

@@ -1,11 +1,20 @@
 -- The row of a number that passes a test, as rows are added, changed and taken away.
-use Rattle.std.proofs.Common.{◌≡◌, ℕ, Bool, true, false, cond, eqb, List, Option, Some, None, refl, sym, ap, ◌∙◌}
-use Rattle.std.proofs.Common.{⊎_elim, ◌⊎◌, inl, inr, true≢false, subst}
+use Rattle.std.proofs.Common.{◌≡◌, ℕ, Bool, true, false, cond, eqb, List, [], ◌∷◌, Option, Some, None, refl, sym, ap}
+use Rattle.std.proofs.Common.{◌∙◌, ⊎_elim, ◌⊎◌, inl, inr, true≢false, subst}
 use Rattle.std.specs.Prelude.{map, option_map, is_some, is_none}
-use Rattle.std.proofs.lemmas.Bool.{cases_eq, eq-eqb, ne_eqb}
+use Rattle.std.specs.List.{find}
+use Rattle.std.proofs.lemmas.Bool.{cases_Bool, cases_eq, eq-eqb, ne_eqb}
 use Rattle.row_table.specs.Tables.{row_of, with_row, without_row, changed_row}
 use Rattle.row_table.proofs.Rows.{row_of-with_row, row_of-without_row, row_of-changed_row}
-use Rattle.kom_masks.proofs.Listed.{find-masked}
+
+-- what is found of rows of which a change keeps what is looked for
+pub find-mapped : {X : Type 0} (test : X → Bool) (change : X → X) → ((row : X) → test (change row) ≡ test row) →
+    (rows : List X) → find test (map change rows) ≡ option_map change (find test rows)
+find-mapped test change tests [] = refl
+find-mapped test change tests (row ∷ rows) = elim (cases_Bool (test row)) [
+  | inl here ↦ rw (tests row) (rw here refl)
+  | inr there ↦ rw (tests row) (rw there (find-mapped test change tests rows))
+]
 
 -- a row that may be there is there, and passes a test
 abbrev pub passes : {R : Type 0} → (R → Bool) → Option R → Bool
@@ -65,6 +74,6 @@ module _ {R : Type 0} (number_of : R → ℕ) (test : R → Bool) where
     pub has-mapped : (rows : List R) → ((row : R) → test row ≡ true → test (change row) ≡ true) → (number : ℕ) →
         has number rows ≡ true → has number (map change rows) ≡ true
     has-mapped rows passed number is =
-        ap (passes test) (find-masked (λ row. eqb (number_of row) number) change
+        ap (passes test) (find-mapped (λ row. eqb (number_of row) number) change
         (λ row. ap (λ n. eqb n number) (keeps row)) rows)
         ∙ passes-changed test test change (row_of number_of number rows) (λ row found here. passed row here) is

@@ -4,7 +4,7 @@ use Rattle.std.proofs.Common.{refl, ap, arith, eqb-true, inl, inr, ◌∙◌}
 use Rattle.std.specs.Prelude.{map}
 use Rattle.std.specs.List.{AllByRecursion, filter}
 use Rattle.std.proofs.lemmas.Bool.{cases_Bool, and_parts}
-use Rattle.kom_laws.proofs.whole.Counts.{all-kept, all-more, count-kept, most-more}
+use Rattle.kom_model.proofs.whole.Counts.{all-kept, all-more, count-kept, most-more}
 
 -- whether this is the pair of two numbers
 abbrev pub is_pair : ℕ → ℕ → ℕ × ℕ → Bool
