@@ -1,18 +1,18 @@
 #!/usr/bin/env python3
 """Counts the instructions that the built program `komd` takes for calls that could hold up all others, and prints ratios.
 
-usage: tools/instructions_of_long_calls.py [KOMD]      (KOMD: the built program, crates/komd/out/komd if left out)
+usage: tools/instructions_of_long_calls.py [KOMD [MANY]]      (KOMD: the built program, crates/komd/out/komd if left out)
 
-With 10 conferences, or 60,000, a name is looked up that is found once, and one that is found nowhere, and one more conference is
-made: where all names begin with the same words, where each begins with a word of its own, and where all have the same words and
-tell themselves apart in parentheses. Then texts are made with 100 comments, or with 1,000. Counted by callgrind: the instructions of a
-run with some such calls less those of the same run without them.
+With 10 conferences, or MANY, 60,000 if left out, a name is looked up that is found once, and one that is found nowhere, and one
+more conference is made: where all names begin with the same words, where each begins with a word of its own, and where all have the
+same words and tell themselves apart in parentheses. Then texts are made with 100 comments, or with 1,000. Counted by callgrind: the
+instructions of a run with some such calls less those of the same run without them. Runs with 60,000 take minutes each.
 """
 import sys
 
 from instructions_of_memberships import ROOT, instructions, login
 
-FEW, MANY = 10, 60_000
+FEW = 10
 LINKS, MORE_LINKS = 100, 1_000
 LOOK_UPS, MADE, WRITTEN = 100, 100, 10
 # The first conference that a stream makes.
@@ -42,10 +42,10 @@ def tell(name, few, many, counts):
     print(f"{name}: {few:.0f} instructions with {counts[0]}, {many:.0f} with {counts[1]}, {many / few:.2f} times", flush=True)
 
 
-def compare_names(program, kind):
+def compare_names(program, kind, many):
     name_of, pattern_of = NAMES[kind]
     found, missed, one_more = [], [], []
-    for size in (FEW, MANY):
+    for size in (FEW, many):
         lines = conferences(size, name_of)
         before = instructions(program, lines)
 
@@ -56,8 +56,8 @@ def compare_names(program, kind):
         found.append(each([b"3 76 %s 0 1" % hollerith(pattern_of(last))] * LOOK_UPS))
         missed.append(each([b"3 76 %s 0 1" % hollerith(pattern_of(last) + b"x")] * LOOK_UPS))
         one_more.append(each([made(name_of(last + more)) for more in range(1, MADE + 1)]))
-    for name, (few, many) in (("lookup-z-name", found), ("lookup-z-name, none found", missed), ("create-conf", one_more)):
-        tell(f"{name}, {kind}", few, many, (FEW, MANY))
+    for name, (low, high) in (("lookup-z-name", found), ("lookup-z-name, none found", missed), ("create-conf", one_more)):
+        tell(f"{name}, {kind}", low, high, (FEW, many))
 
 
 def compare_links(program):
@@ -73,8 +73,9 @@ def compare_links(program):
 
 def main(words):
     program = words[0] if words else ROOT / "crates" / "komd" / "out" / "komd"
+    many = int(words[1]) if words[1:] else 60_000
     for kind in NAMES:
-        compare_names(program, kind)
+        compare_names(program, kind, many)
     compare_links(program)
 
 

@@ -12,6 +12,7 @@ pub mod TableRows
 pub mod LocalNumbers
 pub mod Drawing
 pub mod Needed
+pub mod Counted
 pub mod Fitted
 pub mod Walking
 pub mod Pushing

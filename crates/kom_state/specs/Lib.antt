@@ -4,3 +4,4 @@ pub mod Keeping
 pub mod Placed
 pub mod Room
 pub mod Keepers
+pub mod Counts

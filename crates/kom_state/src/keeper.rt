@@ -1,5 +1,5 @@
 ghost use Rattle.std.specs.Prelude.{◌≡◌, [], ◌∷◌, OnOk};
-ghost use Rattle.kom_state.specs.Keepers.{appended, HasRoomFirst};
+ghost use Rattle.kom_state.specs.Keepers.{appended, HasRoomFirst, FitsSome};
 
 use kom_types::{Effect, Memory};
 
@@ -24,9 +24,10 @@ pub trait Keeper {
         ensures pending { pending self.new ≡ pending self.old }
         ensures rest { stays self.old self.new };
 
-    /// Adds an effect after those that wait. It takes no memory.
+    /// Adds an effect that fits after those that wait. It takes no memory.
     fn keep(&mut self, effect: &Effect)
-        requires { HasRoomFirst has_room self.old effect.now }
+        requires room { HasRoomFirst has_room self.old effect.now }
+        requires fits { FitsSome effect.now }
         ensures kept { pending self.new ≡ appended (effect.now ∷ []) (pending self.old) }
         ensures room { (more : List Change) → has_room self.old (effect.now ∷ more)
             → has_room self.new more }

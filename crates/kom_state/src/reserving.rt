@@ -1,14 +1,16 @@
 ghost use Rattle.std.specs.Prelude.{◌≡◌, ◌++◌, OnOk, IfOk, count_by, option_copied};
 ghost use Rattle.std.specs.List.{filter_map};
-ghost use Rattle.texts.specs.Needs.{HasRoom as HasTextRoom, count_of, same};
+ghost use Rattle.texts.specs.Needs.{HasRoom as HasTextRoom};
 ghost use Rattle.kom_state.specs.Room.{all_needs, needs_of};
 ghost use Rattle.kom_state.specs.Room.{HasRoom, IsOrderly, IsReady, HasMemberRoom};
 ghost use Rattle.kom_state.specs.Room.{adds_conference, adds_person, key_set};
 ghost use Rattle.kom_state.specs.Room.{sets_membership, name_given};
 
 mod items;
+mod needs;
 
 use crate::reserving::items::reserve_items;
+use crate::reserving::needs::reserve_needs;
 use crate::stored_rows::StoredRows;
 use kom_types::{Effect, Memory};
 use memberships::Memberships;
@@ -43,49 +45,7 @@ fn reserve_texts(texts: &mut Texts, effects: &[Effect], alloc: Global) -> Result
     ensures ok { OnOk result (HasTextRoom texts.new.room (all_needs effects.now)) }
 {
     let needs = all_needs(effects, alloc)?;
-    reserve_needs(texts, needs.as_slice())
-}
-
-/// Makes room for each thing that is needed, as often as it is needed.
-fn reserve_needs(texts: &mut Texts, needs: &[Need]) -> Result<(), Memory>
-    ensures rows { texts.new.rows ≡ texts.old.rows }
-    ensures ok { OnOk result (HasTextRoom texts.new.room needs.now) }
-{
-    for need in needs {
-        let count = count_of(*need, needs);
-        texts.reserve(*need, count)?;
-    }
-    Ok(())
-}
-
-fn count_of(need: Need, needs: &[Need]) -> usize
-    ensures { result ≡ count_of need needs.now }
-{
-    needs.iter().filter(|other| is_same(need, **other)).count()
-}
-
-/// Whether two needs are the same.
-fn is_same(need: Need, other: Need) -> bool
-    ensures { result ≡ same need other }
-{
-    match (need, other) {
-        (Need::Text, Need::Text)
-        | (Need::Recipient, Need::Recipient)
-        | (Need::Link, Need::Link)
-        | (Need::Mark, Need::Mark) => true,
-        (Need::RecipientOf(text), Need::RecipientOf(second)) => text == second,
-        (Need::Local(conference), Need::Local(second)) => conference == second,
-        (Need::LinkFrom(text, footnote), Need::LinkFrom(second, kind)) => {
-            text == second && footnote == kind
-        }
-        (Need::LinkInto(text, footnote), Need::LinkInto(second, kind)) => {
-            text == second && footnote == kind
-        }
-        (Need::MarkOf(person), Need::MarkOf(second)) => person == second,
-        (Need::MarkOn(text), Need::MarkOn(second)) => text == second,
-        (Need::Created(person), Need::Created(second)) => person == second,
-        _ => false,
-    }
+    reserve_needs(texts, needs.as_slice(), alloc)
 }
 
 /// All that effects need of the room for texts.

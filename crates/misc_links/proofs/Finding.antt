@@ -7,13 +7,19 @@ use Rattle.kom_types.specs.declared.texts.TextLink.{TextLink}
 use Rattle.kom_types.specs.tables.Texts.{is_link, link_of}
 use Rattle.row_slots.specs.Slots.{rows_in}
 use Rattle.row_slots.proofs.Places.{row_at}
-use Rattle.misc_links.specs.Keeping.{is_from, is_parent_at, IsKept}
+use Rattle.misc_links.specs.Keeping.{is_from, is_into, is_parent_at, is_child_at, IsKept}
 use Rattle.row_slots.proofs.Passing.{found, found_row}
 
 and_swapped : (one two three : Bool) → (one && two && three) ≡ (one && three && two)
 and_swapped true true three = elim three as (λ c. c ≡ (c && true)) [ true ↦ refl | false ↦ refl ]
 and_swapped true false three = elim three as (λ c. false ≡ (c && false)) [ true ↦ refl | false ↦ refl ]
 and_swapped false two three = refl
+
+and_turned : (one two three : Bool) → (one && two && three) ≡ (two && three && one)
+and_turned true true three = elim three as (λ c. c ≡ (c && true)) [ true ↦ refl | false ↦ refl ]
+and_turned true false three = refl
+and_turned false true three = elim three as (λ c. false ≡ (c && false)) [ true ↦ refl | false ↦ refl ]
+and_turned false false three = refl
 
 alike_same : (one other : Bool) → alike one other ≡ true → one ≡ other
 alike_same true true same = refl
@@ -51,3 +57,15 @@ module _ (slots : List (Option TextLink)) (from into : ℕ → Bool → List ℕ
   row_found place is =
       found_row (λ row. eqb row.parent parent) (is_from child footnote) (is_link child parent footnote) same slots
       places (are ∙ kept.listed_from child footnote) place is
+
+module _ (slots : List (Option TextLink)) (from into : ℕ → Bool → List ℕ) (kept : IsKept slots from into)
+    (child parent : ℕ) (footnote : Bool) (places : List ℕ) (are : places ≡ into parent footnote) where
+  same_into : (row : TextLink) → is_link child parent footnote row ≡ (is_into parent footnote row && eqb row.child child)
+  same_into row = and_turned (eqb row.child child) (eqb row.parent parent) (alike row.footnote footnote)
+
+  -- the link by what is found of its place among those into its parent
+  pub link_found_into : (place : Option ℕ) → place ≡ find (is_child_at slots child) places →
+      link_of child parent footnote (rows_in slots) ≡ option_flatten (option_map (row_at slots) place)
+  link_found_into place is =
+      found (λ row. eqb row.child child) (is_into parent footnote) (is_link child parent footnote) same_into slots places
+      (are ∙ kept.listed_into parent footnote) place is

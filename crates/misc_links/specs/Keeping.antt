@@ -20,6 +20,11 @@ abbrev pub is_parent_at : List (Option TextLink) → ℕ → ℕ → Bool
 is_parent_at slots parent place =
     option_map_or (λ row. row.parent == parent) (option_flatten (slice_get slots place)) false
 
+-- whether a link from this text is at a place
+abbrev pub is_child_at : List (Option TextLink) → ℕ → ℕ → Bool
+is_child_at slots child place =
+    option_map_or (λ row. row.child == child) (option_flatten (slice_get slots place)) false
+
 -- the link at a place
 abbrev pub link_at : List (Option TextLink) → ℕ → Option TextLink
 link_at slots place = option_flatten (slice_get slots place)

@@ -2,7 +2,7 @@ ghost use Rattle.std.specs.Prelude.{◌≡◌, ◌≤◌, ◌<◌, [], ◌∷◌
 ghost use Rattle.std.specs.Prelude.{is_some, option_copied, IsOk, IfOk, OnOk, OnErr};
 ghost use Rattle.std.specs.Prelude.{filter_map, true, false};
 ghost use Rattle.kom_types.specs.tables.Texts.{link_of, links_from, links_into, without_link};
-ghost use Rattle.misc_links.specs.Keeping.{is_parent_at, link_at};
+ghost use Rattle.misc_links.specs.Keeping.{is_parent_at, is_child_at, link_at};
 ghost use Rattle.misc_links.specs.Kinds.{list_at};
 ghost use Rattle.misc_links.specs.Linked.{touching, room_from, room_into};
 ghost use Rattle.misc_links.specs.Linked.{HasRoom, KeepsRoom, UsesRoom};
@@ -72,12 +72,31 @@ impl Links {
         }
     }
 
-    /// The link of a comment, or a footnote, to a text. The time grows with the links from the
-    /// child of that kind.
+    /// The link of a comment, or a footnote, to a text. The time grows with the links of that kind
+    /// from the child, or with those into the parent where these are fewer.
     pub fn get(&self, child: u32, parent: u32, footnote: bool) -> Option<&TextLink>
         ensures { option_copied result ≡ link_of child parent footnote self.now.links }
     {
+        if self.count_from(child, footnote) <= self.count_into(parent, footnote) {
+            self.get_from(child, parent, footnote)
+        } else {
+            self.get_into(child, parent, footnote)
+        }
+    }
+
+    /// The same, by the links from the child.
+    fn get_from(&self, child: u32, parent: u32, footnote: bool) -> Option<&TextLink>
+        ensures { option_copied result ≡ link_of child parent footnote self.now.links }
+    {
         let place = place_into(&self.rows, self.from.list(child, footnote), parent)?;
+        self.rows.get(place)
+    }
+
+    /// The same, by the links into the parent.
+    fn get_into(&self, child: u32, parent: u32, footnote: bool) -> Option<&TextLink>
+        ensures { option_copied result ≡ link_of child parent footnote self.now.links }
+    {
+        let place = place_from(&self.rows, self.into.list(parent, footnote), child)?;
         self.rows.get(place)
     }
 
@@ -220,6 +239,15 @@ fn place_into(rows: &Slots<TextLink>, places: &[u32], parent: u32) -> Option<u32
 {
     places.iter().copied().find(
         |place| matches!(rows.get(*place), Some(link) if link.parent == parent),
+    )
+}
+
+/// The place of the link from a text, among those at some places.
+fn place_from(rows: &Slots<TextLink>, places: &[u32], child: u32) -> Option<u32>
+    ensures { result ≡ find (is_child_at rows.now.slots child) places.now }
+{
+    places.iter().copied().find(
+        |place| matches!(rows.get(*place), Some(link) if link.child == child),
     )
 }
 

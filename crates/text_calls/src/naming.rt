@@ -106,7 +106,7 @@ fn recipient_guard(
     submit_guard(rows, &caller, conference)?;
     anonymous_guard(rows, anonymous, conference)?;
     unless(
-        count(Naming::Recipient, before) < MOST_RECIPIENTS,
+        has_room(Naming::Recipient, before, MOST_RECIPIENTS),
         errors::RECIPIENT_LIMIT,
         0,
     )
@@ -146,7 +146,7 @@ fn comment_guard(asked: &Asked<'_>, before: &[MiscInput], text: u32) -> Result<(
     )?;
     into_guard(rows, text, false, errors::COMMENT_LIMIT, text)?;
     unless(
-        count(Naming::Comment, before) < MOST_COMMENTS,
+        has_room(Naming::Comment, before, MOST_COMMENTS),
         errors::COMMENT_LIMIT,
         0,
     )
@@ -171,7 +171,7 @@ fn footnote_guard(
     )?;
     into_guard(rows, text, true, errors::FOOTNOTE_LIMIT, text)?;
     unless(
-        count(Naming::Footnote, before) < MOST_FOOTNOTES,
+        has_room(Naming::Footnote, before, MOST_FOOTNOTES),
         errors::FOOTNOTE_LIMIT,
         0,
     )
@@ -210,7 +210,17 @@ fn is_named(naming: Naming, before: &[MiscInput], value: u32) -> bool
 fn names_value(naming: Naming, item: &MiscInput, value: u32) -> bool
     ensures { result ≡ NewTexts.names_value (names naming) value item.now }
 {
-    names(naming, item) && item.value == value
+    item.value == value && names(naming, item)
+}
+
+/// Whether fewer are named before than may be. Where there are fewer items, none is looked at.
+fn has_room(naming: Naming, before: &[MiscInput], most: usize) -> bool
+    ensures { result ≡ NewTexts.has_room (names naming) before.now most }
+{
+    if before.len() < most {
+        return true;
+    }
+    count(naming, before) < most
 }
 
 fn count(naming: Naming, before: &[MiscInput]) -> usize

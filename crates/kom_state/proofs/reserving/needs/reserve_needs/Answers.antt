@@ -1,10 +1,11 @@
 use Rattle.std.proofs.Common.{◌≤◌, subst, ◌∙◌, All, get_or, take, arith}
+use Rattle.std.proofs.Math.Nat.{le_trans}
 use Rattle.std.proofs.lemmas.List.{take_all}
 use Rattle.std.proofs.lemmas.List.Elements.{All-more}
 use Rattle.texts.specs.declared.needs.Need.{Need}
 use Rattle.texts.specs.Needs.{room_for, count_of}
 use Rattle.kom_state.proofs.Needed.{room_for_all}
-use Rattle.kom_state.proofs.reserving.reserve_needs.Goals as goal
+use Rattle.kom_state.proofs.reserving.needs.reserve_needs.Goals as goal
 
 pub loop-need-preserved : goal.loop-need-preserved
 loop-need-preserved c =
@@ -17,7 +18,7 @@ loop-need-preserved c =
             c.loop-need.invariant.each k d lt,
             c.reserve.ensures.room (get_or (take at needs) k d),
           ))
-          (rw c.count_of-count.ensures at (rw c.in_ok-reserve.was at c.reserve.ensures.ok));
+          (le_trans c.most_of-count.ensures (rw c.in_ok-reserve.was at c.reserve.ensures.ok));
     }
 
 pub returns-clause-ok : goal.returns-clause-ok

@@ -2,7 +2,7 @@ use Rattle.std.proofs.Common.{option_copied, option_map, sym, ap, ◌∙◌}
 use Rattle.std.specs.Option.{option_flatten}
 use Rattle.row_slots.proofs.Places.{row_at}
 use Rattle.misc_links.proofs.Finding.{link_found}
-use Rattle.misc_links.proofs.links.Links.get.Goals as goal
+use Rattle.misc_links.proofs.links.Links.get_from.Goals as goal
 
 pub returns-in_err-place : goal.returns-in_err-place
 returns-in_err-place c =
