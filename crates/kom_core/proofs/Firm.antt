@@ -23,7 +23,7 @@ use Rattle.kom_model.specs.After.{moment_of}
 use Rattle.kom_model.specs.ToWhom.{is_refused}
 use Rattle.kom_core.specs.Deciding.{Decides, DecidesFirm}
 use Rattle.async_fanout.specs.Silent.{may_send, is_silent}
-use Rattle.kom_core.proofs.Effects.{decision-holds, decision-meets}
+use Rattle.kom_model.proofs.Deciding.{decision-holds, decision-meets}
 
 -- nothing comes of a call but its reply
 abbrev IsIdle : Call → Decision → Type 0

@@ -1,6 +1,5 @@
 pub mod Keeping
 pub mod Rows
-pub mod Effects
 pub mod Orderly
 pub mod Firm
 pub mod Sending

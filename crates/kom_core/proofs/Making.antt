@@ -6,7 +6,7 @@ use Rattle.kom_types.specs.declared.acts.Entry.{Entry}
 use Rattle.kom_types.specs.declared.acts.Record.{Record}
 use Rattle.kom_types.specs.declared.answers.Refusal.{Refusal}
 use Rattle.kom_model.specs.State.{State, IsSound}
-use Rattle.kom_model.specs.After.{MayBeShort}
+use Rattle.kom_model.specs.After.{MayBeShort, HasUser}
 use Rattle.kom_model.proofs.Soundness.{IsSound-after}
 use Rattle.kom_core.specs.declared.server_state.Made.{Made}
 use Rattle.kom_core.specs.Acts.{Kinded}
@@ -44,18 +44,19 @@ stepped old new entry came made is steps =
 
 -- a step keeps a server sound
 pub IsSound-made : (old new : State) (entry : Entry) (came : Result Made Refusal) (made : Made) → came ≡ Ok made →
-    IsSound old → Steps old entry new came → IsSound new
-IsSound-made old new entry came made is sound steps =
+    HasUser entry.act → IsSound old → Steps old entry new came → IsSound new
+IsSound-made old new entry came made is user sound steps =
     let made_step : Stepped old entry new made = stepped old new entry came made is steps in
-    rw made_step.2 (IsSound-after old (made_of old entry made.short) sound)
+    rw made_step.2 (IsSound-after old (made_of old entry made.short) user sound)
 
 -- the record that a core keeps of an act that was made
 abbrev pub kept : Entry → Made → Record
 kept entry made = record { entry = entry; session = made.session; short = made.short }
 
 pub Kinded-made : (old new : State) (entry : Entry) (came : Result Made Refusal) (made : Made) → came ≡ Ok made →
-    Steps old entry new came → Kinded old entry (record { state = new; last = Some (kept entry made) }) made.answer
-Kinded-made old new entry came made is steps =
+    HasUser entry.act → Steps old entry new came →
+    Kinded old entry (record { state = new; last = Some (kept entry made) }) made.answer
+Kinded-made old new entry came made is user steps =
     let made_step : Stepped old entry new made = stepped old new entry came made is steps in
     let tells : Tells old entry made = made_step.1 in
     rw (Kinded, made_step.0) (
@@ -66,6 +67,7 @@ Kinded-made old new entry came made is steps =
           entry_made = refl;
           follows = record {
             possible = made_step.0;
+            user = user;
             session = tells.session;
             short = may_be_short old entry.moment entry.act made.short tells.short;
           };

@@ -54,7 +54,7 @@ use Rattle.kom_model.specs.calls.Texts.{gone_text, new_recipient, nearest_text}
 use Rattle.kom_model.specs.Decide.{asked_in, definition_of, decision_of}
 use Rattle.kom_model.specs.After.{moment_of}
 use Rattle.kom_core.specs.Deciding.{IsCall, Decides}
-use Rattle.kom_core.proofs.Effects.{decision-holds}
+use Rattle.kom_model.proofs.Deciding.{decision-holds}
 
 -- effects that give no name
 abbrev IsNameless : List Effect → Type 0

@@ -10,7 +10,7 @@ use crate::server_state::ServerState;
 use kom_model::{CallError, Refused};
 use kom_replies::printed_len;
 use kom_state::Asked;
-use kom_types::limits::LONGEST_SERVER_LINE;
+use kom_types::limits::LONGEST_REPLY;
 use kom_types::{Act, Call, Decision, Entry, Item, Memory, Reply, Sequence, errors};
 use std::alloc::Global;
 
@@ -52,7 +52,7 @@ fn limited(alloc: Global, reference: u32, decision: Decision) -> Decision
     ensures { result ≡ limited_decision reference decision }
 {
     let (length, reply) = measured(reference, decision.reply);
-    if length <= LONGEST_SERVER_LINE as u64 {
+    if length <= LONGEST_REPLY as u64 {
         Decision {
             reply,
             effects: decision.effects,

@@ -3,6 +3,7 @@ ghost use Rattle.std.specs.Prelude.{None};
 ghost use Rattle.kom_model.specs.Effects.{IsProtected};
 ghost use Rattle.kom_model.specs.Initial.{initial};
 ghost use Rattle.kom_model.specs.State.{IsSound, opening};
+ghost use Rattle.kom_model.specs.Whole.{IsWhole};
 ghost use Rattle.kom_model.specs.After.{after};
 ghost use Rattle.kom_model.specs.Legal.{HasUser};
 ghost use Rattle.kom_model.specs.Out.{taken_by};
@@ -58,7 +59,8 @@ impl Core {
 
     /// A core before its first act, with these stored rows.
     pub fn of(alloc: Global, rows: kom_state::StoredRows) -> Core
-        requires { IsProtected rows.db }
+        requires protected { IsProtected rows.db }
+        requires whole { IsWhole rows.db }
         ensures value { result ≡ record { state = opening rows.db; last = None } }
         ensures sound { IsSound result.state }
     {

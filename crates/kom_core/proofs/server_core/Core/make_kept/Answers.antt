@@ -7,7 +7,7 @@ use Rattle.kom_core.proofs.server_core.Core.make_kept.Goals as goal
 pub invariant_of-self-in-Ok : goal.invariant_of-self-in-Ok
 invariant_of-self-in-Ok g c =
     IsSound-made c.self.inside.server c.make.new.self c.args.entry c.in_ok-made.field-0 c.in-Ok.made c.in-Ok.is
-    c.self.invariant c.in_ok-made.ensures.step
+    c.requires.user c.self.invariant c.in_ok-made.ensures.step
 
 pub returns-in-Ok-clause-answered : goal.returns-in-Ok-clause-answered
 returns-in-Ok-clause-answered g c =
@@ -15,9 +15,9 @@ returns-in-Ok-clause-answered g c =
     (record { state = c.make.new.self; last = Some (kept c.args.entry c.in-Ok.made) }) c.in-Ok.made.answer in
     subst P (ap (λ held. held.state) c.self.view_is)
     (Kinded-made c.self.inside.server c.make.new.self c.args.entry c.in_ok-made.field-0 c.in-Ok.made c.in-Ok.is
-    c.in_ok-made.ensures.step)
+    c.requires.user c.in_ok-made.ensures.step)
 
 pub returns-in-Ok-clause-sound : goal.returns-in-Ok-clause-sound
 returns-in-Ok-clause-sound g c =
     IsSound-made c.self.inside.server c.make.new.self c.args.entry c.in_ok-made.field-0 c.in-Ok.made c.in-Ok.is
-    c.self.invariant c.in_ok-made.ensures.step
+    c.requires.user c.self.invariant c.in_ok-made.ensures.step
