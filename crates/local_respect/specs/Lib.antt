@@ -1,0 +1,2 @@
+pub mod Vanishing
+pub mod Calls

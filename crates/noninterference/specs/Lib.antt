@@ -1,0 +1,4 @@
+pub mod Hidden
+pub mod Quiet
+pub mod Hiding
+pub mod Worlds

@@ -1,0 +1,9 @@
+pub mod Sessions
+pub mod Server
+pub mod Persons
+pub mod Conferences
+pub mod Memberships
+pub mod Texts
+pub mod NewTexts
+pub mod AuxItems
+pub mod Calls

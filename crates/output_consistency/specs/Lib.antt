@@ -1,0 +1,4 @@
+pub mod Same
+pub mod Answers
+pub mod Brought
+pub mod Leaks

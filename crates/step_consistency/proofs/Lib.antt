@@ -1,0 +1,9 @@
+pub mod Agreeing
+pub mod Standing
+pub mod Steps
+pub mod Changing
+pub mod Queueing
+pub mod Delivering
+pub mod Following
+pub mod Calls
+pub mod Acts

@@ -1,0 +1,4 @@
+pub mod Steps
+pub mod Same
+pub mod Calls
+pub mod Acts
