@@ -4,6 +4,9 @@ ghost use Rattle.kom_types.specs.declared.acts.Act.TheVariants as act;
 ghost use Rattle.kom_links.specs.Records.{IsOpen};
 ghost use Rattle.kom_links.specs.DeskCalls.{DeskView, Connects, Acts, Calls, Drains, Flushes};
 ghost use Rattle.kom_links.specs.DeskCalls.{Closes, AsksStopped};
+ghost use Rattle.kom_links.specs.declared.desk_tally.DeskTally.{DeskTally};
+ghost use Rattle.kom_links.specs.DeskTally.{with_connect, with_act, with_drain, with_flush};
+ghost use Rattle.kom_links.specs.DeskTally.{with_question};
 
 use arrayvec::ArrayVec;
 use kom_types::{Call, Item, Moment, Why};
@@ -24,10 +27,20 @@ pub enum DeskFault {
 pub trait Desk {
     ghost view: { Self → DeskView };
 
+    /// What it tells beside its acts.
+    ghost tally: { Self → DeskTally };
+
+    /// It goes on from before as the same desk, over the same server. No call puts another in its
+    /// place.
+    ghost goes_on: { Self → Self → Type 0 };
+
     /// Begins a session for the user of a greeting, and returns its number.
     fn connect(&mut self, moment: Moment, user: &[u8], host: &[u8]) -> Result<u32, DeskFault>
         requires { length user.now ≤ 1024 }
-        ensures { Connects (view self.old) moment user.now host.now result (view self.new) };
+        ensures connects { Connects (view self.old) moment user.now host.now result
+            (view self.new) }
+        ensures tally { tally self.new ≡ with_connect result (tally self.old) }
+        ensures on { goes_on self.old self.new };
 
     /// Makes a call for a session.
     fn call(
@@ -38,13 +51,18 @@ pub trait Desk {
         call: Call,
     ) -> Result<(), DeskFault>
         requires { IsOpen session (view self.old).mine }
-        ensures { Calls (view self.old) moment (act.Call session reference call) session result
-            (view self.new) };
+        ensures calls { Calls (view self.old) moment (act.Call session reference call) session
+            result (view self.new) }
+        ensures tally { tally self.new ≡ with_act result (tally self.old) }
+        ensures on { goes_on self.old self.new };
 
     /// Says that a session's stream is at fault.
     fn broken(&mut self, moment: Moment, session: u32) -> Result<(), DeskFault>
         requires { IsOpen session (view self.old).mine }
-        ensures { Acts (view self.old) moment (act.Broken session) session result (view self.new) };
+        ensures acts { Acts (view self.old) moment (act.Broken session) session result
+            (view self.new) }
+        ensures tally { tally self.new ≡ with_act result (tally self.old) }
+        ensures on { goes_on self.old self.new };
 
     /// Takes items that wait for a session, in place of what stood in the array.
     fn drain_into(
@@ -54,13 +72,19 @@ pub trait Desk {
         into: &mut ArrayVec<Item, 64>,
     ) -> Result<(), DeskFault>
         requires { IsOpen session (view self.old).mine }
-        ensures { Drains (view self.old) moment session into.new.items result (view self.new) };
+        ensures drains { Drains (view self.old) moment session into.new.items result
+            (view self.new) }
+        ensures tally { tally self.new ≡ with_drain into.new.items result (tally self.old) }
+        ensures on { goes_on self.old self.new };
 
     /// The same, with the items by value.
     fn drain(&mut self, moment: Moment, session: u32) -> Result<ArrayVec<Item, 64>, DeskFault>
         requires { IsOpen session (view self.old).mine }
-        ensures { (items : List Taken) × IfOk result (λ given. given.items ≡ items)
+        ensures drains { (items : List Taken) × IfOk result (λ given. given.items ≡ items)
             × Drains (view self.old) moment session items result (view self.new) }
+        ensures tally { (items : List Taken) × IfOk result (λ given. given.items ≡ items)
+            × (tally self.new ≡ with_drain items result (tally self.old)) }
+        ensures on { goes_on self.old self.new }
     {
         let mut items = ArrayVec::new();
         self.drain_into(moment, session, &mut items)?;
@@ -69,14 +93,25 @@ pub trait Desk {
 
     /// Makes stable what was done so far.
     fn flush(&mut self, moment: Moment) -> Result<(), DeskFault>
-        ensures { Flushes (view self.old) moment result (view self.new) };
+        ensures flushes { Flushes (view self.old) moment result (view self.new) }
+        ensures tally { tally self.new ≡ with_flush result (tally self.old) }
+        ensures on { goes_on self.old self.new };
 
     /// Ends a session.
     fn close(&mut self, moment: Moment, session: u32) -> Result<(), DeskFault>
         requires { IsOpen session (view self.old).mine }
-        ensures { Closes (view self.old) moment session result (view self.new) };
+        ensures closes { Closes (view self.old) moment session result (view self.new) }
+        ensures tally { tally self.new ≡ with_act result (tally self.old) }
+        ensures on { goes_on self.old self.new };
 
     /// Whether the server was shut down or its store refused a flush.
     fn stopped(&mut self) -> Result<bool, DeskFault>
-        ensures { AsksStopped (view self.old) result (view self.new) };
+        ensures asks { AsksStopped (view self.old) result (view self.new) }
+        ensures tally { tally self.new ≡ with_question result (tally self.old) }
+        ensures on { goes_on self.old self.new };
+
+    ghost goes_on_itself: { (desk : Self) → goes_on desk desk };
+
+    ghost goes_on_further: { (first second third : Self) → goes_on first second
+        → goes_on second third → goes_on first third };
 }

@@ -2,8 +2,10 @@
 //! adapters over standard input, standard output and the system's clock.
 #![tactic(auto)]
 
+mod client_links;
 mod clock;
 mod desk;
+mod desk_tally;
 mod gate;
 mod link;
 mod rise;
@@ -22,8 +24,10 @@ mod tests;
 mod world;
 mod world_counts;
 
+pub use client_links::{KeysLink, SocketLink};
 pub use clock::Clock;
 pub use desk::{Desk, DeskFault};
+pub use desk_tally::{AfterFault, DeskTally};
 pub use gate::{Gate, Next};
 pub use link::{Got, Link, Took};
 pub use rise::has_risen;

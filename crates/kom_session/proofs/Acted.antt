@@ -483,7 +483,7 @@ line_faulty {start} {fed} {known} {now} (Somebody user requests broken) units li
 -- ---- the greeting
 
 -- the party of whom a greeting is taken is nobody
-greeted_nobody : {start : Seen} {fed : List ℕ} {known : Known} {now : Seen} (party : Party)
+pub greeted_nobody : {start : Seen} {fed : List ℕ} {known : Known} {now : Seen} (party : Party)
     (units : List StreamUnit) (user : List ℕ)
     → IsTaking start (record { fed = fed; party = party }) units (unit.Hello user) known now →
     ((party ≡ Nobody []) × (units ≡ []) × (known.session ≡ 0))

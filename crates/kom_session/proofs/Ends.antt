@@ -1,5 +1,5 @@
 -- From the end that the loop gives to the end of the service.
-use Rattle.std.proofs.Common.{◌≡◌, ◌≢◌, ℕ, zero, suc, ◌^◌, ◌<◌, ◌⊎◌, ◌==◌, ◌&&◌, ◌||◌, ◌↔◌, not, Bool, true, false, inl, inr, List, [], ◌∷◌, ◌++◌, length, Option, Some, None, Result, Ok, Err, refl, sym, ◌∙◌, ap, ap₂, subst, subst₂, append-nil, append_assoc, ne_eqb, le-leb, arith}
+use Rattle.std.proofs.Common.{◌≡◌, ◌≢◌, ℕ, zero, suc, ◌^◌, ◌<◌, ◌⊎◌, ◌==◌, ◌&&◌, ◌||◌, ◌↔◌, not, Bool, true, false, inl, inr, List, [], ◌∷◌, ◌++◌, length, Option, Some, None, Result, Ok, Err, refl, sym, ◌∙◌, ap, ap₂, subst, append-nil, append_assoc, ne_eqb, le-leb, arith}
 use Rattle.std.specs.Prelude.{⊤, IfSome, IsSome, IsTrue}
 use Rattle.std.specs.List.{AllByRecursion}
 use Rattle.std.proofs.lemmas.List.Folds.{list_any-append}
@@ -20,7 +20,8 @@ use Rattle.kom_links.specs.Outside.{Look, LinkView, Rose, grown, IsNothing}
 use Rattle.kom_links.specs.Doors.{Gains}
 use Rattle.kom_links.specs.Records.{is_connect, is_open, has_connect, has_close, IsOpen}
 use Rattle.kom_links.specs.DeskCalls.{DeskView, record_of, first_fault, is_lock_full, IsLockFault, IsConnectFault, Closes as ClosesOf}
-use Rattle.kom_links.specs.Talk.{Step, Closes, steps_of, printed, lines_before, IsPrefix, AreTimed, IsTalk}
+use Rattle.kom_links.specs.Talk.{Step, Closes, steps_of, printed, lines_before, IsPrefix, IsDrained, AreTimed, IsTalk}
+use Rattle.kom_session.specs.declared.flow.Phase.{Phase}
 use Rattle.kom_session.specs.declared.flow.Phase.TheVariants as phase
 use Rattle.kom_session.specs.Course.{IsSettled}
 use Rattle.kom_session.specs.Ends.{IsEndOf, HasCause, TellsFault, IsOwn, IsUntouched, given_to, end_at, ending_of, ending}
@@ -28,7 +29,7 @@ use Rattle.kom_session.specs.Known.{Known, Seen, seen, State, IsClosed, LeavesOt
 use Rattle.kom_session.specs.Serving.{Party, Nobody, Somebody, Past, owed_to, IsFaultAfter, IsSomebody, IsParty, IsPhase, IsServed, IsBetween, Climbs, Plans, IsHeard, IsOver, IsBegun, ServesLink}
 use Rattle.kom_session.specs.Waits.{AreAnswered, NoneWaits}
 use Rattle.kom_session.proofs.Times.{timed_none, timed_more, timed_skip}
-use Rattle.kom_session.proofs.Talks.{EndFacts, SilentFacts, talk_closed, talk_open, talk_silent}
+use Rattle.kom_session.proofs.Talks.{EndFacts, SilentFacts, settled_drained, settled_closed, talk_closed, talk_open, talk_silent}
 use Rattle.kom_session.proofs.Courses.{and_left, or_true, own_step-same}
 use Rattle.kom_session.proofs.Others.{others_trans, others_none, others_open, act_leaves}
 use Rattle.kom_session.proofs.Stepped.{first_nil, ok_fault}
@@ -197,7 +198,7 @@ flat fed requests fault at_fault e = let found = at_fault e in (found.0, found.1
 
 -- what is told of a service at its end
 pub record Told (start : Seen) (fed : List ℕ) (session : ℕ) (cause : Option DeskFault)
-    (after : Seen) (final : SessionEnd) : Type 0 where
+    (reached : Phase) (after : Seen) (final : SessionEnd) : Type 0 where
   pub added : List Record
   pub bytes : List ℕ
   pub mine_is : after.desk.mine ≡ start.desk.mine ++ added
@@ -210,6 +211,8 @@ pub record Told (start : Seen) (fed : List ℕ) (session : ℕ) (cause : Option 
   pub waits : IfSome after.link.reads
       (λ looks. NoneWaits
       (steps_of session added (given_to session (after.desk.gave_to session))) looks)
+  pub drained : session ≢ 0 → reached ≡ phase.Calm
+      → IsDrained (steps_of session added (given_to session (after.desk.gave_to session)))
   pub cause_is : after.desk.fault_to session ≡ cause
   pub others : LeavesOthers session start after
 
@@ -225,7 +228,7 @@ pub silent_told : {start : Seen} {past : Past} {known : Known} {now : Seen} {pla
     (over : IsOver start past known now planned) → known.session ≡ 0 → (risen : Bool) →
     (planned ≡ end.LinkFault → risen ≡ true)
     → (planned ≡ end.End → known.cause ≡ None → now.link.ended ≡ true)
-    → Told start past.fed known.session known.cause now (ending risen planned known.cause)
+    → Told start past.fed known.session known.cause known.phase now (ending risen planned known.cause)
 silent_told {start} {past} {known} {now} {planned} over none risen lost has_ended =
     go past.party over.served.party over.served.owed over.plan
   where
@@ -235,7 +238,7 @@ silent_told {start} {past} {known} {now} {planned} over none risen lost has_ende
     go : (party : Party) → IsParty past.fed party start known now over.served.added
         → over.served.bytes ++ known.pending ≡ owed_to party (now.desk.gave_to known.session) →
         Plans planned known.cause (record { fed = past.fed; party = party }) known
-        → Told start past.fed known.session known.cause now (ending risen planned known.cause)
+        → Told start past.fed known.session known.cause known.phase now (ending risen planned known.cause)
     go (Nobody told) is owed plan =
         let s = over.served in
         let mine : now.desk.mine ≡ start.desk.mine ++ [] =
@@ -264,6 +267,7 @@ silent_told {start} {past} {known} {now} {planned} over none risen lost has_ende
               now.link.ended [] session (given_to session (now.desk.gave_to known.session))
               (ending risen planned known.cause) now.desk.lock_full) (sym none) talk;
           waits = waits_so now.link.reads s.waited s.place s.recent [] steps s.looked;
+          drained = λ some calm. absurd (some none);
           cause_is = s.cause;
           others = s.others;
         }
@@ -296,8 +300,8 @@ pub session_told : {start : Seen} {past : Past} {known : Known} {now : Seen} {pl
     → ClosesOf now.desk moment known.session answer desk → Gains now.gave moment gave →
     (planned ≡ end.LinkFault → risen ≡ true)
     → (planned ≡ end.End → first_fault known.cause answer ≡ None → now.link.ended ≡ true) →
-    Told start past.fed known.session (first_fault known.cause answer) (seen desk now.link gave)
-    (ending risen planned (first_fault known.cause answer))
+    Told start past.fed known.session (first_fault known.cause answer) known.phase
+    (seen desk now.link gave) (ending risen planned (first_fault known.cause answer))
 session_told {start} {past} {known} {now} {planned} over some risen moment answer desk gave closes
     gains lost has_ended = go past.party over.served.party over.served.owed over.plan answer closes
     has_ended
@@ -330,7 +334,7 @@ session_told {start} {past} {known} {now} {planned} over some risen moment answe
         Plans planned known.cause (record { fed = past.fed; party = party }) known
         → (answer : Result ⊤ DeskFault) → ClosesOf now.desk moment known.session answer desk →
         (planned ≡ end.End → first_fault known.cause answer ≡ None → now.link.ended ≡ true)
-        → Told start past.fed known.session (first_fault known.cause answer)
+        → Told start past.fed known.session (first_fault known.cause answer) known.phase
         (seen desk now.link gave) (ending risen planned (first_fault known.cause answer))
     go (Nobody told) is owed plan answer closes has_ended = absurd (some is.none)
     go (Somebody user requests broken) is owed plan (Ok done) closes has_ended =
@@ -381,6 +385,14 @@ session_told {start} {past} {known} {now} {planned} over some risen moment answe
               (sym now_given)
               (waits_so now.link.reads s.waited s.place (s.recent ++ Closes ∷ [])
               (steps_of known.session (s.added ++ last ∷ []) given) all s.looked);
+          drained =
+              λ some calm. subst (λ (given : List (List Item)). IsDrained
+              (steps_of known.session (s.added ++ last ∷ []) given)) (sym now_given)
+              (subst (λ steps. IsDrained steps)
+              (sym (all ∙ sym (append_assoc s.place s.recent (Closes ∷ []))))
+              (settled_drained ((s.place ++ s.recent) ++ Closes ∷ [])
+              (settled_closed (s.place ++ s.recent)
+              (settled_of s (begun user requests broken is) calm))));
           cause_is =
               closes.rest.noted.0
               ∙ ap (λ (first : Option DeskFault). first_fault {X = ⊤} first (Ok done)) s.cause;
@@ -427,6 +439,12 @@ session_told {start} {past} {known} {now} {planned} over some risen moment answe
               (λ looks. NoneWaits (steps_of known.session s.added given) looks)) (sym now_given)
               (waits_so now.link.reads s.waited s.place s.recent
               (steps_of known.session s.added given) s.steps s.looked);
+          drained =
+              λ some calm. subst (λ (given : List (List Item)). IsDrained
+              (steps_of known.session s.added given)) (sym now_given)
+              (subst (λ steps. IsDrained steps) (sym s.steps)
+              (settled_drained (s.place ++ s.recent)
+              (settled_of s (begun user requests broken is) calm)));
           cause_is =
               closes.rest.noted.0
               ∙ ap (λ (first : Option DeskFault). first_fault {X = ⊤} first
@@ -697,7 +715,7 @@ told_so bytes (Some first) after nothing e =
     subst (λ (told : Option (List ℕ)). IfSome told (λ told. told ≡ bytes)) (sym e)
     (ap (λ first. first ++ bytes) nothing)
 
-is_zero : (n : ℕ) → (n ≡ 0) ⊎ (n ≢ 0)
+pub is_zero : (n : ℕ) → (n ≡ 0) ⊎ (n ≢ 0)
 is_zero zero = inl refl
 is_zero (suc n) = inr (λ e. omega arith)
 
@@ -720,20 +738,20 @@ none_before old new close e = go (is_zero old.known.session)
 pub over_told : {start : Seen} {past : Past} {planned : SessionEnd} (old new : State)
     (over : IsOver start past old.known old.seen planned) → (risen : Bool) → IsClosed old new →
     (planned ≡ end.LinkFault → risen ≡ true)
-    → Told start past.fed new.known.session new.known.cause new.seen
+    → Told start past.fed new.known.session new.known.cause old.known.phase new.seen
     (ending risen planned new.known.cause)
 over_told {start} {past} {planned} old new over risen close lost = go (is_zero old.known.session)
   where
     go : (old.known.session ≡ 0) ⊎ (old.known.session ≢ 0)
-        → Told start past.fed new.known.session new.known.cause new.seen
+        → Told start past.fed new.known.session new.known.cause old.known.phase new.seen
         (ending risen planned new.known.cause)
     go (inl none) =
-        subst (λ (at : State). Told start past.fed at.known.session at.known.cause at.seen
+        subst (λ (at : State). Told start past.fed at.known.session at.known.cause old.known.phase at.seen
         (ending risen planned at.known.cause)) (sym (close.silent none))
         (silent_told over none risen lost (heard_ended over))
     go (inr some) =
         let closed = close.closed some in
-        subst (λ (at : State). Told start past.fed at.known.session at.known.cause at.seen
+        subst (λ (at : State). Told start past.fed at.known.session at.known.cause old.known.phase at.seen
         (ending risen planned at.known.cause)) (sym closed.6)
         (session_told over some risen closed.0 closed.1 closed.2 closed.3 closed.5 closed.4 lost
         (λ e none. heard_ended over e (first_kept old.known.cause closed.1 none)))

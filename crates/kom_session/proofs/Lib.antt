@@ -2,6 +2,8 @@ pub mod Acted
 pub mod Courses
 pub mod Ends
 pub mod Finishing
+pub mod Leaving
+pub mod Left
 pub mod Others
 pub mod Reading
 pub mod Served

@@ -14,18 +14,15 @@ use Rattle.kom_links.specs.declared.link.Got.TheVariants as got
 use Rattle.kom_links.specs.declared.served.SessionEnd.TheVariants as end
 use Rattle.kom_links.specs.Outside.{Look, LinkView, Reads, IsNothing, grown, read_bytes, is_not_yet}
 use Rattle.kom_links.specs.Records.{IsOpen}
-use Rattle.kom_links.specs.DeskCalls.{DeskView}
 use Rattle.kom_links.specs.Talk.{Step, steps_of, requests_in, printed}
 use Rattle.kom_session.specs.declared.flow.Flow.{Flow}
 use Rattle.kom_session.specs.declared.flow.Flow.TheVariants as flow
-use Rattle.kom_session.specs.declared.flow.Next.{Next}
-use Rattle.kom_session.specs.declared.flow.Next.TheVariants as next
 use Rattle.kom_session.specs.declared.flow.Phase.{Phase}
 use Rattle.kom_session.specs.declared.flow.Phase.TheVariants as phase
 use Rattle.kom_session.specs.Course.{IsSettled}
 use Rattle.kom_session.specs.Flows.{ended_by}
 use Rattle.kom_session.specs.Known.{Known, Seen, State, knowing, awake, HasRoom, HasSession, Keeps, ReadsLink, IsSent}
-use Rattle.kom_session.specs.Serving.{Party, Nobody, Somebody, Past, owed_to, AreFirst, IsParty, IsPhase, IsServed, ServesOn, AreCalled, IsServing, IsBetween, HasRead, HasWaited, IsWhole, Plans, Climbs, IsHeard, IsOver, IsLast, IsFaulty, IsEnded, Settled}
+use Rattle.kom_session.specs.Serving.{Party, Nobody, Somebody, Past, owed_to, AreFirst, IsParty, IsPhase, IsServed, ServesOn, AreCalled, IsServing, IsBetween, HasRead, HasWaited, IsWhole, Plans, Climbs, IsHeard, IsOver, IsLast, IsFaulty, IsEnded}
 use Rattle.kom_session.specs.Waits.{given_in, IsAnsweredBy, IsAnswered, IsChecked, AreAnswered}
 use Rattle.kom_session.proofs.Acted.{heard_fault}
 use Rattle.kom_session.proofs.Others.{others_trans}

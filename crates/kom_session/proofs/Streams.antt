@@ -79,7 +79,7 @@ ends_rise_from place text [] = tt
 ends_rise_from place text (byte ∷ bytes) =
     line_step place text (lines_from side.Client (place + 1) (text ++ byte ∷ []) bytes)
     (lines_from side.Client (place + 1) [] bytes) (line_verdict side.Client place (text ++ byte ∷ []))
-    (verdict_place place (nat_lt (longest_line side.Client) (length (text ++ byte ∷ [])))
+    (verdict_place place (nat_lt longest_line (length (text ++ byte ∷ [])))
     (line_form side.Client (text ++ byte ∷ [])))
     (ends_rise_from (place + 1) (text ++ byte ∷ []) bytes) (ends_rise_from (place + 1) [] bytes)
 

@@ -71,7 +71,7 @@ all_quiet (step ∷ steps) still = both (is_quiet step) (list_all is_quiet steps
     (still_quiet step (and_left (is_still step) (list_all is_still steps) still))
     (all_quiet steps (and_right (is_still step) (list_all is_still steps) still))
 
-settled_drained : (steps : List Step) → IsSettled steps → IsDrained steps
+pub settled_drained : (steps : List Step) → IsSettled steps → IsDrained steps
 settled_drained steps settled = (
   settled.0,
   settled.1,
@@ -87,7 +87,7 @@ settled_broken : (steps : List Step) → IsAtFault true steps → IsSettled step
 settled_broken steps at settled =
     (at.0, at.1, at.2, at.3, at.4, at.5, settled_tail steps settled at.0 at.1 Breaks refl at.2)
 
-settled_closed : (steps : List Step) → IsSettled steps → IsSettled (steps ++ Closes ∷ [])
+pub settled_closed : (steps : List Step) → IsSettled steps → IsSettled (steps ++ Closes ∷ [])
 settled_closed steps settled = (
   settled.0,
   settled.1,

@@ -58,6 +58,9 @@ pub record Doors : Type 0 where
   pub link : ℕ
   pub clock : ℕ
 
+abbrev pub doors : ℕ → ℕ → ℕ → Doors
+doors desk link clock = record { desk = desk; link = link; clock = clock }
+
 -- a session is connected, and open
 pub record HasSession (at : State) : Type 0 where
   pub some : at.known.session ≢ 0

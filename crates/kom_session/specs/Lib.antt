@@ -2,5 +2,6 @@ pub mod Course
 pub mod Ends
 pub mod Flows
 pub mod Known
+pub mod Left
 pub mod Serving
 pub mod Waits

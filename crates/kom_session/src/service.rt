@@ -1,4 +1,6 @@
-ghost use Rattle.kom_session.specs.Known.{known, seen};
+ghost use Rattle.std.specs.Prelude.{◌≡◌, refl};
+ghost use Rattle.std.proofs.Common.{◌∙◌};
+ghost use Rattle.kom_session.specs.Known.{known, seen, doors};
 
 use crate::conversation::{Conversation, awake, done_after, note, with_line};
 use crate::flow::{Phase, Sent, UnitDone};
@@ -6,7 +8,7 @@ use crate::serve::Serve;
 use kom_calls::{CallFault, read_call};
 use kom_framing::{FeedRefusal, Line, Unit};
 use kom_links::{Clock, Desk, DeskFault, Got, Link, SessionEnd, Took};
-use kom_types::{Bytes, Call, Item, Memory, Why};
+use kom_types::{Bytes, Call, Item, Memory, Why, errors};
 
 /// A conversation with the link, the desk and the clock that it is served by.
 #[derive(Drop)]
@@ -23,11 +25,16 @@ impl<'t, 'k, 'l, 'c, K: Desk, L: Link, C: Clock> Serve for Service<'t, 'k, 'l, '
       seen = seen (K.view service.desk.now) (L.view service.link.now) (C.gave service.clock.now);
     } };
 
-    ghost doors = { λ service. record {
-      desk = service.desk.ghost_name;
-      link = service.link.ghost_name;
-      clock = service.clock.ghost_name;
-    } };
+    ghost tally = { λ service. K.tally service.desk.now };
+
+    ghost goes_on = { λ old new. (doors new.desk.ghost_name new.link.ghost_name new.clock.ghost_name
+        ≡ doors old.desk.ghost_name old.link.ghost_name old.clock.ghost_name)
+        × K.goes_on old.desk.now new.desk.now };
+
+    ghost goes_on_itself = { λ service. (refl, K.goes_on_itself service.desk.now) };
+
+    ghost goes_on_further = { λ first second third one two.
+        (two.0 ∙ one.0, K.goes_on_further _ _ _ one.1 two.1) };
 
     fn session(&self) -> u32 {
         self.talk.session
@@ -100,9 +107,18 @@ impl<'t, 'k, 'l, 'c, K: Desk, L: Link, C: Clock> Serve for Service<'t, 'k, 'l, '
     fn make_line(&mut self, line: &Line) -> UnitDone {
         match read_call(self.talk.alloc, line) {
             Ok((reference, call)) => self.make_call(reference, call),
-            Err(CallFault::Unknown(reference)) => self.make_call(reference, Call::Refused(2, 0)),
-            Err(CallFault::BadBool(reference)) => self.make_call(reference, Call::Refused(61, 0)),
-            Err(CallFault::LongArray(reference)) => self.make_call(reference, Call::Refused(46, 0)),
+            Err(CallFault::Unknown(reference)) => self.make_call(
+                reference,
+                Call::Refused(errors::NOT_IMPLEMENTED, 0),
+            ),
+            Err(CallFault::BadBool(reference)) => self.make_call(
+                reference,
+                Call::Refused(errors::BAD_BOOL, 0),
+            ),
+            Err(CallFault::LongArray(reference)) => self.make_call(
+                reference,
+                Call::Refused(errors::LONG_ARRAY, 0),
+            ),
             Err(CallFault::Malformed) => {
                 self.tell_broken();
                 UnitDone::Last(SessionEnd::Broken(line.end()))

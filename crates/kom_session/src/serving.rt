@@ -13,6 +13,8 @@ ghost use Rattle.kom_session.specs.Serving.{Past, ServesOn, IsBegun, ServesLink,
 ghost use Rattle.kom_session.specs.Serving.{IfServing, CanRead, IfBetween, HasRead, HasWaited};
 ghost use Rattle.kom_session.specs.Serving.{IsEnded, IsLast, ServesBatch, ServesUnits, GoesOn};
 ghost use Rattle.kom_session.specs.Serving.{Settled};
+ghost use Rattle.kom_session.specs.Left.{RoseBy, AreAsked, IsSentAll, IfSending, IsTold, Tallies};
+ghost use Rattle.kom_session.specs.Left.{TalliesReads, Leaves, LeavesNext, LeavesLink};
 ghost use Rattle.kom_session.specs.Waits.{NoneWaits};
 
 use crate::conversation::Conversation;
@@ -20,7 +22,7 @@ use crate::ending::end_of;
 use crate::flow::{Flow, Next, UnitDone, ended_by};
 use crate::serve::Serve;
 use crate::service::Service;
-use crate::settling::{send, settle};
+use crate::settling::{send, settle_through};
 use kom_links::{Clock, Desk, Got, Link, Served, SessionEnd, has_risen};
 use std::alloc::Global;
 use std::sync::Wait;
@@ -67,6 +69,20 @@ pub fn serve_link<R: Wait, K: Desk, L: Link, C: Clock>(
 
     ensures cause { HasCause (L.view link.old).faults (L.view link.new).faults
         ((K.view desk.new).fault_to result.session) (L.view link.new).ended result.end }
+    // For each read that found nothing the desk was asked whether it is stopped.
+    ensures asked { AreAsked (K.tally desk.old).asked (K.tally desk.new).asked
+        (L.view link.new).reads }
+
+    // Where a call ended the session or the server was stopped, what waited for it was sent.
+    ensures left { (added : List Record)
+        × ((K.view desk.new).mine ≡ (K.view desk.old).mine ++ added)
+        × (result.session ≢ 0 → IfSending result.end (IsSentAll
+        (steps_of result.session added
+        (given_to result.session ((K.view desk.new).gave_to result.session)))
+        (K.tally desk.old) (K.tally desk.new))) }
+
+    // The desk is the same, over the same server.
+    ensures goes_on { K.goes_on desk.old desk.new }
     ensures others { LeavesOthers result.session
         (seen (K.view desk.old) (L.view link.old) (C.gave clock.old))
         (seen (K.view desk.new) (L.view link.new) (C.gave clock.new)) }
@@ -84,8 +100,12 @@ pub fn serve_link<R: Wait, K: Desk, L: Link, C: Clock>(
 /// Serves a link on which nothing was done, and closes its session.
 fn serve<R: Wait, S: Serve>(rt: &R, alloc: Global, service: &mut S) -> Served
     requires { IsBegun (S.state service.old) }
-    ensures doors { S.doors service.new ≡ S.doors service.old }
+    ensures on { S.goes_on service.old service.new }
     ensures serves { ServesLink (S.state service.old).seen result (S.state service.new).seen }
+    ensures asked { AreAsked (S.tally service.old).asked (S.tally service.new).asked
+        (S.state service.new).seen.link.reads }
+    ensures left { LeavesLink (S.state service.old).seen (S.tally service.old) result
+        (S.state service.new).seen (S.tally service.new) }
 {
     let faults = service.faults();
     let planned = serve_stream(rt, alloc, service);
@@ -100,9 +120,13 @@ fn serve<R: Wait, S: Serve>(rt: &R, alloc: Global, service: &mut S) -> Served
 /// Reads the client's stream into a buffer and serves it, until one of the ends.
 fn serve_stream<R: Wait, S: Serve>(rt: &R, alloc: Global, service: &mut S) -> SessionEnd
     requires { CanRead (S.state service.old) }
-    ensures doors { S.doors service.new ≡ S.doors service.old }
+    ensures on { S.goes_on service.old service.new }
     ensures serves { IfBetween (S.state service.old)
         (λ start past units. IsEnded result start (S.state service.new)) }
+    ensures tally { TalliesReads (S.state service.old) (S.tally service.old)
+        (S.state service.new) (S.tally service.new) }
+    ensures left { IsTold (S.state service.old).known (S.tally service.old)
+        → Leaves result (S.tally service.old) (S.state service.new).known (S.tally service.new) }
 {
     let Ok(mut buffer) = vec![in alloc; 0u8; PIECE] else {
         return SessionEnd::Memory;
@@ -114,9 +138,13 @@ fn serve_stream<R: Wait, S: Serve>(rt: &R, alloc: Global, service: &mut S) -> Se
 fn serve_pieces<R: Wait, S: Serve>(rt: &R, service: &mut S, buffer: &mut [u8]) -> SessionEnd
     requires room { 0 < length buffer.old }
     requires between { CanRead (S.state service.old) }
-    ensures doors { S.doors service.new ≡ S.doors service.old }
+    ensures on { S.goes_on service.old service.new }
     ensures serves { IfBetween (S.state service.old)
         (λ start past units. IsEnded result start (S.state service.new)) }
+    ensures tally { TalliesReads (S.state service.old) (S.tally service.old)
+        (S.state service.new) (S.tally service.new) }
+    ensures left { IsTold (S.state service.old).known (S.tally service.old)
+        → Leaves result (S.tally service.old) (S.state service.new).known (S.tally service.new) }
 {
     for _ in rt.forever() {
         match serve_read(rt, service, buffer) {
@@ -131,9 +159,14 @@ fn serve_pieces<R: Wait, S: Serve>(rt: &R, service: &mut S, buffer: &mut [u8]) -
 fn serve_read<R: Wait, S: Serve>(rt: &R, service: &mut S, buffer: &mut [u8]) -> Next
     requires room { 0 < length buffer.old }
     requires between { CanRead (S.state service.old) }
-    ensures doors { S.doors service.new ≡ S.doors service.old }
+    ensures on { S.goes_on service.old service.new }
     ensures serves { IfBetween (S.state service.old)
         (λ start past units. GoesOn result start (S.state service.new)) }
+    ensures tally { TalliesReads (S.state service.old) (S.tally service.old)
+        (S.state service.new) (S.tally service.new) }
+    ensures left { IsTold (S.state service.old).known (S.tally service.old)
+        → LeavesNext result (S.tally service.old) (S.state service.new).known
+        (S.tally service.new) }
 {
     match service.read(buffer) {
         Got::Some(count) => serve_piece(rt, service, &buffer[..count]),
@@ -148,10 +181,16 @@ fn serve_read<R: Wait, S: Serve>(rt: &R, service: &mut S, buffer: &mut [u8]) -> 
 fn wait_for_more<R: Wait, S: Serve>(rt: &R, service: &mut S) -> Next
     requires { (start : Seen) × (past : Past) × (units : List StreamUnit)
         × HasWaited start past units (S.state service.old) }
-    ensures doors { S.doors service.new ≡ S.doors service.old }
+    ensures on { S.goes_on service.old service.new }
     ensures serves { (start : Seen) (past : Past) (units : List StreamUnit)
         → HasWaited start past units (S.state service.old)
         → GoesOn result start (S.state service.new) }
+    ensures tally { Tallies (S.state service.old) (S.tally service.old)
+        (S.state service.new) (S.tally service.new) }
+    ensures asked { RoseBy 1 (S.tally service.old).asked (S.tally service.new).asked }
+    ensures left { IsTold (S.state service.old).known (S.tally service.old)
+        → LeavesNext result (S.tally service.old) (S.state service.new).known
+        (S.tally service.new) }
 {
     if service.session() == 0 {
         service.ask_stopped();
@@ -171,10 +210,15 @@ fn wait_for_more<R: Wait, S: Serve>(rt: &R, service: &mut S) -> Next
 /// Feeds a piece of the stream, and serves what is complete.
 fn serve_piece<R: Wait, S: Serve>(rt: &R, service: &mut S, piece: &[u8]) -> Next
     requires { (start : Seen) × (past : Past) × HasRead piece.now start past (S.state service.old) }
-    ensures doors { S.doors service.new ≡ S.doors service.old }
+    ensures on { S.goes_on service.old service.new }
     ensures serves { (start : Seen) (past : Past)
         → HasRead piece.now start past (S.state service.old)
         → GoesOn result start (S.state service.new) }
+    ensures tally { Tallies (S.state service.old) (S.tally service.old)
+        (S.state service.new) (S.tally service.new) }
+    ensures left { IsTold (S.state service.old).known (S.tally service.old)
+        → LeavesNext result (S.tally service.old) (S.state service.new).known
+        (S.tally service.new) }
 {
     let Ok(fault) = service.feed(piece) else {
         return Next::Ends(SessionEnd::Memory);
@@ -192,9 +236,14 @@ fn serve_piece<R: Wait, S: Serve>(rt: &R, service: &mut S, piece: &[u8]) -> Next
 fn serve_units<R: Wait, S: Serve>(rt: &R, service: &mut S) -> Next
     requires room { HasRoom (S.state service.old).known.phase }
     requires serving { CanServe (S.state service.old) }
-    ensures doors { S.doors service.new ≡ S.doors service.old }
+    ensures on { S.goes_on service.old service.new }
     ensures serves { IfServing (S.state service.old)
         (λ start past units. ServesUnits result start past.fed (S.state service.new)) }
+    ensures tally { Tallies (S.state service.old) (S.tally service.old)
+        (S.state service.new) (S.tally service.new) }
+    ensures left { IsTold (S.state service.old).known (S.tally service.old)
+        → LeavesNext result (S.tally service.old) (S.state service.new).known
+        (S.tally service.new) }
 {
     for _ in rt.forever() {
         match service.act() {
@@ -214,9 +263,14 @@ fn serve_units<R: Wait, S: Serve>(rt: &R, service: &mut S) -> Next
 /// Settles the session if four lines were called since it last was.
 fn serve_batch<R: Wait, S: Serve>(rt: &R, service: &mut S) -> Next
     requires { CanServe (S.state service.old) }
-    ensures doors { S.doors service.new ≡ S.doors service.old }
+    ensures on { S.goes_on service.old service.new }
     ensures serves { IfServing (S.state service.old)
         (λ start past units. ServesBatch result start past units (S.state service.new)) }
+    ensures tally { Tallies (S.state service.old) (S.tally service.old)
+        (S.state service.new) (S.tally service.new) }
+    ensures left { IsTold (S.state service.old).known (S.tally service.old)
+        → LeavesNext result (S.tally service.old) (S.state service.new).known
+        (S.tally service.new) }
 {
     if service.is_full() {
         return settle_on(rt, service);
@@ -227,10 +281,15 @@ fn serve_batch<R: Wait, S: Serve>(rt: &R, service: &mut S) -> Next
 /// Settles the session if something was done since it last was.
 fn serve_rest<R: Wait, S: Serve>(rt: &R, service: &mut S) -> Next
     requires { CanServe (S.state service.old) }
-    ensures doors { S.doors service.new ≡ S.doors service.old }
+    ensures on { S.goes_on service.old service.new }
     ensures serves { IfServing (S.state service.old) (λ start past units.
         (S.state service.old).known.splitting.held ≡ [] → (stream_of past.fed).fault ≡ None
         → GoesOn result start (S.state service.new)) }
+    ensures tally { Tallies (S.state service.old) (S.tally service.old)
+        (S.state service.new) (S.tally service.new) }
+    ensures left { IsTold (S.state service.old).known (S.tally service.old)
+        → LeavesNext result (S.tally service.old) (S.state service.new).known
+        (S.tally service.new) }
 {
     if service.is_calm() {
         return Next::GoesOn;
@@ -243,11 +302,15 @@ fn serve_rest<R: Wait, S: Serve>(rt: &R, service: &mut S) -> Next
 fn serve_fault<R: Wait, S: Serve>(rt: &R, service: &mut S, place: u64) -> SessionEnd
     requires room { HasRoom (S.state service.old).known.phase }
     requires serving { CanServe (S.state service.old) }
-    ensures doors { S.doors service.new ≡ S.doors service.old }
+    ensures on { S.goes_on service.old service.new }
     ensures serves { IfServing (S.state service.old) (λ start past units.
         (S.state service.old).known.splitting.held ≡ []
         → option_map place_of (stream_of past.fed).fault ≡ Some place
         → IsEnded result start (S.state service.new)) }
+    ensures tally { Tallies (S.state service.old) (S.tally service.old)
+        (S.state service.new) (S.tally service.new) }
+    ensures left { IsTold (S.state service.old).known (S.tally service.old)
+        → Leaves result (S.tally service.old) (S.state service.new).known (S.tally service.new) }
 {
     if service.session() == 0 {
         service.tell_fault();
@@ -258,17 +321,21 @@ fn serve_fault<R: Wait, S: Serve>(rt: &R, service: &mut S, place: u64) -> Sessio
     finish(rt, service, SessionEnd::Broken(place))
 }
 
-/// Settles a session, and goes on unless the desk answered a fault. Where a stop was found while
-/// something was written, what waits since is sent too.
+/// Settles a session, and goes on unless the desk answered a fault.
 fn settle_on<R: Wait, S: Serve>(rt: &R, service: &mut S) -> Next
     requires session { HasSession (S.state service.old) }
     requires nothing { (S.state service.old).known.pending ≡ [] }
-    ensures doors { S.doors service.new ≡ S.doors service.old }
+    ensures on { S.goes_on service.old service.new }
     ensures serves { ServesOn (S.state service.old) (S.state service.new) }
     ensures keeps { Keeps (S.state service.old).known (S.state service.new).known }
     ensures settled { Settled result (S.state service.old) (S.state service.new) }
+    ensures tally { Tallies (S.state service.old) (S.tally service.old)
+        (S.state service.new) (S.tally service.new) }
+    ensures left { IsTold (S.state service.old).known (S.tally service.old)
+        → LeavesNext result (S.tally service.old) (S.state service.new).known
+        (S.tally service.new) }
 {
-    match settle(rt, service) {
+    match settle_through(rt, service) {
         Flow::Open => {}
         Flow::Lost => return Next::Ends(SessionEnd::LinkFault),
         Flow::NoMemory => return Next::Ends(SessionEnd::Memory),
@@ -276,22 +343,22 @@ fn settle_on<R: Wait, S: Serve>(rt: &R, service: &mut S) -> Next
     if service.is_sound() {
         return Next::GoesOn;
     }
-    if !service.is_calm() {
-        return Next::Ends(SessionEnd::End);
-    }
-    let flow = settle(rt, service);
-    Next::Ends(ended_by(flow, SessionEnd::End))
+    Next::Ends(SessionEnd::End)
 }
 
 /// Sends what waits for a session, and then so ends, unless the link or memory failed.
 fn finish<R: Wait, S: Serve>(rt: &R, service: &mut S, end: SessionEnd) -> SessionEnd
     requires session { HasSession (S.state service.old) }
     requires nothing { (S.state service.old).known.pending ≡ [] }
-    ensures doors { S.doors service.new ≡ S.doors service.old }
+    ensures on { S.goes_on service.old service.new }
     ensures serves { (start : Seen) (past : Past)
         → IsLast start past (S.state service.old).known (S.state service.old).seen end
         → IsEnded result start (S.state service.new) }
+    ensures tally { Tallies (S.state service.old) (S.tally service.old)
+        (S.state service.new) (S.tally service.new) }
+    ensures left { IsTold (S.state service.old).known (S.tally service.old)
+        → Leaves result (S.tally service.old) (S.state service.new).known (S.tally service.new) }
 {
-    let flow = settle(rt, service);
+    let flow = settle_through(rt, service);
     ended_by(flow, end)
 }

@@ -2,14 +2,15 @@ ghost use Rattle.std.specs.Prelude.{◌≡◌, ◌-◌, ◌+◌, ◌<◌, ◌≤
 ghost use Rattle.std.specs.Prelude.{vec_len, vec_capacity};
 ghost use Rattle.kom_types.specs.declared.acts.Act.TheVariants as act;
 ghost use Rattle.kom_links.specs.Records.{IsOpen};
-ghost use Rattle.kom_links.specs.DeskCalls.{Acts, is_noted, record_of};
+ghost use Rattle.kom_links.specs.DeskCalls.{Acts, Drains, is_noted, record_of};
+ghost use Rattle.kom_links.specs.DeskTally.{faulted, refused, with_act};
 ghost use Rattle.memory_links.specs.Marks.{Stands, IsBetween, fault_in};
 
 use crate::desk_plan::{Course, DeskPlan};
 use crate::marks::{Mark, is_lock_full, note_in_open};
 use crate::planned_items::{Drained, PlannedItem, Waiting, put_items, take_waiting};
 use arrayvec::ArrayVec;
-use kom_links::{Desk, DeskFault};
+use kom_links::{Desk, DeskFault, DeskTally};
 use kom_types::{Act, Bytes, Call, Entry, Item, Memory, Moment, Record, Why};
 use std::alloc::Global;
 
@@ -27,6 +28,7 @@ pub struct MemoryDesk {
     drains: Vec<Drained>,
     waiting: Vec<Waiting>,
     is_lock_full: bool,
+    tally: DeskTally,
     ghost stands: { Stands marks.items records.items drains.items
         (vec_capacity records - vec_len records) },
 }
@@ -43,6 +45,7 @@ impl Drop for MemoryDesk {
             drains,
             waiting,
             is_lock_full: _,
+            tally: _,
         } = self;
         drop((course, records, marks));
         drop((drains, waiting));
@@ -71,6 +74,7 @@ impl MemoryDesk {
             drains: Vec::new(alloc),
             waiting: Vec::new(alloc),
             is_lock_full: false,
+            tally: DeskTally::nothing(),
         })
     }
 
@@ -99,6 +103,7 @@ impl MemoryDesk {
         ensures marks { OnOk result (vec_len self.new.marks < vec_capacity self.new.marks) }
         ensures drains { OnOk result (vec_len self.new.drains < vec_capacity self.new.drains) }
         ensures waiting { OnOk result (vec_len self.new.waiting < vec_capacity self.new.waiting) }
+        ensures tally { self.new.tally ≡ self.old.tally }
     {
         self.records.reserve(self.marks.len() + 1)?;
         self.marks.reserve(1)?;
@@ -112,6 +117,7 @@ impl MemoryDesk {
         requires { IsTrue (is_noted self.old.records.items session) }
         ensures result { result ≡ fault }
         ensures noted { NotesFault (desk_view self.old) session fault (desk_view self.new) }
+        ensures tally { self.new.tally ≡ self.old.tally }
     {
         let place = session as usize;
         self.marks[place] = self.marks[place].with(fault);
@@ -119,14 +125,36 @@ impl MemoryDesk {
         fault
     }
 
+    /// The same of a fault that is the answer to neither a flush nor a drain.
+    fn fault(&mut self, session: u32, fault: DeskFault) -> DeskFault
+        requires { IsTrue (is_noted self.old.records.items session) }
+        ensures result { result ≡ fault }
+        ensures noted { NotesFault (desk_view self.old) session fault (desk_view self.new) }
+        ensures tally { self.new.tally ≡ faulted self.old.tally }
+    {
+        self.tally.faulted();
+        self.note(session, fault)
+    }
+
     /// Notes a fault that is of no session.
     fn note_everywhere(&mut self, fault: DeskFault) -> DeskFault
         ensures result { result ≡ fault }
         ensures noted { NotesFaultEverywhere (desk_view self.old) fault (desk_view self.new) }
+        ensures tally { self.new.tally ≡ self.old.tally }
     {
         note_in_open(self.marks.as_mut_slice(), fault);
         self.is_lock_full = is_lock_full(self.is_lock_full, fault);
         fault
+    }
+
+    /// The same of a fault that is the answer to a flush.
+    fn refuse_flush(&mut self, fault: DeskFault) -> DeskFault
+        ensures result { result ≡ fault }
+        ensures noted { NotesFaultEverywhere (desk_view self.old) fault (desk_view self.new) }
+        ensures tally { self.new.tally ≡ refused self.old.tally }
+    {
+        self.tally.refused();
+        self.note_everywhere(fault)
     }
 
     /// Makes an act of a session for which an item waits then.
@@ -139,18 +167,48 @@ impl MemoryDesk {
     ) -> Result<(), DeskFault>
         requires open { IsOpen session self.old.records.items }
         requires between { IsBetween act }
-        ensures { Acts (desk_view self.old) moment act session result (desk_view self.new) }
+        ensures acts { Acts (desk_view self.old) moment act session result (desk_view self.new) }
+        ensures tally { self.new.tally ≡ with_act result self.old.tally }
     {
         if let Some(fault) = self.course.refuse_act() {
             wait_if_gone(&mut self.waiting, Waiting { session, item }, fault);
-            return Err(self.note(session, fault));
+            return Err(self.fault(session, fault));
         }
         if self.reserve().is_err() {
-            return Err(self.note(session, DeskFault::Memory));
+            return Err(self.fault(session, DeskFault::Memory));
         }
         self.records
             .push_reserved(record_of(self.pass, moment, act, session));
         self.waiting.push_reserved(Waiting { session, item });
+        Ok(())
+    }
+
+    /// Takes items that wait for a session, in place of what stood in the array.
+    fn drain_waiting(
+        &mut self,
+        moment: Moment,
+        session: u32,
+        into: &mut ArrayVec<Item, 64>,
+    ) -> Result<(), DeskFault>
+        requires { IsOpen session self.old.records.items }
+        ensures drains { Drains (desk_view self.old) moment session into.new.items result
+            (desk_view self.new) }
+        ensures tally { self.new.tally ≡ self.old.tally }
+    {
+        into.clear();
+        if let Some(fault) = self.course.refuse_act() {
+            return Err(self.note(session, fault));
+        }
+        let Ok(mut items) = Vec::with_capacity(self.alloc, self.course.most_drained()) else {
+            return Err(self.note(session, DeskFault::Memory));
+        };
+        if self.reserve().is_err() {
+            return Err(self.note(session, DeskFault::Memory));
+        }
+        take_waiting(&mut self.waiting, session, &mut items);
+        put_items(items.as_slice(), into);
+        self.records.push_reserved(record_of(self.pass, moment, Act::Drain { session }, session));
+        self.drains.push_reserved(Drained { session, items });
         Ok(())
     }
 }
@@ -189,18 +247,27 @@ impl Desk for MemoryDesk {
 
     ghost view = { λ desk. desk_view desk };
 
+    ghost tally = { λ desk. desk.tally };
+
+    // There is one desk, and no server below it.
+    ghost goes_on = { λ old new. Unit {0} };
+
+    ghost goes_on_itself = { λ desk. tt };
+
+    ghost goes_on_further = { λ first second third one two. tt };
+
     fn connect(&mut self, moment: Moment, user: &[u8], host: &[u8]) -> Result<u32, DeskFault> {
         if let Some(fault) = self.course.refuse_connect() {
-            return Err(self.note(0, fault));
+            return Err(self.fault(0, fault));
         }
         let Ok(act) = greeting(self.alloc, user, host) else {
-            return Err(self.note(0, DeskFault::Memory));
+            return Err(self.fault(0, DeskFault::Memory));
         };
         if self.reserve().is_err() {
-            return Err(self.note(0, DeskFault::Memory));
+            return Err(self.fault(0, DeskFault::Memory));
         }
         let Ok(number) = u32::try_from(self.marks.len()) else {
-            return Err(self.note(0, DeskFault::Full(u64::from(u32::MAX))));
+            return Err(self.fault(0, DeskFault::Full(u64::from(u32::MAX))));
         };
         self.records
             .push_reserved(record_of(self.pass, moment, act, number));
@@ -212,6 +279,7 @@ impl Desk for MemoryDesk {
             session: number,
             item: PlannedItem::Hello,
         });
+        self.tally.connected();
         Ok(number)
     }
 
@@ -245,38 +313,34 @@ impl Desk for MemoryDesk {
         session: u32,
         into: &mut ArrayVec<Item, 64>,
     ) -> Result<(), DeskFault> {
-        into.clear();
-        if let Some(fault) = self.course.refuse_act() {
-            return Err(self.note(session, fault));
+        match self.drain_waiting(moment, session, into) {
+            Ok(()) => {
+                self.tally.drained(into.is_empty());
+                Ok(())
+            }
+            Err(fault) => {
+                self.tally.refused();
+                Err(fault)
+            }
         }
-        let Ok(mut items) = Vec::with_capacity(self.alloc, self.course.most_drained()) else {
-            return Err(self.note(session, DeskFault::Memory));
-        };
-        if self.reserve().is_err() {
-            return Err(self.note(session, DeskFault::Memory));
-        }
-        take_waiting(&mut self.waiting, session, &mut items);
-        put_items(items.as_slice(), into);
-        self.records.push_reserved(record_of(self.pass, moment, Act::Drain { session }, session));
-        self.drains.push_reserved(Drained { session, items });
-        Ok(())
     }
 
     fn flush(&mut self, moment: Moment) -> Result<(), DeskFault> {
         if let Some(fault) = self.course.refuse_flush() {
-            return Err(self.note_everywhere(fault));
+            return Err(self.refuse_flush(fault));
         }
         if self.reserve().is_err() {
-            return Err(self.note_everywhere(DeskFault::Memory));
+            return Err(self.refuse_flush(DeskFault::Memory));
         }
         self.records
             .push_reserved(record_of(self.pass, moment, Act::Flush, 0));
+        self.tally.flushed();
         Ok(())
     }
 
     fn close(&mut self, moment: Moment, session: u32) -> Result<(), DeskFault> {
         if let Some(fault) = self.course.refuse_close() {
-            return Err(self.note(session, fault));
+            return Err(self.fault(session, fault));
         }
         self.records.push_reserved(record_of(self.pass, moment, Act::Close { session }, session));
         self.marks[session as usize].is_open = false;
@@ -285,12 +349,19 @@ impl Desk for MemoryDesk {
 
     fn stopped(&mut self) -> Result<bool, DeskFault> {
         match self.course.next_question() {
-            Ok(false) => Ok(false),
+            Ok(false) => {
+                self.tally.asked(false);
+                Ok(false)
+            }
             Ok(true) => {
+                self.tally.asked(true);
                 self.note_everywhere(DeskFault::Gone(Why::Stopped));
                 Ok(true)
             }
-            Err(fault) => Err(self.note_everywhere(fault)),
+            Err(fault) => {
+                self.tally.asked(true);
+                Err(self.note_everywhere(fault))
+            }
         }
     }
 }

@@ -1,5 +1,7 @@
+use Rattle.std.proofs.Common.{refl}
 use Rattle.kom_session.proofs.Finishing.{settled_on}
 use Rattle.kom_session.proofs.Reading.{due_session}
+use Rattle.kom_session.proofs.Left.{tallies_same}
 use Rattle.kom_session.proofs.serving.serve_batch.Goals as goal
 
 pub settle_on-requires-clause-session : goal.settle_on-requires-clause-session
@@ -20,3 +22,10 @@ returns-then-is_full-clause-serves g c = λ start past units s.
 pub returns-clause-serves : goal.returns-clause-serves
 returns-clause-serves g c =
     λ start past units s. (s, c.is_full.ensures.room c.if-is_full.false)
+
+pub returns-clause-tally : goal.returns-clause-tally
+returns-clause-tally g c = tallies_same _ _ _ _ refl refl refl
+
+pub returns-clause-on : goal.returns-clause-on
+returns-clause-on g c =
+    g.met.S.Serve.goes_on_itself _

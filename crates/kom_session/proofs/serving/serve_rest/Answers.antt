@@ -1,5 +1,7 @@
+use Rattle.std.proofs.Common.{refl}
 use Rattle.kom_session.proofs.Finishing.{settled_between}
 use Rattle.kom_session.proofs.Reading.{due_session, between}
+use Rattle.kom_session.proofs.Left.{tallies_same}
 use Rattle.kom_session.proofs.serving.serve_rest.Goals as goal
 
 pub settle_on-requires-clause-session : goal.settle_on-requires-clause-session
@@ -24,3 +26,10 @@ returns-clause-serves g c = λ start past units s all sound.
     settled_between (g.S.Serve.state c.args.service.now) (g.S.Serve.state u.new.service) s u.result
     (due_session s.served (c.is_calm.ensures.due c.if-is_calm.false)).some
     u.ensures.serves u.ensures.keeps u.ensures.settled all sound
+
+pub returns-then-is_calm-clause-tally : goal.returns-then-is_calm-clause-tally
+returns-then-is_calm-clause-tally g c = tallies_same _ _ _ _ refl refl refl
+
+pub returns-then-is_calm-clause-on : goal.returns-then-is_calm-clause-on
+returns-then-is_calm-clause-on g c =
+    g.met.S.Serve.goes_on_itself _

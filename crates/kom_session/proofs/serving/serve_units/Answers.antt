@@ -1,14 +1,16 @@
 use Rattle.std.proofs.Common.{rules, ◌∙◌, refl}
 use Rattle.kom_session.proofs.Served.{served_open}
+use Rattle.kom_session.proofs.Left.{tallies_same, tallies_trans, leaves_after}
 use Rattle.kom_session.proofs.serving.serve_units.Goals as goal
 
 pub loop-init : goal.loop-init
 loop-init g c = record {
   can = search rules;
   finite = search rules;
-  doors = refl;
+  on = g.met.S.Serve.goes_on_itself _;
   room = c.requires.room;
   serves = λ start past units s. (past, units, refl, s);
+  tally = tallies_same _ _ _ _ refl refl refl;
 }
 
 pub act-requires-clause-serving : goal.act-requires-clause-serving
@@ -55,7 +57,9 @@ pub loop-preserved : goal.loop-preserved
 loop-preserved g c = record {
   can = search rules;
   finite = search rules;
-  doors = c.in-GoesOn.ensures.doors ∙ c.in-Made.ensures.doors ∙ c.loop.invariant.doors;
+  on =
+      g.met.S.Serve.goes_on_further _ _ _ c.loop.invariant.on
+      (g.met.S.Serve.goes_on_further _ _ _ c.in-Made.ensures.on c.in-GoesOn.ensures.on);
   room =
       let r = c.requires.serving in
       let now = c.loop.invariant.serves r.0 r.1 r.2 r.3 in
@@ -65,6 +69,9 @@ loop-preserved g c = record {
       let now = c.loop.invariant.serves start past units s in
       let one = c.in-Made.ensures.serves start now.0 now.1 now.3 in
       (one.0, one.1, one.2 ∙ now.2, (c.in-GoesOn.ensures.serves start one.0 one.1 one.3).0);
+  tally =
+      tallies_trans c.loop.invariant.tally
+      (tallies_trans c.in-Made.ensures.tally c.in-GoesOn.ensures.tally);
 }
 
 pub returns-in-Ends-serve_batch-clause-serves : goal.returns-in-Ends-serve_batch-clause-serves
@@ -72,3 +79,57 @@ returns-in-Ends-serve_batch-clause-serves g c = λ start past units s.
     let now = c.loop.invariant.serves start past units s in
     let one = c.in-Made.ensures.serves start now.0 now.1 now.3 in
     (one.0, c.in-Ends-serve_batch.ensures.serves start one.0 one.1 one.3)
+
+pub returns-in-Idle-clause-tally : goal.returns-in-Idle-clause-tally
+returns-in-Idle-clause-tally g c =
+    tallies_trans c.loop.invariant.tally c.in-Idle.ensures.tally
+
+pub returns-in-Last-clause-tally : goal.returns-in-Last-clause-tally
+returns-in-Last-clause-tally g c =
+    tallies_trans c.loop.invariant.tally
+    (tallies_trans c.in-Last.ensures.tally c.finish.ensures.tally)
+
+pub returns-in-Last-clause-left : goal.returns-in-Last-clause-left
+returns-in-Last-clause-left g c =
+    leaves_after (tallies_trans c.loop.invariant.tally c.in-Last.ensures.tally) c.finish.result
+    (g.S.Serve.state c.finish.new.service).known (g.S.Serve.tally c.finish.new.service) c.finish.ensures.left
+
+pub returns-in-Ends-clause-tally : goal.returns-in-Ends-clause-tally
+returns-in-Ends-clause-tally g c =
+    tallies_trans c.loop.invariant.tally c.in-Ends.ensures.tally
+
+pub returns-in-Ends-clause-left : goal.returns-in-Ends-clause-left
+returns-in-Ends-clause-left g c =
+    leaves_after c.loop.invariant.tally _
+    (g.S.Serve.state c.act.new.self).known (g.S.Serve.tally c.act.new.self) (λ told. c.in-Ends.ensures.left)
+
+pub returns-in-Ends-serve_batch-clause-tally : goal.returns-in-Ends-serve_batch-clause-tally
+returns-in-Ends-serve_batch-clause-tally g c =
+    tallies_trans c.loop.invariant.tally
+    (tallies_trans c.in-Made.ensures.tally c.in-Ends-serve_batch.ensures.tally)
+
+pub returns-in-Ends-serve_batch-clause-left : goal.returns-in-Ends-serve_batch-clause-left
+returns-in-Ends-serve_batch-clause-left g c =
+    leaves_after (tallies_trans c.loop.invariant.tally c.in-Made.ensures.tally) _
+    (g.S.Serve.state c.serve_batch.new.service).known (g.S.Serve.tally c.serve_batch.new.service)
+    c.in-Ends-serve_batch.ensures.left
+
+pub returns-in-Idle-clause-on : goal.returns-in-Idle-clause-on
+returns-in-Idle-clause-on g c =
+    g.met.S.Serve.goes_on_further _ _ _ c.loop.invariant.on
+    c.in-Idle.ensures.on
+
+pub returns-in-Last-clause-on : goal.returns-in-Last-clause-on
+returns-in-Last-clause-on g c =
+    g.met.S.Serve.goes_on_further _ _ _ c.loop.invariant.on
+    (g.met.S.Serve.goes_on_further _ _ _ c.in-Last.ensures.on c.finish.ensures.on)
+
+pub returns-in-Ends-clause-on : goal.returns-in-Ends-clause-on
+returns-in-Ends-clause-on g c =
+    g.met.S.Serve.goes_on_further _ _ _ c.loop.invariant.on
+    c.in-Ends.ensures.on
+
+pub returns-in-Ends-serve_batch-clause-on : goal.returns-in-Ends-serve_batch-clause-on
+returns-in-Ends-serve_batch-clause-on g c =
+    g.met.S.Serve.goes_on_further _ _ _ c.loop.invariant.on
+    (g.met.S.Serve.goes_on_further _ _ _ c.in-Made.ensures.on c.in-Ends-serve_batch.ensures.on)

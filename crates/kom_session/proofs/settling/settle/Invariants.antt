@@ -1,7 +1,9 @@
 -- The session is flushed and drained so far, and what was given was sent.
-use Rattle.std.proofs.Common.{◌≡◌, ◌≤◌, []}
+use Rattle.std.proofs.Common.{◌≡◌, ◌≢◌, ◌≤◌, []}
+use Rattle.kom_links.specs.declared.desk_tally.AfterFault.TheVariants as since
 use Rattle.kom_session.specs.declared.flow.Phase.TheVariants as phase
 use Rattle.kom_session.specs.Known.{Keeps, HasSession}
+use Rattle.kom_session.specs.Left.{Tallies, IsFlushedSince}
 use Rattle.kom_session.specs.Serving.{ServesOn}
 use Rattle.kom_session.proofs.settling.settle.Given as goal
 
@@ -12,11 +14,14 @@ invariant-loop g l =
     record {
       can : (goal.iterator-loop g).can_next l.iterator';
       finite : (goal.iterator-loop g).is_finite l.iterator';
-      doors : g.S.Serve.doors l.service ≡ g.S.Serve.doors l.fn.service;
+      on : g.S.Serve.goes_on l.fn.service l.service;
       serves : ServesOn old new;
       keeps : Keeps old.known new.known;
       session : HasSession new;
       nothing : new.known.pending ≡ [];
       flushed : new.known.phase ≡ phase.Draining;
       faults : old.seen.link.faults ≤ new.seen.link.faults;
+      tally : Tallies old (g.S.Serve.tally l.fn.service) new (g.S.Serve.tally l.service);
+      since : (g.S.Serve.tally l.fn.service).after_fault ≢ since.NoFault
+          → IsFlushedSince (g.S.Serve.tally l.service).after_fault;
     }

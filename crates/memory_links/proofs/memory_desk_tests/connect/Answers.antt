@@ -12,7 +12,7 @@ opened_if (Ok session) connects = opened_connects session connects
 opened_if (Err fault) connects = tt
 
 pub returns-clause-opened : goal.returns-clause-opened
-returns-clause-opened c = opened_if c.connect.result c.connect.ensures
+returns-clause-opened c = opened_if c.connect.result c.connect.ensures.connects
 
 pub returns-clause-kept : goal.returns-clause-kept
-returns-clause-kept c = kept_connects c.connect.result c.connect.ensures
+returns-clause-kept c = kept_connects c.connect.result c.connect.ensures.connects

@@ -42,7 +42,7 @@ module _ (X Y : Type 0) (old : DeskView) (moment session : ℕ) (items : List Ta
   refused items_of fault drains (Err other) is =
       (items, tt, subst (λ e. Drains {X = Y} old moment session items (Err e) new) (sym is) (same_drain fault drains))
 
-pub returns-in_err-drain_into : goal.returns-in_err-drain_into
-returns-in_err-drain_into g c =
-    refused _ _ _ _ _ _ _ (λ some. some.items) c.in_err-drain_into.field-0.0 c.in_err-drain_into.ensures
+pub returns-in_err-drain_into-clause-drains : goal.returns-in_err-drain_into-clause-drains
+returns-in_err-drain_into-clause-drains g c =
+    refused _ _ _ _ _ _ _ (λ some. some.items) c.in_err-drain_into.field-0.0 c.in_err-drain_into.ensures.drains
     c.from_residual.result c.from_residual.ensures.1

@@ -23,8 +23,8 @@ invariant_of-self-2 c =
           (omega (arith, mid.marks.ok.0, c.push_reserved.ensures.len, c.push_reserved.ensures.capacity));
     }
 
-pub returns : goal.returns
-returns c =
+pub returns-clause-connects : goal.returns-clause-connects
+returns-clause-connects c =
     let old = c.args.self.now in
     let mid = c.reserve.new.self in
     let same = c.reserve.ensures.same in
