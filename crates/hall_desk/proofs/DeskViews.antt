@@ -123,6 +123,7 @@ same_on : {P : DeskFault → Type 0} (old mid new : Kept) (session : ℕ) (one g
 same_on old mid new session one given refuses = record {
   table = refuses.again.table ∙ refuses.same.table;
   start = refuses.again.start ∙ refuses.same.start;
+  tally = refuses.again.tally ∙ refuses.same.tally;
 }
 
 locks_on : {P : DeskFault → Type 0} (X : Type 0) (old mid new : Kept) (session : ℕ) (one given : DeskFault) →
@@ -442,6 +443,7 @@ flushes_short old mid new moment items made given stands was short kept same is 
     let same' : IsSame old new = record {
       table = again.table ∙ same.table;
       start = again.start ∙ same.start;
+      tally = again.tally ∙ same.tally;
     } in
     subst (λ given. Flushes {X = ⊤} (desk_view old) moment (Err given) (desk_view new)) (sym is) (record {
       added = tt;
@@ -534,6 +536,7 @@ asks_noted old mid new one answer stands kept same same' pass again faults first
       given = kept_given old new (record {
         table = again.table ∙ same'.table;
         start = again.start ∙ same'.start;
+        tally = again.tally ∙ same'.tally;
       }) keeps;
       noted = λ session. same_faults faults session
           ∙ everywhere old mid.faults one stands (ap (λ (table : FaultTable). table.none) same)

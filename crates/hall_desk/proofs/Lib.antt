@@ -12,3 +12,5 @@ pub mod Standing
 pub mod Locking
 pub mod Answering
 pub mod Resting
+pub mod Telling
+pub mod GoingOn

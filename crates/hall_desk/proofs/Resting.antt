@@ -7,6 +7,7 @@ use Rattle.kom_types.specs.declared.acts.Entry.{Entry}
 use Rattle.kom_types.specs.declared.acts.Record.{Record}
 use Rattle.kom_types.specs.declared.items.Item.{Item}
 use Rattle.kom_links.specs.declared.desk.DeskFault.{DeskFault}
+use Rattle.kom_links.specs.declared.desk_tally.DeskTally.{DeskTally}
 use Rattle.kom_model.specs.State.{State}
 use Rattle.kom_model.specs.Legal.{IsLegal, AreByOwners}
 use Rattle.kom_state_lock.specs.declared.views.Turn.TheVariants.{Resting}
@@ -28,6 +29,9 @@ none_served mine (act.Broken session) is = absurd is
 none_served mine (act.Drain session) is = absurd is
 none_served mine act.Flush is = absurd is
 none_served mine (act.Close session) is = absurd is
+
+abbrev with_tally : DeskTally → Kept → Kept
+with_tally tally kept = record kept { tally = tally }
 
 module _ {B E : Type 0} (made : E → Record) (server : B → State) where
   -- another table
@@ -52,17 +56,20 @@ module _ {B E : Type 0} (made : E → Record) (server : B → State) where
   }
 
   -- the sessions that are open
-  pub open_inside : (hall : HallModel B) (pass : PassModel B E) (faults : FaultTable) (kept : Kept) (moment : ℕ)
-      (what : Act) (entry : Entry) → kept_in made server hall pass faults ≡ kept → entry ≡ entry_of kept moment what →
+  pub open_inside : {tally : DeskTally} (hall : HallModel B) (pass : PassModel B E) (faults : FaultTable) (kept : Kept)
+      (moment : ℕ)
+      (what : Act) (entry : Entry) → kept_in made server hall pass faults tally ≡ kept →
+      entry ≡ entry_of kept moment what →
       IsOfOpen kept.pass.mine what → IsOfOpen (pass_view made pass).mine entry.act
   open_inside hall pass faults kept moment what entry view is open' =
       subst (λ (entry : Entry). IsOfOpen (pass_view made pass).mine entry.act) (sym is)
       (subst (λ (kept : Kept). IsOfOpen kept.pass.mine what) (sym view) open')
 
   -- how an act ended, by what contracts see
-  pub ends_outside : (hall : HallModel B) (pass new : PassModel B E) (faults : FaultTable) (kept : Kept) (moment : ℕ)
+  pub ends_outside : {tally : DeskTally} (hall : HallModel B) (pass new : PassModel B E) (faults : FaultTable)
+      (kept : Kept) (moment : ℕ)
       (what : Act) (entry : Entry) (items : List Item) (result : Result Made DeskFault) →
-      kept_in made server hall pass faults ≡ kept → entry ≡ entry_of kept moment what →
+      kept_in made server hall pass faults tally ≡ kept → entry ≡ entry_of kept moment what →
       Ends (server hall.opening) (pass_view made pass) (pass_view made new) entry items result →
       Ends kept.start kept.pass (pass_view made new) (entry_of kept moment what) items result
   ends_outside hall pass new faults kept moment what entry items result view is ends =
@@ -70,44 +77,62 @@ module _ {B E : Type 0} (made : E → Record) (server : B → State) where
       (subst (λ (kept : Kept). Ends kept.start kept.pass (pass_view made new) entry items result) view ends)
 
   -- whose entry it is
-  pub own_inside : (hall : HallModel B) (pass : PassModel B E) (faults : FaultTable) (kept : Kept) (moment : ℕ)
-      (what : Act) (entry : Entry) → kept_in made server hall pass faults ≡ kept → entry ≡ entry_of kept moment what →
+  pub own_inside : {tally : DeskTally} (hall : HallModel B) (pass : PassModel B E) (faults : FaultTable) (kept : Kept)
+      (moment : ℕ)
+      (what : Act) (entry : Entry) → kept_in made server hall pass faults tally ≡ kept →
+      entry ≡ entry_of kept moment what →
       entry.pass ≡ pass.number
   own_inside hall pass faults kept moment what entry view is =
       ap (λ (entry : Entry). entry.pass) is ∙ ap (λ (kept : Kept). kept.pass.number) (sym view)
 
   -- what contracts see stays of the same hall
-  pub same_outside : (hall : HallModel B) (pass new : PassModel B E) (faults table : FaultTable) (kept : Kept) →
-      kept_in made server hall pass faults ≡ kept → IsSame kept (kept_in made server hall new table)
+  pub same_outside : (hall : HallModel B) (pass new : PassModel B E) (faults table : FaultTable) (kept : Kept)
+      {tally : DeskTally} → kept_in made server hall pass faults tally ≡ kept →
+      IsSame kept (kept_in made server hall new table tally)
   same_outside hall pass new faults table kept view = record {
     table = ap (λ (kept : Kept). kept.table) view;
     start = ap (λ (kept : Kept). kept.start) view;
+    tally = ap (λ (kept : Kept). kept.tally) view;
   }
 
-  pub faults_outside : (hall : HallModel B) (pass : PassModel B E) (faults : FaultTable) (kept : Kept) →
-      kept_in made server hall pass faults ≡ kept → faults ≡ kept.faults
+  -- with another tally
+  pub tally_outside : (hall : HallModel B) (pass : PassModel B E) (faults : FaultTable) (tally new : DeskTally)
+      (kept : Kept) (change : DeskTally → DeskTally) → kept_in made server hall pass faults tally ≡ kept →
+      new ≡ change tally →
+      kept_in made server hall pass faults new ≡ record kept { tally = change kept.tally }
+  tally_outside hall pass faults tally new kept change view changed =
+      ap (λ (tally : DeskTally). kept_in made server hall pass faults tally) changed
+      ∙ ap (λ (kept : Kept). with_tally (change kept.tally) kept) view
+
+  pub faults_outside : {tally : DeskTally} (hall : HallModel B) (pass : PassModel B E) (faults : FaultTable)
+      (kept : Kept) →
+      kept_in made server hall pass faults tally ≡ kept → faults ≡ kept.faults
   faults_outside hall pass faults kept view = ap (λ (kept : Kept). kept.faults) view
 
-  pub pass_outside : (hall : HallModel B) (pass : PassModel B E) (faults : FaultTable) (kept : Kept) →
-      kept_in made server hall pass faults ≡ kept → pass_view made pass ≡ kept.pass
+  pub pass_outside : {tally : DeskTally} (hall : HallModel B) (pass : PassModel B E) (faults : FaultTable)
+      (kept : Kept) →
+      kept_in made server hall pass faults tally ≡ kept → pass_view made pass ≡ kept.pass
   pass_outside hall pass faults kept view = ap (λ (kept : Kept). kept.pass) view
 
-  pub stands_outside : (hall : HallModel B) (pass : PassModel B E) (faults : FaultTable) (kept : Kept) →
-      kept_in made server hall pass faults ≡ kept → Rests made server hall pass faults → Stands kept
+  pub stands_outside : {tally : DeskTally} (hall : HallModel B) (pass : PassModel B E) (faults : FaultTable)
+      (kept : Kept) →
+      kept_in made server hall pass faults tally ≡ kept → Rests made server hall pass faults → Stands kept
   stands_outside hall pass faults kept view rests = subst (λ (kept : Kept). Stands kept) view rests.stands
 
   -- a fault that is known outside is known inside
-  pub known_inside : (hall : HallModel B) (pass : PassModel B E) (faults : FaultTable) (kept : Kept) (session : ℕ)
-      (noted : Option DeskFault) → kept_in made server hall pass faults ≡ kept →
+  pub known_inside : {tally : DeskTally} (hall : HallModel B) (pass : PassModel B E) (faults : FaultTable) (kept : Kept)
+      (session : ℕ)
+      (noted : Option DeskFault) → kept_in made server hall pass faults tally ≡ kept →
       IsKnown kept.start kept.pass.seen kept.pass.drawn session noted →
       IsKnown (server hall.opening) (map made pass.seen) pass.drawn session noted
   known_inside hall pass faults kept session noted view known =
       subst (λ (kept : Kept). IsKnown kept.start kept.pass.seen kept.pass.drawn session noted) (sym view) known
 
   -- after an act that neither connects nor closes
-  pub rests_between : (hall : HallModel B) (pass new : PassModel B E) (faults : FaultTable) (kept : Kept)
+  pub rests_between : {tally : DeskTally} (hall : HallModel B) (pass new : PassModel B E) (faults : FaultTable)
+      (kept : Kept)
       (moment : ℕ) (what : Act) (entry : Entry) (items : List Item) (result : Result Made DeskFault) →
-      kept_in made server hall pass faults ≡ kept → entry ≡ entry_of kept moment what → IsBetween what →
+      kept_in made server hall pass faults tally ≡ kept → entry ≡ entry_of kept moment what → IsBetween what →
       Rests made server hall pass faults → IsPassOf hall new → HoldsNoTurn new.turn →
       Knows (server hall.opening) (pass_view made new) →
       Ends (server hall.opening) (pass_view made pass) (pass_view made new) entry items result →
@@ -131,9 +156,10 @@ module _ {B E : Type 0} (made : E → Record) (server : B → State) where
       one faults faults rests.stands.knows ends refl refl rests.stands.noted)
 
   -- after a Connect that was made
-  pub rests_joined : (hall : HallModel B) (pass new : PassModel B E) (faults table : FaultTable) (kept : Kept)
+  pub rests_joined : {tally : DeskTally} (hall : HallModel B) (pass new : PassModel B E) (faults table : FaultTable)
+      (kept : Kept)
       (moment : ℕ) (what : Act) (entry : Entry) (items : List Item) (one : Made) →
-      kept_in made server hall pass faults ≡ kept → entry ≡ entry_of kept moment what → IsConnect what →
+      kept_in made server hall pass faults tally ≡ kept → entry ≡ entry_of kept moment what → IsConnect what →
       Rests made server hall pass faults → IsPassOf hall new → HoldsNoTurn new.turn →
       Knows (server hall.opening) (pass_view made new) →
       Ends (server hall.opening) (pass_view made pass) (pass_view made new) entry items (Ok one) →
@@ -149,9 +175,10 @@ module _ {B E : Type 0} (made : E → Record) (server : B → State) where
       (Ok one)) (is ∙ ap (λ (kept : Kept). entry_of kept moment what) (sym view)) ends) none rows rests.stands.noted)
 
   -- after a Close that was made
-  pub rests_left : (hall : HallModel B) (pass new : PassModel B E) (faults table : FaultTable) (kept : Kept)
+  pub rests_left : {tally : DeskTally} (hall : HallModel B) (pass new : PassModel B E) (faults table : FaultTable)
+      (kept : Kept)
       (moment session : ℕ) (entry : Entry) (items : List Item) (one : Made) →
-      kept_in made server hall pass faults ≡ kept → entry ≡ entry_of kept moment (act.Close session) →
+      kept_in made server hall pass faults tally ≡ kept → entry ≡ entry_of kept moment (act.Close session) →
       Rests made server hall pass faults → IsPassOf hall new → HoldsNoTurn new.turn →
       Knows (server hall.opening) (pass_view made new) →
       Ends (server hall.opening) (pass_view made pass) (pass_view made new) entry items (Ok one) →
@@ -176,8 +203,9 @@ module _ {B E : Type 0} (made : E → Record) (server : B → State) where
       (noted_told (server hall.opening) rests.stands.opening (pass_view made pass) (pass_view made new) result faults
       rests.stands.knows tells rests.stands.noted)
 
-  pub tells_outside : (hall : HallModel B) (pass new : PassModel B E) (faults : FaultTable) (kept : Kept)
-      (result : Result Bool DeskFault) → kept_in made server hall pass faults ≡ kept →
+  pub tells_outside : {tally : DeskTally} (hall : HallModel B) (pass new : PassModel B E) (faults : FaultTable)
+      (kept : Kept)
+      (result : Result Bool DeskFault) → kept_in made server hall pass faults tally ≡ kept →
       Tells (server hall.opening) (pass_view made pass) (pass_view made new) result →
       Tells kept.start kept.pass (pass_view made new) result
   tells_outside hall pass new faults kept result view tells =

@@ -9,6 +9,7 @@ use Rattle.kom_types.specs.Sessions.{Session}
 use Rattle.kom_links.specs.declared.desk.DeskFault.{DeskFault}
 use Rattle.kom_links.specs.declared.desk.DeskFault.TheVariants as fault
 use Rattle.kom_links.specs.DeskCalls.{DeskView}
+use Rattle.kom_links.specs.declared.desk_tally.DeskTally.{DeskTally}
 use Rattle.kom_links.specs.Records.{is_open}
 use Rattle.kom_model.specs.State.{State, session_of}
 use Rattle.kom_model.specs.Refusal.{most_sessions}
@@ -60,12 +61,13 @@ IsKnown start history drawn session (Some (fault.Gone why.Overrun)) =
 IsKnown start history drawn session (Some (fault.Gone why.Stopped)) = WasStopped start history
 
 -- what the desk has: the table of its hall and the state in which the hall's history begins, its
--- pass, and the first faults that it answered
+-- pass, the first faults that it answered, and what it tells beside its acts
 pub record Kept : Type 0 where
   pub table : TableId
   pub start : State
   pub pass : PassView
   pub faults : FaultTable
+  pub tally : DeskTally
 
 -- What contracts see of a desk that has these. What a session was given is what the drains of this
 -- pass gave it.
@@ -93,21 +95,26 @@ pub record AreNoted (start : State) (pass : PassView) (table : FaultTable) : Typ
   pub known : (session : ℕ) →
       IsKnown start pass.seen pass.drawn session (fault_in table session)
 
--- What holds of a desk: the history begins with a server before its first entry, what the pass
--- knows is true, and so is what was noted.
-pub record Stands (kept : Kept) : Type 0 where
-  pub opening : IsOpening kept.start
-  pub knows : Knows kept.start kept.pass
-  pub noted : AreNoted kept.start kept.pass kept.faults
+-- The history begins with a server before its first entry, what the pass knows is true, and so is
+-- what was noted.
+pub record AreTrue (start : State) (pass : PassView) (faults : FaultTable) : Type 0 where
+  pub opening : IsOpening start
+  pub knows : Knows start pass
+  pub noted : AreNoted start pass faults
+
+-- what holds of a desk
+abbrev pub Stands : Kept → Type 0
+Stands kept = AreTrue kept.start kept.pass kept.faults
 
 module _ {B E : Type 0} (made : E → Record) (server : B → State) where
   -- a desk in a hall
-  abbrev pub kept_in : HallModel B → PassModel B E → FaultTable → Kept
-  kept_in hall pass faults = record {
+  abbrev pub kept_in : HallModel B → PassModel B E → FaultTable → DeskTally → Kept
+  kept_in hall pass faults tally = record {
     table = hall.table;
     start = server hall.opening;
     pass = pass_view made pass;
     faults = faults;
+    tally = tally;
   }
 
   -- The same between two calls: its pass is one of the hall, and holds no turn.
@@ -115,9 +122,19 @@ module _ {B E : Type 0} (made : E → Record) (server : B → State) where
       : Type 0 where
     pub of_hall : IsPassOf hall pass
     pub free : HoldsNoTurn pass.turn
-    pub stands : Stands (kept_in hall pass faults)
+    pub stands : AreTrue (server hall.opening) (pass_view made pass) faults
 
 -- another state of the same desk
 pub record IsSame (old new : Kept) : Type 0 where
   pub table : new.table ≡ old.table
   pub start : new.start ≡ old.start
+  pub tally : new.tally ≡ old.tally
+
+-- A later state of the same desk: of the same pass of the same hall, which has seen all that it had
+-- seen then, in the same order and before anything else, and knows of no fewer tickets.
+pub record GoesOn (old new : Kept) : Type 0 where
+  pub table : new.table ≡ old.table
+  pub start : new.start ≡ old.start
+  pub number : new.pass.number ≡ old.pass.number
+  pub seen : (more : List Record) × (new.pass.seen ≡ old.pass.seen ++ more)
+  pub drawn : old.pass.drawn ≤ new.pass.drawn

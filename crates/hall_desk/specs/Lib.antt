@@ -2,5 +2,6 @@ pub mod Acts
 pub mod Passes
 pub mod Faults
 pub mod Desks
+pub mod Going
 pub mod Turns
 pub mod Rows

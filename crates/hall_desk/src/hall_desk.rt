@@ -5,6 +5,10 @@ ghost use Rattle.kom_types.specs.declared.items.Item.{Item as TakenItem};
 ghost use Rattle.kom_links.specs.Records.{IsOpen};
 ghost use Rattle.kom_links.specs.DeskCalls.{Connects, Acts as MakesAct, Calls, Drains, Flushes};
 ghost use Rattle.kom_links.specs.DeskCalls.{Closes, AsksStopped};
+ghost use Rattle.kom_links.specs.declared.desk_tally.AfterFault.TheVariants as after;
+ghost use Rattle.kom_links.specs.DeskTally.{connected, faulted, refused, flushed, drained, asked};
+ghost use Rattle.kom_links.specs.DeskTally.{with_connect, with_act, with_drain, with_flush};
+ghost use Rattle.kom_links.specs.DeskTally.{with_question};
 ghost use Rattle.kom_state_lock.specs.Passes.{IsPassOf, HoldsNoTurn};
 ghost use Rattle.kom_state_lock.specs.declared.views.Turn.TheVariants.{Resting};
 ghost use Rattle.kom_model.specs.Legal.{HasUser};
@@ -12,7 +16,8 @@ ghost use Rattle.hall_desk.specs.Acts.{IsOpening};
 ghost use Rattle.hall_desk.specs.Passes.{pass_view};
 ghost use Rattle.hall_desk.specs.Faults.{fault_in, noted_at, noted_at_none, noted_everywhere};
 ghost use Rattle.hall_desk.specs.Faults.{closed_at};
-ghost use Rattle.hall_desk.specs.Desks.{IsKnown, Stands, IsSame, desk_view};
+ghost use Rattle.hall_desk.specs.Desks.{IsKnown, Stands, IsSame, GoesOn, desk_view};
+ghost use Rattle.hall_desk.specs.Going.{goes_on_itself, goes_on_further};
 ghost use Rattle.hall_desk.specs.Turns.{IsBetween, IsConnect, IsOfOpen, Ends, Tells};
 ghost use Rattle.hall_desk.specs.Rows.{IsAnswer, IsStopped};
 
@@ -20,7 +25,7 @@ use crate::acts::Acts;
 use crate::faults::Faults;
 use crate::turning::{Made, ask, turn};
 use arrayvec::ArrayVec;
-use kom_links::{Desk, DeskFault};
+use kom_links::{Desk, DeskFault, DeskTally};
 use kom_state_lock::{Hall, Pass};
 use kom_types::{Act, Bytes, Call, Entry, Item, Memory, Moment, Why};
 use std::alloc::Global;
@@ -34,6 +39,7 @@ pub struct HallDesk<'a, R: Wait, B: Acts> {
     hall: &'a Hall<B>,
     pass: Pass<B>,
     faults: Faults,
+    tally: DeskTally,
     // The array of the acts that take no items.
     none: ArrayVec<Item, 64>,
 }
@@ -43,7 +49,7 @@ impl<'a, R: Wait, B: Acts> Model for HallDesk<'a, R, B> {
 
     ghost Value = { Kept };
 
-    ghost view = { λ desk. kept_in B.made B.server desk.hall.now desk.pass desk.faults };
+    ghost view = { λ desk. kept_in B.made B.server desk.hall.now desk.pass desk.faults desk.tally };
 
     ghost invariant = { λ desk. Rests B.made B.server desk.hall.now desk.pass desk.faults };
 }
@@ -60,6 +66,11 @@ impl<'a, R: Wait, B: Acts> HallDesk<'a, R, B> {
         ensures start { result.start ≡ B.server hall.now.opening }
         ensures pass { result.pass ≡ pass_view B.made pass }
         ensures no_fault { (desk_view result).fault_to 0 ≡ None }
+        ensures tally { result.tally ≡ record {
+          asked = 0;
+          refused = 0;
+          after_fault = after.NoFault;
+        } }
     {
         HallDesk {
             rt,
@@ -67,6 +78,7 @@ impl<'a, R: Wait, B: Acts> HallDesk<'a, R, B> {
             hall,
             pass,
             faults: Faults::new(alloc),
+            tally: DeskTally::nothing(),
             none: ArrayVec::new(),
         }
     }
@@ -94,6 +106,7 @@ impl<'a, R: Wait, B: Acts> HallDesk<'a, R, B> {
             hall: _,
             pass,
             faults: _,
+            tally: _,
             none: _,
         } = self;
         pass
@@ -261,6 +274,48 @@ impl<'a, R: Wait, B: Acts> HallDesk<'a, R, B> {
     {
         ask(self.rt, self.hall, &mut self.pass)
     }
+
+    /// A session was connected.
+    fn tell_connected(&mut self)
+        ensures { self.new ≡ record self.old { tally = connected self.old.tally } }
+    {
+        self.tally.connected();
+    }
+
+    /// A fault was answered, to neither a flush nor a drain.
+    fn tell_faulted(&mut self)
+        ensures { self.new ≡ record self.old { tally = faulted self.old.tally } }
+    {
+        self.tally.faulted();
+    }
+
+    /// A flush or a drain was refused.
+    fn tell_refused(&mut self)
+        ensures { self.new ≡ record self.old { tally = refused self.old.tally } }
+    {
+        self.tally.refused();
+    }
+
+    /// A flush was made.
+    fn tell_flushed(&mut self)
+        ensures { self.new ≡ record self.old { tally = flushed self.old.tally } }
+    {
+        self.tally.flushed();
+    }
+
+    /// A drain was made, which gave nothing or something.
+    fn tell_drained(&mut self, is_empty: bool)
+        ensures { self.new ≡ record self.old { tally = drained is_empty self.old.tally } }
+    {
+        self.tally.drained(is_empty);
+    }
+
+    /// It was asked whether it is stopped, and is or is not.
+    fn tell_asked(&mut self, is_stopped: bool)
+        ensures { self.new ≡ record self.old { tally = asked is_stopped self.old.tally } }
+    {
+        self.tally.asked(is_stopped);
+    }
 }
 
 impl<R: Wait, B: Acts> Drop for HallDesk<'_, R, B> {
@@ -271,6 +326,7 @@ impl<R: Wait, B: Acts> Drop for HallDesk<'_, R, B> {
             hall: _,
             pass: _,
             faults: _,
+            tally: _,
             none: _,
         } = self;
     }
@@ -279,19 +335,38 @@ impl<R: Wait, B: Acts> Drop for HallDesk<'_, R, B> {
 impl<'a, R: Wait, B: Acts> Desk for HallDesk<'a, R, B> {
     ghost view = { λ desk. desk_view desk };
 
+    ghost tally = { λ desk. desk.tally };
+
+    ghost goes_on = { λ old new. GoesOn old new };
+
+    ghost goes_on_itself = { goes_on_itself };
+
+    ghost goes_on_further = { goes_on_further };
+
     fn connect(&mut self, moment: Moment, user: &[u8], host: &[u8]) -> Result<u32, DeskFault>
         requires { length user.now ≤ 1024 }
         ensures connects { Connects (desk_view self.old) moment user.now host.now result
             (desk_view self.new) }
+        ensures tally { self.new.tally ≡ with_connect result self.old.tally }
+        ensures on { GoesOn self.old self.new }
         ensures answer { IsAnswer self.old.start self.new.pass (act.Connect user.now host.now)
             result }
     {
         let Ok(act) = self.prepare(user, host) else {
-            return Err(self.note_at_none(DeskFault::Memory));
+            let memory = self.note_at_none(DeskFault::Memory);
+            self.tell_faulted();
+            return Err(memory);
         };
         match self.join(moment, act) {
-            Ok(made) => Ok(made.session),
-            Err(fault) => Err(self.note_at_none(fault)),
+            Ok(made) => {
+                self.tell_connected();
+                Ok(made.session)
+            }
+            Err(fault) => {
+                let fault = self.note_at_none(fault);
+                self.tell_faulted();
+                Err(fault)
+            }
         }
     }
 
@@ -305,6 +380,8 @@ impl<'a, R: Wait, B: Acts> Desk for HallDesk<'a, R, B> {
         requires { IsOpen session (desk_view self.old).mine }
         ensures calls { Calls (desk_view self.old) moment (act.Call session reference call) session
             result (desk_view self.new) }
+        ensures tally { self.new.tally ≡ with_act result self.old.tally }
+        ensures on { GoesOn self.old self.new }
         ensures answer { IsAnswer self.old.start self.new.pass (act.Call session reference call)
             result }
     {
@@ -315,7 +392,11 @@ impl<'a, R: Wait, B: Acts> Desk for HallDesk<'a, R, B> {
         };
         match self.make_alone(moment, act) {
             Ok(_made) => Ok(()),
-            Err(fault) => Err(self.note_at(session, fault)),
+            Err(fault) => {
+                let fault = self.note_at(session, fault);
+                self.tell_faulted();
+                Err(fault)
+            }
         }
     }
 
@@ -323,11 +404,17 @@ impl<'a, R: Wait, B: Acts> Desk for HallDesk<'a, R, B> {
         requires { IsOpen session (desk_view self.old).mine }
         ensures acts { MakesAct (desk_view self.old) moment (act.Broken session) session result
             (desk_view self.new) }
+        ensures tally { self.new.tally ≡ with_act result self.old.tally }
+        ensures on { GoesOn self.old self.new }
         ensures answer { IsAnswer self.old.start self.new.pass (act.Broken session) result }
     {
         match self.make_alone(moment, Act::Broken { session }) {
             Ok(_made) => Ok(()),
-            Err(fault) => Err(self.note_at(session, fault)),
+            Err(fault) => {
+                let fault = self.note_at(session, fault);
+                self.tell_faulted();
+                Err(fault)
+            }
         }
     }
 
@@ -340,11 +427,21 @@ impl<'a, R: Wait, B: Acts> Desk for HallDesk<'a, R, B> {
         requires { IsOpen session (desk_view self.old).mine }
         ensures drains { Drains (desk_view self.old) moment session into.new.items result
             (desk_view self.new) }
+        ensures tally { self.new.tally ≡ with_drain into.new.items result self.old.tally }
+        ensures on { GoesOn self.old self.new }
         ensures answer { IsAnswer self.old.start self.new.pass (act.Drain session) result }
     {
         match self.make(moment, Act::Drain { session }, into) {
-            Ok(_made) => Ok(()),
-            Err(fault) => Err(self.note_at(session, fault)),
+            Ok(_made) => {
+                let is_empty = into.is_empty();
+                self.tell_drained(is_empty);
+                Ok(())
+            }
+            Err(fault) => {
+                let fault = self.note_at(session, fault);
+                self.tell_refused();
+                Err(fault)
+            }
         }
     }
 
@@ -358,43 +455,67 @@ impl<'a, R: Wait, B: Acts> Desk for HallDesk<'a, R, B> {
 
     fn flush(&mut self, moment: Moment) -> Result<(), DeskFault>
         ensures flushes { Flushes (desk_view self.old) moment result (desk_view self.new) }
+        ensures tally { self.new.tally ≡ with_flush result self.old.tally }
+        ensures on { GoesOn self.old self.new }
         ensures answer { IsAnswer self.old.start self.new.pass act.Flush result }
     {
         match self.make_alone(moment, Act::Flush) {
             Ok(made) => {
                 if made.short {
-                    Err(self.note_everywhere(DeskFault::Gone(Why::Stopped)))
+                    let stopped = self.note_everywhere(DeskFault::Gone(Why::Stopped));
+                    self.tell_refused();
+                    Err(stopped)
                 } else {
+                    self.tell_flushed();
                     Ok(())
                 }
             }
-            Err(fault) => Err(self.note_everywhere(fault)),
+            Err(fault) => {
+                let fault = self.note_everywhere(fault);
+                self.tell_refused();
+                Err(fault)
+            }
         }
     }
 
     fn close(&mut self, moment: Moment, session: u32) -> Result<(), DeskFault>
         requires { IsOpen session (desk_view self.old).mine }
         ensures closes { Closes (desk_view self.old) moment session result (desk_view self.new) }
+        ensures tally { self.new.tally ≡ with_act result self.old.tally }
+        ensures on { GoesOn self.old self.new }
         ensures answer { IsAnswer self.old.start self.new.pass (act.Close session) result }
     {
         match self.leave(moment, session) {
             Ok(_made) => Ok(()),
-            Err(fault) => Err(self.note_at(session, fault)),
+            Err(fault) => {
+                let fault = self.note_at(session, fault);
+                self.tell_faulted();
+                Err(fault)
+            }
         }
     }
 
     fn stopped(&mut self) -> Result<bool, DeskFault>
         ensures asks { AsksStopped (desk_view self.old) result (desk_view self.new) }
+        ensures tally { self.new.tally ≡ with_question result self.old.tally }
+        ensures on { GoesOn self.old self.new }
         ensures answer { IsStopped self.old.start self.new.pass result }
     {
         match self.ask_stopped() {
             Ok(stopped) => {
                 if stopped {
                     self.note_everywhere(DeskFault::Gone(Why::Stopped));
+                    self.tell_asked(stopped);
+                } else {
+                    self.tell_asked(stopped);
                 }
                 Ok(stopped)
             }
-            Err(fault) => Err(self.note_everywhere(fault)),
+            Err(fault) => {
+                let fault = self.note_everywhere(fault);
+                self.tell_asked(true);
+                Err(fault)
+            }
         }
     }
 }

@@ -1,13 +1,7 @@
-pub mod Writing
-pub mod Starting
-pub mod Stepping
 pub mod Histories
-pub mod ChangedFaults
-pub mod TrueFaults
-pub mod StandingDesk
-pub mod Refusals
-pub mod DeskViews
 pub mod Within
-pub mod GrownHistories
+pub mod Owning
+pub mod Links
 pub mod NewPasses
-pub mod Users
+pub mod ServedLinks
+pub mod WholeRuns

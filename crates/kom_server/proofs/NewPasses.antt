@@ -1,5 +1,5 @@
 -- A pass that has served nothing yet.
-use Rattle.std.proofs.Common.{◌≡◌, ℕ, nat_eq, List, [], ◌∷◌, map, Option, Some, None, sym, subst}
+use Rattle.std.proofs.Common.{◌≡◌, ℕ, nat_eq, List, [], map, Option, Some, None, sym, subst, ◌∙◌, ap}
 use Rattle.std.specs.Option.{IfSome}
 use Rattle.std.specs.List.{AllByRecursion, IsDistinct}
 use Rattle.kom_types.specs.declared.acts.Record.{Record}
@@ -7,9 +7,8 @@ use Rattle.kom_links.specs.declared.served.Served.{Served}
 use Rattle.kom_links.specs.Outside.{LinkView}
 use Rattle.kom_links.specs.Talk.{IsChosen}
 use Rattle.kom_model.specs.State.{State}
-use Rattle.kom_model.specs.Legal.{IsLegal}
-use Rattle.kom_server.specs.Passes.{PassView}
-use Rattle.kom_server.specs.Runs.{Talks, sessions_of, IsOfOne, IsFirstReading}
+use Rattle.hall_desk.specs.Passes.{PassView, of_pass}
+use Rattle.kom_server.specs.Runs.{Talks, sessions_of, IsOfOne}
 use Rattle.kom_server.specs.Serving.{Serves}
 
 no_moments : (records : List Record) → records ≡ [] → (gave : Option (List ℕ)) →
@@ -32,18 +31,16 @@ module _ {L : Type 0} where
   of_any P (Some links) holds = holds links
 
   pub serves-nothing : (view : L → LinkView) (start : State) (pass : PassView)
-      (returned : Option (List (L × Served))) (gave : Option (List ℕ)) → pass.seen ≡ [] →
-      IfSome returned (λ links. links ≡ []) → IsFirstReading pass.opened (gave ∷ []) →
-      Serves view start pass returned gave
+      (returned : Option (List (L × Served))) (gave : Option (List ℕ)) → pass.seen ≡ [] → pass.mine ≡ [] →
+      IfSome returned (λ links. links ≡ []) → Serves view start pass returned gave
   unfolding IsDistinct
-  serves-nothing view start pass returned gave none new first = record {
-    legal = subst (IsLegal start) (sym none) tt;
-    numbered = subst (AllByRecursion (λ (made : Record). made.entry.pass ≡ pass.number)) (sym none) tt;
-    talks = of_none (λ links. AllByRecursion (λ back. Talks start pass.seen pass.seen (view back.0) back.1) links)
+  serves-nothing view start pass returned gave unseen unused new = record {
+    mine = unused ∙ sym (ap (of_pass pass.number) unseen);
+    talks = of_none
+        (λ links. AllByRecursion (λ back. Talks start pass.seen pass.mine pass.drawn (view back.0) back.1) links)
         returned new tt;
-    owned = of_any (λ links. AllByRecursion (IsOfOne (sessions_of links)) pass.seen) returned
-        (λ links. subst (AllByRecursion (IsOfOne (sessions_of links))) (sym none) tt);
-    timed = no_moments pass.seen none gave;
-    opened = first;
+    owned = of_any (λ links. AllByRecursion (IsOfOne (sessions_of links)) pass.mine) returned
+        (λ links. subst (AllByRecursion (IsOfOne (sessions_of links))) (sym unused) tt);
+    timed = no_moments pass.mine unused gave;
     distinct = of_none (λ links. IsDistinct nat_eq (sessions_of links)) returned new tt;
   }

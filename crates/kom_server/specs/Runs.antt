@@ -1,7 +1,7 @@
 -- What a run leaves that serves gates, one for each of its passes.
-use Rattle.std.specs.Prelude.{◌≡◌, ◌≢◌, ℕ, ◌+◌, ◌<◌, ◌==◌, ◌⊎◌, nat_eq, Bool, true, false, not}
-use Rattle.std.specs.Prelude.{IsTrue, List, [], ◌∷◌, length, map, filter, flat_map, codes, Option}
-use Rattle.std.specs.Prelude.{◌++◌, Some, None, IfSome}
+use Rattle.std.specs.Prelude.{◌≡◌, ◌≢◌, ℕ, ◌+◌, ◌^◌, ◌<◌, ◌==◌, ◌⊎◌, nat_eq, nat_lt, Bool, true}
+use Rattle.std.specs.Prelude.{false, not, IsTrue, List, [], ◌∷◌, length, map, filter, flat_map}
+use Rattle.std.specs.Prelude.{codes, Option, ◌++◌, Some, None, IfSome}
 use Rattle.std.specs.List.{list_any, AllByRecursion, IsDistinct}
 use Rattle.kom_types.specs.declared.acts.Act.TheVariants as act
 use Rattle.kom_types.specs.declared.acts.Record.{Record}
@@ -16,12 +16,17 @@ use Rattle.kom_links.specs.Doors.{GateView, SinkView}
 use Rattle.kom_links.specs.Outside.{LinkView}
 use Rattle.kom_links.specs.Records.{has_connect}
 use Rattle.kom_links.specs.Talk.{IsTalk, IsPrefix, IsChosen}
-use Rattle.kom_model.specs.State.{State}
-use Rattle.kom_model.specs.Legal.{IsLegal}
+use Rattle.kom_model.specs.Initial.{initial}
+use Rattle.kom_model.specs.State.{State, opening}
+use Rattle.kom_model.specs.Legal.{IsLegal, AreByOwners}
 use Rattle.kom_model.specs.Out.{given_along}
 use Rattle.kom_session.specs.Ends.{Tells}
-use Rattle.kom_server.specs.Passes.{of_pass}
-use Rattle.kom_server.specs.Desks.{WasOverrun, WasDropped, WasStopped, WasFull}
+use Rattle.hall_desk.specs.Passes.{of_pass}
+use Rattle.hall_desk.specs.Desks.{WasOverrun, WasDropped, WasStopped, WasFull}
+
+-- a new server with the empty password, at this moment
+abbrev pub new_server : ℕ → State
+new_server moment = opening (initial [] moment)
 
 -- the words of a command line that are no command
 abbrev pub IsRefused : List (List ℕ) → Type 0
@@ -44,20 +49,23 @@ abbrev pub given_of : State → ℕ → List Record → List (List Item)
 given_of start session history =
     elim (session == 0) [ true ↦ [] | false ↦ given_along start session history ]
 
--- Why the service of a link ended, in the history that was made: it failed; or it did not, and it
--- has ended, its stream is at fault, its session was overrun or dropped, the server was stopped,
--- all numbers of sessions were drawn, or memory ran out.
-abbrev pub IsCause : State → LinkView → List Record → ℕ → SessionEnd → Type 0
-IsCause start link history session end.End = (link.faults ≡ 0) × (link.ended ≡ true)
-IsCause start link history session (end.Broken place) = link.faults ≡ 0
-IsCause start link history session end.Overrun =
+-- Why the service of a link ended, in the history that was made and among the tickets that were
+-- drawn: it failed; or it did not, and it has ended, its stream is at fault, its session was overrun
+-- or dropped, the server was stopped, all numbers of sessions were drawn or a ticket that has no
+-- turn, or memory ran out.
+abbrev pub IsCause : State → LinkView → List Record → ℕ → ℕ → SessionEnd → Type 0
+IsCause start link history drawn session end.End = (link.faults ≡ 0) × (link.ended ≡ true)
+IsCause start link history drawn session (end.Broken place) = link.faults ≡ 0
+IsCause start link history drawn session end.Overrun =
     (link.faults ≡ 0) × WasOverrun start session history
-IsCause start link history session end.Dropped =
+IsCause start link history drawn session end.Dropped =
     (link.faults ≡ 0) × WasDropped start session history
-IsCause start link history session end.Stopped = (link.faults ≡ 0) × WasStopped start history
-IsCause start link history session end.LinkFault = link.faults ≢ 0
-IsCause start link history session (end.Full number) = (link.faults ≡ 0) × WasFull number history
-IsCause start link history session end.Memory = link.faults ≡ 0
+IsCause start link history drawn session end.Stopped =
+    (link.faults ≡ 0) × WasStopped start history
+IsCause start link history drawn session end.LinkFault = link.faults ≢ 0
+IsCause start link history drawn session (end.Full number) =
+    (link.faults ≡ 0) × WasFull number drawn history
+IsCause start link history drawn session end.Memory = link.faults ≡ 0
 
 -- the end of a link whose stream is at fault at this place: it is told, or an act was refused
 -- before, or memory ran out
@@ -71,18 +79,22 @@ TellsOf place end.LinkFault = ⊥
 TellsOf place (end.Full number) = Unit {0}
 TellsOf place end.Memory = Unit {0}
 
+-- a ticket was drawn that has no turn; the number is one more than the greatest ticket
+abbrev pub is_lock_full : ℕ → Bool
+is_lock_full drawn = nat_lt (2 ^ 62) drawn
+
 -- A link that was given back, served so, is in talk with the records of its pass in the history, by
 -- the items that the drains of its session give along it. This speaks of whatever bytes there were:
 -- those that the link tells, where it tells them.
-pub record Talks (start : State) (history mine : List Record) (link : LinkView)
+pub record Talks (start : State) (history mine : List Record) (drawn : ℕ) (link : LinkView)
     (served : Served) : Type 0 where
   pub input : List ℕ
   pub output : List ℕ
   pub tells : Tells link input output
   pub talk : IsTalk link.host input output link.ended mine served.session
-      (given_of start served.session history) served.end false
+      (given_of start served.session history) served.end (is_lock_full drawn)
   pub connected : served.session ≢ 0 → IsTrue (has_connect served.session mine)
-  pub cause : IsCause start link history served.session served.end
+  pub cause : IsCause start link history drawn served.session served.end
   pub told : (place : ℕ) → fault_of input ≡ Some place → link.faults ≡ 0 → TellsOf place served.end
 
 -- the sessions of links that were given back; number 0 is no session
@@ -103,37 +115,38 @@ AllGivenBack gate =
 -- is in talk; the pass has no records beyond those of their sessions and flushes; and each record
 -- has a reading of its own.
 pub record IsWorker {L : Type 0} (view : L → LinkView) (start : State) (history : List Record)
-    (number : ℕ) (gate : GateView L) (gave : Option (List ℕ)) : Type 0 where
+    (drawn number : ℕ) (gate : GateView L) (gave : Option (List ℕ)) : Type 0 where
   pub given_back : AllGivenBack gate
   pub talks : IfSome gate.returned (λ links. AllByRecursion (λ back.
-      Talks start history (of_pass number history) (view back.0) back.1) links)
+      Talks start history (of_pass number history) drawn (view back.0) back.1) links)
   pub owned : IfSome gate.returned (λ links.
       AllByRecursion (IsOfOne (sessions_of links)) (of_pass number history))
   pub timed : IfSome gave (λ readings.
       IsChosen (map (λ made. made.entry.moment) (of_pass number history)) readings)
 
 -- the gates and the clocks, one of each for each pass from this number on
-abbrev pub AreWorkers : {L : Type 0} → (L → LinkView) → State → List Record → ℕ →
+abbrev pub AreWorkers : {L : Type 0} → (L → LinkView) → State → List Record → ℕ → ℕ →
     List (GateView L) → List (Option (List ℕ)) → Type 0
-AreWorkers view start history number [] [] = Unit {0}
-AreWorkers view start history number (gate ∷ gates) (gave ∷ clocks) =
-    IsWorker view start history number gate gave
-    × AreWorkers view start history (number + 1) gates clocks
-AreWorkers view start history number [] (gave ∷ clocks) = ⊥
-AreWorkers view start history number (gate ∷ gates) [] = ⊥
+AreWorkers view start history drawn number [] [] = Unit {0}
+AreWorkers view start history drawn number (gate ∷ gates) (gave ∷ clocks) =
+    IsWorker view start history drawn number gate gave
+    × AreWorkers view start history drawn (number + 1) gates clocks
+AreWorkers view start history drawn number [] (gave ∷ clocks) = ⊥
+AreWorkers view start history drawn number (gate ∷ gates) [] = ⊥
 
 -- the sessions that a gate tells
 abbrev pub told_sessions : {L : Type 0} → GateView L → List ℕ
 told_sessions gate = elim gate.returned [ None ↦ [] | Some links ↦ sessions_of links ]
 
--- What was seen is a legal history of the one-thread server from this state on, each record is of
--- one of the passes, each pass has served its gate by it, and different links have different
--- sessions.
+-- What was seen is a legal history of the one-thread server from this state on, in which each
+-- session's acts are made by the pass that connected it; each record is of one of the passes that
+-- have a gate; each of these has served its gate by it; and different links have different sessions.
 pub record IsRun {L : Type 0} (view : L → LinkView) (start : State) (history : List Record)
-    (gates : List (GateView L)) (clocks : List (Option (List ℕ))) : Type 0 where
+    (drawn : ℕ) (gates : List (GateView L)) (clocks : List (Option (List ℕ))) : Type 0 where
   pub legal : IsLegal start history
+  pub by_owners : AreByOwners start history
   pub numbered : AllByRecursion (λ made. made.entry.pass < length gates) history
-  pub workers : AreWorkers view start history 0 gates clocks
+  pub workers : AreWorkers view start history drawn 0 gates clocks
   pub distinct : IsDistinct nat_eq (flat_map told_sessions gates)
 
 -- The moment is the first reading of the first of these clocks, where that tells its readings.

@@ -1,13 +1,9 @@
-//! The server: its top call `run`, and the desk of the one pass that serves.
+//! The server: its top call `run`, and how a pass of its hall serves the links of a gate.
 #![tactic(auto)]
 
-mod core_desk;
-mod faults;
 mod outcome;
-mod passes;
 mod running;
 mod serving;
 
 pub use outcome::{Closing, Outcome};
-pub use passes::Pass;
 pub use running::run;

@@ -1,5 +1,13 @@
-use crate::passes::Pass;
+ghost use Rattle.std.specs.Prelude.{◌≡◌, false};
+ghost use Rattle.kom_state_lock.specs.Views.{is_served};
+
+use kom_book::Book;
+use kom_disk::MemoryDisk;
 use kom_links::World;
+use kom_state_lock::Pass;
+
+/// The book of a server that no disk keeps.
+pub type NewBook = Book<MemoryDisk>;
 
 /// What a run leaves.
 pub struct Outcome<W: World> {
@@ -24,21 +32,22 @@ impl<W: World> Drop for Outcome<W> {
     }
 }
 
-/// The pass with all that it has seen, the gates with the links that were given back, and the
+/// A pass that has seen the whole history, the gates with the links that were given back, and the
 /// clocks.
 pub struct Closing<W: World> {
-    pub pass: Pass,
+    pub pass: Pass<NewBook>,
     pub gates: Vec<W::Gate>,
     pub clocks: Vec<W::Clock>,
+    // It can be let go.
+    ghost free: { is_served pass.turn ≡ false },
 }
 
 impl<W: World> Drop for Closing<W> {
     fn drop(self) {
         let Closing {
-            pass,
-            gates,
-            clocks,
+            pass: _,
+            gates: _,
+            clocks: _,
         } = self;
-        drop((pass, gates, clocks));
     }
 }

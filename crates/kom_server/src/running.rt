@@ -1,17 +1,19 @@
-ghost use Rattle.std.specs.Prelude.{◌≡◌, ◌⊎◌, ◌↔◌, [], ◌∷◌, map, length, true, false};
+ghost use Rattle.std.specs.Prelude.{◌≡◌, ◌⊎◌, ◌↔◌, ℕ, [], ◌∷◌, map, length, true, false, IfOk};
 ghost use Rattle.std.specs.Prelude.{codes, IsTrue, IsNone, IsSome, IfSome, IsSomeAnd, is_some};
 ghost use Rattle.std.specs.List.{AllByRecursion};
 ghost use Rattle.kom_links.specs.Outside.{IsNothing, Rose};
 ghost use Rattle.kom_links.specs.WorldCounts.{with_sink};
-ghost use Rattle.kom_server.specs.Passes.{start_of};
-ghost use Rattle.kom_server.specs.Runs.{IsRefused, HasUsage, Opens, IsRun, IsFirstReading};
-ghost use Rattle.kom_server.specs.Runs.{HasFailed};
+ghost use Rattle.kom_state_lock.specs.Passes.{AreNewPasses, AreReady};
+ghost use Rattle.kom_book.specs.Books.{state_in};
+ghost use Rattle.kom_server.specs.Runs.{new_server, IsRefused, HasUsage, Opens, IsRun};
+ghost use Rattle.kom_server.specs.Runs.{IsFirstReading, HasFailed};
 
-use crate::core_desk::CoreDesk;
-use crate::outcome::{Closing, Outcome};
-use crate::serving::serve_new;
+use crate::outcome::{Closing, NewBook, Outcome};
+use crate::serving::serve_alone;
+use kom_book::Book;
 use kom_links::{Clock, Gate, Sink, World, has_risen};
-use kom_types::Words;
+use kom_state_lock::{Hall, Pass};
+use kom_types::{Memory, Moment, Words};
 use std::alloc::Global;
 use std::sync::Wait;
 use std::thread::Threads;
@@ -52,16 +54,15 @@ pub fn run<R: Threads + Wait + Sync, W: World>(
     ensures zero { result.status ≡ 0 → IsSomeAnd result.end (λ closing.
         AllByRecursion (λ gate. (W.Gate.view gate).ended ≡ true) closing.gates.items) }
 
-    // What was served: one gate, by a pass of number 0 with one clock, over a new server that was
-    // opened at the clock's first reading.
-    ensures once { IfSome result.end (λ closing. IsRun W.Gate.Link.view
-        (start_of closing.pass) closing.pass.seen
+    // What was served: one gate, by one pass with one clock, over a new server that was opened at
+    // the clock's first reading. The pass that is left has seen the whole history.
+    ensures once { IfSome result.end (λ closing. (opened : ℕ) × IsFirstReading opened
+        (map (λ clock. W.Clock.gave clock) closing.clocks.items)
+        × IsRun W.Gate.Link.view (new_server opened)
+        (map (λ entry. entry.made) closing.pass.seen) closing.pass.drawn
         (map (λ gate. W.Gate.view gate) closing.gates.items)
         (map (λ clock. W.Clock.gave clock) closing.clocks.items)) }
-    ensures opened { IfSome result.end (λ closing. IsFirstReading closing.pass.opened
-        (map (λ clock. W.Clock.gave clock) closing.clocks.items)) }
     ensures one_gate { IfSome result.end (λ closing. length closing.gates.items ≡ 1) }
-    ensures number { IfSome result.end (λ closing. closing.pass.number ≡ 0) }
 {
     let before = world.faults();
     let mut sink = world.out();
@@ -113,14 +114,13 @@ fn once<R: Wait, W: World>(rt: &R, alloc: Global, world: &mut W) -> (bool, Optio
         HasFailed (map (λ gate. W.Gate.view gate) closing.gates.items)) }
     ensures ended { result.0 ≡ false → IfSome result.1 (λ closing.
         AllByRecursion (λ gate. (W.Gate.view gate).ended ≡ true) closing.gates.items) }
-    ensures once { IfSome result.1 (λ closing. IsRun W.Gate.Link.view
-        (start_of closing.pass) closing.pass.seen
+    ensures once { IfSome result.1 (λ closing. (opened : ℕ) × IsFirstReading opened
+        (map (λ clock. W.Clock.gave clock) closing.clocks.items)
+        × IsRun W.Gate.Link.view (new_server opened)
+        (map (λ entry. entry.made) closing.pass.seen) closing.pass.drawn
         (map (λ gate. W.Gate.view gate) closing.gates.items)
         (map (λ clock. W.Clock.gave clock) closing.clocks.items)) }
-    ensures opened { IfSome result.1 (λ closing. IsFirstReading closing.pass.opened
-        (map (λ clock. W.Clock.gave clock) closing.clocks.items)) }
     ensures one_gate { IfSome result.1 (λ closing. length closing.gates.items ≡ 1) }
-    ensures number { IfSome result.1 (λ closing. closing.pass.number ≡ 0) }
 {
     let Ok(mut gates) = Vec::with_capacity(alloc, 1) else {
         return (false, None);
@@ -132,16 +132,16 @@ fn once<R: Wait, W: World>(rt: &R, alloc: Global, world: &mut W) -> (bool, Optio
         return (false, None);
     };
     let opened = clock.now();
-    let Ok(mut desk) = CoreDesk::new(alloc, 0, opened) else {
+    let Ok((hall, passes)) = open_hall(alloc, opened) else {
         return (false, None);
     };
     let Ok(mut gate) = world.std_gate() else {
+        let (_server, _pass) = hall.close(passes);
         return (false, None);
     };
-    let failed = serve_new(rt, alloc, &mut desk, &mut gate, &mut clock);
+    let (failed, pass) = serve_alone(rt, alloc, hall, passes, &mut gate, &mut clock);
     gates.push_reserved(gate);
     clocks.push_reserved(clock);
-    let pass = desk.into_pass();
     (
         failed,
         Some(Closing {
@@ -150,4 +150,19 @@ fn once<R: Wait, W: World>(rt: &R, alloc: Global, world: &mut W) -> (bool, Optio
             clocks,
         }),
     )
+}
+
+/// A hall over a new server that is opened at this moment, with a pass for a worker and one for the
+/// run itself. It is refused where memory for it or for the server's rows is.
+fn open_hall(alloc: Global, opened: Moment) -> Result<(Hall<NewBook>, Vec<Pass<NewBook>>), Memory>
+    ensures two { IfOk result (λ made. made.0.passes ≡ 2) }
+    ensures new { IfOk result (λ made. AreNewPasses made.0.table 2 made.1.items) }
+    ensures ready { IfOk result (λ made. AreReady made.0 made.1.items) }
+    ensures opening { IfOk result (λ made. state_in made.0.opening ≡ new_server opened) }
+{
+    let book = Book::fresh(alloc, b"", opened)?;
+    match Hall::make(alloc, book, 2) {
+        Ok(made) => Ok(made),
+        Err((_book, _memory)) => Err(Memory),
+    }
 }

@@ -1,35 +1,70 @@
-ghost use Rattle.std.specs.Prelude.{◌≡◌, ◌≢◌, ◌↔◌, [], ◌∷◌, None, true, false, IsTrue};
+ghost use Rattle.std.specs.Prelude.{◌≡◌, ◌≢◌, ◌↔◌, [], ◌∷◌, None, true, false, IsTrue, map};
 ghost use Rattle.kom_links.specs.Doors.{IsNewGate};
 ghost use Rattle.kom_links.specs.Outside.{IsFresh};
-ghost use Rattle.kom_server.specs.Passes.{start_of};
-ghost use Rattle.kom_server.specs.Desks.{desk_view};
-ghost use Rattle.kom_server.specs.Runs.{AllGivenBack, IsFirstReading};
-ghost use Rattle.kom_server.specs.Serving.{Serves, OneIsOut};
+ghost use Rattle.kom_state_lock.specs.Views.{is_served};
+ghost use Rattle.kom_state_lock.specs.Passes.{AreNewPasses};
+ghost use Rattle.hall_desk.specs.Acts.{IsOpening};
+ghost use Rattle.hall_desk.specs.Desks.{desk_view, GoesOn};
+ghost use Rattle.kom_server.specs.Runs.{AllGivenBack, IsRun};
+ghost use Rattle.kom_server.specs.Serving.{Serves, KeepsFirst, OneIsOut};
 
-use crate::core_desk::CoreDesk;
+use hall_desk::{Acts, HallDesk};
 use kom_links::{Clock, Gate, Next};
 use kom_session::serve_link;
+use kom_state_lock::{Hall, Pass};
 use std::alloc::Global;
 use std::sync::Wait;
 
-/// Serves the sessions at a gate that has given no link yet, on a new server, until the gate ends
-/// or fails, and says whether it failed.
-pub(crate) fn serve_new<R: Wait, G: Gate, C: Clock>(
+/// Serves the sessions at a gate that has given no link yet, by the first of the two passes of a new
+/// hall, until the gate ends or fails, and closes the hall. Returns whether the gate failed, and a
+/// pass that has seen the whole history.
+pub(crate) fn serve_alone<R: Wait, B: Acts + Drop, G: Gate, C: Clock>(
     rt: &R,
     alloc: Global,
-    desk: &mut CoreDesk,
+    hall: Hall<B>,
+    mut passes: Vec<Pass<B>>,
+    gate: &mut G,
+    clock: &mut C,
+) -> (bool, Pass<B>)
+    requires two { hall.passes ≡ 2 }
+    requires new { AreNewPasses hall.table 2 passes.items }
+    requires opening { IsOpening (B.server hall.opening) }
+    requires fresh { IsNewGate (G.view gate.old) }
+    ensures run { IsRun G.Link.view (B.server hall.opening) (map B.made result.1.seen)
+        result.1.drawn (G.view gate.new ∷ []) (C.gave clock.new ∷ []) }
+    ensures first { KeepsFirst (C.gave clock.old) (C.gave clock.new) }
+    ensures free { is_served result.1.turn ≡ false }
+    ensures failed { IsTrue result.0 ↔ ((G.view gate.new).faults ≢ 0) }
+    ensures ended { result.0 ≡ false → (G.view gate.new).ended ≡ true }
+{
+    let own = passes.pop().unwrap();
+    let first = passes.pop().unwrap();
+    let mut desk = HallDesk::new(rt, alloc, &hall, first);
+    let failed = serve_new(rt, alloc, &mut desk, gate, clock);
+    passes.push_reserved(desk.into_pass());
+    passes.push_reserved(own);
+    let (_server, pass) = hall.close(passes);
+    (failed, pass)
+}
+
+/// Serves the sessions at a gate that has given no link yet, by a pass that has made no act, until
+/// the gate ends or fails, and says whether it failed.
+fn serve_new<R: Wait, B: Acts, G: Gate, C: Clock>(
+    rt: &R,
+    alloc: Global,
+    desk: &mut HallDesk<'_, R, B>,
     gate: &mut G,
     clock: &mut C,
 ) -> bool
     requires no_fault { (desk_view desk.old).fault_to 0 ≡ None }
-    requires unused { desk.old.pass.seen ≡ [] }
-    requires first { IsFirstReading desk.old.pass.opened (C.gave clock.old ∷ []) }
+    requires unseen { desk.old.pass.seen ≡ [] }
+    requires unused { desk.old.pass.mine ≡ [] }
     requires fresh { IsNewGate (G.view gate.old) }
-    ensures serves { Serves G.Link.view (start_of desk.new.pass) desk.new.pass
-        (G.view gate.new).returned (C.gave clock.new) }
+    ensures on { GoesOn desk.old desk.new }
+    ensures serves { Serves G.Link.view desk.new.start desk.new.pass (G.view gate.new).returned
+        (C.gave clock.new) }
     ensures all_back { AllGivenBack (G.view gate.new) }
-    ensures number { desk.new.pass.number ≡ desk.old.pass.number }
-    ensures opened { desk.new.pass.opened ≡ desk.old.pass.opened }
+    ensures first { KeepsFirst (C.gave clock.old) (C.gave clock.new) }
     ensures failed { IsTrue result ↔ ((G.view gate.new).faults ≢ 0) }
     ensures ended { result ≡ false → (G.view gate.new).ended ≡ true }
 {
@@ -38,22 +73,22 @@ pub(crate) fn serve_new<R: Wait, G: Gate, C: Clock>(
 }
 
 /// Serves the links of a gate one after the other, until the gate ends or fails.
-fn serve_gate<R: Wait, G: Gate, C: Clock>(
+fn serve_gate<R: Wait, B: Acts, G: Gate, C: Clock>(
     rt: &R,
     alloc: Global,
-    desk: &mut CoreDesk,
+    desk: &mut HallDesk<'_, R, B>,
     gate: &mut G,
     clock: &mut C,
 )
     requires no_fault { (desk_view desk.old).fault_to 0 ≡ None }
-    requires serves { Serves G.Link.view (start_of desk.old.pass) desk.old.pass
-        (G.view gate.old).returned (C.gave clock.old) }
+    requires serves { Serves G.Link.view desk.old.start desk.old.pass (G.view gate.old).returned
+        (C.gave clock.old) }
     requires all_back { AllGivenBack (G.view gate.old) }
-    ensures serves { Serves G.Link.view (start_of desk.new.pass) desk.new.pass
-        (G.view gate.new).returned (C.gave clock.new) }
+    ensures on { GoesOn desk.old desk.new }
+    ensures serves { Serves G.Link.view desk.new.start desk.new.pass (G.view gate.new).returned
+        (C.gave clock.new) }
     ensures all_back { AllGivenBack (G.view gate.new) }
-    ensures number { desk.new.pass.number ≡ desk.old.pass.number }
-    ensures opened { desk.new.pass.opened ≡ desk.old.pass.opened }
+    ensures first { KeepsFirst (C.gave clock.old) (C.gave clock.new) }
     ensures ended { (G.view gate.new).faults ≡ 0 → (G.view gate.new).ended ≡ true }
 {
     for _ in rt.forever() {
@@ -68,25 +103,25 @@ fn serve_gate<R: Wait, G: Gate, C: Clock>(
 }
 
 /// Serves a link that the gate gave, and gives it back.
-fn serve_one<R: Wait, G: Gate, C: Clock>(
+fn serve_one<R: Wait, B: Acts, G: Gate, C: Clock>(
     rt: &R,
     alloc: Global,
-    desk: &mut CoreDesk,
+    desk: &mut HallDesk<'_, R, B>,
     gate: &mut G,
     clock: &mut C,
     mut link: G::Link,
 )
     requires no_fault { (desk_view desk.old).fault_to 0 ≡ None }
     requires fresh { IsFresh (G.Link.view link) }
-    requires serves { Serves G.Link.view (start_of desk.old.pass) desk.old.pass
-        (G.view gate.old).returned (C.gave clock.old) }
+    requires serves { Serves G.Link.view desk.old.start desk.old.pass (G.view gate.old).returned
+        (C.gave clock.old) }
     requires one_out { OneIsOut (G.view gate.old) }
     ensures no_fault { (desk_view desk.new).fault_to 0 ≡ None }
-    ensures serves { Serves G.Link.view (start_of desk.new.pass) desk.new.pass
-        (G.view gate.new).returned (C.gave clock.new) }
+    ensures on { GoesOn desk.old desk.new }
+    ensures serves { Serves G.Link.view desk.new.start desk.new.pass (G.view gate.new).returned
+        (C.gave clock.new) }
     ensures all_back { AllGivenBack (G.view gate.new) }
-    ensures number { desk.new.pass.number ≡ desk.old.pass.number }
-    ensures opened { desk.new.pass.opened ≡ desk.old.pass.opened }
+    ensures first { KeepsFirst (C.gave clock.old) (C.gave clock.new) }
 {
     let served = serve_link(rt, alloc, desk, &mut link, clock);
     desk.forget();

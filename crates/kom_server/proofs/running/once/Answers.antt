@@ -1,35 +1,50 @@
-use Rattle.std.proofs.Common.{◌≡◌, [], ◌∷◌, ◌∙◌, inl, inr}
-use Rattle.kom_server.specs.Passes.{start_of}
-use Rattle.kom_server.proofs.GrownHistories.{sole, run_alone}
+use Rattle.std.proofs.Common.{◌≡◌, [], ◌∷◌, inl, inr}
+use Rattle.kom_model.specs.Initial.{initial}
+use Rattle.kom_state_lock.proofs.Ready.{ready_every, ready_free}
+use Rattle.kom_server.proofs.WholeRuns.{sole, run_from, first_now}
 use Rattle.kom_server.proofs.running.once.Goals as goal
+
+pub close-server-requires-clause-every : goal.close-server-requires-clause-every
+close-server-requires-clause-every g c =
+    ready_every c.in-Ok-open_hall.hall c.in-Ok-open_hall.passes.items c.in-Ok-open_hall.ensures.ready
+
+pub close-server-requires-clause-free : goal.close-server-requires-clause-free
+close-server-requires-clause-free g c =
+    ready_free c.in-Ok-open_hall.hall c.in-Ok-open_hall.passes.items c.in-Ok-open_hall.ensures.ready
+
+pub serve_alone-failed-requires-clause-opening : goal.serve_alone-failed-requires-clause-opening
+serve_alone-failed-requires-clause-opening g c =
+    (initial [] c.now-opened.result, c.in-Ok-open_hall.ensures.opening)
 
 pub returns-clause-once : goal.returns-clause-once
 returns-clause-once g c =
-    let gates : c.push_reserved.new.self.items ≡ c.serve_new-failed.new.gate ∷ [] =
-    sole c.push_reserved.new.self.items c.in-Ok.gates.items c.serve_new-failed.new.gate c.push_reserved.ensures.items
+    let gates : c.push_reserved.new.self.items ≡ c.serve_alone-failed.new.gate ∷ [] =
+    sole c.push_reserved.new.self.items c.in-Ok.gates.items c.serve_alone-failed.new.gate c.push_reserved.ensures.items
     c.in-Ok.ensures.items in
-    let clocks : c.push_reserved-2.new.self.items ≡ c.serve_new-failed.new.clock ∷ [] =
-    sole c.push_reserved-2.new.self.items c.in-Ok-with_capacity.clocks.items c.serve_new-failed.new.clock
+    let clocks : c.push_reserved-2.new.self.items ≡ c.serve_alone-failed.new.clock ∷ [] =
+    sole c.push_reserved-2.new.self.items c.in-Ok-with_capacity.clocks.items c.serve_alone-failed.new.clock
     c.push_reserved-2.ensures.items c.in-Ok-with_capacity.ensures.items in
-    rw (gates, clocks, c.into_pass-pass.ensures)
-    (run_alone g.W.Gate.Link.Link.view (start_of c.serve_new-failed.new.desk.pass) c.serve_new-failed.new.desk.pass
-    (g.W.Gate.Gate.view c.serve_new-failed.new.gate)
-    (g.W.Clock.Clock.gave c.serve_new-failed.new.clock) (c.serve_new-failed.ensures.number ∙ c.in-Ok-new.ensures.number)
-    c.serve_new-failed.ensures.serves c.serve_new-failed.ensures.all_back)
+    rw (gates, clocks) (
+      c.now-opened.result,
+      c.serve_alone-failed.ensures.first c.now-opened.result
+          (first_now (g.W.Clock.Clock.gave c.in-Ok-clock.clock) (g.W.Clock.Clock.gave c.now-opened.new.self)
+          c.now-opened.result c.in-Ok-clock.ensures.fresh c.now-opened.ensures),
+      run_from g.W.Gate.Link.Link.view _ _ _ _ _ _ c.in-Ok-open_hall.ensures.opening c.serve_alone-failed.ensures.run,
+    )
 
 pub returns-clause-failed : goal.returns-clause-failed
 returns-clause-failed g c =
-    let gates : c.push_reserved.new.self.items ≡ c.serve_new-failed.new.gate ∷ [] =
-    sole c.push_reserved.new.self.items c.in-Ok.gates.items c.serve_new-failed.new.gate c.push_reserved.ensures.items
+    let gates : c.push_reserved.new.self.items ≡ c.serve_alone-failed.new.gate ∷ [] =
+    sole c.push_reserved.new.self.items c.in-Ok.gates.items c.serve_alone-failed.new.gate c.push_reserved.ensures.items
     c.in-Ok.ensures.items in
     rw gates (
-      λ is. inl (c.serve_new-failed.ensures.failed.0 is),
-      λ has. elim has [ inl risen ↦ c.serve_new-failed.ensures.failed.1 risen | inr none ↦ absurd none ],
+      λ is. inl (c.serve_alone-failed.ensures.failed.0 is),
+      λ has. elim has [ inl risen ↦ c.serve_alone-failed.ensures.failed.1 risen | inr none ↦ absurd none ],
     )
 
 pub returns-clause-ended : goal.returns-clause-ended
 returns-clause-ended g c is =
-    let gates : c.push_reserved.new.self.items ≡ c.serve_new-failed.new.gate ∷ [] =
-    sole c.push_reserved.new.self.items c.in-Ok.gates.items c.serve_new-failed.new.gate c.push_reserved.ensures.items
+    let gates : c.push_reserved.new.self.items ≡ c.serve_alone-failed.new.gate ∷ [] =
+    sole c.push_reserved.new.self.items c.in-Ok.gates.items c.serve_alone-failed.new.gate c.push_reserved.ensures.items
     c.in-Ok.ensures.items in
-    rw gates (c.serve_new-failed.ensures.ended is, tt)
+    rw gates (c.serve_alone-failed.ensures.ended is, tt)

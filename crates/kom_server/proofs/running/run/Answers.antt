@@ -5,7 +5,7 @@ use Rattle.kom_links.specs.Doors.{SinkView, Puts}
 use Rattle.kom_links.specs.Outside.{IsNothing, Rose, grown}
 use Rattle.kom_links.specs.Talk.{IsPrefix}
 use Rattle.kom_server.specs.Runs.{HasUsage, usage}
-use Rattle.kom_server.proofs.GrownHistories.{none_rose}
+use Rattle.kom_server.proofs.Links.{none_rose}
 use Rattle.kom_server.proofs.running.run.Goals as goal
 
 abbrev Shows : ℕ → Option (List ℕ) → Type 0

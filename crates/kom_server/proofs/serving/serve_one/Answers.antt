@@ -1,6 +1,6 @@
-use Rattle.std.proofs.Common.{ap, ◌∙◌}
-use Rattle.kom_server.specs.Passes.{PassView}
-use Rattle.kom_server.proofs.GrownHistories.{opened_before, serves_one, given_back}
+use Rattle.hall_desk.specs.Going.{goes_on_further}
+use Rattle.kom_server.proofs.Links.{first_more}
+use Rattle.kom_server.proofs.ServedLinks.{forgotten, serves_one, given_back}
 use Rattle.kom_server.proofs.serving.serve_one.Goals as goal
 
 pub serve_link-served-requires-clause-untouched : goal.serve_link-served-requires-clause-untouched
@@ -11,6 +11,11 @@ serve_link-served-requires-clause-untouched g c = record {
   no_read = c.requires.fresh.no_read;
 }
 
+pub returns-clause-on : goal.returns-clause-on
+returns-clause-on g c =
+    goes_on_further c.args.desk.now c.serve_link-served.new.desk c.forget.new.self c.serve_link-served.ensures.goes_on
+    (forgotten c.serve_link-served.new.desk c.forget.new.self c.forget.ensures.same c.forget.ensures.pass)
+
 pub returns-clause-serves : goal.returns-clause-serves
 returns-clause-serves g c =
     serves_one g.G.Link.Link.view c.args.desk.now c.serve_link-served.new.desk c.forget.new.self c.args.link
@@ -18,17 +23,16 @@ returns-clause-serves g c =
     (g.G.Gate.view c.give_back.new.self).returned (g.C.Clock.gave c.args.clock.now)
     (g.C.Clock.gave c.serve_link-served.new.clock) c.requires.fresh.no_fault c.serve_link-served.ensures.talk
     c.serve_link-served.ensures.session c.serve_link-served.ensures.cause c.serve_link-served.ensures.others.host
-    c.forget.ensures.pass c.forget.ensures.known c.forget.ensures.legal c.forget.ensures.numbered
+    c.serve_link-served.ensures.goes_on c.forget.ensures.stands c.forget.ensures.same.start c.forget.ensures.pass
     c.give_back.ensures.returned c.requires.serves
-
-pub returns-clause-opened : goal.returns-clause-opened
-returns-clause-opened g c =
-    ap (λ (pass : PassView). pass.opened) c.forget.ensures.pass
-    ∙ (opened_before c.args.desk.now c.serve_link-served.new.desk c.serve_link-served.ensures.talk.0
-    c.serve_link-served.ensures.talk.1).0
 
 pub returns-clause-all_back : goal.returns-clause-all_back
 returns-clause-all_back g c =
     given_back (g.G.Gate.view c.args.gate.now) (g.G.Gate.view c.give_back.new.self)
     (c.serve_link-served.new.link, c.serve_link-served.result) c.give_back.ensures.given c.give_back.ensures.returned
     c.requires.one_out
+
+pub returns-clause-first : goal.returns-clause-first
+returns-clause-first g c =
+    first_more (g.C.Clock.gave c.args.clock.now) (g.C.Clock.gave c.serve_link-served.new.clock)
+    c.serve_link-served.ensures.talk.0 c.serve_link-served.ensures.talk.3

@@ -1,18 +1,25 @@
+use Rattle.std.proofs.Common.{Ok, Err, subst, sym}
 use Rattle.std.specs.Prelude.{⊤}
 use Rattle.kom_types.specs.declared.acts.Act.TheVariants as act
-use Rattle.kom_links.specs.DeskCalls.{IsFlushFault}
+use Rattle.kom_links.specs.DeskCalls.{DeskView, Flushes, IsFlushFault}
+use Rattle.kom_links.specs.DeskTally.{flushed, refused}
+use Rattle.hall_desk.specs.Passes.{PassView}
+use Rattle.hall_desk.specs.Desks.{desk_view}
+use Rattle.hall_desk.specs.Rows.{IsAnswer}
 use Rattle.hall_desk.proofs.Refusals.{IsTurnTold, flush_told}
 use Rattle.hall_desk.proofs.DeskViews.{Refuses, refuses_of, known_mid, short_known, flushes_made, flushes_short, flushes_refused}
 use Rattle.hall_desk.proofs.Answering.{answers_made, answers_short, answers_refused}
+use Rattle.hall_desk.proofs.Telling.{view_told, pass_told, tally_told, tally_noted}
+use Rattle.hall_desk.proofs.GoingOn.{on_made, on_told, on_refused}
 use Rattle.hall_desk.proofs.hall_desk.HallDeskDesk.flush.Goals as goal
 
-pub note_everywhere-requires : goal.note_everywhere-requires
-note_everywhere-requires g c session =
+pub note_everywhere-stopped-requires : goal.note_everywhere-stopped-requires
+note_everywhere-stopped-requires g c session =
     short_known c.args.self.now c.make_alone.new.self c.args.moment session c.in-Ok.ensures.ends.0 c.in-Ok.made
     c.in-Ok.ensures.stood c.in-Ok.ensures.ends.1 c.if-made.true c.in-Ok.ensures.same
 
-pub note_everywhere-requires-in-Err : goal.note_everywhere-requires-in-Err
-note_everywhere-requires-in-Err g c session =
+pub note_everywhere-fault-requires : goal.note_everywhere-fault-requires
+note_everywhere-fault-requires g c session =
     known_mid c.args.self.now c.make_alone.new.self session c.in-Err.fault c.in-Err.ensures.same
     (flush_told c.args.self.now.start c.args.self.now.pass c.make_alone.new.self.pass c.args.self.now.pass.number
     c.args.moment
@@ -20,23 +27,47 @@ note_everywhere-requires-in-Err g c session =
 
 pub returns-then-made : goal.returns-then-made
 returns-then-made g c = record {
-  flushes = flushes_short c.args.self.now c.make_alone.new.self c.note_everywhere.new.self c.args.moment
-      c.in-Ok.ensures.ends.0 c.in-Ok.made c.note_everywhere.result c.in-Ok.ensures.stood c.in-Ok.ensures.ends.1
-      c.if-made.true c.in-Ok.ensures.faults c.in-Ok.ensures.same c.note_everywhere.ensures.result
-      c.note_everywhere.ensures.pass c.note_everywhere.ensures.same c.note_everywhere.ensures.faults;
-  answer = answers_short ⊤ c.args.self.now.start c.args.self.now.pass c.make_alone.new.self.pass
-      c.note_everywhere.new.self.pass
-      c.args.self.now.pass.number c.args.moment c.in-Ok.ensures.ends.0 c.in-Ok.made c.note_everywhere.result
-      c.in-Ok.ensures.ends.1 c.if-made.true c.note_everywhere.ensures.pass c.note_everywhere.ensures.result;
+  flushes = subst (λ (view : DeskView). Flushes {X = ⊤} (desk_view c.args.self.now) c.args.moment
+      (Err c.note_everywhere-stopped.result) view)
+      (view_told c.note_everywhere-stopped.new.self c.tell_refused.new.self c.tell_refused.ensures)
+      (flushes_short c.args.self.now c.make_alone.new.self c.note_everywhere-stopped.new.self c.args.moment
+      c.in-Ok.ensures.ends.0 c.in-Ok.made c.note_everywhere-stopped.result c.in-Ok.ensures.stood c.in-Ok.ensures.ends.1
+      c.if-made.true c.in-Ok.ensures.faults c.in-Ok.ensures.same c.note_everywhere-stopped.ensures.result
+      c.note_everywhere-stopped.ensures.pass c.note_everywhere-stopped.ensures.same
+      c.note_everywhere-stopped.ensures.faults);
+  tally = tally_noted c.args.self.now c.make_alone.new.self c.note_everywhere-stopped.new.self
+      c.tell_refused.new.self refused
+      c.in-Ok.ensures.same c.note_everywhere-stopped.ensures.same c.tell_refused.ensures;
+  on = on_refused c.args.self.now c.make_alone.new.self c.note_everywhere-stopped.new.self c.tell_refused.new.self
+      c.args.moment act.Flush c.in-Ok.ensures.ends.0 (Ok c.in-Ok.made) c.in-Ok.ensures.same c.in-Ok.ensures.ends.1
+      c.note_everywhere-stopped.ensures.same c.note_everywhere-stopped.ensures.pass c.tell_refused.ensures;
+  answer = subst (λ (pass : PassView). IsAnswer {X = ⊤} c.args.self.now.start pass act.Flush (Err
+      c.note_everywhere-stopped.result))
+      (sym (pass_told c.note_everywhere-stopped.new.self c.tell_refused.new.self c.tell_refused.ensures))
+      (answers_short ⊤ c.args.self.now.start c.args.self.now.pass c.make_alone.new.self.pass
+      c.note_everywhere-stopped.new.self.pass
+      c.args.self.now.pass.number c.args.moment c.in-Ok.ensures.ends.0 c.in-Ok.made c.note_everywhere-stopped.result
+      c.in-Ok.ensures.ends.1 c.if-made.true c.note_everywhere-stopped.ensures.pass
+      c.note_everywhere-stopped.ensures.result);
 }
 
 pub returns-else-made : goal.returns-else-made
 returns-else-made g c = record {
-  flushes = flushes_made c.args.self.now c.make_alone.new.self c.args.moment c.in-Ok.ensures.ends.0 c.in-Ok.made _
-      c.in-Ok.ensures.stood c.in-Ok.ensures.ends.1 c.if-made.false c.in-Ok.ensures.faults c.in-Ok.ensures.same;
-  answer = answers_made ⊤ c.args.self.now.start c.args.self.now.pass c.make_alone.new.self.pass
+  flushes = subst (λ (view : DeskView). Flushes {X = ⊤} (desk_view c.args.self.now) c.args.moment
+      (Ok tt) view)
+      (view_told c.make_alone.new.self c.tell_flushed.new.self c.tell_flushed.ensures)
+      (flushes_made c.args.self.now c.make_alone.new.self c.args.moment c.in-Ok.ensures.ends.0 c.in-Ok.made _
+      c.in-Ok.ensures.stood c.in-Ok.ensures.ends.1 c.if-made.false c.in-Ok.ensures.faults c.in-Ok.ensures.same);
+  tally = tally_told c.args.self.now c.make_alone.new.self c.tell_flushed.new.self flushed c.in-Ok.ensures.same
+      c.tell_flushed.ensures;
+  on = on_told c.args.self.now c.make_alone.new.self c.tell_flushed.new.self
+      (on_made c.args.self.now c.make_alone.new.self c.args.moment act.Flush c.in-Ok.ensures.ends.0 (Ok c.in-Ok.made)
+      c.in-Ok.ensures.same c.in-Ok.ensures.ends.1) c.tell_flushed.ensures;
+  answer = subst (λ (pass : PassView). IsAnswer {X = ⊤} c.args.self.now.start pass act.Flush (Ok tt))
+      (sym (pass_told c.make_alone.new.self c.tell_flushed.new.self c.tell_flushed.ensures))
+      (answers_made ⊤ c.args.self.now.start c.args.self.now.pass c.make_alone.new.self.pass
       c.args.self.now.pass.number
-      c.args.moment act.Flush c.in-Ok.ensures.ends.0 c.in-Ok.made _ c.in-Ok.ensures.ends.1 (λ flush. c.if-made.false);
+      c.args.moment act.Flush c.in-Ok.ensures.ends.0 c.in-Ok.made _ c.in-Ok.ensures.ends.1 (λ flush. c.if-made.false));
 }
 
 pub returns-in-Err : goal.returns-in-Err
@@ -46,21 +77,35 @@ returns-in-Err g c =
     flush_told c.args.self.now.start c.args.self.now.pass c.make_alone.new.self.pass c.args.self.now.pass.number
     c.args.moment
     c.in-Err.ensures.ends.0 0 c.in-Err.fault c.in-Err.ensures.ends.1 in
-    let refuses : Refuses IsFlushFault c.args.self.now c.make_alone.new.self c.note_everywhere-in-Err.new.self 0
+    let refuses : Refuses IsFlushFault c.args.self.now c.make_alone.new.self c.note_everywhere-fault.new.self 0
     c.in-Err.fault
-    c.note_everywhere-in-Err.result =
-    refuses_of IsFlushFault c.args.self.now c.make_alone.new.self c.note_everywhere-in-Err.new.self c.args.moment 0
+    c.note_everywhere-fault.result =
+    refuses_of IsFlushFault c.args.self.now c.make_alone.new.self c.note_everywhere-fault.new.self c.args.moment 0
     act.Flush
-    c.in-Err.ensures.ends.0 c.in-Err.fault c.note_everywhere-in-Err.result c.in-Err.ensures.stood
-    c.in-Err.ensures.ends.1 told c.in-Err.ensures.faults c.in-Err.ensures.same c.note_everywhere-in-Err.ensures.result
-    c.note_everywhere-in-Err.ensures.pass c.note_everywhere-in-Err.ensures.same in
+    c.in-Err.ensures.ends.0 c.in-Err.fault c.note_everywhere-fault.result c.in-Err.ensures.stood
+    c.in-Err.ensures.ends.1 told c.in-Err.ensures.faults c.in-Err.ensures.same c.note_everywhere-fault.ensures.result
+    c.note_everywhere-fault.ensures.pass c.note_everywhere-fault.ensures.same in
     record {
-      flushes = flushes_refused c.args.self.now c.make_alone.new.self c.note_everywhere-in-Err.new.self c.args.moment
+      flushes = subst (λ (view : DeskView). Flushes {X = ⊤} (desk_view c.args.self.now) c.args.moment
+          (Err c.note_everywhere-fault.result) view)
+          (view_told c.note_everywhere-fault.new.self c.tell_refused-in-Err.new.self c.tell_refused-in-Err.ensures)
+          (flushes_refused c.args.self.now c.make_alone.new.self c.note_everywhere-fault.new.self c.args.moment
           c.in-Err.fault
-          c.note_everywhere-in-Err.result c.in-Err.ensures.stood refuses c.note_everywhere-in-Err.ensures.faults;
-      answer = answers_refused ⊤ c.args.self.now.start c.args.self.now.pass c.make_alone.new.self.pass
-          c.note_everywhere-in-Err.new.self.pass
+          c.note_everywhere-fault.result c.in-Err.ensures.stood refuses c.note_everywhere-fault.ensures.faults);
+      tally = tally_noted c.args.self.now c.make_alone.new.self c.note_everywhere-fault.new.self
+          c.tell_refused-in-Err.new.self refused
+          c.in-Err.ensures.same c.note_everywhere-fault.ensures.same c.tell_refused-in-Err.ensures;
+      on = on_refused c.args.self.now c.make_alone.new.self c.note_everywhere-fault.new.self
+          c.tell_refused-in-Err.new.self c.args.moment act.Flush c.in-Err.ensures.ends.0 (Err c.in-Err.fault)
+          c.in-Err.ensures.same c.in-Err.ensures.ends.1 c.note_everywhere-fault.ensures.same
+          c.note_everywhere-fault.ensures.pass c.tell_refused-in-Err.ensures;
+      answer = subst (λ (pass : PassView). IsAnswer {X = ⊤} c.args.self.now.start pass act.Flush (Err
+          c.note_everywhere-fault.result))
+          (sym (pass_told c.note_everywhere-fault.new.self c.tell_refused-in-Err.new.self
+          c.tell_refused-in-Err.ensures))
+          (answers_refused ⊤ c.args.self.now.start c.args.self.now.pass c.make_alone.new.self.pass
+          c.note_everywhere-fault.new.self.pass
           c.args.self.now.pass.number c.args.moment act.Flush c.in-Err.ensures.ends.0 c.in-Err.fault
-          c.note_everywhere-in-Err.result c.in-Err.ensures.ends.1 c.note_everywhere-in-Err.ensures.pass
-          c.note_everywhere-in-Err.ensures.result;
+          c.note_everywhere-fault.result c.in-Err.ensures.ends.1 c.note_everywhere-fault.ensures.pass
+          c.note_everywhere-fault.ensures.result);
     }

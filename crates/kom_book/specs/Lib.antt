@@ -1,0 +1,4 @@
+pub mod Making
+pub mod Ticking
+pub mod Books
+pub mod Leading

@@ -1,0 +1,60 @@
+ghost use Rattle.std.specs.Prelude.{◌≡◌, ◌<◌, ◌^◌, ◌||◌, IfOk, IsOk, OnErr};
+ghost use Rattle.kom_model.specs.Legal.{HasUser, IsByOwner};
+ghost use Rattle.kom_model.specs.Out.{taken_by};
+ghost use Rattle.kom_model.specs.Refusal.{TakesNoMemory};
+ghost use Rattle.hall_desk.specs.Acts.{Comes};
+ghost use Rattle.kom_book.specs.Books.{Follows, Stays, state_in, record_of};
+
+use crate::book::Book;
+use crate::making::make_record;
+use crate::ticked::{Ticked, entry_with};
+use arrayvec::ArrayVec;
+use hall_desk::Acts;
+use kom_disk::Disk;
+use kom_types::{Entry, Item, Memory, Refusal};
+use std::snapshot::Snapshot;
+
+impl<D: Disk + Drop> Acts for Book<D> {
+    ghost use Rattle.std.proofs.Common.{refl};
+
+    ghost made = { record_of };
+
+    ghost server = { state_in };
+
+    fn make(
+        &mut self,
+        entry: Entry,
+        items: &mut ArrayVec<Item, 64>,
+    ) -> Result<Result<Ticked<D>, Refusal>, Memory>
+        requires room { (state_in self.old).entries < 2 ^ 62 }
+        requires own { IsByOwner (state_in self.old) entry }
+        requires user { HasUser entry.act }
+        ensures comes { IfOk result
+            (Comes Follows Stays record_of state_in self.old entry self.new) }
+        ensures taken { items.new.items ≡ taken_by (state_in self.old) entry.act }
+        ensures memory { OnErr result (Stays self.old self.new) }
+        ensures none_taken { TakesNoMemory (state_in self.old) entry.act → IsOk result }
+    {
+        let came = make_record(&mut self.inner.core, entry, items);
+        let disk = Snapshot::of(&self.inner.disk);
+        entry_with(came, disk)
+    }
+
+    fn stopped(&self) -> bool
+        ensures { result ≡ ((state_in self.now).stopped || (state_in self.now).store_refused) }
+    {
+        self.inner.core.stopped()
+    }
+
+    fn session(entry: &Ticked<D>) -> u32 {
+        entry.made.session
+    }
+
+    fn is_short(entry: &Ticked<D>) -> bool {
+        entry.made.short
+    }
+
+    ghost names = { λ entry. refl };
+
+    ghost leads = { λ opening history value leads. leads.led };
+}
