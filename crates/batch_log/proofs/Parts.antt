@@ -57,14 +57,14 @@ pub after_gate : (body : List ℕ) (bodies : List (List ℕ)) (end : List ℕ)
     → batches (body ∷ bodies) ++ end ≡ 1 ∷ (sized body ++ (batches bodies ++ end))
 after_gate body bodies end = append_assoc (batch body) (batches bodies) end
 
-same_tails : (a b : List ℕ) (ones twos : List (List ℕ)) (x y : List ℕ)
+pub same_tails : (a b : List ℕ) (ones twos : List (List ℕ)) (x y : List ℕ)
     → batches (a ∷ ones) ++ x ≡ batches (b ∷ twos) ++ y
     → sized a ++ (batches ones ++ x) ≡ sized b ++ (batches twos ++ y)
 same_tails a b ones twos x y same =
     sym (tail_is 1 _) ∙ ap tail_of (sym (after_gate a ones x) ∙ same ∙ after_gate b twos y) ∙ tail_is 1 _
 
 -- no end begins with a batch, or with an open gate
-no_end : (rest end : List ℕ) → end ≡ 1 ∷ rest → IsEnd end → ⊥
+pub no_end : (rest end : List ℕ) → end ≡ 1 ∷ rest → IsEnd end → ⊥
 no_end rest end same ended = let opens : IsEnd (1 ∷ rest) = subst IsEnd same ended in opens refl
 
 pub same_batches : (ones twos : List (List ℕ)) (x y : List ℕ) → AreShort ones → AreShort twos → IsEnd x → IsEnd y
@@ -130,7 +130,7 @@ same_breaks (a ∷ ones) (b ∷ twos) x y short_a short_b broken_x broken_y same
     ap (λ (l : List ℕ). l ∷ ones) first.0 ∙ ap (λ (l : List (List ℕ)). b ∷ l) later
 
 -- after the same start the rest is the same
-same_rest : (start : List ℕ) (ones twos : List (List ℕ)) (x y file : List ℕ) → file ≡ start ++ batches ones ++ x
+pub same_rest : (start : List ℕ) (ones twos : List (List ℕ)) (x y file : List ℕ) → file ≡ start ++ batches ones ++ x
     → file ≡ start ++ batches twos ++ y → batches ones ++ x ≡ batches twos ++ y
 same_rest start ones twos x y file one two =
     append_cancel_left start (batches ones ++ x) (batches twos ++ y)

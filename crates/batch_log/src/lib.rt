@@ -2,6 +2,7 @@
 //! is open.
 #![tactic(auto)]
 
+mod encode;
 mod errors;
 mod gates;
 mod laws;
@@ -9,6 +10,7 @@ mod log;
 mod repairs;
 mod walks;
 
+pub use encode::Encode;
 pub use errors::FlushFault;
 pub use laws::{batches_are_kept, batches_are_whole};
 pub use log::Log;

@@ -8,6 +8,7 @@ ghost use Rattle.batch_log.specs.Batches.{sized, batches};
 ghost use Rattle.batch_log.specs.Gates.{IsAtRest, IsStable, IsShutOrWhole, chunk_of};
 ghost use Rattle.batch_log.specs.Log.{flushed, size_after};
 
+use crate::encode::Encode;
 use crate::errors::FlushFault;
 use crate::gates::write_gated;
 use kom_disk::{Disk, Failed, Memory};
@@ -101,14 +102,16 @@ impl<D: Disk> Log<D> {
         Ok(())
     }
 
-    /// Adds bytes to the body, which takes no memory.
-    pub fn append(&mut self, bytes: &[u8])
-        requires { length bytes.now ≤ self.old.spare }
-        ensures body { self.new.body ≡ self.old.body ++ bytes.now }
-        ensures spare { self.old.spare ≤ self.new.spare + length bytes.now }
+    /// Adds the bytes of a value to the body, which takes no memory.
+    pub fn append<T: Encode>(&mut self, value: &T)
+        requires encodable { T.is_encodable value.now }
+        requires room { length (T.bytes value.now) ≤ self.old.spare }
+        ensures body { self.new.body ≡ self.old.body ++ T.bytes value.now }
+        ensures spare { self.old.spare ≤ self.new.spare + length (T.bytes value.now) }
         ensures same { self.new ≡ record self.old { body = self.new.body; spare = self.new.spare } }
+        ensures encoded { T.is_encoded value.now }
     {
-        self.chunk.extend_from_slice(bytes).unwrap();
+        value.encode(&mut self.chunk);
     }
 
     /// Appends the body as one batch, where there is one: after the closed gate, which is opened

@@ -1,0 +1,12 @@
+pub mod Blocks
+pub mod Damage
+pub mod Flushing
+pub mod Opened
+pub mod Opens
+pub mod Reading
+pub mod Short
+pub mod Sound
+pub mod Spelled
+pub mod Stopping
+pub mod Unique
+pub mod Views

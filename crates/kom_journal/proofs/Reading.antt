@@ -1,0 +1,233 @@
+-- What the reading of bytes comes to, over one effect, a block, and a body.
+use Rattle.std.proofs.Common.{◌≡◌, ◌<◌, ◌≤◌, ◌+◌, ◌-◌, ℕ, true, false, List, [], ◌∷◌, ◌++◌, length, take, drop, append_assoc, ap, sym, subst, ◌∙◌, refl, arith, length-append, length-drop}
+use Rattle.std.proofs.Math.Seq.{take-add}
+use Rattle.std.proofs.lemmas.List.{append-nil, drop-drop, drop-take, drop-append-le, take_at, take_all, take-take, take-append-le, length-take-le}
+use Rattle.batch_log.specs.Walk.{HasFirst}
+use Rattle.batch_log.proofs.Parts.{rest_of}
+use Rattle.kom_types.specs.declared.effects.Effect.{Effect}
+use Rattle.kom_model.specs.Db.{Db}
+use Rattle.kom_model.specs.Effects.{fits, apply, apply_all}
+use Rattle.effect_codec.specs.Coding.{coded_effect, effect_at, IsInRange}
+use Rattle.effect_codec.specs.Fields.{Whole, Short, Wrong}
+use Rattle.effect_codec.proofs.Effects.{effect_again, begins_no_other}
+use Rattle.effect_codec.proofs.Stays.{stays_wrong}
+use Rattle.kom_journal.specs.Images.{body_of}
+use Rattle.kom_journal.specs.Opening.{BeginsWith, BeginsUnfit, IsUnfit}
+use Rattle.kom_journal.specs.Reading.{MakesOne, MakesSome, ComesUnfit, MakesPart, part}
+use Rattle.kom_journal.proofs.Spelled.{all_more, body_both, never_empty}
+use Rattle.kom_journal.proofs.Sound.{apply_all-append, all_fit-append, and_both}
+
+-- effects after effects
+pub begins_none : (db : Db) (bytes : List ℕ) → BeginsWith [] db bytes bytes
+begins_none db bytes = record { whole = refl; coded = tt; fit = refl }
+
+pub begins_on : (ones others : List Effect) (db : Db) (a b c : List ℕ) → BeginsWith ones db a b
+    → BeginsWith others (apply_all ones db) b c → BeginsWith (ones ++ others) db a c
+begins_on ones others db a b c first second = record {
+  whole = first.whole ∙ ap (λ (l : List ℕ). body_of ones ++ l) second.whole
+      ∙ sym (append_assoc (body_of ones) (body_of others) c)
+      ∙ ap (λ (l : List ℕ). l ++ c) (sym (body_both ones others));
+  coded = all_more IsInRange ones others first.coded second.coded;
+  fit = all_fit-append ones others db first.fit second.fit;
+}
+
+begins_one : (one : Effect) (db : Db) (bytes rest : List ℕ) → bytes ≡ coded_effect one ++ rest → IsInRange one
+    → fits one db ≡ true → BeginsWith (one ∷ []) db bytes rest
+begins_one one db bytes rest is coded fit = record {
+  whole = is ∙ ap (λ (l : List ℕ). l ++ rest) (sym (append-nil (coded_effect one)));
+  coded = (coded, tt);
+  fit = and_both (fits one db) true fit refl;
+}
+
+pub begins_longer : (effects : List Effect) (db : Db) (a b more : List ℕ) → BeginsWith effects db a b
+    → BeginsWith effects db (a ++ more) (b ++ more)
+begins_longer effects db a b more begins = record {
+  whole = ap (λ (l : List ℕ). l ++ more) begins.whole ∙ append_assoc (body_of effects) b more;
+  coded = begins.coded;
+  fit = begins.fit;
+}
+
+-- bytes with which no effect that fits begins
+pub short_unfit : (db : Db) (bytes : List ℕ) → effect_at bytes ≡ Short → BeginsUnfit db bytes
+short_unfit db bytes short other rest in_range is fit =
+    let read : effect_at bytes ≡ Whole other rest = ap effect_at is ∙ effect_again other rest in_range in
+    let same : Short ≡ Whole other rest = sym short ∙ read in
+    cc
+
+pub wrong_unfit : (db : Db) (bytes more : List ℕ) → effect_at bytes ≡ Wrong → BeginsUnfit db (bytes ++ more)
+wrong_unfit db bytes more wrong other rest in_range is fit = stays_wrong other bytes more rest in_range wrong is
+
+pub found_unfit : (db : Db) (one : Effect) (bytes after more : List ℕ) → bytes ≡ coded_effect one ++ after
+    → IsInRange one → fits one db ≡ false → BeginsUnfit db (bytes ++ more)
+found_unfit db one bytes after more is coded unfit other rest in_range also fit =
+    let whole : coded_effect one ++ (after ++ more) ≡ coded_effect other ++ rest =
+    sym (append_assoc (coded_effect one) after more) ∙ ap (λ (l : List ℕ). l ++ more) (sym is) ∙ also in
+    let same : one ≡ other = (begins_no_other one other (after ++ more) rest coded in_range whole).0 in
+    let wrong : true ≡ false = sym fit ∙ ap (λ (e : Effect). fits e db) (sym same) ∙ unfit in
+    cc
+
+no_bytes : (bytes : List ℕ) → (bytes ≡ [] → ⊥) → 0 < length bytes
+no_bytes [] never = absurd (never refl)
+no_bytes (byte ∷ bytes) never = omega arith
+
+pub wrong_some : (bytes : List ℕ) → effect_at bytes ≡ Wrong → 0 < length bytes
+wrong_some bytes wrong =
+    no_bytes bytes (λ none.
+    let same : Short ≡ Wrong = sym (ap effect_at none) ∙ wrong in
+    cc)
+
+pub coded_some : (one : Effect) (bytes after : List ℕ) → bytes ≡ coded_effect one ++ after → IsInRange one
+    → 0 < length bytes
+coded_some one bytes after is coded = no_bytes bytes (λ none. never_empty one after coded (sym none ∙ is))
+
+-- one effect more is made
+pub makes_on : (bytes : List ℕ) (old mid new : Db) (used len : ℕ) (effects : List Effect)
+    → BeginsWith effects old bytes (drop used bytes) → mid ≡ apply_all effects old → used ≤ length bytes
+    → (next : MakesOne (drop used bytes) mid new len)
+    → (more : List Effect) × BeginsWith more old bytes (drop (used + len) bytes) × (new ≡ apply_all more old)
+    × (used + len ≤ length bytes)
+makes_on bytes old mid new used len effects begins rows within next =
+    let one = next.effect in
+    let after : drop len (drop used bytes) ≡ drop (used + len) bytes = drop-drop len used bytes in
+    let first : BeginsWith (one ∷ []) (apply_all effects old) (drop used bytes) (drop (used + len) bytes) =
+    begins_one one (apply_all effects old) (drop used bytes) (drop (used + len) bytes)
+    (next.whole ∙ ap (λ (l : List ℕ). coded_effect one ++ l) after) next.coded
+    (subst (λ (d : Db). fits one d ≡ true) rows next.fit) in (
+      effects ++ one ∷ [],
+      begins_on effects (one ∷ []) old bytes (drop used bytes) (drop (used + len) bytes) begins first,
+      next.rows ∙ ap (apply one) rows ∙ sym (apply_all-append effects (one ∷ []) old),
+      omega (arith, within, next.within, length-drop used bytes),
+    )
+
+-- parts of a file
+pub part_drop : (at used end : ℕ) (bytes : List ℕ) → at + used ≤ end
+    → drop used (part at end bytes) ≡ part (at + used) end bytes
+part_drop at used end bytes within =
+    let left : end - at ≡ used + (end - (at + used)) = omega (arith, within) in
+    ap (λ (n : ℕ). drop used (take n (drop at bytes))) left
+    ∙ drop-take used (end - (at + used)) (drop at bytes)
+    ∙ ap (take (end - (at + used))) (drop-drop used at bytes)
+
+pub part_block : (at held end : ℕ) (bytes : List ℕ) → at + held ≤ end
+    → part at end bytes ≡ take held (drop at bytes) ++ part (at + held) end bytes
+part_block at held end bytes within =
+    let left : end - at ≡ held + (end - (at + held)) = omega (arith, within) in
+    ap (λ (n : ℕ). take n (drop at bytes)) left
+    ∙ take-add held (end - (at + held)) (drop at bytes)
+    ∙ ap (λ (l : List ℕ). take held (drop at bytes) ++ take (end - (at + held)) l) (drop-drop held at bytes)
+
+pub part_none : (end : ℕ) (bytes : List ℕ) → part end end bytes ≡ []
+part_none end bytes =
+    let none : end - end ≡ 0 = omega arith in ap (λ (n : ℕ). take n (drop end bytes)) none
+
+module _ (at held end : ℕ) (bytes block : List ℕ) (within : at + held ≤ end) (is : block ≡ take held (drop at bytes))
+    (long : length block ≡ held) (old : Db) where
+  whole : part at end bytes ≡ block ++ part (at + held) end bytes
+  whole = part_block at held end bytes within ∙ ap (λ (l : List ℕ). l ++ part (at + held) end bytes) (sym is)
+
+  -- the whole effects of a block
+  pub block_made : (new : Db) (used : ℕ) → MakesSome block old new used
+      → MakesPart (part at end bytes) (part (at + used) end bytes) old new
+  block_made new used made =
+      let after : drop used block ++ part (at + held) end bytes ≡ part (at + used) end bytes =
+      sym (drop-append-le used block (part (at + held) end bytes) made.within)
+      ∙ ap (drop used) (sym whole) ∙ part_drop at used end bytes (omega (arith, within, made.within, long)) in
+      let longer = begins_longer made.effects old block (drop used block) (part (at + held) end bytes) made.begins in
+      record {
+        effects = made.effects;
+        begins = record {
+          whole = whole ∙ longer.whole ∙ ap (λ (l : List ℕ). body_of made.effects ++ l) after;
+          coded = longer.coded;
+          fit = longer.fit;
+        };
+        rows = made.rows;
+      }
+
+  -- bytes in it with which no effect that fits begins
+  pub block_unfit : ComesUnfit block old → IsUnfit old (part at end bytes)
+  block_unfit comes =
+      let longer =
+      begins_longer comes.effects old block comes.rest (part (at + held) end bytes) comes.begins in
+      record {
+        effects = comes.effects;
+        rest = comes.rest ++ part (at + held) end bytes;
+        begins = record { whole = whole ∙ longer.whole; coded = longer.coded; fit = longer.fit };
+        more = λ none.
+            let lacks : length (comes.rest ++ part (at + held) end bytes) ≡ 0 = ap length none in
+            omega (arith, comes.some, lacks, length-append comes.rest (part (at + held) end bytes));
+        unfit = comes.unfit (part (at + held) end bytes);
+      }
+
+  -- the last block ends inside an effect
+  pub last_unfit : (new : Db) (used : ℕ) → MakesSome block old new used → used < held → at + held ≡ end
+      → IsUnfit old (part at end bytes)
+  last_unfit new used made less last =
+      let none : part (at + held) end bytes ≡ [] =
+      ap (λ (n : ℕ). part n end bytes) last ∙ part_none end bytes in
+      let all : part at end bytes ≡ block =
+      whole ∙ ap (λ (l : List ℕ). block ++ l) none ∙ append-nil block in
+      record {
+        effects = made.effects;
+        rest = drop used block;
+        begins = record { whole = all ∙ made.begins.whole; coded = made.begins.coded; fit = made.begins.fit };
+        more = λ nothing.
+            let lacks : length (drop used block) ≡ 0 = ap length nothing in
+            omega (arith, less, long, lacks, length-drop used block);
+        unfit = short_unfit (apply_all made.effects old) (drop used block) made.short;
+      }
+
+-- a part after a part
+pub parts_made : (a b c : List ℕ) (old mid new : Db) → MakesPart a b old mid → MakesPart b c mid new
+    → MakesPart a c old new
+parts_made a b c old mid new first second =
+    let next = subst (λ (d : Db). BeginsWith second.effects d b c) first.rows second.begins in
+    record {
+      effects = first.effects ++ second.effects;
+      begins = begins_on first.effects second.effects old a b c first.begins next;
+      rows = second.rows ∙ ap (apply_all second.effects) first.rows
+          ∙ sym (apply_all-append first.effects second.effects old);
+    }
+
+pub part_unfit : (a b : List ℕ) (old mid : Db) → MakesPart a b old mid → IsUnfit mid b → IsUnfit old a
+part_unfit a b old mid first unfit =
+    let next = subst (λ (d : Db). BeginsWith unfit.effects d b unfit.rest) first.rows unfit.begins in
+    record {
+      effects = first.effects ++ unfit.effects;
+      rest = unfit.rest;
+      begins = begins_on first.effects unfit.effects old a b unfit.rest first.begins next;
+      more = unfit.more;
+      unfit = subst (λ (d : Db). BeginsUnfit d unfit.rest)
+          (ap (apply_all unfit.effects) first.rows ∙ sym (apply_all-append first.effects unfit.effects old))
+          unfit.unfit;
+    }
+
+-- what was read into a buffer
+pub block_of : (n at : ℕ) (bytes into left : List ℕ) → into ≡ take n (drop at bytes) ++ left
+    → length (take n (drop at bytes)) ≡ n → take n into ≡ take n (drop at bytes)
+block_of n at bytes into left is long =
+    ap (take n) is ∙ take_at (take n (drop at bytes)) left n long
+
+-- a block of a buffer that was read into
+pub block_read : (given into items into_old bytes : List ℕ) (len held at : ℕ)
+    → given ≡ take len (into ++ drop (length into) items) → length into ≡ len → held ≤ len
+    → into ≡ take held (drop at bytes) ++ drop held into_old → held ≤ length (drop at bytes)
+    → take held given ≡ take held (drop at bytes)
+block_read given into items into_old bytes len held at is same fits read there =
+    ap (take held) is ∙ take-take held len (into ++ drop (length into) items) fits
+    ∙ take-append-le held into (drop (length into) items) (omega (arith, same, fits))
+    ∙ block_of held at bytes into (drop held into_old) read (length-take-le held (drop at bytes) there)
+
+-- all that is left after a place
+pub rest_whole : (used : ℕ) (bytes : List ℕ) → take (length bytes - used) (drop used bytes) ≡ drop used bytes
+rest_whole used bytes =
+    take_all (length bytes - used) (drop used bytes) (omega (arith, length-drop used bytes))
+
+-- the body of a batch that stands at a place
+pub first_body : (at size : ℕ) (file : List ℕ) (first : HasFirst size (drop at file))
+    → part (at + 9) (at + (9 + size)) file ≡ first.body
+first_body at size file first =
+    let long : (at + (9 + size)) - (at + 9) ≡ size = omega arith in
+    let rest : drop (at + 9) file ≡ first.body ++ first.gate ∷ first.after =
+    sym (drop-drop 9 at file) ∙ ap (drop 9) first.whole ∙ rest_of first.body (first.gate ∷ first.after) in
+    ap (λ (n : ℕ). take n (drop (at + 9) file)) long ∙ ap (take size) rest
+    ∙ take_at first.body (first.gate ∷ first.after) size first.counts

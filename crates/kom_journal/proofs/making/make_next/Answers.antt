@@ -1,0 +1,14 @@
+use Rattle.std.proofs.Common.{drop, sym, ◌∙◌}
+use Rattle.kom_journal.proofs.Reading.{wrong_unfit, found_unfit}
+use Rattle.kom_journal.proofs.making.make_next.Goals as goal
+
+pub returns-in-Err-Wrong-clause-unfit : goal.returns-in-Err-Wrong-clause-unfit
+returns-in-Err-Wrong-clause-unfit c same more =
+    wrong_unfit c.args.rows.now.db c.args.bytes.now more (rw c.in-Err-Wrong.field-0-is at c.in-Err-Wrong.ensures).gives
+
+pub returns-then-not-fits-clause-unfit : goal.returns-then-not-fits-clause-unfit
+returns-then-not-fits-clause-unfit c same more =
+    let found = c.in-Ok-Some.found in
+    let said = (rw c.in-Ok-Some.field-0-is at c.in-Ok-Some.ensures).spelled in
+    found_unfit c.args.rows.now.db found.0 c.args.bytes.now (drop found.1 c.args.bytes.now) more said.0 said.1
+    (sym c.fits.ensures ∙ c.if-not-fits.true)

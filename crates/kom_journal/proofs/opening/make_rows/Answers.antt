@@ -1,0 +1,56 @@
+use Rattle.std.proofs.Common.{◌<◌, ◌+◌, List, ℕ, drop, refl, sym, subst, ◌∙◌, arith}
+use Rattle.kom_model.specs.Db.{Db}
+use Rattle.batch_log.proofs.Looking.{unread, looks_on}
+use Rattle.kom_journal.specs.Batch.{IsNext, EndsBefore, MakesBatch}
+use Rattle.kom_journal.specs.Opened.{IsMadeTo}
+use Rattle.kom_journal.proofs.Opens.{made_none, made_more}
+use Rattle.kom_journal.proofs.opening.make_rows.Goals as goal
+
+pub gates-init : goal.gates-init
+gates-init g c =
+    let file = g.D.Disk.bytes c.args.disk.now in
+    record {
+      looks = record {
+        same_size = refl;
+        same_faults = refl;
+        same_bytes = λ told. refl;
+        stop = λ told. unread g.D.Disk.moment g.D.Disk.images g.D.Disk.images_at g.D.Disk.tells told
+            (λ disk image. g.met.D.Disk.images_now disk image told) c.args.disk.now;
+      };
+      within = omega (arith, c.requires.long.0);
+      counted = omega arith;
+      room = c.in_ok-buffer.ensures.long;
+      made = λ told. subst (λ (d : Db). IsMadeTo 16 0 d file) (sym c.empty-rows.ensures)
+          (made_none file (c.requires.header told)
+          (omega (arith, c.requires.long.0, c.requires.long.1, g.met.D.Disk.counts_bytes c.args.disk.now told)));
+    }
+
+pub gates-preserved : goal.gates-preserved
+gates-preserved g c =
+    let kept = c.gates.invariant in
+    let e = c.in_ok-size.ensures in
+    let size = c.in-Batch.size in
+    let start = c.args.disk.now in
+    let mid = c.gates.disk in
+    let file = g.D.Disk.bytes start in
+    let ends : c.gates.at + (9 + size) < c.args.len = subst (EndsBefore c.gates.at c.args.len) c.in-Batch.is e.within in
+    record {
+      looks = record {
+        same_size = e.size ∙ kept.looks.same_size;
+        same_faults = e.no_fault ∙ kept.looks.same_faults;
+        same_bytes = λ told. e.bytes told ∙ kept.looks.same_bytes told;
+        stop = λ told. looks_on g.D.Disk.moment g.D.Disk.images g.D.Disk.images_at g.D.Disk.tells told
+            (λ disk image. g.met.D.Disk.images_now disk image told) start mid c.make_batch.new.disk
+            (kept.looks.stop told) (e.stop told);
+      };
+      within = ends;
+      counted = omega (arith, kept.counted);
+      room = e.room;
+      made = λ told.
+          let there : MakesBatch size (drop c.gates.at (g.D.Disk.bytes mid)) c.gates.rows.db c.make_batch.new.rows.db =
+          subst (IsNext (drop c.gates.at (g.D.Disk.bytes mid)) c.gates.rows.db c.make_batch.new.rows.db) c.in-Batch.is
+          (e.next told) in
+          made_more c.gates.at c.gates.batches size c.gates.rows.db c.make_batch.new.rows.db file (kept.made told)
+          (subst (λ (b : List ℕ). MakesBatch size (drop c.gates.at b) c.gates.rows.db c.make_batch.new.rows.db)
+          (kept.looks.same_bytes told) there);
+    }

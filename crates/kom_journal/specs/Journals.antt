@@ -1,0 +1,37 @@
+-- What contracts see of a journal, and what it keeps.
+use Rattle.std.specs.Prelude.{◌≡◌, ℕ, Bool, false, IsTrue, List}
+use Rattle.kom_types.specs.declared.effects.Effect.{Effect}
+use Rattle.batch_log.specs.Gates.{IsAtRest}
+use Rattle.batch_log.specs.Walk.{IsReadTo}
+use Rattle.kom_journal.specs.Images.{header}
+use Rattle.kom_journal.specs.Pending.{IsSpelled}
+
+-- a journal: its disk; the effects that wait for a flush; for how many bytes more it has room;
+-- whether a flush has failed; how many batches its store had when it was opened; and the place of
+-- the store's closed gate
+pub record JournalView (D : Type 0) : Type 0 where
+  pub disk : D
+  pub pending : List Effect
+  pub spare : ℕ
+  pub refused : Bool
+  pub batches : ℕ
+  pub place : ℕ
+
+-- the bytes are a store whose closed gate at this place ends them, and all of it is stable
+pub record IsStored (place : ℕ) (bytes : List ℕ) (images : List ℕ → Type 0) : Type 0 where
+  pub at_rest : IsAtRest place bytes images
+  pub bodies : List (List ℕ)
+  pub read : IsReadTo header bodies place bytes
+
+-- What waits is spelled by its bytes; and the store is at rest, unless a flush has failed.
+pub record IsKeptWhole (tells refused : Bool) (place : ℕ) (body bytes : List ℕ)
+    (images : List ℕ → Type 0) : Type 0 where
+  pub spelled : IsSpelled body
+  pub stored : refused ≡ false → IsTrue tells → IsStored place bytes images
+
+-- all of a journal stays but what waits and its room: its disk, and how far its store goes
+pub record StaysAs {D : Type 0} (old new : JournalView D) : Type 0 where
+  pub disk : new.disk ≡ old.disk
+  pub refused : new.refused ≡ old.refused
+  pub batches : new.batches ≡ old.batches
+  pub place : new.place ≡ old.place

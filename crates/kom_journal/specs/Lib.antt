@@ -1,0 +1,9 @@
+pub mod Batch
+pub mod Images
+pub mod Journals
+pub mod Laws
+pub mod Opened
+pub mod Opening
+pub mod Pending
+pub mod Reading
+pub mod Staying

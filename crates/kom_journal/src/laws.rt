@@ -1,0 +1,15 @@
+// What follows from what an image stands for.
+ghost use Rattle.kom_journal.specs.Laws.{StandsForOne, StandsUndamaged, SpellsAgain, FitsShort};
+
+/// A law alone: an image stands for one state of the rows, and then it is not damaged.
+pub fn images_stand_for_one()
+    ensures rows { StandsForOne }
+    ensures undamaged { StandsUndamaged }
+{}
+
+/// A law alone: a body spells the effects that were coded in it, and each effect that fits has
+/// lengths that can be coded.
+pub fn effects_are_kept()
+    ensures again { SpellsAgain }
+    ensures short { FitsShort }
+{}
