@@ -41,9 +41,12 @@ abbrev pub first_turn : Turn
 first_turn = record { reference = 1; person = codes "0" }
 
 -- references begin at 1 again after the last one
+abbrev pub reference_after : ℕ → ℕ
+reference_after reference = if reference == 4294967295 then 1 else reference + 1
+
 abbrev pub turn_after : Request → Turn → Turn
 turn_after request turn = record {
-  reference = if turn.reference == 4294967295 then 1 else turn.reference + 1;
+  reference = reference_after turn.reference;
   person = person_after request turn.person;
 }
 
@@ -52,8 +55,8 @@ abbrev pub end_without_line : Option Fault → TalkEnd
 end_without_line None = end.ServerEnd
 end_without_line (Some fault) = end.Broken (place_of fault)
 
--- What comes of awaiting a reply: what is shown till then, the lines after it, and the talk's end if
--- no reply comes.
+-- What comes of awaiting a reply: what is shown till then, the lines after it, and the talk's end
+-- if no reply comes.
 pub record Awaited : Type 0 where
   pub shown : List ℕ
   pub left : List Line
@@ -68,7 +71,8 @@ replied false shown line lines =
 abbrev pub shown_first : List ℕ → Awaited → Awaited
 shown_first shown awaited = record awaited { shown = shown ++ awaited.shown }
 
--- the reply with this reference among a server's lines, after which its stream has this fault or none
+-- the reply with this reference among a server's lines, after which its stream has this fault or
+-- none
 abbrev pub await : ℕ → List Line → Option Fault → Awaited
 await reference [] fault =
     record { shown = []; left = []; end = Some (end_without_line fault) }
@@ -104,8 +108,8 @@ abbrev pub greeted : Option (List ℕ) → List ℕ → List Line → Option Fau
 greeted None keys lines fault = ends (end_without_line fault)
 greeted (Some name) keys lines fault = answers first_turn (key_lines keys) lines fault
 
--- What a client of this user sends and shows, and how its talk ends, if these are all the bytes that
--- are typed, and these all that the server writes.
+-- What a client of this user sends and shows, and how its talk ends, if these are all the bytes
+-- that are typed, and these all that the server writes.
 abbrev pub client : List ℕ → List ℕ → List ℕ → Course
 client user keys bytes = let heard = stream_by side.Server bytes in
     before (greeting_line user) [] (greeted heard.greeting keys heard.lines heard.fault)

@@ -1,6 +1,6 @@
--- What is typed: key lines, the requests that they make, and how a request is spelled. (The forms of
--- key lines are this client's own; Protocol A, "List of Calls", has what is sent.)
-use Rattle.std.specs.Prelude.{ℕ, ◌+◌, ◌==◌, ◌&&◌, nat_le, nat_lt, Bool, true, false, List, [], ◌∷◌}
+-- What is typed: key lines, the requests that they make, and how a request is spelled. (The forms
+-- of key lines are this client's own; Protocol A, "List of Calls", has what is sent.)
+use Rattle.std.specs.Prelude.{ℕ, ◌==◌, ◌&&◌, nat_le, nat_lt, Bool, true, false, List, [], ◌∷◌}
 use Rattle.std.specs.Prelude.{◌++◌, length, take, drop, take_while, Option, Some, None, option_map}
 use Rattle.std.specs.Prelude.{option_and_then, codes}
 use Rattle.std.specs.Fmt.{decimal}

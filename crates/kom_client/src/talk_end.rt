@@ -1,3 +1,8 @@
+ghost use Rattle.std.specs.Prelude.{◌≡◌};
+ghost use Rattle.kom_client.specs.declared.talk_end.TalkEnd.TheVariants as end;
+
+use kom_types::Memory;
+
 /// How a client's talk ended.
 #[derive(Clone, Copy, Debug, PartialEq, Eq)]
 pub enum TalkEnd {
@@ -16,4 +21,12 @@ pub enum TalkEnd {
     SinkFault,
     /// Memory ran out.
     Memory,
+}
+
+impl From<Memory> for TalkEnd {
+    ghost from_gives = { λ _ found. found ≡ end.Memory };
+
+    fn from(_error: Memory) -> TalkEnd {
+        TalkEnd::Memory
+    }
 }
