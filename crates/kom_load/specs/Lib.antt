@@ -1,0 +1,4 @@
+pub mod Generator
+pub mod Runs
+pub mod Summaries
+pub mod LoadRows
