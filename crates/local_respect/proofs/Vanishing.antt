@@ -37,11 +37,11 @@ use Rattle.kom_masks.specs.Laws.{HidesMore}
 use Rattle.kom_masks.specs.Masks.{Mask, masked_db, blank_conference, blank_person, blank_membership, blank_read}
 use Rattle.kom_masks.specs.Masks.{blank_text, stays_recipient, stays_link, stays_item}
 use Rattle.kom_masks.proofs.Effects.{same-db}
-use Rattle.kom_masks.proofs.Fields.{counted-number, field-number}
+use Rattle.kom_model.proofs.Fields.{counted-number, field-number}
 use Rattle.kom_laws.specs.Erasing.{erased_db, mask_of}
 use Rattle.kom_laws.specs.Groups.{Group, is_unseen, is_unread}
 use Rattle.kom_laws.proofs.Rights.{unseen-masked, hidden-masked, hidden-erased}
-use Rattle.kom_laws.proofs.whole.Effects.{effects-whole}
+use Rattle.kom_model.proofs.whole.Effects.{effects-whole}
 use Rattle.step_consistency.specs.Steps.{IsReadyFor}
 use Rattle.step_consistency.proofs.Agreeing.{there-drawn}
 use Rattle.step_consistency.proofs.Standing.{texts-stood}
