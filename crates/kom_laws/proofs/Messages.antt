@@ -116,14 +116,15 @@ member-there db person conference whole is =
     ∙ held-there db.conferences person conference db.memberships whole.memberships.conference_there
     (sym (some-told (λ (row : MembershipRow). row.kind) (find (is_membership person conference) db.memberships)) ∙ is)
 
-takes-seen : (group : Group) (db : Db) (viewer : Viewer) (conference : ℕ) → IsWhole db → IsInGroup group viewer →
+pub takes-seen : (group : Group) (db : Db) (viewer : Viewer) (conference : ℕ) → IsWhole db → IsInGroup group viewer →
     takes db viewer.person conference ≡ true → is_unseen group db conference ≡ false
 takes-seen group db viewer conference whole in_group is =
     seen-by group db viewer conference (in-of group viewer in_group) (takes-sees db viewer conference
     (member-there db viewer.person conference whole (joined (membership_kind_of db viewer.person conference) is)) is)
 
 -- who does not read a text is told nothing of it; and who is told of a text is the same
-unread-lost : (db : Db) (viewer : Viewer) (text : ℕ) → reads db viewer text ≡ false → gets_text db viewer text ≡ false
+pub unread-lost : (db : Db) (viewer : Viewer) (text : ℕ) → reads db viewer text ≡ false →
+    gets_text db viewer text ≡ false
 unread-lost db viewer text fails = and_left _ _ fails
 
 gets-erased : (group : Group) (db : Db) (viewer : Viewer) (text : ℕ) → IsProtected db → IsInGroup group viewer →
@@ -168,7 +169,7 @@ conference-told group db viewer conference number tell in_group =
     (conference-seen (mask_of group db) conference row here
     (seen-by group db viewer conference (in-of group viewer in_group) is)))) db.conferences
 
-unread-by : (group : Group) (db : Db) (viewer : Viewer) (text : ℕ) → IsInGroup group viewer →
+pub unread-by : (group : Group) (db : Db) (viewer : Viewer) (text : ℕ) → IsInGroup group viewer →
     is_unread group db text ≡ true → reads db viewer text ≡ false
 unread-by group db viewer text in_group unread = elim (cases_Bool (reads db viewer text)) [
   | inl is ↦ absurd (both_ways (is_unread group db text) (read-by group db viewer text in_group is) unread)

@@ -101,7 +101,7 @@ found-protected let_in (Some row) guarded reads =
     let_in-protected (is_secret_conference row.kind) (is_read_protected row.kind) (let_in (head_of row)) guarded reads
 
 -- who reads the texts of a conference sees it
-reads-sees : (db : Db) (viewer : Viewer) (conference : ℕ) → IsProtected db →
+pub reads-sees : (db : Db) (viewer : Viewer) (conference : ℕ) → IsProtected db →
     reads_conference db viewer conference ≡ true → sees db viewer conference ≡ true
 unfolding reads_conference sees conference_head_of conference_of
 reads-sees db viewer conference protected reads =

@@ -35,7 +35,7 @@ module _ (group : Group) where
     by false = refl
 
   -- ---- the row of a session of the group
-  found-erased : (session : ℕ) → is_among group.sessions session ≡ true → (rows : List Session) →
+  pub found-erased : (session : ℕ) → is_among group.sessions session ≡ true → (rows : List Session) →
       find (is_session session) (erases rows) ≡ find (is_session session) rows
   found-erased session own [] = refl
   found-erased session own (row ∷ rows) =

@@ -59,7 +59,7 @@ all-onto : {X Y : Type 0} (P : Y → Type 0) (tell : X → Y) (rows : List X) �
 all-onto P tell [] all = tt
 all-onto P tell (row ∷ rows) all = (all.0, all-onto P tell rows all.1)
 
-all-from : {X Y : Type 0} (P : Y → Type 0) (tell : X → Y) (rows : List X) → AllByRecursion P (map tell rows) →
+pub all-from : {X Y : Type 0} (P : Y → Type 0) (tell : X → Y) (rows : List X) → AllByRecursion P (map tell rows) →
     AllByRecursion (λ row. P (tell row)) rows
 all-from P tell [] all = tt
 all-from P tell (row ∷ rows) all = (all.0, all-from P tell rows all.1)

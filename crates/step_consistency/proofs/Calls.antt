@@ -42,7 +42,7 @@ use Rattle.step_consistency.proofs.Queueing.{items_for}
 use Rattle.step_consistency.proofs.Steps.{effects-erased}
 
 -- ---- seats are never hidden
-seats-erased : (group : Group) (rows : List Session) →
+pub seats-erased : (group : Group) (rows : List Session) →
     map (λ (session : Session). session.seat) (map (erased_session group) rows) ≡ map (λ session. session.seat) rows
 seats-erased group [] = refl
 seats-erased group (row ∷ rows) =
@@ -52,15 +52,15 @@ seats-erased group (row ∷ rows) =
       seat-erased true = refl
       seat-erased false = refl
 
-viewer-erased : (group : Group) (db : Db) (seat : Seat) → viewer_of (erased_db group db) seat ≡ viewer_of db seat
+pub viewer-erased : (group : Group) (db : Db) (seat : Seat) → viewer_of (erased_db group db) seat ≡ viewer_of db seat
 viewer-erased group db seat = viewer-same (erased_db group db) db (public-masked (mask_of group db) db) (Some seat)
 
 -- who looks from a seat of the group is of it
-abbrev IsOwn : Group → Db → Seat → Type 0
+abbrev pub IsOwn : Group → Db → Seat → Type 0
 IsOwn group db seat = IsTrue (is_among group.sessions seat.number) → IsOfGroup group (viewer_of db seat)
 
-all-onto : {X Y : Type 0} (P : Y → Type 0) (tell : X → Y) (rows : List X) → AllByRecursion (λ row. P (tell row)) rows →
-    AllByRecursion P (map tell rows)
+pub all-onto : {X Y : Type 0} (P : Y → Type 0) (tell : X → Y) (rows : List X) →
+    AllByRecursion (λ row. P (tell row)) rows → AllByRecursion P (map tell rows)
 all-onto P tell [] all = tt
 all-onto P tell (row ∷ rows) all = (all.0, all-onto P tell rows all.1)
 
@@ -82,7 +82,7 @@ found-own group db session (seat ∷ seats) own among = by (seat.number == sessi
       by true own rest = own refl
       by false own rest = rest
 
-kept-own : (group : Group) (db : Db) (number : ℕ) (seats : List Seat) (seat : Seat) (others : List Seat) →
+pub kept-own : (group : Group) (db : Db) (number : ℕ) (seats : List Seat) (seat : Seat) (others : List Seat) →
     AllByRecursion (IsOwn group db) seats → is_among group.sessions number ≡ true →
     filter (λ seat. number == seat.number) seats ≡ seat ∷ others → IsOfGroup group (viewer_of db seat)
 kept-own group db number [] seat others own among is = cc

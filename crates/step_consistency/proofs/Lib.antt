@@ -1,5 +1,6 @@
 pub mod Agreeing
 pub mod Standing
+pub mod Below
 pub mod Steps
 pub mod Changing
 pub mod Queueing

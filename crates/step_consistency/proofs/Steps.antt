@@ -1,5 +1,4 @@
 -- The same effects leave states that are the same but for what is hidden from a group the same but for that.
-use mathlib.Core.Path.{fun_ext}
 use Rattle.std.proofs.Common.{◌≡◌, ℕ, ◌<◌, Bool, true, false, not, ◌&&◌, List, [], ◌∷◌, Option, Some, None, refl, sym}
 use Rattle.std.proofs.Common.{ap}
 use Rattle.std.proofs.Common.{◌∙◌, subst, inl, inr, nat_lt}
@@ -17,12 +16,13 @@ use Rattle.kom_model.proofs.Protection.{IsProtected-apply_all}
 use Rattle.kom_masks.specs.Laws.{HidesMore}
 use Rattle.kom_masks.specs.Masks.{Mask, masked_db}
 use Rattle.kom_masks.proofs.Rows.{told}
-use Rattle.kom_masks.proofs.Stepping.{effects-masked, wider-masked}
+use Rattle.kom_masks.proofs.Stepping.{effects-masked}
 use Rattle.kom_laws.specs.Erasing.{erased_db, mask_of}
 use Rattle.kom_laws.specs.Groups.{Group, is_unseen, is_unread, weak}
-use Rattle.kom_laws.proofs.Rights.{unseen-masked, hidden-masked, hidden-erased}
+use Rattle.kom_laws.proofs.Rights.{unseen-masked, hidden-erased}
 use Rattle.step_consistency.specs.Steps.{IsReadyFor, EffectsStandErased}
 use Rattle.step_consistency.proofs.Agreeing.{AgreesOn, masked-agrees}
+use Rattle.step_consistency.proofs.Below.{erased-below}
 use Rattle.step_consistency.proofs.Standing.{conferences-stood, texts-stood}
 
 -- ---- what is not there is hidden
@@ -142,37 +142,10 @@ module _ (group : Group) (effects : List Effect) (one other : Db) (ready : IsRea
     person = λ number hidden. hidden;
   }
 
-  unseen-after : (number : ℕ) →
-      is_unseen group (apply_all effects one) number ≡ is_unseen group (apply_all effects other) number
-  unseen-after number = sym (unseen-masked group mask (apply_all effects one) number)
-      ∙ ap (λ db. is_unseen group db number) after ∙ unseen-masked group mask (apply_all effects other) number
-
-  unread-after : (number : ℕ) →
-      is_unread group (apply_all effects one) number ≡ is_unread group (apply_all effects other) number
-  unread-after number =
-      sym ((hidden-masked group mask (apply_all effects one) (IsProtected-apply_all effects one ready.protected)
-      one-hides).unread number)
-      ∙ ap (λ db. is_unread group db number) after
-      ∙ (hidden-masked group mask (apply_all effects other) (IsProtected-apply_all effects other ready'.protected)
-      other-hides).unread number
-
-  mask-after : mask_of group (apply_all effects one) ≡ mask_of group (apply_all effects other)
-  mask-after =
-      let conference : (λ number. is_unseen group (apply_all effects one) number)
-      ≡ (λ number. is_unseen group (apply_all effects other) number) = fun_ext unseen-after in
-      let text : (λ number. is_unread group (apply_all effects one) number)
-      ≡ (λ number. is_unread group (apply_all effects other) number) = fun_ext unread-after in
-      λ i. record {
-        conference = conference i;
-        text = text i;
-        person = λ person. not (is_among group.persons person);
-      }
-
   erased-after : erased_db group (apply_all effects one) ≡ erased_db group (apply_all effects other)
-  erased-after = sym (wider-masked mask (mask_of group (apply_all effects one)) (apply_all effects one) one-hides)
-      ∙ ap (masked_db (mask_of group (apply_all effects one))) after
-      ∙ ap (λ wider. masked_db wider (masked_db mask (apply_all effects other))) mask-after
-      ∙ wider-masked mask (mask_of group (apply_all effects other)) (apply_all effects other) other-hides
+  erased-after = erased-below group mask (apply_all effects one) (apply_all effects other)
+      (IsProtected-apply_all effects one ready.protected) (IsProtected-apply_all effects other ready'.protected)
+      one-hides other-hides after
 
 pub effects-erased : EffectsStandErased
 effects-erased group effects one other ready ready' same = erased-after group effects one other ready ready' same
