@@ -1,2 +1,4 @@
 pub mod Vanishing
+pub mod Hidden
+pub mod Quiet
 pub mod Calls

@@ -5,8 +5,8 @@ use Rattle.kom_model.specs.Kinds.{is_among}
 use Rattle.kom_model.specs.Out.{out_of, given_along}
 use Rattle.kom_model.specs.State.{State}
 use Rattle.kom_laws.specs.Groups.{Group}
-use Rattle.noninterference.specs.Hidden.{AreAlike}
-use Rattle.noninterference.specs.Quiet.{AreQuiet}
+use Rattle.local_respect.specs.Hidden.{AreAlike}
+use Rattle.local_respect.specs.Quiet.{AreQuiet}
 use Rattle.step_consistency.specs.Same.{IsSameFor}
 
 -- a session is to be sent the same along two histories, and its drains give the same

@@ -1,4 +1,2 @@
-pub mod Hidden
-pub mod Quiet
 pub mod Hiding
 pub mod Worlds

@@ -17,8 +17,8 @@ use Rattle.kom_model.specs.Effects.{apply_all}
 use Rattle.kom_model.specs.State.{State, opening}
 use Rattle.kom_laws.specs.Groups.{Group}
 use Rattle.step_consistency.specs.Steps.{HasNoOpening}
-use Rattle.noninterference.specs.Hidden.{is_hidden, may_differ, are_as_long, text_of_act, AreAlike}
-use Rattle.noninterference.specs.Quiet.{AreWeak, recipients_seen}
+use Rattle.local_respect.specs.Hidden.{is_hidden, may_differ, are_as_long, text_of_act, AreAlike}
+use Rattle.local_respect.specs.Quiet.{AreWeak, recipients_seen}
 
 abbrev pub di : Group
 di = record { persons = 9 ∷ []; sessions = 3 ∷ [] }

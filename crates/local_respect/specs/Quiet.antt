@@ -22,7 +22,7 @@ use Rattle.kom_model.specs.Viewers.{is_strong_seat}
 use Rattle.kom_model.specs.calls.NewTexts.{names_recipient}
 use Rattle.kom_laws.specs.Groups.{Group, is_unseen}
 use Rattle.step_consistency.specs.Steps.{HasNoOpening}
-use Rattle.noninterference.specs.Hidden.{is_hidden, person_at, text_of_act}
+use Rattle.local_respect.specs.Hidden.{is_hidden, person_at, text_of_act}
 
 -- no session of the group is strong
 abbrev pub AreWeak : Group → State → Type 0
