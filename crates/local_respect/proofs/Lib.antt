@@ -1,3 +1,11 @@
 pub mod Rows
 pub mod Vanishing
+pub mod Silence
 pub mod Calls
+pub mod Untold
+pub mod Decided
+pub mod Entries
+pub mod Running
+pub mod Making
+pub mod Texts
+pub mod Pairs

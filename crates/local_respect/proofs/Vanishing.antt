@@ -1,5 +1,4 @@
 -- Effects of what is hidden leave the stored rows the same but for that.
-use mathlib.Core.Path.{fun_ext}
 use Rattle.std.proofs.Common.{◌≡◌, ℕ, ◌<◌, Bool, true, false, cond, not, ◌==◌, ◌&&◌, List, [], ◌∷◌, refl, sym, ap}
 use Rattle.std.proofs.Common.{ap₂, ◌∙◌}
 use Rattle.std.proofs.Common.{inl, inr, eqb-true, subst, true≢false}
@@ -30,7 +29,6 @@ use Rattle.read_ranges.specs.Merged.{merged}
 use Rattle.read_ranges.specs.Reads.{ReadRow, is_read_of}
 use Rattle.kom_model.specs.Db.{Db, text_of}
 use Rattle.kom_model.specs.Effects.{fits, made, apply, apply_all}
-use Rattle.kom_model.specs.Kinds.{is_among}
 use Rattle.kom_model.specs.Whole.{IsWhole}
 use Rattle.kom_model.proofs.Protection.{IsProtected-apply_all}
 use Rattle.kom_masks.specs.Laws.{HidesMore}
@@ -40,10 +38,11 @@ use Rattle.kom_masks.proofs.Effects.{same-db}
 use Rattle.kom_model.proofs.Fields.{counted-number, field-number}
 use Rattle.kom_laws.specs.Erasing.{erased_db, mask_of}
 use Rattle.kom_laws.specs.Groups.{Group, is_unseen, is_unread}
-use Rattle.kom_laws.proofs.Rights.{unseen-masked, hidden-masked, hidden-erased}
+use Rattle.kom_laws.proofs.Rights.{unseen-masked}
 use Rattle.kom_model.proofs.whole.Effects.{effects-whole}
 use Rattle.step_consistency.specs.Steps.{IsReadyFor}
 use Rattle.step_consistency.proofs.Agreeing.{there-drawn}
+use Rattle.step_consistency.proofs.Below.{erased-below}
 use Rattle.step_consistency.proofs.Standing.{texts-stood}
 use Rattle.step_consistency.proofs.Steps.{gone-unread}
 use Rattle.local_respect.specs.Vanishing.{is_hidden_field, is_hidden_counter, is_masked, HiddenVanish}
@@ -212,25 +211,13 @@ module _ (group : Group) (db : Db) (effects : List Effect) (ready : IsReadyFor g
     person = λ number hidden. hidden;
   }
 
-  unread-same : (number : ℕ) → is_unread group later number ≡ is_unread group db number
-  unread-same number =
-      sym ((hidden-masked group mask later (IsProtected-apply_all effects db ready.protected) hides).unread number)
-      ∙ ap (λ db. is_unread group db number) vanished ∙ (hidden-erased group db ready.protected).unread number
-
-  mask-same : mask_of group later ≡ mask
-  mask-same =
-      let conference : (λ number. is_unseen group later number) ≡ (λ number. is_unseen group db number) =
-      fun_ext unseen-same in
-      let text : (λ number. is_unread group later number) ≡ (λ number. is_unread group db number) =
-      fun_ext unread-same in
-      λ i. record {
-        conference = conference i;
-        text = text i;
-        person = λ person. not (is_among group.persons person);
-      }
-
   erased-same : erased_db group later ≡ erased_db group db
-  erased-same = ap (λ mask. masked_db mask later) mask-same ∙ vanished
+  erased-same = erased-below group mask later db (IsProtected-apply_all effects db ready.protected) ready.protected
+      hides (record {
+        conference = λ number hidden. hidden;
+        text = λ number hidden. hidden;
+        person = λ number hidden. hidden;
+      }) vanished
 
 pub hidden-vanish : HiddenVanish
 hidden-vanish = record {

@@ -5,28 +5,33 @@ use Rattle.kom_types.specs.declared.calls.Call.{Call}
 use Rattle.kom_types.specs.declared.seats.Seat.{Seat}
 use Rattle.kom_model.specs.After.{decision_at, moment_of, after}
 use Rattle.kom_model.specs.Decide.{asked_in}
+use Rattle.kom_model.specs.Effects.{apply_all}
 use Rattle.kom_model.specs.Kinds.{is_among}
 use Rattle.kom_model.specs.State.{State, IsSound}
 use Rattle.kom_model.specs.ToWhom.{sendings}
+use Rattle.kom_model.specs.Viewers.{viewer_of}
 use Rattle.kom_laws.specs.Erasing.{erased, mask_of}
-use Rattle.kom_laws.specs.Groups.{Group}
+use Rattle.kom_laws.specs.Groups.{Group, IsOfGroup}
 use Rattle.output_consistency.specs.Brought.{brought_to}
 use Rattle.step_consistency.specs.Calls.{called}
-use Rattle.step_consistency.specs.Steps.{IsReadyFor}
+use Rattle.step_consistency.specs.Same.{AreOfGroup}
+use Rattle.step_consistency.specs.Steps.{HasNoOpening}
 use Rattle.local_respect.specs.Vanishing.{is_masked}
 
--- A call of a session outside the group is of hidden things alone: its effects are of what is
--- hidden from the group, fit, and are no Opening; it changes no session; and it sends the group
--- nothing.
+-- In a sound state, in which the sessions of the group are its own, a call of a session outside it
+-- is of hidden things alone: its effects are of what is hidden from the group, and are no Opening;
+-- it changes no session; and it sends the group nothing.
 pub record IsOfHidden (group : Group) (state : State) (moment session reference : ℕ) (call : Call)
     : Type 0 where
   pub sound : IsSound state
+  pub of_group : AreOfGroup group state
   pub outside : IsTrue (not (is_among group.sessions session))
-  pub ready : IsReadyFor group (decision_at state moment session reference call).effects state.db
+  pub closed : HasNoOpening group state.db
+      (apply_all (decision_at state moment session reference call).effects state.db)
   pub masked : IsTrue (list_all (is_masked (mask_of group state.db))
       (decision_at state moment session reference call).effects)
   pub still : (decision_at state moment session reference call).changes ≡ []
-  pub silent : (seat : Seat) → IsTrue (is_among group.sessions seat.number)
+  pub silent : (seat : Seat) → IsOfGroup group (viewer_of state.db seat)
       → brought_to state.db seat
       (sendings (asked_in state (moment_of state moment) session reference) call
       (decision_at state moment session reference call)) ≡ []

@@ -4,4 +4,6 @@
 
 mod laws;
 
-pub use laws::{hidden_calls_vanish, hidden_effects_vanish};
+pub use laws::{
+    hidden_calls_vanish, hidden_effects_vanish, hidden_entries_vanish, hidden_texts_vanish,
+};
