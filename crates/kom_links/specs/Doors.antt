@@ -1,5 +1,5 @@
 -- What contracts see of gates, sinks and worlds, and what their calls and those of clocks say.
-use Rattle.std.specs.Prelude.{◌≡◌, ℕ, ◌+◌, ◌≤◌, ◌||◌, Bool, true, false, List, [], ◌∷◌, ◌++◌}
+use Rattle.std.specs.Prelude.{◌≡◌, ℕ, ◌+◌, ◌≤◌, ◌||◌, Bool, true, false, IsTrue, List, [], ◌∷◌, ◌++◌}
 use Rattle.std.specs.Prelude.{length, take, Option, Some, None, option_map, IfSome, Result, Ok, Err}
 use Rattle.std.specs.Prelude.{OnOk, OnErr}
 use Rattle.kom_links.specs.declared.world_counts.WorldCounts.{WorldCounts}
@@ -25,10 +25,19 @@ pub record SinkView : Type 0 where
   pub put : Option (List ℕ)
   pub faults : ℕ
 
--- what contracts see of a world: how often it was asked for what it has, and how often it failed
+-- What contracts see of a world: how often it was asked for what it has; how often it failed; and
+-- if it tells them, the moment that each of its clocks gives first, and the bytes of each path as the
+-- run found them. A missing file counts as empty.
 pub record WorldView : Type 0 where
   pub counts : WorldCounts
   pub faults : ℕ
+  pub moment : Option ℕ
+  pub files : Option (List ℕ → List ℕ)
+
+-- what a world tells stays
+pub record KeepsTold (old new : WorldView) : Type 0 where
+  pub moment : new.moment ≡ old.moment
+  pub files : new.files ≡ old.files
 
 -- a fact of the link that a gate gives, if it gives one
 abbrev pub IfLink : {L : Type 0} → Next L → (L → Type 0) → Type 0
@@ -111,3 +120,15 @@ pub record Puts {X E : Type 0} (old : SinkView) (from : List ℕ) (answer : Resu
 pub record IsNewSink (sink : SinkView) : Type 0 where
   pub no_fault : sink.faults ≡ 0
   pub nothing_put : IsNothing sink.put
+
+-- A disk that was opened at this path has not failed, and reads as the run found the path, where
+-- both are told.
+pub record IsFound (tells : Bool) (files : Option (List ℕ → List ℕ)) (path bytes : List ℕ)
+    (faults : ℕ) : Type 0 where
+  pub no_fault : faults ≡ 0
+  pub found : IsTrue tells → IfSome files (λ found. bytes ≡ found path)
+
+-- a clock that has given no moment gives this one, if it tells both
+abbrev pub GivesFirst : Option ℕ → Option (List ℕ) → ℕ → Type 0
+GivesFirst first gave given =
+    IfSome first (λ moment. IfSome gave (λ moments. moments ≡ [] → given ≡ moment))

@@ -18,3 +18,9 @@ with_clock counts = record counts { clocks = next_call counts.clocks }
 -- once more for a sink
 abbrev pub with_sink : WorldCounts → WorldCounts
 with_sink counts = record counts { sinks = next_call counts.sinks }
+
+-- once more for a disk, which it opened or refused
+abbrev pub with_disk : Bool → WorldCounts → WorldCounts
+with_disk true counts =
+    record counts { disks = next_call counts.disks; disks_opened = next_call counts.disks_opened }
+with_disk false counts = record counts { disks = next_call counts.disks }

@@ -1,7 +1,7 @@
 ghost use Rattle.std.specs.Prelude.{◌≡◌};
 ghost use Rattle.kom_links.specs.Doors.{SinkView, Puts};
 
-/// A write was not made, which was counted.
+/// A call failed, which was counted.
 #[derive(Clone, Copy, Debug, PartialEq, Eq)]
 pub struct Failed;
 

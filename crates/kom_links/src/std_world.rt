@@ -1,41 +1,62 @@
+ghost use Rattle.std.specs.Prelude.{None};
+
+use crate::sink::Failed;
 use crate::std_gate::StdGate;
 use crate::std_sink::StdSink;
 use crate::system_clock::SystemClock;
 use crate::world::{World, WorldFault};
 use crate::world_counts::WorldCounts;
+use kom_disk::{FileDisk, HostPlace, Opener};
 use kom_types::Memory;
+use std::fs::File;
 use std::io;
 use std::io::{Input, Printer};
-use std::rt::Clock as Time;
+use std::rt::{Clock as Time, Files};
 
-/// The process's own outside: its standard input and output, and the system's clock.
+/// The process's own outside: its standard input and output, the system's files and its clock. It
+/// tells nothing of what files hold.
 #[derive(Drop)]
-pub struct StdWorld<'a, R: Input + Print + Time> {
+pub struct StdWorld<'a, R: Input + Print + Time + Files<File = File> + AllocGlobal + Copy + Send> {
     rt: &'a R,
     counts: WorldCounts,
+    faults: u64,
 }
 
-impl<'a, R: Input + Print + Time> StdWorld<'a, R> {
+impl<'a, R> StdWorld<'a, R>
+where
+    R: Input + Print + Time + Files<File = File> + AllocGlobal + Copy + Send,
+{
     /// The outside of this process.
     pub fn new(rt: &'a R) -> StdWorld<'a, R> {
         StdWorld {
             rt,
             counts: WorldCounts::nothing(),
+            faults: 0,
         }
     }
 }
 
-impl<'a, R: Input + Print + Time> World for StdWorld<'a, R> {
+impl<'a, R> World for StdWorld<'a, R>
+where
+    R: Input + Print + Time + Files<File = File> + AllocGlobal + Copy + Send,
+{
     type Gate = StdGate<'a, R>;
 
     type Clock = SystemClock<&'a R>;
 
     type Sink = StdSink<Printer<'a, R>>;
 
-    ghost view = { λ world. record { counts = world.counts; faults = 0 } };
+    type Disk = FileDisk<HostPlace<R>>;
+
+    ghost view = { λ world. record {
+      counts = world.counts;
+      faults = world.faults;
+      moment = None;
+      files = None;
+    } };
 
     fn faults(&self) -> u64 {
-        0
+        self.faults
     }
 
     fn std_gate(&mut self) -> Result<StdGate<'a, R>, WorldFault> {
@@ -51,5 +72,19 @@ impl<'a, R: Input + Print + Time> World for StdWorld<'a, R> {
     fn out(&mut self) -> StdSink<Printer<'a, R>> {
         self.counts.count_sink();
         StdSink::new(io::writer(self.rt))
+    }
+
+    fn open_disk(&mut self, path: &str) -> Result<FileDisk<HostPlace<R>>, Failed> {
+        match Opener::new().open(self.rt, path) {
+            Ok(disk) => {
+                self.counts.count_disk(true);
+                Ok(disk)
+            }
+            Err(_) => {
+                self.counts.count_disk(false);
+                self.faults = self.faults.saturating_add(1);
+                Err(Failed)
+            }
+        }
     }
 }

@@ -25,6 +25,8 @@ impl<R: rt::Clock + Drop> SystemClock<R> {
 impl<R: rt::Clock + Drop> Clock for SystemClock<R> {
     ghost gave = { λ _. None };
 
+    ghost first = { λ _. None };
+
     fn now(&mut self) -> Moment {
         if let Ok(time) = SystemTime::now(&self.rt) {
             if let Ok(since) = time.duration_since(UNIX_EPOCH) {

@@ -1,11 +1,13 @@
-ghost use Rattle.std.specs.Prelude.{◌≡◌, ◌≤◌, is_ok, IfOk};
-ghost use Rattle.kom_links.specs.Outside.{IsNothing};
-ghost use Rattle.kom_links.specs.Doors.{WorldView, MayRefuse, IsNewGate, IsNewSink};
-ghost use Rattle.kom_links.specs.WorldCounts.{with_gate, with_clock, with_sink};
+ghost use Rattle.std.specs.Prelude.{◌≡◌, ◌≤◌, is_ok, IfOk, OnErr};
+ghost use Rattle.kom_links.specs.Outside.{IsNothing, Rose};
+ghost use Rattle.kom_links.specs.Doors.{WorldView, MayRefuse, KeepsTold, IsFound, IsNewGate};
+ghost use Rattle.kom_links.specs.Doors.{IsNewSink};
+ghost use Rattle.kom_links.specs.WorldCounts.{with_gate, with_disk, with_clock, with_sink};
 
 use crate::clock::Clock;
 use crate::gate::Gate;
-use crate::sink::Sink;
+use crate::sink::{Failed, Sink};
+use kom_disk::Disk;
 use kom_types::Memory;
 
 /// Why a world refused to open something.
@@ -25,6 +27,8 @@ pub trait World {
 
     type Sink: Sink;
 
+    type Disk: Disk + Drop + Send;
+
     ghost view: { Self → WorldView };
 
     /// How often the world failed; it stands still at 2^64 - 1.
@@ -36,17 +40,32 @@ pub trait World {
         ensures may { MayRefuse (view self.old).faults (view self.new).faults result }
         ensures fresh { IfOk result (λ gate. IsNewGate (Self.Gate.view gate)) }
         ensures counts { (view self.new).counts ≡ with_gate (is_ok result) (view self.old).counts }
-        ensures faults { (view self.old).faults ≤ (view self.new).faults };
+        ensures faults { (view self.old).faults ≤ (view self.new).faults }
+        ensures told { KeepsTold (view self.old) (view self.new) };
 
     /// A clock that has given no moment yet.
     fn clock(&mut self) -> Result<Self::Clock, Memory>
         ensures fresh { IfOk result (λ clock. IsNothing (Self.Clock.gave clock)) }
+        ensures first { IfOk result (λ clock. Self.Clock.first clock ≡ (view self.old).moment) }
         ensures counts { (view self.new).counts ≡ with_clock (view self.old).counts }
-        ensures faults { (view self.old).faults ≤ (view self.new).faults };
+        ensures faults { (view self.old).faults ≤ (view self.new).faults }
+        ensures told { KeepsTold (view self.old) (view self.new) };
 
     /// The sink of the program's report. Nothing was put to it yet.
     fn out(&mut self) -> Self::Sink
         ensures fresh { IsNewSink (Self.Sink.view result) }
         ensures counts { (view self.new).counts ≡ with_sink (view self.old).counts }
-        ensures faults { (view self.old).faults ≤ (view self.new).faults };
+        ensures faults { (view self.old).faults ≤ (view self.new).faults }
+        ensures told { KeepsTold (view self.old) (view self.new) };
+
+    /// The disk over the file of this path, whether or not that is there: one that is missing is an
+    /// empty disk, and is made by the first write. It fails where another has the file open as a
+    /// disk, where the path is a folder or cannot be read and written, and out of memory.
+    fn open_disk(&mut self, path: &str) -> Result<Self::Disk, Failed>
+        ensures found { IfOk result (λ disk. IsFound Self.Disk.tells (view self.old).files path.now
+            (Self.Disk.bytes disk) (Self.Disk.faults disk)) }
+        ensures failed { OnErr result (Rose (view self.old).faults (view self.new).faults) }
+        ensures counts { (view self.new).counts ≡ with_disk (is_ok result) (view self.old).counts }
+        ensures faults { (view self.old).faults ≤ (view self.new).faults }
+        ensures told { KeepsTold (view self.old) (view self.new) };
 }

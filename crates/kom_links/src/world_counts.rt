@@ -1,5 +1,5 @@
 ghost use Rattle.std.specs.Prelude.{◌≡◌};
-ghost use Rattle.kom_links.specs.WorldCounts.{with_gate, with_clock, with_sink};
+ghost use Rattle.kom_links.specs.WorldCounts.{with_gate, with_clock, with_sink, with_disk};
 
 /// How often a world was asked for what it has. Each count stands still at 2^64 - 1.
 #[derive(Clone, Copy, Debug, PartialEq, Eq)]
@@ -12,18 +12,31 @@ pub struct WorldCounts {
     pub clocks: u64,
     /// For a sink.
     pub sinks: u64,
+    /// For a disk.
+    pub disks: u64,
+    /// For one that it then opened.
+    pub disks_opened: u64,
 }
 
 impl WorldCounts {
     /// A world was asked for nothing yet.
     pub const fn nothing() -> WorldCounts
-        ensures { result ≡ record { gates = 0; given = 0; clocks = 0; sinks = 0 } }
+        ensures { result ≡ record {
+          gates = 0;
+          given = 0;
+          clocks = 0;
+          sinks = 0;
+          disks = 0;
+          disks_opened = 0;
+        } }
     {
         WorldCounts {
             gates: 0,
             given: 0,
             clocks: 0,
             sinks: 0,
+            disks: 0,
+            disks_opened: 0,
         }
     }
 
@@ -49,5 +62,15 @@ impl WorldCounts {
         ensures { self.new ≡ with_sink self.old }
     {
         self.sinks = self.sinks.saturating_add(1);
+    }
+
+    /// Counts that a disk was asked for, and whether it is opened.
+    pub fn count_disk(&mut self, is_opened: bool)
+        ensures { self.new ≡ with_disk is_opened self.old }
+    {
+        self.disks = self.disks.saturating_add(1);
+        if is_opened {
+            self.disks_opened = self.disks_opened.saturating_add(1);
+        }
     }
 }

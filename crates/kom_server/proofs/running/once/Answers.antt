@@ -28,7 +28,7 @@ returns-clause-once g c =
       c.now-opened.result,
       c.serve_alone-failed.ensures.first c.now-opened.result
           (first_now (g.W.Clock.Clock.gave c.in-Ok-clock.clock) (g.W.Clock.Clock.gave c.now-opened.new.self)
-          c.now-opened.result c.in-Ok-clock.ensures.fresh c.now-opened.ensures),
+          c.now-opened.result c.in-Ok-clock.ensures.fresh c.now-opened.ensures.gains),
       run_from g.W.Gate.Link.Link.view _ _ _ _ _ _ c.in-Ok-open_hall.ensures.opening c.serve_alone-failed.ensures.run,
     )
 

@@ -6,13 +6,13 @@ use Rattle.kom_session.proofs.service.ServiceServe.connect.Goals as goal
 pub returns-in-Ok-clause-serves : goal.returns-in-Ok-clause-serves
 returns-in-Ok-clause-serves g c = λ start past units t.
     greeting_connected units c.args.user.now t c.in-Ok.number c.now-moment.result _ _
-    (rw (c.as_slice.ensures, c.host.ensures) at c.in-Ok.ensures.connects) c.now-moment.ensures
+    (rw (c.as_slice.ensures, c.host.ensures) at c.in-Ok.ensures.connects) c.now-moment.ensures.gains
 
 pub returns-in-Err-clause-serves : goal.returns-in-Err-clause-serves
 returns-in-Err-clause-serves g c = λ start past units t.
     rw c.note.ensures
     (greeting_refused units c.args.user.now t c.now-moment.result _ _ _
-    (rw (c.as_slice.ensures, c.host.ensures) at c.in-Err.ensures.connects) c.now-moment.ensures)
+    (rw (c.as_slice.ensures, c.host.ensures) at c.in-Err.ensures.connects) c.now-moment.ensures.gains)
 
 pub returns-in-Ok-clause-tally : goal.returns-in-Ok-clause-tally
 returns-in-Ok-clause-tally g c =

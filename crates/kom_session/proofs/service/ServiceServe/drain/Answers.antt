@@ -24,7 +24,7 @@ returns-then-is_empty-clause-serves g c = λ start past s.
     let none : c.drain_into-answer.new.into.items ≡ [] = nil_of _ (search (rules, tests)) in
     rw (written, none)
     (drained_nil s c.requires.session.some c.requires.nothing c.requires.flushed
-    c.now-moment.result _ _ _ _ c.in-Ok.ensures.drains none c.now-moment.ensures)
+    c.now-moment.result _ _ _ _ c.in-Ok.ensures.drains none c.now-moment.ensures.gains)
 
 pub returns-then-is_empty-clause-nothing : goal.returns-then-is_empty-clause-nothing
 returns-then-is_empty-clause-nothing g c = λ result.
@@ -40,7 +40,7 @@ returns-else-is_empty-clause-serves g c = λ start past s.
     first_nil _ _ c.requires.nothing in
     rw written
     (drained_ok s c.requires.session.some c.requires.nothing c.requires.flushed
-    c.now-moment.result _ _ _ _ c.in-Ok.ensures.drains c.now-moment.ensures)
+    c.now-moment.result _ _ _ _ c.in-Ok.ensures.drains c.now-moment.ensures.gains)
 
 pub returns-in-Err-clause-serves : goal.returns-in-Err-clause-serves
 returns-in-Err-clause-serves g c = λ start past s.
@@ -49,7 +49,7 @@ returns-in-Err-clause-serves g c = λ start past s.
     let none : c.drain_into-answer.new.into.items ≡ [] = c.in-Err.ensures.drains.none_given.1 in
     rw (written, c.note.ensures, none)
     (drained_err_nil s c.requires.session.some c.requires.nothing
-    c.now-moment.result _ _ _ _ c.in-Err.ensures.drains c.now-moment.ensures)
+    c.now-moment.result _ _ _ _ c.in-Err.ensures.drains c.now-moment.ensures.gains)
 
 pub returns-in-Err-clause-nothing : goal.returns-in-Err-clause-nothing
 returns-in-Err-clause-nothing g c = λ result.

@@ -5,12 +5,12 @@ use Rattle.kom_session.proofs.service.ServiceServe.flush.Goals as goal
 
 pub returns-in-Ok-clause-serves : goal.returns-in-Ok-clause-serves
 returns-in-Ok-clause-serves g c = λ start past s.
-    flushed_ok s c.requires.some c.now-moment.result _ _ _ c.in-Ok.ensures.flushes c.now-moment.ensures
+    flushed_ok s c.requires.some c.now-moment.result _ _ _ c.in-Ok.ensures.flushes c.now-moment.ensures.gains
 
 pub returns-in-Err-clause-serves : goal.returns-in-Err-clause-serves
 returns-in-Err-clause-serves g c = λ start past s.
     rw (c.note.ensures, c.awake-self.ensures)
-    (flushed_err s c.requires.some c.now-moment.result _ _ _ c.in-Err.ensures.flushes c.now-moment.ensures)
+    (flushed_err s c.requires.some c.now-moment.result _ _ _ c.in-Err.ensures.flushes c.now-moment.ensures.gains)
 
 pub returns-in-Ok-clause-tally : goal.returns-in-Ok-clause-tally
 returns-in-Ok-clause-tally g c = tallies_flushed _ _ _ _ c.in-Ok.ensures.tally refl refl

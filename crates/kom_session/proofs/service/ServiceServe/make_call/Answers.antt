@@ -7,7 +7,7 @@ pub returns-in-Ok-clause-serves : goal.returns-in-Ok-clause-serves
 returns-in-Ok-clause-serves g c = λ line reading start past units t.
     rw c.with_line-self.ensures
     (call_made past.party units line _ _ t reading c.requires.room c.requires.session.some
-    c.now-moment.result _ _ _ c.in-Ok.ensures.calls c.now-moment.ensures)
+    c.now-moment.result _ _ _ c.in-Ok.ensures.calls c.now-moment.ensures.gains)
 
 pub returns-in-Err-clause-serves : goal.returns-in-Err-clause-serves
 returns-in-Err-clause-serves g c = λ line reading start past units t.
@@ -15,10 +15,10 @@ returns-in-Err-clause-serves g c = λ line reading start past units t.
     (elim (done_ways c.in-Err.fault) [
       | inl last ↦ rw last
           (call_last past.party units line _ _ t c.requires.session.some
-          c.now-moment.result _ _ _ c.in-Err.ensures.calls c.now-moment.ensures)
+          c.now-moment.result _ _ _ c.in-Err.ensures.calls c.now-moment.ensures.gains)
       | inr ends ↦ rw ends
           (call_ends past.party units line _ _ t c.requires.session.some
-          c.now-moment.result _ _ _ c.in-Err.ensures.calls c.now-moment.ensures)
+          c.now-moment.result _ _ _ c.in-Err.ensures.calls c.now-moment.ensures.gains)
     ])
 
 pub returns-in-Ok-clause-tally : goal.returns-in-Ok-clause-tally
