@@ -2,3 +2,4 @@ pub mod Script
 pub mod PlannedItems
 pub mod Marks
 pub mod Memories
+pub mod Files

@@ -22,6 +22,7 @@ use Rattle.memory_links.specs.declared.memory_gate.MemoryGate.{MemoryGate}
 use Rattle.memory_links.specs.declared.memory_sink.MemorySink.{MemorySink}
 use Rattle.memory_links.specs.declared.memory_clock.MemoryClock.{MemoryClock}
 use Rattle.memory_links.specs.declared.memory_desk.MemoryDesk.{MemoryDesk}
+use Rattle.memory_links.specs.declared.file_plan.FilePlan.{FilePlan}
 use Rattle.memory_links.specs.declared.memory_world.GatePlan.{GatePlan}
 use Rattle.memory_links.specs.declared.memory_world.MemoryWorld.{MemoryWorld}
 use Rattle.memory_links.specs.Marks.{first_of, says_lock_full, fault_in}
@@ -142,6 +143,14 @@ gate_plan_of world = world.gate
 -- the moments that a world's clocks give
 abbrev pub world_moments_of : MemoryWorld → List ℕ
 world_moments_of world = world.moments.items
+
+-- the files of a world
+abbrev pub files_of : MemoryWorld → List FilePlan
+files_of world = world.files.items
+
+-- the numbers of the disks that a world refuses
+abbrev pub disk_fails_of : MemoryWorld → List ℕ
+disk_fails_of world = world.disk_fails.items
 
 -- the numbers of the writes that fail at the next sink of a world
 abbrev pub sink_fails_of : MemoryWorld → List ℕ

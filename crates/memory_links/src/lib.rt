@@ -3,6 +3,7 @@
 #![tactic(auto)]
 
 mod desk_plan;
+mod file_plan;
 mod marks;
 mod memory_clock;
 mod memory_desk;
@@ -18,6 +19,7 @@ mod read_log;
 mod tests;
 
 pub use desk_plan::DeskPlan;
+pub use file_plan::FilePlan;
 pub use memory_clock::MemoryClock;
 pub use memory_desk::MemoryDesk;
 pub use memory_gate::{Client, MemoryGate};

@@ -1,6 +1,6 @@
 ghost use Rattle.std.specs.Prelude.{◌≡◌, ◌<◌, ℕ, [], Some, None, IfSome, length, vec_len};
 ghost use Rattle.std.specs.Prelude.{if◌then◌else◌, ◌==◌, ◌^◌, ◌-◌};
-ghost use Rattle.kom_links.specs.Doors.{Gains};
+ghost use Rattle.kom_links.specs.Doors.{Gains, GivesFirst};
 ghost use Rattle.kom_links.specs.WorldCounts.{next_call};
 ghost use Rattle.memory_links.specs.Script.{moment_at, readings};
 
@@ -43,9 +43,13 @@ impl Clock for MemoryClock {
     ghost gave = { λ clock.
         if clock.made == 2 ^ 64 - 1 then None else Some (readings clock.script.items clock.made) };
 
+    ghost first = { λ clock. Some (moment_at clock.script.items 0) };
+
     fn now(&mut self) -> Moment
-        ensures gave { Gains (⟦<MemoryClock as Clock>⟧.gave self.old) result
+        ensures gains { Gains (⟦<MemoryClock as Clock>⟧.gave self.old) result
             (⟦<MemoryClock as Clock>⟧.gave self.new) }
+        ensures first { GivesFirst (⟦<MemoryClock as Clock>⟧.first self.old)
+            (⟦<MemoryClock as Clock>⟧.gave self.old) result }
 
         // what the script says of this reading
         ensures moment { result ≡ moment_at (moments_of self.old) (readings_of self.old) }

@@ -1,14 +1,19 @@
-ghost use Rattle.std.specs.Prelude.{◌≡◌, ◌<◌, ◌≤◌, ◌↔◌, [], None, is_ok, IfOk, IfSome, vec_len};
-ghost use Rattle.kom_links.specs.Outside.{IsNothing};
-ghost use Rattle.kom_links.specs.Doors.{MayRefuse, has_failed, IsNewGate, IsNewSink};
-ghost use Rattle.kom_links.specs.WorldCounts.{with_gate, with_clock, with_sink};
-ghost use Rattle.memory_links.specs.Script.{faults_after};
+ghost use Rattle.std.specs.Prelude.{◌≡◌, ◌<◌, ◌≤◌, ◌↔◌, [], None, Some, is_ok, is_err, IsErr, IfOk};
+ghost use Rattle.std.specs.Prelude.{IfSome, OnErr, vec_len};
+ghost use Rattle.kom_links.specs.Outside.{IsNothing, Rose};
+ghost use Rattle.kom_links.specs.Doors.{MayRefuse, has_failed, KeepsTold, IsFound, IsNewGate};
+ghost use Rattle.kom_links.specs.Doors.{IsNewSink};
+ghost use Rattle.kom_links.specs.WorldCounts.{with_gate, with_clock, with_sink, with_disk};
+ghost use Rattle.memory_links.specs.Files.{file_at, IsDiskOver};
+ghost use Rattle.memory_links.specs.Script.{faults_after, moment_at, Fails};
 
+use crate::file_plan::{FilePlan, open_file};
 use crate::memory_clock::MemoryClock;
 use crate::memory_gate::{Client, MemoryGate};
 use crate::memory_link::Script;
 use crate::memory_sink::MemorySink;
-use kom_links::{Clock, Gate, Sink, World, WorldCounts, WorldFault};
+use kom_disk::{Disk, MemoryDisk};
+use kom_links::{Clock, Failed, Gate, Sink, World, WorldCounts, WorldFault};
 use kom_types::{Memory, Moment};
 use std::alloc::Global;
 use std::collections::VecDeque;
@@ -45,13 +50,15 @@ impl GatePlan {
 }
 
 /// A world in memory. It has one gate, over standard input and output: a second one is refused,
-/// which is counted.
+/// which is counted. Of each file each disk begins as that is found.
 #[derive(Debug)]
 pub struct MemoryWorld {
     alloc: Global,
     gate: Option<GatePlan>,
     moments: Vec<Moment>,
     sink_fails: Vec<u64>,
+    files: Vec<FilePlan>,
+    disk_fails: Vec<u64>,
     counts: WorldCounts,
     faults: u64,
     ghost some: { 0 < vec_len moments },
@@ -64,18 +71,22 @@ impl Drop for MemoryWorld {
             gate,
             moments,
             sink_fails,
+            files,
+            disk_fails,
             counts: _,
             faults: _,
         } = self;
         drop((gate, moments, sink_fails));
+        drop((files, disk_fails));
     }
 }
 
 impl MemoryWorld {
     ghost use Rattle.memory_links.specs.Memories.{gate_plan_of, world_moments_of, sink_fails_of};
+    ghost use Rattle.memory_links.specs.Memories.{files_of, disk_fails_of};
 
-    /// A world whose gate has this plan or is refused, whose clocks give these moments, and whose
-    /// sink fails at the writes of these numbers, counted from 1.
+    /// A world without files whose gate has this plan or is refused, whose clocks give these moments,
+    /// and whose sink fails at the writes of these numbers, counted from 1.
     pub fn new(
         alloc: Global,
         gate: Option<GatePlan>,
@@ -87,15 +98,35 @@ impl MemoryWorld {
         ensures gate { gate_plan_of result ≡ gate }
         ensures moments { world_moments_of result ≡ moments.items }
         ensures sink_fails { sink_fails_of result ≡ sink_fails.items }
+        ensures files { (files_of result ≡ []) × (disk_fails_of result ≡ []) }
     {
         MemoryWorld {
             alloc,
             gate,
             moments,
             sink_fails,
+            files: Vec::new(alloc),
+            disk_fails: Vec::new(alloc),
             counts: WorldCounts::nothing(),
             faults: 0,
         }
+    }
+
+    /// From now on the world has these files and no others, and refuses the disks of these numbers,
+    /// counted from 1 on from its first disk.
+    pub fn set_files(&mut self, files: Vec<FilePlan>, disk_fails: Vec<u64>)
+        ensures files { files_of self.new ≡ files.items }
+        ensures disk_fails { disk_fails_of self.new ≡ disk_fails.items }
+        ensures counts { (⟦<MemoryWorld as World>⟧.view self.new).counts
+            ≡ (⟦<MemoryWorld as World>⟧.view self.old).counts }
+        ensures faults { (⟦<MemoryWorld as World>⟧.view self.new).faults
+            ≡ (⟦<MemoryWorld as World>⟧.view self.old).faults }
+        ensures gate { gate_plan_of self.new ≡ gate_plan_of self.old }
+        ensures moments { world_moments_of self.new ≡ world_moments_of self.old }
+        ensures sink_fails { sink_fails_of self.new ≡ sink_fails_of self.old }
+    {
+        self.files = files;
+        self.disk_fails = disk_fails;
     }
 }
 
@@ -103,6 +134,8 @@ impl World for MemoryWorld {
     ghost use Rattle.memory_links.specs.Memories.{clients_of, script_of, calls_of, moments_of};
     ghost use Rattle.memory_links.specs.Memories.{readings_of, fails_of, sink_writes_of};
     ghost use Rattle.memory_links.specs.Memories.{gate_plan_of, world_moments_of, sink_fails_of};
+    ghost use Rattle.memory_links.specs.Memories.{files_of, disk_fails_of};
+    ghost use Rattle.memory_links.specs.Files.{found_at};
 
     type Gate = MemoryGate;
 
@@ -110,7 +143,14 @@ impl World for MemoryWorld {
 
     type Sink = MemorySink;
 
-    ghost view = { λ world. record { counts = world.counts; faults = world.faults } };
+    type Disk = MemoryDisk;
+
+    ghost view = { λ world. record {
+      counts = world.counts;
+      faults = world.faults;
+      moment = Some (moment_at world.moments.items 0);
+      files = Some (found_at world.files.items);
+    } };
 
     fn faults(&self) -> u64 {
         self.faults
@@ -124,6 +164,8 @@ impl World for MemoryWorld {
             ≡ with_gate (is_ok result) (⟦<MemoryWorld as World>⟧.view self.old).counts }
         ensures faults { (⟦<MemoryWorld as World>⟧.view self.old).faults
             ≤ (⟦<MemoryWorld as World>⟧.view self.new).faults }
+        ensures told { KeepsTold (⟦<MemoryWorld as World>⟧.view self.old)
+            (⟦<MemoryWorld as World>⟧.view self.new) }
 
         // what it counts
         ensures counted { (⟦<MemoryWorld as World>⟧.view self.new).faults
@@ -141,6 +183,8 @@ impl World for MemoryWorld {
         ensures gate { gate_plan_of self.new ≡ None }
         ensures moments { world_moments_of self.new ≡ world_moments_of self.old }
         ensures sink_fails { sink_fails_of self.new ≡ sink_fails_of self.old }
+        ensures disks { (files_of self.new ≡ files_of self.old)
+            × (disk_fails_of self.new ≡ disk_fails_of self.old) }
     {
         let opened = match self.gate.take() {
             Some(plan) => match plan.open(self.alloc) {
@@ -158,10 +202,14 @@ impl World for MemoryWorld {
 
     fn clock(&mut self) -> Result<MemoryClock, Memory>
         ensures fresh { IfOk result (λ clock. IsNothing (⟦<MemoryClock as Clock>⟧.gave clock)) }
+        ensures first { IfOk result (λ clock. ⟦<MemoryClock as Clock>⟧.first clock
+            ≡ (⟦<MemoryWorld as World>⟧.view self.old).moment) }
         ensures counts { (⟦<MemoryWorld as World>⟧.view self.new).counts
             ≡ with_clock (⟦<MemoryWorld as World>⟧.view self.old).counts }
         ensures faults { (⟦<MemoryWorld as World>⟧.view self.old).faults
             ≤ (⟦<MemoryWorld as World>⟧.view self.new).faults }
+        ensures told { KeepsTold (⟦<MemoryWorld as World>⟧.view self.old)
+            (⟦<MemoryWorld as World>⟧.view self.new) }
         ensures no_more { (⟦<MemoryWorld as World>⟧.view self.new).faults
             ≡ (⟦<MemoryWorld as World>⟧.view self.old).faults }
 
@@ -173,6 +221,8 @@ impl World for MemoryWorld {
         ensures gate { gate_plan_of self.new ≡ gate_plan_of self.old }
         ensures moments { world_moments_of self.new ≡ world_moments_of self.old }
         ensures sink_fails { sink_fails_of self.new ≡ sink_fails_of self.old }
+        ensures disks { (files_of self.new ≡ files_of self.old)
+            × (disk_fails_of self.new ≡ disk_fails_of self.old) }
     {
         self.counts.count_clock();
         Ok(MemoryClock::new(Vec::from_slice(self.alloc, self.moments.as_slice())?))
@@ -184,6 +234,8 @@ impl World for MemoryWorld {
             ≡ with_sink (⟦<MemoryWorld as World>⟧.view self.old).counts }
         ensures faults { (⟦<MemoryWorld as World>⟧.view self.old).faults
             ≤ (⟦<MemoryWorld as World>⟧.view self.new).faults }
+        ensures told { KeepsTold (⟦<MemoryWorld as World>⟧.view self.old)
+            (⟦<MemoryWorld as World>⟧.view self.new) }
         ensures no_more { (⟦<MemoryWorld as World>⟧.view self.new).faults
             ≡ (⟦<MemoryWorld as World>⟧.view self.old).faults }
 
@@ -195,11 +247,59 @@ impl World for MemoryWorld {
         ensures gate { gate_plan_of self.new ≡ gate_plan_of self.old }
         ensures moments { world_moments_of self.new ≡ world_moments_of self.old }
         ensures sink_fails { sink_fails_of self.new ≡ [] }
+        ensures disks { (files_of self.new ≡ files_of self.old)
+            × (disk_fails_of self.new ≡ disk_fails_of self.old) }
     {
         self.counts.count_sink();
         MemorySink::new(
             self.alloc,
             mem::replace(&mut self.sink_fails, Vec::new(self.alloc)),
         )
+    }
+
+    fn open_disk(&mut self, path: &str) -> Result<MemoryDisk, Failed>
+        ensures found { IfOk result (λ disk. IsFound (⟦<MemoryDisk as Disk>⟧.tells)
+            (⟦<MemoryWorld as World>⟧.view self.old).files path.now
+            (⟦<MemoryDisk as Disk>⟧.bytes disk) (⟦<MemoryDisk as Disk>⟧.faults disk)) }
+        ensures failed { OnErr result (Rose (⟦<MemoryWorld as World>⟧.view self.old).faults
+            (⟦<MemoryWorld as World>⟧.view self.new).faults) }
+        ensures counts { (⟦<MemoryWorld as World>⟧.view self.new).counts
+            ≡ with_disk (is_ok result) (⟦<MemoryWorld as World>⟧.view self.old).counts }
+        ensures faults { (⟦<MemoryWorld as World>⟧.view self.old).faults
+            ≤ (⟦<MemoryWorld as World>⟧.view self.new).faults }
+        ensures told { KeepsTold (⟦<MemoryWorld as World>⟧.view self.old)
+            (⟦<MemoryWorld as World>⟧.view self.new) }
+
+        // what it counts
+        ensures counted { (⟦<MemoryWorld as World>⟧.view self.new).faults
+            ≡ faults_after (is_err result) (⟦<MemoryWorld as World>⟧.view self.old).faults }
+
+        // which disk is given
+        ensures scripted { Fails (disk_fails_of self.old)
+            (⟦<MemoryWorld as World>⟧.view self.old).counts.disks → IsErr result }
+        ensures over { IfOk result
+            (λ disk. IsDiskOver (file_at None (files_of self.old) path.now) disk) }
+
+        // what is left
+        ensures gate { gate_plan_of self.new ≡ gate_plan_of self.old }
+        ensures moments { world_moments_of self.new ≡ world_moments_of self.old }
+        ensures sink_fails { sink_fails_of self.new ≡ sink_fails_of self.old }
+        ensures disks { (files_of self.new ≡ files_of self.old)
+            × (disk_fails_of self.new ≡ disk_fails_of self.old) }
+    {
+        let number = self.counts.disks.saturating_add(1);
+        let opened = if self.disk_fails.contains(&number) {
+            None
+        } else {
+            open_file(self.alloc, self.files.as_slice(), path).ok()
+        };
+        self.counts.count_disk(opened.is_some());
+        match opened {
+            Some(disk) => Ok(disk),
+            None => {
+                self.faults = self.faults.saturating_add(1);
+                Err(Failed)
+            }
+        }
     }
 }

@@ -1,7 +1,8 @@
 use crate::{
-    Client, GatePlan, LinkPlan, MemoryClock, MemoryGate, MemoryLink, MemorySink, MemoryWorld,
-    Script,
+    Client, FilePlan, GatePlan, LinkPlan, MemoryClock, MemoryGate, MemoryLink, MemorySink,
+    MemoryWorld, Script,
 };
+use kom_disk::Disk;
 use kom_links::{Clock, Gate, Got, Link, Next, Served, SessionEnd, Sink, Took, World, WorldFault};
 use kom_types::Moment;
 use std::alloc::{AllocError, Global};
@@ -111,5 +112,30 @@ fn a_world_has_one_gate(rt: HostRuntime) -> Result<(), Fail> {
     assert_eq!(rt; world.clock()?.now().seconds(), 9);
     assert_eq!(rt; world.clock()?.now().seconds(), 9);
     assert!(rt; world.out().write(b"x").is_err());
+    Ok(())
+}
+
+#[test]
+fn a_world_has_its_files(rt: HostRuntime) -> Result<(), Fail> {
+    let alloc = rt.alloc();
+    let moments = Vec::from_slice(alloc, &[Moment::at_most(9)])?;
+    let mut world = MemoryWorld::new(alloc, None, moments, Vec::new(alloc));
+    let mut files = Vec::new(alloc);
+    for bytes in [b"one", b"two"] {
+        files.push(FilePlan {
+            path: String::from_str(alloc, if bytes == b"one" { "a" } else { "b" })?,
+            bytes: Vec::from_slice(alloc, bytes)?,
+            room: 8,
+            fails: Vec::new(alloc),
+            stop: None,
+        })?;
+    }
+    world.set_files(files, Vec::from_slice(alloc, &[2])?);
+    let mut back = *b"___";
+    assert_eq!(rt; world.open_disk("b")?.read(0, &mut back), Ok(()));
+    assert_eq!(rt; back, *b"two");
+    assert!(rt; world.open_disk("b").is_err());
+    assert_eq!(rt; world.faults(), 1);
+    assert_eq!(rt; world.open_disk("c")?.len(), Ok(0));
     Ok(())
 }
