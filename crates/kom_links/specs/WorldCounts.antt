@@ -6,6 +6,12 @@ use Rattle.kom_links.specs.declared.world_counts.WorldCounts.{WorldCounts}
 abbrev pub next_call : ℕ → ℕ
 next_call made = min (made + 1) (2 ^ 64 - 1)
 
+-- once more for gates at a port, which it gave or refused
+abbrev pub with_port : Bool → WorldCounts → WorldCounts
+with_port true counts =
+    record counts { ports = next_call counts.ports; opened = next_call counts.opened }
+with_port false counts = record counts { ports = next_call counts.ports }
+
 -- once more for its gate, which it gave or refused
 abbrev pub with_gate : Bool → WorldCounts → WorldCounts
 with_gate true counts = record counts { gates = next_call counts.gates; given = next_call counts.given }

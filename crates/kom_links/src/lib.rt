@@ -1,11 +1,15 @@
 //! The doors to the outside, each a trait with a written meaning and a count of faults, and the
-//! adapters over standard input, standard output and the system's clock.
+//! adapters over standard input, standard output, sockets and the system's clock.
 #![tactic(auto)]
 
+mod accepted_socket;
 mod client_links;
 mod clock;
 mod desk;
 mod desk_tally;
+#[cfg(test)]
+mod door_tests;
+mod doors;
 mod gate;
 mod link;
 mod rise;

@@ -1,33 +1,97 @@
-ghost use Rattle.std.specs.Prelude.{◌≡◌, ◌≤◌, false, None, codes};
+ghost use Rattle.std.specs.Prelude.{◌≡◌, ◌<◌, ◌≤◌, false, None, codes, length};
 ghost use Rattle.kom_links.specs.Outside.{Rose};
+ghost use Rattle.kom_links.specs.Streams.{GivesWithin, TakesWithin};
 
+use crate::accepted_socket::AcceptedSocket;
 use crate::link::{Got, Link, Took};
 use crate::streams::{read_soon, write_soon};
+use arrayvec::ArrayString;
 use std::io::{Read, Write};
 use std::rt::Clock;
 
-/// A link over the process's own input and output. It tells nothing of what it gives and takes. If
-/// nothing is ready a call waits for it, for some 20 milliseconds at most.
+/// An address as text: of a peer without its port.
+pub(crate) type Host = ArrayString<64>;
+
+/// A link over the process's own input and output, or over a socket that was accepted. It tells
+/// nothing of what it gives and takes. If nothing is ready a call waits for it, for some 20
+/// milliseconds at most, at a socket for 80.
 #[derive(Drop)]
 pub struct StdLink<I: Read + Drop, O: Write + Drop, C: Clock + Drop> {
-    reader: I,
-    writer: O,
-    clock: C,
+    stream: Stream<I, O, C>,
+    host: Host,
     has_ended: bool,
     faults: u64,
 }
 
+// What a link is over.
+#[derive(Drop)]
+enum Stream<I: Read + Drop, O: Write + Drop, C: Clock + Drop> {
+    Standard(I, O, C),
+    Accepted(AcceptedSocket<C>),
+}
+
+impl<I: Read + Drop, O: Write + Drop, C: Clock + Drop> Stream<I, O, C> {
+    fn read(&mut self, into: &mut [u8]) -> Got
+        requires { 0 < length into.old }
+        ensures { GivesWithin (length into.new) result }
+    {
+        match self {
+            Stream::Standard(reader, _, clock) => read_soon(reader, clock, into),
+            Stream::Accepted(socket) => socket.read(into),
+        }
+    }
+
+    fn write(&mut self, from: &[u8]) -> Took
+        requires { 0 < length from.now }
+        ensures { TakesWithin (length from.now) result }
+    {
+        match self {
+            Stream::Standard(_, writer, clock) => write_soon(writer, clock, from),
+            Stream::Accepted(socket) => socket.write(from),
+        }
+    }
+}
+
 impl<I: Read + Drop, O: Write + Drop, C: Clock + Drop> StdLink<I, O, C> {
     pub(crate) fn new(reader: I, writer: O, clock: C) -> StdLink<I, O, C>
+        ensures host { result.host.bytes ≡ codes "localhost" }
+        ensures not_ended { result.has_ended ≡ false }
+        ensures no_fault { result.faults ≡ 0 }
+    {
+        let mut host = ArrayString::new();
+        host.push_str("localhost");
+        StdLink {
+            stream: Stream::Standard(reader, writer, clock),
+            host,
+            has_ended: false,
+            faults: 0,
+        }
+    }
+
+    /// A link over a socket that was accepted, whose peer has this address.
+    pub(crate) fn accepted(socket: AcceptedSocket<C>, host: Host) -> StdLink<I, O, C>
+        ensures host { result.host ≡ host }
         ensures not_ended { result.has_ended ≡ false }
         ensures no_fault { result.faults ≡ 0 }
     {
         StdLink {
-            reader,
-            writer,
-            clock,
+            stream: Stream::Accepted(socket),
+            host,
             has_ended: false,
             faults: 0,
+        }
+    }
+
+    /// Closes the socket, if there is one.
+    pub(crate) fn close(self) {
+        let StdLink {
+            stream,
+            host: _,
+            has_ended: _,
+            faults: _,
+        } = self;
+        if let Stream::Accepted(socket) = stream {
+            socket.close();
         }
     }
 
@@ -35,6 +99,7 @@ impl<I: Read + Drop, O: Write + Drop, C: Clock + Drop> StdLink<I, O, C> {
         ensures rose { Rose self.old.faults self.new.faults }
         ensures grows { self.old.faults ≤ self.new.faults }
         ensures ended { self.new.has_ended ≡ self.old.has_ended }
+        ensures host { self.new.host ≡ self.old.host }
     {
         self.faults = self.faults.saturating_add(1);
     }
@@ -42,7 +107,7 @@ impl<I: Read + Drop, O: Write + Drop, C: Clock + Drop> StdLink<I, O, C> {
 
 impl<I: Read + Drop, O: Write + Drop, C: Clock + Drop> Link for StdLink<I, O, C> {
     ghost view = { λ link. record {
-      host = codes "localhost";
+      host = link.host.bytes;
       taken = None;
       left = None;
       put = None;
@@ -52,7 +117,7 @@ impl<I: Read + Drop, O: Write + Drop, C: Clock + Drop> Link for StdLink<I, O, C>
     } };
 
     fn host(&self) -> &[u8] {
-        b"localhost"
+        self.host.as_str().as_bytes()
     }
 
     fn faults(&self) -> u64 {
@@ -60,7 +125,7 @@ impl<I: Read + Drop, O: Write + Drop, C: Clock + Drop> Link for StdLink<I, O, C>
     }
 
     fn read(&mut self, into: &mut [u8]) -> Got {
-        match read_soon(&mut self.reader, &self.clock, into) {
+        match self.stream.read(into) {
             Got::End => {
                 self.has_ended = true;
                 Got::End
@@ -74,7 +139,7 @@ impl<I: Read + Drop, O: Write + Drop, C: Clock + Drop> Link for StdLink<I, O, C>
     }
 
     fn write(&mut self, from: &[u8]) -> Took {
-        match write_soon(&mut self.writer, &self.clock, from) {
+        match self.stream.write(from) {
             Took::Failed => {
                 self.fail();
                 Took::Failed

@@ -1,5 +1,6 @@
 ghost use Rattle.std.specs.Prelude.{None};
 
+use crate::doors::open_port;
 use crate::sink::Failed;
 use crate::std_gate::StdGate;
 use crate::std_sink::StdSink;
@@ -8,15 +9,20 @@ use crate::world::{World, WorldFault};
 use crate::world_counts::WorldCounts;
 use kom_disk::{FileDisk, HostPlace, Opener};
 use kom_types::Memory;
+use std::alloc::Global;
 use std::fs::File;
 use std::io;
-use std::io::{Input, Printer};
+use std::io::{ErrorKind, Input, Printer};
+use std::net::Net;
 use std::rt::{Clock as Time, Files};
 
-/// The process's own outside: its standard input and output, the system's files and its clock. It
-/// tells nothing of what files hold.
+/// The process's own outside: its standard input and output, its sockets, the system's files and
+/// its clock. It tells nothing of what files hold.
 #[derive(Drop)]
-pub struct StdWorld<'a, R: Input + Print + Time + Files<File = File> + AllocGlobal + Copy + Send> {
+pub struct StdWorld<'a, R>
+where
+    R: Input + Print + Time + Net + Sync + Files<File = File> + AllocGlobal + Copy + Send,
+{
     rt: &'a R,
     counts: WorldCounts,
     faults: u64,
@@ -24,7 +30,7 @@ pub struct StdWorld<'a, R: Input + Print + Time + Files<File = File> + AllocGlob
 
 impl<'a, R> StdWorld<'a, R>
 where
-    R: Input + Print + Time + Files<File = File> + AllocGlobal + Copy + Send,
+    R: Input + Print + Time + Net + Sync + Files<File = File> + AllocGlobal + Copy + Send,
 {
     /// The outside of this process.
     pub fn new(rt: &'a R) -> StdWorld<'a, R> {
@@ -38,7 +44,7 @@ where
 
 impl<'a, R> World for StdWorld<'a, R>
 where
-    R: Input + Print + Time + Files<File = File> + AllocGlobal + Copy + Send,
+    R: Input + Print + Time + Net + Sync + Files<File = File> + AllocGlobal + Copy + Send,
 {
     type Gate = StdGate<'a, R>;
 
@@ -57,6 +63,27 @@ where
 
     fn faults(&self) -> u64 {
         self.faults
+    }
+
+    fn open_gates(
+        &mut self,
+        alloc: Global,
+        port: u16,
+        number: u32,
+    ) -> Result<Vec<StdGate<'a, R>>, WorldFault> {
+        let opened = match open_port(self.rt, alloc, port, number) {
+            Ok(gates) => Ok(gates),
+            Err(error) => {
+                if error.kind() == ErrorKind::OutOfMemory {
+                    Err(WorldFault::Memory)
+                } else {
+                    self.faults = self.faults.saturating_add(1);
+                    Err(WorldFault::Failed)
+                }
+            }
+        };
+        self.counts.count_port(opened.is_ok());
+        opened
     }
 
     fn std_gate(&mut self) -> Result<StdGate<'a, R>, WorldFault> {

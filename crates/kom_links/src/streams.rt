@@ -54,7 +54,7 @@ pub(crate) fn write_soon<W: Write, C: Clock>(writer: &mut W, clock: &C, from: &[
 }
 
 /// Reads once; `None` if nothing was ready. A read that a signal broke off is to be made again.
-fn try_read<R: Read>(reader: &mut R, into: &mut [u8]) -> Option<Got>
+pub(crate) fn try_read<R: Read>(reader: &mut R, into: &mut [u8]) -> Option<Got>
     requires { 0 < length into.old }
     ensures within { IfSome result (GivesWithin (length into.new)) }
     ensures bytes { IfSome result (λ got.
@@ -75,7 +75,7 @@ fn try_read<R: Read>(reader: &mut R, into: &mut [u8]) -> Option<Got>
 
 /// Writes once; `None` if nothing could be taken. A write that a signal broke off is to be made
 /// again.
-fn try_write<W: Write>(writer: &mut W, from: &[u8]) -> Option<Took>
+pub(crate) fn try_write<W: Write>(writer: &mut W, from: &[u8]) -> Option<Took>
     requires { 0 < length from.now }
     ensures within { IfSome result (TakesWithin (length from.now)) }
     ensures bytes { IfSome result (λ took.

@@ -1,14 +1,17 @@
-ghost use Rattle.std.specs.Prelude.{◌≡◌, ◌≤◌, is_ok, IfOk, OnErr};
+ghost use Rattle.std.specs.Prelude.{◌≡◌, ◌≤◌, is_ok, IfOk, OnErr, length};
+ghost use Rattle.std.specs.List.{AllByRecursion};
 ghost use Rattle.kom_links.specs.Outside.{IsNothing, Rose};
 ghost use Rattle.kom_links.specs.Doors.{WorldView, MayRefuse, KeepsTold, IsFound, IsNewGate};
 ghost use Rattle.kom_links.specs.Doors.{IsNewSink};
-ghost use Rattle.kom_links.specs.WorldCounts.{with_gate, with_disk, with_clock, with_sink};
+ghost use Rattle.kom_links.specs.WorldCounts.{with_port, with_gate, with_disk, with_clock};
+ghost use Rattle.kom_links.specs.WorldCounts.{with_sink};
 
 use crate::clock::Clock;
 use crate::gate::Gate;
 use crate::sink::{Failed, Sink};
 use kom_disk::Disk;
 use kom_types::Memory;
+use std::alloc::Global;
 
 /// Why a world refused to open something.
 #[derive(Clone, Copy, Debug, PartialEq, Eq)]
@@ -21,9 +24,9 @@ pub enum WorldFault {
 
 /// All that a program finds outside itself.
 pub trait World {
-    type Gate: Gate;
+    type Gate: Gate + Send;
 
-    type Clock: Clock;
+    type Clock: Clock + Send;
 
     type Sink: Sink;
 
@@ -34,6 +37,22 @@ pub trait World {
     /// How often the world failed; it stands still at 2^64 - 1.
     fn faults(&self) -> u64
         ensures { result ≡ (view self.now).faults };
+
+    /// So many gates at a port, each of which gives links of the clients that come there. None has
+    /// given one yet.
+    fn open_gates(
+        &mut self,
+        alloc: Global,
+        port: u16,
+        number: u32,
+    ) -> Result<Vec<Self::Gate>, WorldFault>
+        ensures may { MayRefuse (view self.old).faults (view self.new).faults result }
+        ensures fresh { IfOk result (λ gates.
+            AllByRecursion (λ gate. IsNewGate (Self.Gate.view gate)) gates.items) }
+        ensures number { IfOk result (λ gates. length gates.items ≡ number) }
+        ensures counts { (view self.new).counts ≡ with_port (is_ok result) (view self.old).counts }
+        ensures faults { (view self.old).faults ≤ (view self.new).faults }
+        ensures told { KeepsTold (view self.old) (view self.new) };
 
     /// The gate that gives one link, over standard input and output. It has given none yet.
     fn std_gate(&mut self) -> Result<Self::Gate, WorldFault>

@@ -1,9 +1,14 @@
 ghost use Rattle.std.specs.Prelude.{◌≡◌};
-ghost use Rattle.kom_links.specs.WorldCounts.{with_gate, with_clock, with_sink, with_disk};
+ghost use Rattle.kom_links.specs.WorldCounts.{with_port, with_gate, with_clock, with_sink};
+ghost use Rattle.kom_links.specs.WorldCounts.{with_disk};
 
 /// How often a world was asked for what it has. Each count stands still at 2^64 - 1.
 #[derive(Clone, Copy, Debug, PartialEq, Eq)]
 pub struct WorldCounts {
+    /// For gates at a port.
+    pub ports: u64,
+    /// For such gates, where they were then given.
+    pub opened: u64,
     /// For its gate over standard input and output.
     pub gates: u64,
     /// For that gate, where it was then given.
@@ -22,6 +27,8 @@ impl WorldCounts {
     /// A world was asked for nothing yet.
     pub const fn nothing() -> WorldCounts
         ensures { result ≡ record {
+          ports = 0;
+          opened = 0;
           gates = 0;
           given = 0;
           clocks = 0;
@@ -31,12 +38,24 @@ impl WorldCounts {
         } }
     {
         WorldCounts {
+            ports: 0,
+            opened: 0,
             gates: 0,
             given: 0,
             clocks: 0,
             sinks: 0,
             disks: 0,
             disks_opened: 0,
+        }
+    }
+
+    /// Counts that gates at a port were asked for, and whether they are given.
+    pub fn count_port(&mut self, is_given: bool)
+        ensures { self.new ≡ with_port is_given self.old }
+    {
+        self.ports = self.ports.saturating_add(1);
+        if is_given {
+            self.opened = self.opened.saturating_add(1);
         }
     }
 

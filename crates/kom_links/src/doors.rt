@@ -1,0 +1,141 @@
+//! Doors at a port: one listener, of which each gate has a clone and a poll of its own.
+ghost use Rattle.std.specs.Prelude.{◌≡◌, IfOk, length};
+ghost use Rattle.std.specs.List.{AllByRecursion};
+ghost use Rattle.kom_links.specs.Doors.{IsNewGate};
+
+use crate::accepted_socket::{AcceptedSocket, PAUSE_MILLIS};
+use crate::gate::Gate;
+use crate::std_gate::StdGate;
+use crate::std_link::Host;
+use arrayvec::ArrayString;
+use mio::net::{TcpListener, TcpStream};
+use mio::{Events, Interest, Poll, Token};
+use std::alloc::Global;
+use std::fmt::Write;
+use std::io::{ErrorKind, Input};
+use std::net::{Ipv4Addr, Ipv6Addr, Net, SocketAddr};
+use std::rt::Clock;
+use std::time::Duration;
+use std::{io, net};
+
+// The system has no sockets of this family.
+const FAMILY_UNSUPPORTED: i32 = 97;
+
+/// Who has come to a door.
+pub(crate) enum Arrival<C: Clock + Drop> {
+    /// A client, from this address.
+    Client(AcceptedSocket<C>, Host),
+    /// Nobody, or one that has gone again or cannot be let in.
+    Nobody,
+    /// The listener is broken.
+    Broken,
+}
+
+/// A door at a port.
+#[derive(Drop)]
+pub(crate) struct Door<'a, R: Net + Clock> {
+    rt: &'a R,
+    alloc: Global,
+    listener: TcpListener,
+    poll: Poll,
+    events: Events,
+}
+
+impl<'a, R: Net + Clock> Door<'a, R> {
+    fn open(rt: &'a R, alloc: Global, listener: &net::TcpListener) -> io::Result<Door<'a, R>> {
+        let mut listener = TcpListener::from_std(listener.try_clone()?);
+        let poll = Poll::new(rt)?;
+        poll.registry()
+            .register(&mut listener, Token(0), Interest::READABLE)?;
+        let events = Events::with_capacity(alloc, 1)?;
+        Ok(Door {
+            rt,
+            alloc,
+            listener,
+            poll,
+            events,
+        })
+    }
+
+    #[cfg(test)]
+    pub(crate) fn port(&self) -> io::Result<u16> {
+        Ok(self.listener.local_addr()?.port())
+    }
+
+    /// Who comes next. If nobody is there, it waits for a pause and looks once more.
+    pub(crate) fn next(&mut self) -> Arrival<&'a R> {
+        match self.look() {
+            Arrival::Client(socket, host) => return Arrival::Client(socket, host),
+            Arrival::Nobody => {}
+            Arrival::Broken => return Arrival::Broken,
+        }
+        let pause = Duration::from_millis(PAUSE_MILLIS);
+        if self.poll.poll(&mut self.events, Some(pause)).is_err() {
+            return Arrival::Broken;
+        }
+        self.look()
+    }
+
+    // An accept that fails for want of descriptors, or because the peer has gone, found nobody.
+    fn look(&self) -> Arrival<&'a R> {
+        match self.listener.accept() {
+            Ok((stream, address)) => self.let_in(stream, address),
+            Err(error) => {
+                if error.kind() == ErrorKind::InvalidInput {
+                    Arrival::Broken
+                } else {
+                    Arrival::Nobody
+                }
+            }
+        }
+    }
+
+    fn let_in(&self, stream: TcpStream, address: SocketAddr) -> Arrival<&'a R> {
+        let mut host = ArrayString::new();
+        if write!(host, "{}", address.ip().to_canonical()).is_err() {
+            return Arrival::Nobody;
+        }
+        match AcceptedSocket::new(self.rt, self.alloc, stream, self.rt) {
+            Ok(socket) => Arrival::Client(socket, host),
+            Err(_) => Arrival::Nobody,
+        }
+    }
+}
+
+/// So many gates at a port.
+pub(crate) fn open_port<'a, R: Input + Print + Clock + Net>(
+    rt: &'a R,
+    alloc: Global,
+    port: u16,
+    number: u32,
+) -> io::Result<Vec<StdGate<'a, R>>>
+    ensures fresh { IfOk result (λ gates.
+        AllByRecursion (λ gate. IsNewGate (⟦<StdGate<'a, R> as Gate>⟧.view gate)) gates.items) }
+    ensures number { IfOk result (λ gates. length gates.items ≡ number) }
+{
+    let mut gates = Vec::with_capacity(alloc, number as usize)?;
+    let listener = net::TcpListener::from(bind(rt, port)?);
+    for count in 0..number {
+        let door = Door::open(rt, alloc, &listener)?;
+        gates.push_reserved(StdGate::at(door));
+    }
+    Ok(gates)
+}
+
+// A listener at a port of all addresses: of IPv4 alone only if the system has no IPv6.
+fn bind<R: Net>(net: &R, port: u16) -> io::Result<TcpListener> {
+    match TcpListener::bind(net, SocketAddr::from((Ipv6Addr::UNSPECIFIED, port))) {
+        Ok(listener) => Ok(listener),
+        Err(error) => {
+            if lacks_ipv6(&error) {
+                TcpListener::bind(net, SocketAddr::from((Ipv4Addr::UNSPECIFIED, port)))
+            } else {
+                Err(error)
+            }
+        }
+    }
+}
+
+fn lacks_ipv6(error: &io::Error) -> bool {
+    error.kind() == ErrorKind::AddrNotAvailable || error.raw_os_error() == Some(FAMILY_UNSUPPORTED)
+}
