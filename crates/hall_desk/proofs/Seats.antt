@@ -1,4 +1,4 @@
--- Rows that keep the numbers of their sessions and the passes that connected them.
+-- Rows that keep the numbers of their sessions, the passes that connected them, and that a call ended them.
 use Rattle.std.proofs.Common.{◌≡◌, ℕ, ◌≤◌, true, false, cond, eqb, List, [], ◌∷◌, ◌++◌, map, Option, Some, refl, ap, ◌∙◌, inl, inr, arith, ◌==◌}
 use Rattle.std.specs.List.{find, AllByRecursion}
 use Rattle.std.proofs.lemmas.Bool.{cases_Bool}
@@ -14,6 +14,7 @@ use Rattle.kom_model.proofs.Finding.{changed_row}
 
 abbrev pub KeepsSeat : Session → Session → Type 0
 KeepsSeat row row' = (row'.seat.number ≡ row.seat.number) × (row'.seat.pass ≡ row.seat.pass)
+    × (row.seat.ended ≡ true → row'.seat.ended ≡ true)
 
 -- all rows so, in order
 abbrev pub KeepsSeats : List Session → List Session → Type 0
@@ -24,13 +25,15 @@ KeepsSeats (row ∷ rows) (row' ∷ rows') = KeepsSeat row row' × KeepsSeats ro
 
 pub seats-same : (rows : List Session) → KeepsSeats rows rows
 seats-same [] = tt
-seats-same (row ∷ rows) = ((refl, refl), seats-same rows)
+seats-same (row ∷ rows) = ((refl, refl, λ ended. ended), seats-same rows)
 
 pub seats-then : (rows rows' rows'' : List Session) → KeepsSeats rows rows' → KeepsSeats rows' rows'' →
     KeepsSeats rows rows''
 seats-then [] [] [] one two = tt
-seats-then (row ∷ rows) (row' ∷ rows') (row'' ∷ rows'') one two =
-    ((two.0.0 ∙ one.0.0, two.0.1 ∙ one.0.1), seats-then rows rows' rows'' one.1 two.1)
+seats-then (row ∷ rows) (row' ∷ rows') (row'' ∷ rows'') one two = (
+  (two.0.0 ∙ one.0.0, two.0.1 ∙ one.0.1, λ ended. two.0.2 (one.0.2 ended)),
+  seats-then rows rows' rows'' one.1 two.1,
+)
 seats-then [] [] (row'' ∷ rows'') one two = absurd two
 seats-then [] (row' ∷ rows') rows'' one two = absurd one
 seats-then (row ∷ rows) [] rows'' one two = absurd one
@@ -43,7 +46,7 @@ seats-changed number change keeps [] = tt
 seats-changed number change keeps (row ∷ rows) = (
   elim (is_session number row) as (λ b. KeepsSeat row (cond b (change row) row)) [
     | true ↦ keeps row
-    | false ↦ (refl, refl)
+    | false ↦ (refl, refl, λ ended. ended)
   ],
   seats-changed number change keeps rows,
 )
@@ -57,12 +60,12 @@ seat-queued limits place item row =
     (cond (fits limits row.waiting item)
     (record row { waiting = row.waiting ++ record { item = item; entry = place } ∷ [] })
     (record row { overrun = true })))) [
-      | true ↦ (refl, refl)
+      | true ↦ (refl, refl, λ ended. ended)
       | false ↦ elim (fits limits row.waiting item) as (λ b. KeepsSeat row (cond b
           (record row { waiting = row.waiting ++ record { item = item; entry = place } ∷ [] })
           (record row { overrun = true }))) [
-            | true ↦ (refl, refl)
-            | false ↦ (refl, refl)
+            | true ↦ (refl, refl, λ ended. ended)
+            | false ↦ (refl, refl, λ ended. ended)
           ]
     ]
 
@@ -78,6 +81,7 @@ seats-queued limits (delivery ∷ deliveries) state =
 
 abbrev KeepsIn : Seat → Seat → Type 0
 KeepsIn seat seat' = (seat'.number ≡ seat.number) × (seat'.pass ≡ seat.pass)
+    × (seat.ended ≡ true → seat'.ended ≡ true)
 
 seat-changed : (what : SessionChange) (moment : ℕ) (seat : Seat) → KeepsIn seat (changed_seat what moment seat)
 seat-changed (change.Person session person invisible) moment seat =
@@ -89,17 +93,17 @@ seat-changed (change.Person session person invisible) moment seat =
     } in
     let logged_in : Seat = record seated { login = moment; active = moment } in
     elim (person == 0) as (λ b. KeepsIn seat (cond b seated logged_in)) [
-      | true ↦ (refl, refl)
-      | false ↦ (refl, refl)
+      | true ↦ (refl, refl, λ ended. ended)
+      | false ↦ (refl, refl, λ ended. ended)
     ]
-seat-changed (change.Level session level) moment seat = (refl, refl)
-seat-changed (change.Working session conference) moment seat = (refl, refl)
-seat-changed (change.Doing session doing) moment seat = (refl, refl)
-seat-changed (change.Client session client version) moment seat = (refl, refl)
-seat-changed (change.Accept session accepted) moment seat = (refl, refl)
-seat-changed (change.Active session) moment seat = (refl, refl)
-seat-changed (change.Ended session) moment seat = (refl, refl)
-seat-changed change.Stop moment seat = (refl, refl)
+seat-changed (change.Level session level) moment seat = (refl, refl, λ ended. ended)
+seat-changed (change.Working session conference) moment seat = (refl, refl, λ ended. ended)
+seat-changed (change.Doing session doing) moment seat = (refl, refl, λ ended. ended)
+seat-changed (change.Client session client version) moment seat = (refl, refl, λ ended. ended)
+seat-changed (change.Accept session accepted) moment seat = (refl, refl, λ ended. ended)
+seat-changed (change.Active session) moment seat = (refl, refl, λ ended. ended)
+seat-changed (change.Ended session) moment seat = (refl, refl, λ ended. refl)
+seat-changed change.Stop moment seat = (refl, refl, λ ended. ended)
 
 pub seats-changes : (moment : ℕ) (changes : List SessionChange) (state : State) →
     KeepsSeats state.sessions (make_changes moment changes state).sessions
@@ -143,4 +147,25 @@ owned-seats n pass (row ∷ rows) (row' ∷ rows') kept owned =
       | inr there ↦
           let there' : eqb row'.seat.number n ≡ false = ap (λ k. eqb k n) kept.0.0 ∙ there in
           rw there' (owned-seats n pass rows rows' kept.1 (rw there at owned))
+    ]
+
+-- the session has a row, and a call ended it
+abbrev pub IsEnded : Option Session → Type 0
+IsEnded found = (row : Session) × (found ≡ Some row) × (row.seat.ended ≡ true)
+
+pub ended-seats : (n : ℕ) (rows rows' : List Session) → KeepsSeats rows rows' →
+    IsEnded (find (is_session n) rows) → IsEnded (find (is_session n) rows')
+ended-seats n [] [] kept ended = ended
+ended-seats n [] (row' ∷ rows') kept ended = absurd kept
+ended-seats n (row ∷ rows) [] kept ended = absurd kept
+ended-seats n (row ∷ rows) (row' ∷ rows') kept ended =
+    elim (cases_Bool (eqb row.seat.number n)) [
+      | inl here ↦
+          let here' : eqb row'.seat.number n ≡ true = ap (λ k. eqb k n) kept.0.0 ∙ here in
+          let found : Some row ≡ Some ended.0 = rw here at ended.1 in
+          let same : row ≡ ended.0 = cc in
+          rw here' (row', refl, kept.0.2 (ap (λ (row : Session). row.seat.ended) same ∙ ended.2))
+      | inr there ↦
+          let there' : eqb row'.seat.number n ≡ false = ap (λ k. eqb k n) kept.0.0 ∙ there in
+          rw there' (ended-seats n rows rows' kept.1 (rw there at ended))
     ]

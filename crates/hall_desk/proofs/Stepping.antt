@@ -56,10 +56,10 @@ possible_connect false false connects possible =
 -- ---- rows that keep their seats
 
 -- what an act sends
-sent-seats : (state : State) (made : Record) → KeepsSeats (acted state made).sessions (after state made).sessions
+pub sent-seats : (state : State) (made : Record) → KeepsSeats (acted state made).sessions (after state made).sessions
 sent-seats state made = seats-queued waiting_limits (deliveries state made) (acted state made)
 
-acted-seats : (state : State) (pass moment : ℕ) (what : Act) (session : ℕ) (short : Bool) → IsBetween what →
+pub acted-seats : (state : State) (pass moment : ℕ) (what : Act) (session : ℕ) (short : Bool) → IsBetween what →
     KeepsSeats state.sessions (acted state (record_of pass moment what session short)).sessions
 acted-seats state pass moment (act.Connect user host) session short between = absurd between
 acted-seats state pass moment (act.Call number reference call) session true between = seats-same state.sessions
@@ -69,7 +69,7 @@ acted-seats state pass moment (act.Call number reference call) session false bet
     (record state { db = apply_all decision.effects state.db })
 acted-seats state pass moment (act.Broken number) session short between = seats-same state.sessions
 acted-seats state pass moment (act.Drain number) session short between =
-    seats-changed number (drained state.stable) (λ row. (refl, refl)) state.sessions
+    seats-changed number (drained state.stable) (λ row. (refl, refl, λ ended. ended)) state.sessions
 acted-seats state pass moment act.Flush session true between = seats-same state.sessions
 acted-seats state pass moment act.Flush session false between = seats-same state.sessions
 acted-seats state pass moment (act.Close number) session short between = absurd between

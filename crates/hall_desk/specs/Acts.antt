@@ -3,7 +3,7 @@ use Rattle.std.specs.Prelude.{◌≡◌, List, map, Result, Ok, Err, Some}
 use Rattle.kom_types.specs.declared.acts.Entry.{Entry}
 use Rattle.kom_types.specs.declared.acts.Record.{Record}
 use Rattle.kom_types.specs.declared.answers.Refusal.{Refusal}
-use Rattle.kom_model.specs.State.{State, opening as opening_state}
+use Rattle.kom_model.specs.State.{State, IsSound, opening as opening_state}
 use Rattle.kom_model.specs.Db.{Db}
 use Rattle.kom_model.specs.Refusal.{refusal_of}
 use Rattle.kom_model.specs.After.{MayFollow, after}
@@ -31,6 +31,6 @@ pub record IsLed {B E : Type 0} (made : E → Record) (server : B → State) (op
   pub owned : AreByOwners (server opening) (map made history)
   pub state : server value ≡ state_after (server opening) (map made history)
 
--- a server before its first entry, over some rows
+-- a sound server before its first entry, over some rows
 abbrev pub IsOpening : State → Type 0
-IsOpening state = (db : Db) × (state ≡ opening_state db)
+IsOpening state = (db : Db) × (state ≡ opening_state db) × IsSound state

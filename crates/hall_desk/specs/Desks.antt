@@ -3,22 +3,24 @@ use Rattle.std.specs.Prelude.{◌≡◌, ◌≢◌, ℕ, ◌^◌, ◌<◌, ◌�
 use Rattle.std.specs.Prelude.{Option, Some, None}
 use Rattle.std.specs.List.{AllByRecursion}
 use Rattle.atomic_table.specs.Seated.{TableId}
+use Rattle.kom_types.specs.declared.acts.Act.TheVariants as act
 use Rattle.kom_types.specs.declared.acts.Record.{Record}
+use Rattle.kom_types.specs.declared.answers.Refusal.TheVariants.{Gone}
 use Rattle.kom_types.specs.declared.answers.Why.TheVariants as why
 use Rattle.kom_types.specs.Sessions.{Session}
 use Rattle.kom_links.specs.declared.desk.DeskFault.{DeskFault}
 use Rattle.kom_links.specs.declared.desk.DeskFault.TheVariants as fault
 use Rattle.kom_links.specs.DeskCalls.{DeskView}
 use Rattle.kom_links.specs.declared.desk_tally.DeskTally.{DeskTally}
-use Rattle.kom_links.specs.Records.{is_open}
+use Rattle.kom_links.specs.Records.{is_open, IsOpen}
 use Rattle.kom_model.specs.State.{State, session_of}
-use Rattle.kom_model.specs.Refusal.{most_sessions}
+use Rattle.kom_model.specs.Refusal.{most_sessions, refusal_of}
 use Rattle.kom_model.specs.Legal.{state_after}
 use Rattle.kom_model.specs.Out.{given_by_pass}
 use Rattle.kom_state_lock.specs.Passes.{HallModel, PassModel, IsPassOf, HoldsNoTurn}
 use Rattle.hall_desk.specs.declared.faults.Noted.{Noted}
 use Rattle.hall_desk.specs.Acts.{IsOpening}
-use Rattle.hall_desk.specs.Passes.{PassView, pass_view, Knows, connects_in}
+use Rattle.hall_desk.specs.Passes.{PassView, pass_view, of_pass, Knows, connects_in}
 use Rattle.hall_desk.specs.Faults.{FaultTable, fault_in, is_open_in}
 
 -- At some moment of a history that begins in this state the row of a session passed this test.
@@ -130,11 +132,30 @@ pub record IsSame (old new : Kept) : Type 0 where
   pub start : new.start ≡ old.start
   pub tally : new.tally ≡ old.tally
 
+-- After this history a drain of a session that the pass has open is refused: the session was
+-- overrun, or a call ended it and nothing waits for it.
+abbrev pub IsUndrained : State → ℕ → ℕ → List Record → Type 0
+IsUndrained start pass session history =
+    IsOpen session (of_pass pass history)
+    × (WasOverrun start session history
+    ⊎ (refusal_of (state_after start history) (act.Drain session) ≡ Some (Gone why.Dropped)))
+
+-- Why a pass was refused a flush or a drain since an earlier state of it: no turn of the lock was
+-- left; the server was stopped; or it drained a session so.
+abbrev pub WasRefusedSince : State → PassView → PassView → Type 0
+WasRefusedSince start old new =
+    (2 ^ 62 < new.drawn) ⊎ (WasStopped start new.seen
+    ⊎ ((session : ℕ) × (more rest : List Record) × (new.seen ≡ (old.seen ++ more) ++ rest)
+    × IsUndrained start new.number session (old.seen ++ more)))
+
 -- A later state of the same desk: of the same pass of the same hall, which has seen all that it had
--- seen then, in the same order and before anything else, and knows of no fewer tickets.
+-- seen then, in the same order and before anything else, and knows of no fewer tickets. If it counts
+-- a refusal now and counted none then, a flush or a drain was refused since.
 pub record GoesOn (old new : Kept) : Type 0 where
   pub table : new.table ≡ old.table
   pub start : new.start ≡ old.start
   pub number : new.pass.number ≡ old.pass.number
   pub seen : (more : List Record) × (new.pass.seen ≡ old.pass.seen ++ more)
   pub drawn : old.pass.drawn ≤ new.pass.drawn
+  pub refused : old.tally.refused ≡ 0 → new.tally.refused ≢ 0 →
+      WasRefusedSince new.start old.pass new.pass

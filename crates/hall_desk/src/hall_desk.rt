@@ -83,15 +83,22 @@ impl<'a, R: Wait, B: Acts> HallDesk<'a, R, B> {
         }
     }
 
-    /// Forgets the faults of the sessions that are closed, and the one of no session, before the
-    /// next link is served.
+    /// Forgets the faults of the sessions that are closed, the one of no session, and what it
+    /// counted, before the next link is served.
     pub fn forget(&mut self)
         ensures no_fault { (desk_view self.new).fault_to 0 ≡ None }
-        ensures same { IsSame self.old self.new }
+        ensures table { self.new.table ≡ self.old.table }
+        ensures start { self.new.start ≡ self.old.start }
         ensures pass { self.new.pass ≡ self.old.pass }
+        ensures tally { self.new.tally ≡ record {
+          asked = 0;
+          refused = 0;
+          after_fault = after.NoFault;
+        } }
         ensures stands { Stands self.old }
     {
         self.faults.forget();
+        self.tally = DeskTally::nothing();
     }
 
     /// The pass, which holds no turn.

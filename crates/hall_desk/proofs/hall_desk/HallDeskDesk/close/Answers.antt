@@ -1,4 +1,4 @@
-use Rattle.std.proofs.Common.{Ok, Err, subst, ◌∙◌}
+use Rattle.std.proofs.Common.{Ok, Err, refl, subst, ◌∙◌}
 use Rattle.std.specs.Prelude.{⊤}
 use Rattle.kom_types.specs.declared.acts.Act.{Act}
 use Rattle.kom_types.specs.declared.acts.Act.TheVariants as act
@@ -62,7 +62,7 @@ returns-in-Err g c =
       on = on_refused c.args.self.now c.leave.new.self c.note_at-fault.new.self c.tell_faulted.new.self
           c.args.moment what
           c.in-Err.ensures.ends.0 (Err c.in-Err.fault) c.in-Err.ensures.same c.in-Err.ensures.ends.1
-          c.note_at-fault.ensures.same c.note_at-fault.ensures.pass c.tell_faulted.ensures;
+          c.note_at-fault.ensures.same c.note_at-fault.ensures.pass c.tell_faulted.ensures refl;
       answer = answers_refused ⊤ c.args.self.now.start c.args.self.now.pass c.leave.new.self.pass
           c.tell_faulted.new.self.pass c.args.self.now.pass.number
           c.args.moment what c.in-Err.ensures.ends.0 c.in-Err.fault c.note_at-fault.result c.in-Err.ensures.ends.1

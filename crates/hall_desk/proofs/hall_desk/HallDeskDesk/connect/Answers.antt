@@ -1,4 +1,4 @@
-use Rattle.std.proofs.Common.{Ok, Err, subst, sym}
+use Rattle.std.proofs.Common.{Ok, Err, refl, subst, sym}
 use Rattle.kom_links.specs.DeskCalls.{DeskView, Connects, IsConnectFault}
 use Rattle.kom_links.specs.DeskTally.{connected, faulted}
 use Rattle.kom_types.specs.declared.acts.Act.TheVariants as act
@@ -90,7 +90,7 @@ returns-in-Ok-join-clause-on g c =
     c.in-Ok-join.ensures.ends.0 (Ok c.in-Ok-join.made) c.in-Ok-join.ensures.same
     (connect_ends c.prepare.new.self c.join.new.self c.args.moment c.in-Ok.act c.args.user.now c.args.host.now
     c.in-Ok-join.ensures.ends.0 (Ok c.in-Ok-join.made) c.in-Ok.ensures.act c.in-Ok-join.ensures.ends.1))
-    c.tell_connected.ensures)
+    c.tell_connected.ensures refl)
 
 pub returns-in-Err-clause-on : goal.returns-in-Err-clause-on
 returns-in-Err-clause-on g c =
@@ -101,4 +101,4 @@ returns-in-Err-clause-on g c =
     c.in-Err.ensures.same
     (connect_ends c.prepare.new.self c.join.new.self c.args.moment c.in-Ok.act c.args.user.now c.args.host.now
     c.in-Err.ensures.ends.0 (Err c.in-Err.fault) c.in-Ok.ensures.act c.in-Err.ensures.ends.1)
-    c.note_at_none-fault.ensures.same c.note_at_none-fault.ensures.pass c.tell_faulted-in-Err.ensures)
+    c.note_at_none-fault.ensures.same c.note_at_none-fault.ensures.pass c.tell_faulted-in-Err.ensures refl)

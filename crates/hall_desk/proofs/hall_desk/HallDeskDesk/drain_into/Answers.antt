@@ -11,7 +11,7 @@ use Rattle.hall_desk.proofs.Refusals.{IsTurnTold, drain_told}
 use Rattle.hall_desk.proofs.DeskViews.{begins, Refuses, refuses_of, known_mid, drains_made, drains_refused}
 use Rattle.hall_desk.proofs.Answering.{answers_made, answers_refused}
 use Rattle.hall_desk.proofs.Telling.{view_told, pass_told, tally_noted, drained_told}
-use Rattle.hall_desk.proofs.GoingOn.{on_made, on_told, on_refused}
+use Rattle.hall_desk.proofs.GoingOn.{drain_denied, drained_counts, on_made, on_told, on_denied}
 use Rattle.hall_desk.proofs.hall_desk.HallDeskDesk.drain_into.Goals as goal
 
 pub note_at-fault-requires : goal.note_at-fault-requires
@@ -35,7 +35,7 @@ returns-in-Ok g c = record {
   on = on_told c.args.self.now c.make.new.self c.tell_drained.new.self
       (on_made c.args.self.now c.make.new.self c.args.moment (act.Drain c.args.session) c.make.new.items.items
       (Ok c.in-Ok._made) c.in-Ok.ensures.same c.in-Ok.ensures.ends)
-      c.tell_drained.ensures;
+      c.tell_drained.ensures (drained_counts c.is_empty-is_empty.result c.make.new.self.tally);
   answer = subst (λ (pass : PassView). IsAnswer {X = ⊤} c.args.self.now.start pass (act.Drain c.args.session) (Ok tt))
       (sym (pass_told c.make.new.self c.tell_drained.new.self c.tell_drained.ensures))
       (answers_made ⊤ c.args.self.now.start c.args.self.now.pass c.make.new.self.pass c.args.self.now.pass.number
@@ -70,10 +70,12 @@ returns-in-Err g c =
           c.in-Err.ensures.stood c.requires refuses c.in-Err.ensures.none_taken c.note_at-fault.ensures.faults);
       tally = tally_noted c.args.self.now c.make.new.self c.note_at-fault.new.self c.tell_refused.new.self refused
           c.in-Err.ensures.same c.note_at-fault.ensures.same c.tell_refused.ensures;
-      on = on_refused c.args.self.now c.make.new.self c.note_at-fault.new.self c.tell_refused.new.self
+      on = on_denied c.args.self.now c.make.new.self c.note_at-fault.new.self c.tell_refused.new.self
           c.args.moment what
           c.make.new.items.items (Err c.in-Err.fault) c.in-Err.ensures.same c.in-Err.ensures.ends
-          c.note_at-fault.ensures.same c.note_at-fault.ensures.pass c.tell_refused.ensures;
+          c.note_at-fault.ensures.same c.note_at-fault.ensures.pass c.tell_refused.ensures
+          (drain_denied c.args.self.now.start c.args.self.now.pass c.make.new.self.pass c.args.self.now.pass.number
+          c.args.moment c.args.session c.make.new.items.items c.in-Err.fault c.requires c.in-Err.ensures.ends told);
       answer = answers_refused ⊤ c.args.self.now.start c.args.self.now.pass c.make.new.self.pass
           c.tell_refused.new.self.pass c.args.self.now.pass.number
           c.args.moment what c.make.new.items.items c.in-Err.fault c.note_at-fault.result c.in-Err.ensures.ends

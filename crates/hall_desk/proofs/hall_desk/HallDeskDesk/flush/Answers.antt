@@ -1,16 +1,17 @@
-use Rattle.std.proofs.Common.{Ok, Err, subst, sym}
+use Rattle.std.proofs.Common.{Ok, Err, inl, inr, refl, subst, sym}
 use Rattle.std.specs.Prelude.{⊤}
 use Rattle.kom_types.specs.declared.acts.Act.TheVariants as act
 use Rattle.kom_links.specs.DeskCalls.{DeskView, Flushes, IsFlushFault}
 use Rattle.kom_links.specs.DeskTally.{flushed, refused}
 use Rattle.hall_desk.specs.Passes.{PassView}
-use Rattle.hall_desk.specs.Desks.{desk_view}
+use Rattle.kom_model.specs.State.{State}
+use Rattle.hall_desk.specs.Desks.{WasStopped, desk_view}
 use Rattle.hall_desk.specs.Rows.{IsAnswer}
 use Rattle.hall_desk.proofs.Refusals.{IsTurnTold, flush_told}
 use Rattle.hall_desk.proofs.DeskViews.{Refuses, refuses_of, known_mid, short_known, flushes_made, flushes_short, flushes_refused}
 use Rattle.hall_desk.proofs.Answering.{answers_made, answers_short, answers_refused}
 use Rattle.hall_desk.proofs.Telling.{view_told, pass_told, tally_told, tally_noted}
-use Rattle.hall_desk.proofs.GoingOn.{on_made, on_told, on_refused}
+use Rattle.hall_desk.proofs.GoingOn.{flush_denied, on_made, on_told, on_denied}
 use Rattle.hall_desk.proofs.hall_desk.HallDeskDesk.flush.Goals as goal
 
 pub note_everywhere-stopped-requires : goal.note_everywhere-stopped-requires
@@ -38,9 +39,12 @@ returns-then-made g c = record {
   tally = tally_noted c.args.self.now c.make_alone.new.self c.note_everywhere-stopped.new.self
       c.tell_refused.new.self refused
       c.in-Ok.ensures.same c.note_everywhere-stopped.ensures.same c.tell_refused.ensures;
-  on = on_refused c.args.self.now c.make_alone.new.self c.note_everywhere-stopped.new.self c.tell_refused.new.self
+  on = on_denied c.args.self.now c.make_alone.new.self c.note_everywhere-stopped.new.self c.tell_refused.new.self
       c.args.moment act.Flush c.in-Ok.ensures.ends.0 (Ok c.in-Ok.made) c.in-Ok.ensures.same c.in-Ok.ensures.ends.1
-      c.note_everywhere-stopped.ensures.same c.note_everywhere-stopped.ensures.pass c.tell_refused.ensures;
+      c.note_everywhere-stopped.ensures.same c.note_everywhere-stopped.ensures.pass c.tell_refused.ensures
+      (inr (inl (subst (λ (start : State). WasStopped start c.make_alone.new.self.pass.seen) c.in-Ok.ensures.same.start
+      (short_known c.args.self.now c.make_alone.new.self c.args.moment 0 c.in-Ok.ensures.ends.0 c.in-Ok.made
+      c.in-Ok.ensures.stood c.in-Ok.ensures.ends.1 c.if-made.true c.in-Ok.ensures.same))));
   answer = subst (λ (pass : PassView). IsAnswer {X = ⊤} c.args.self.now.start pass act.Flush (Err
       c.note_everywhere-stopped.result))
       (sym (pass_told c.note_everywhere-stopped.new.self c.tell_refused.new.self c.tell_refused.ensures))
@@ -62,7 +66,7 @@ returns-else-made g c = record {
       c.tell_flushed.ensures;
   on = on_told c.args.self.now c.make_alone.new.self c.tell_flushed.new.self
       (on_made c.args.self.now c.make_alone.new.self c.args.moment act.Flush c.in-Ok.ensures.ends.0 (Ok c.in-Ok.made)
-      c.in-Ok.ensures.same c.in-Ok.ensures.ends.1) c.tell_flushed.ensures;
+      c.in-Ok.ensures.same c.in-Ok.ensures.ends.1) c.tell_flushed.ensures refl;
   answer = subst (λ (pass : PassView). IsAnswer {X = ⊤} c.args.self.now.start pass act.Flush (Ok tt))
       (sym (pass_told c.make_alone.new.self c.tell_flushed.new.self c.tell_flushed.ensures))
       (answers_made ⊤ c.args.self.now.start c.args.self.now.pass c.make_alone.new.self.pass
@@ -95,10 +99,13 @@ returns-in-Err g c =
       tally = tally_noted c.args.self.now c.make_alone.new.self c.note_everywhere-fault.new.self
           c.tell_refused-in-Err.new.self refused
           c.in-Err.ensures.same c.note_everywhere-fault.ensures.same c.tell_refused-in-Err.ensures;
-      on = on_refused c.args.self.now c.make_alone.new.self c.note_everywhere-fault.new.self
+      on = on_denied c.args.self.now c.make_alone.new.self c.note_everywhere-fault.new.self
           c.tell_refused-in-Err.new.self c.args.moment act.Flush c.in-Err.ensures.ends.0 (Err c.in-Err.fault)
           c.in-Err.ensures.same c.in-Err.ensures.ends.1 c.note_everywhere-fault.ensures.same
-          c.note_everywhere-fault.ensures.pass c.tell_refused-in-Err.ensures;
+          c.note_everywhere-fault.ensures.pass c.tell_refused-in-Err.ensures
+          (flush_denied c.args.self.now.start c.args.self.now.pass c.make_alone.new.self.pass
+          c.args.self.now.pass.number c.args.moment c.in-Err.ensures.ends.0 c.in-Err.fault c.in-Err.ensures.ends.1
+          told);
       answer = subst (λ (pass : PassView). IsAnswer {X = ⊤} c.args.self.now.start pass act.Flush (Err
           c.note_everywhere-fault.result))
           (sym (pass_told c.note_everywhere-fault.new.self c.tell_refused-in-Err.new.self

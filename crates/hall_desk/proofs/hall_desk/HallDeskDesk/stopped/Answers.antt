@@ -1,10 +1,10 @@
-use Rattle.std.proofs.Common.{Ok, Err, true, subst}
+use Rattle.std.proofs.Common.{Ok, Err, true, refl, subst}
 use Rattle.kom_links.specs.DeskCalls.{DeskView, AsksStopped}
 use Rattle.kom_links.specs.DeskTally.{asked}
 use Rattle.hall_desk.specs.Desks.{desk_view}
 use Rattle.hall_desk.proofs.DeskViews.{asks_runs, asks_stopped, asks_full}
 use Rattle.hall_desk.proofs.Telling.{view_told, tally_told, tally_noted}
-use Rattle.hall_desk.proofs.GoingOn.{on_asked, on_noted, on_told}
+use Rattle.hall_desk.proofs.GoingOn.{asked_counts, on_asked, on_noted, on_told}
 use Rattle.hall_desk.proofs.hall_desk.HallDeskDesk.stopped.Goals as goal
 
 pub returns-then-stopped-clause-asks : goal.returns-then-stopped-clause-asks
@@ -53,16 +53,17 @@ returns-then-stopped-clause-on g c =
     (on_noted c.args.self.now c.ask_stopped.new.self c.note_everywhere.new.self
     (on_asked c.args.self.now c.ask_stopped.new.self (Ok c.in-Ok.stopped) c.in-Ok.ensures.same c.in-Ok.ensures.tells)
     c.note_everywhere.ensures.same c.note_everywhere.ensures.pass) c.tell_asked.ensures
+    (asked_counts c.in-Ok.stopped c.note_everywhere.new.self.tally)
 
 pub returns-else-stopped-clause-on : goal.returns-else-stopped-clause-on
 returns-else-stopped-clause-on g c =
     on_told c.args.self.now c.ask_stopped.new.self c.tell_asked-else-stopped.new.self
     (on_asked c.args.self.now c.ask_stopped.new.self (Ok c.in-Ok.stopped) c.in-Ok.ensures.same c.in-Ok.ensures.tells)
-    c.tell_asked-else-stopped.ensures
+    c.tell_asked-else-stopped.ensures (asked_counts c.in-Ok.stopped c.ask_stopped.new.self.tally)
 
 pub returns-in-Err-clause-on : goal.returns-in-Err-clause-on
 returns-in-Err-clause-on g c =
     on_told c.args.self.now c.note_everywhere-fault.new.self c.tell_asked-in-Err.new.self
     (on_noted c.args.self.now c.ask_stopped.new.self c.note_everywhere-fault.new.self
     (on_asked c.args.self.now c.ask_stopped.new.self (Err c.in-Err.fault) c.in-Err.ensures.same c.in-Err.ensures.tells)
-    c.note_everywhere-fault.ensures.same c.note_everywhere-fault.ensures.pass) c.tell_asked-in-Err.ensures
+    c.note_everywhere-fault.ensures.same c.note_everywhere-fault.ensures.pass) c.tell_asked-in-Err.ensures refl
