@@ -1,6 +1,9 @@
 pub mod Histories
 pub mod Within
 pub mod Owning
+pub mod Calls
+pub mod Given
+pub mod Opened
 pub mod Links
 pub mod NewPasses
 pub mod ServedLinks

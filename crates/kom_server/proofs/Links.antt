@@ -1,15 +1,18 @@
 -- What the service of a link leaves of those that a pass served.
-use Rattle.std.proofs.Common.{◌≡◌, ◌≢◌, ℕ, ◌^◌, ◌<◌, ◌≤◌, ◌⊎◌, inl, inr, nat_eq, Bool, true, false, not, ◌==◌, eqb, List, [], ◌∷◌, ◌++◌, map, Option, Some, None, refl, sym, ap, subst, ◌∙◌, arith, append-nil}
+use Rattle.std.proofs.Common.{◌≡◌, ◌≢◌, ℕ, ◌^◌, ◌<◌, ◌≤◌, ◌⊎◌, inl, inr, nat_eq, Bool, true, false, not, ◌==◌, eqb, List, [], ◌∷◌, ◌++◌, map, Option, Some, None, refl, sym, ap, subst, ◌∙◌, arith, append-nil, append_assoc}
 use Rattle.std.specs.Option.{IfSome}
-use Rattle.std.specs.List.{filter, list_any, AllByRecursion, IsDistinct}
+use Rattle.std.specs.Bool.{IsTrue}
+use Rattle.std.specs.List.{find, filter, list_any, AllByRecursion, IsDistinct}
 use Rattle.std.proofs.lemmas.Bool.{cases_Bool, cases_eq, eq-eqb, ne_eqb, ltb-true, lt-ltb}
-use Rattle.std.proofs.lemmas.List.{map-append}
+use Rattle.std.proofs.lemmas.List.{map-append, append_cancel_left}
 use Rattle.std.proofs.lemmas.List.Elements.{filter-append}
 use Rattle.std.proofs.lemmas.List.Folds.{list_any-append}
 use Rattle.kom_types.specs.declared.acts.Act.TheVariants as act
 use Rattle.kom_types.specs.declared.acts.Record.{Record}
+use Rattle.kom_types.specs.declared.answers.Refusal.TheVariants.{Gone}
 use Rattle.kom_types.specs.declared.answers.Why.TheVariants as why
 use Rattle.kom_types.specs.declared.items.Item.{Item}
+use Rattle.kom_types.specs.Sessions.{Session, is_session}
 use Rattle.kom_links.specs.declared.desk.DeskFault.{DeskFault}
 use Rattle.kom_links.specs.declared.desk.DeskFault.TheVariants as fault
 use Rattle.kom_links.specs.declared.served.Served.{Served}
@@ -17,22 +20,26 @@ use Rattle.kom_links.specs.declared.served.SessionEnd.{SessionEnd}
 use Rattle.kom_links.specs.declared.served.SessionEnd.TheVariants as end
 use Rattle.kom_links.specs.Doors.{Gains}
 use Rattle.kom_links.specs.Outside.{LinkView, Rose}
-use Rattle.kom_links.specs.Records.{has_session, has_connect}
-use Rattle.kom_links.specs.Talk.{IsTalk, IsChosen, AreTimed}
-use Rattle.kom_model.specs.State.{State}
-use Rattle.kom_model.specs.Legal.{IsLegal, AreByOwners}
+use Rattle.kom_links.specs.Records.{has_session, has_connect, has_close, is_open, IsOpen}
+use Rattle.kom_links.specs.Talk.{IsTalk, IsChosen, AreTimed, IsDrained, steps_of}
+use Rattle.kom_model.specs.State.{State, session_of}
+use Rattle.kom_model.specs.Refusal.{refusal_of}
+use Rattle.kom_model.specs.Legal.{IsLegal, AreByOwners, state_after}
+use Rattle.kom_model.proofs.Closing.{IsOver, IsOver-state_after}
 use Rattle.kom_model.specs.Out.{given_along, given_by_pass}
 use Rattle.kom_session.specs.Ends.{IsEndOf, HasCause, TellsFault, IsOwn, Tells, given_to}
 use Rattle.hall_desk.specs.Passes.{PassView, of_pass}
-use Rattle.hall_desk.specs.Desks.{WasOverrun, WasDropped, WasStopped, WasFull, IsKnown}
+use Rattle.hall_desk.specs.Desks.{WasOverrun, WasDropped, WasStopped, WasFull, IsKnown, IsUndrained}
 use Rattle.hall_desk.proofs.Starting.{IsStart}
 use Rattle.hall_desk.proofs.Histories.{or_second, of_pass-append, absent_of}
 use Rattle.hall_desk.proofs.TrueFaults.{was_more, stopped_more, full_more}
-use Rattle.kom_server.specs.Runs.{given_of, IsCause, TellsOf, Talks, is_lock_full, sessions_of, IsOfOne, IsFirstReading}
+use Rattle.kom_server.specs.Runs.{given_of, GaveAll, IsCause, TellsOf, Talks, is_lock_full, sessions_of, IsOfOne, IsFirstReading}
 use Rattle.kom_server.specs.Serving.{Serves, KeepsFirst}
 use Rattle.kom_server.proofs.Histories.{or_first, not_both, session_of-connect, connect_more, connect_rear, connect_of, fresh_before, all_of, IsPlain, plain}
 use Rattle.kom_server.proofs.Within.{IsApart, talk_within}
 use Rattle.kom_server.proofs.Owning.{given_own, given_on}
+use Rattle.kom_server.proofs.Given.{gave_dropped, gave_drained, gave_on}
+use Rattle.kom_server.proofs.Opened.{opened_later, own_connects, plain_connects, closed_still, closed_now, ends_closed}
 
 all_append : {X : Type 0} (P : X → Type 0) (xs ys : List X) → AllByRecursion P xs → AllByRecursion P ys →
     AllByRecursion P (xs ++ ys)
@@ -136,21 +143,61 @@ given_to-own start begins n pass history legal owned connected =
 
 -- ---- causes
 
+-- of no session a call made an end
+dropped_some : (start : State) → IsStart start → (session : ℕ) (history : List Record) →
+    WasDropped start session history → session ≡ 0 → ⊥
+dropped_some start begins session history (before, rest, row, is, found, ended) zero =
+    let over : IsOver 0 (state_after start before) = IsOver-state_after 0 start before
+    (record {
+      drawn = omega arith;
+      absent = ap (λ (rows : List Session). find (is_session 0) rows) begins.sessions;
+    }) in
+    let none : session_of session (state_after start before) ≡ None =
+    ap (λ (n : ℕ). session_of n (state_after start before)) zero ∙ over.absent in
+    let wrong : None ≡ Some row = sym none ∙ found in
+    cc
+
+-- the ways in which a session that was dropped may have been left
+abbrev Left : State → ℕ → List Record → ℕ → Type 0
+Left start session history drawn =
+    GaveAll start session history ⊎ (WasStopped start history
+    ⊎ (WasOverrun start session history ⊎ IsTrue (is_lock_full drawn)))
+
+lock_after : (drawn drawn' : ℕ) → drawn ≤ drawn' → is_lock_full drawn ≡ true → is_lock_full drawn' ≡ true
+lock_after drawn drawn' grown full =
+    let above : 2 ^ 62 < drawn = ltb-true (2 ^ 62) drawn full in lt-ltb (2 ^ 62) drawn' (omega arith)
+
+left_on : (start : State) (history more : List Record) (drawn drawn' session : ℕ) → drawn ≤ drawn' →
+    (GaveAll start session history → GaveAll start session (history ++ more)) → Left start session history drawn →
+    Left start session (history ++ more) drawn'
+left_on start history more drawn drawn' session grown on (inl gave) = inl (on gave)
+left_on start history more drawn drawn' session grown on (inr (inl stopped)) =
+    inr (inl (stopped_more start history more stopped))
+left_on start history more drawn drawn' session grown on (inr (inr (inl over))) =
+    inr (inr (inl (was_more start (λ row. row.overrun) session history more over)))
+left_on start history more drawn drawn' session grown on (inr (inr (inr full))) =
+    inr (inr (inr (lock_after drawn drawn' grown full)))
+
 cause_on : (start : State) → IsStart start → (link : LinkView) (history more : List Record) (drawn drawn' : ℕ)
     (session : ℕ) (ending : SessionEnd) → IsLegal start (history ++ more) → drawn ≤ drawn' →
+    (session ≢ 0 → GaveAll start session history → GaveAll start session (history ++ more)) →
     IsCause start link history drawn session ending → IsCause start link (history ++ more) drawn' session ending
-cause_on start begins link history more drawn drawn' session end.End legal grown cause = cause
-cause_on start begins link history more drawn drawn' session (end.Broken place) legal grown cause = cause
-cause_on start begins link history more drawn drawn' session end.Overrun legal grown cause =
+cause_on start begins link history more drawn drawn' session end.End legal grown on cause = cause
+cause_on start begins link history more drawn drawn' session (end.Broken place) legal grown on cause = cause
+cause_on start begins link history more drawn drawn' session end.Overrun legal grown on cause =
     (cause.0, was_more start (λ row. row.overrun) session history more cause.1)
-cause_on start begins link history more drawn drawn' session end.Dropped legal grown cause =
-    (cause.0, was_more start (λ row. row.seat.ended) session history more cause.1)
-cause_on start begins link history more drawn drawn' session end.Stopped legal grown cause =
+cause_on start begins link history more drawn drawn' session end.Dropped legal grown on cause = (
+  cause.0,
+  was_more start (λ row. row.seat.ended) session history more cause.1,
+  left_on start history more drawn drawn' session grown
+      (on (λ zero. dropped_some start begins session history cause.1 zero)) cause.2,
+)
+cause_on start begins link history more drawn drawn' session end.Stopped legal grown on cause =
     (cause.0, stopped_more start history more cause.1)
-cause_on start begins link history more drawn drawn' session end.LinkFault legal grown cause = cause
-cause_on start begins link history more drawn drawn' session (end.Full number) legal grown cause =
+cause_on start begins link history more drawn drawn' session end.LinkFault legal grown on cause = cause
+cause_on start begins link history more drawn drawn' session (end.Full number) legal grown on cause =
     (cause.0, full_more start begins number drawn drawn' history more legal grown cause.1)
-cause_on start begins link history more drawn drawn' session end.Memory legal grown cause = cause
+cause_on start begins link history more drawn drawn' session end.Memory legal grown on cause = cause
 
 pub none_rose : (faults : ℕ) → faults ≡ 0 → Rose 0 faults → ⊥
 none_rose faults zero (inl more) = omega arith
@@ -223,34 +270,35 @@ end_known start (Some (fault.Full number)) history drawn session ending known (i
 cause_new : (start : State) (link : LinkView) (noted : Option DeskFault) (history : List Record) (drawn session : ℕ)
     (ending : SessionEnd) →
     HasCause 0 link.faults noted link.ended ending → IsKnown start history drawn session noted →
+    (ending ≡ end.Dropped → WasDropped start session history → Left start session history drawn) →
     IsCause start link history drawn session ending
-cause_new start link noted history drawn session end.End cause known =
+cause_new start link noted history drawn session end.End cause known left =
     (no_fault link.faults noted link.ended end.End cause (λ e. cc), cause.has_ended refl)
-cause_new start link noted history drawn session (end.Broken place) cause known =
+cause_new start link noted history drawn session (end.Broken place) cause known left =
     no_fault link.faults noted link.ended (end.Broken place) cause (λ e. cc)
-cause_new start link noted history drawn session end.Overrun cause known = (
+cause_new start link noted history drawn session end.Overrun cause known left = (
   no_fault link.faults noted link.ended end.Overrun cause (λ e. cc),
   end_known start noted history drawn session end.Overrun known
       (desk_end link.faults noted link.ended end.Overrun cause (λ e. cc)),
 )
-cause_new start link noted history drawn session end.Dropped cause known = (
-  no_fault link.faults noted link.ended end.Dropped cause (λ e. cc),
-  end_known start noted history drawn session end.Dropped known
-      (desk_end link.faults noted link.ended end.Dropped cause (λ e. cc)),
-)
-cause_new start link noted history drawn session end.Stopped cause known = (
+cause_new start link noted history drawn session end.Dropped cause known left =
+    let dropped : WasDropped start session history =
+    end_known start noted history drawn session end.Dropped known
+    (desk_end link.faults noted link.ended end.Dropped cause (λ e. cc)) in
+    (no_fault link.faults noted link.ended end.Dropped cause (λ e. cc), dropped, left refl dropped)
+cause_new start link noted history drawn session end.Stopped cause known left = (
   no_fault link.faults noted link.ended end.Stopped cause (λ e. cc),
   end_known start noted history drawn session end.Stopped known
       (desk_end link.faults noted link.ended end.Stopped cause (λ e. cc)),
 )
-cause_new start link noted history drawn session end.LinkFault cause known =
+cause_new start link noted history drawn session end.LinkFault cause known left =
     rose_some link.faults (cause.link_fault refl)
-cause_new start link noted history drawn session (end.Full number) cause known = (
+cause_new start link noted history drawn session (end.Full number) cause known left = (
   no_fault link.faults noted link.ended (end.Full number) cause (λ e. cc),
   end_known start noted history drawn session (end.Full number) known
       (desk_end link.faults noted link.ended (end.Full number) cause (λ e. cc)),
 )
-cause_new start link noted history drawn session end.Memory cause known =
+cause_new start link noted history drawn session end.Memory cause known left =
     no_fault link.faults noted link.ended end.Memory cause (λ e. cc)
 
 is_told : (place : ℕ) (one other : SessionEnd) → one ≡ other → TellsOf place other → TellsOf place one
@@ -329,9 +377,18 @@ talks_on start begins pass history more mine added drawn drawn' link served lega
           (talk_within link.host talks.input talks.output link.ended [] mine added served.session
           (given_of start served.session history) served.end (is_lock_full drawn) tt apart talks.talk));
       connected = λ some. connect_more served.session mine added (talks.connected some);
-      cause = cause_on start begins link history more drawn drawn' served.session served.end legal grown talks.cause;
+      cause = cause_on start begins link history more drawn drawn' served.session served.end legal grown
+          (λ some. gave_on start begins served.session pass history more legal owned (connected some)
+          (subst (AllByRecursion (IsApart served.session)) added_is apart)) talks.cause;
       told = talks.told;
     }
+
+-- Why the pass was refused a flush or a drain since this history.
+abbrev pub IsDenied : State → ℕ → List Record → List Record → ℕ → Type 0
+IsDenied start pass history seen drawn =
+    (2 ^ 62 < drawn) ⊎ (WasStopped start seen
+    ⊎ ((session : ℕ) × (between rest : List Record) × (seen ≡ (history ++ between) ++ rest)
+    × IsUndrained start pass session (history ++ between)))
 
 -- What the service of a link left: by how much the history goes on, the records that the pass added to its own,
 -- and why it ended.
@@ -353,6 +410,9 @@ pub record Service (start : State) (pass : ℕ) (history more mine added : List 
   pub tells_fault : TellsFault 0 link.faults noted input served.end
   pub cause : HasCause 0 link.faults noted link.ended served.end
   pub known : IsKnown start (history ++ more) drawn served.session noted
+  pub sent : served.session ≢ 0 → served.end ≡ end.Dropped →
+      IsDrained (steps_of served.session added (given_by_pass start pass served.session (history ++ more)))
+      ⊎ IsDenied start pass history (history ++ more) drawn
 
 waits_before : (drawn : ℕ) (waits : Bool) → (waits ≡ true → 2 ^ 62 < drawn) → is_lock_full drawn ≡ false →
     waits ≡ false
@@ -361,7 +421,8 @@ waits_before drawn true refused none = absurd (not_both _ (lt-ltb (2 ^ 62) drawn
 
 module _ (start : State) (begins : IsStart start) (pass : ℕ) (history more mine added : List Record) (drawn : ℕ)
     (waits : Bool) (noted : Option DeskFault) (link : LinkView) (served : Served)
-    (service : Service start pass history more mine added drawn waits noted link served) where
+    (service : Service start pass history more mine added drawn waits noted link served)
+    (closed : is_lock_full drawn ≡ false → (session : ℕ) → is_open session mine ≡ false) where
   -- the session is in none of the records before
   fresh_in : served.session ≢ 0 → has_session served.session mine ≡ false
   fresh_in some =
@@ -391,6 +452,90 @@ module _ (start : State) (begins : IsStart start) (pass : ℕ) (history more min
       ap (λ first. first ++ added) service.mine_is ∙ ap (λ last. of_pass pass history ++ last) service.added_is
       ∙ sym (of_pass-append pass history more)
 
+  -- the session that the pass had open is the served one
+  open_served : is_lock_full drawn ≡ false → (session : ℕ) (between rest : List Record) →
+      history ++ more ≡ (history ++ between) ++ rest → IsOpen session (of_pass pass (history ++ between)) →
+      session ≡ served.session
+  open_served free session between rest is open' =
+      let later : more ≡ between ++ rest =
+      append_cancel_left history more (between ++ rest) (is ∙ append_assoc history between rest) in
+      let parts : added ≡ of_pass pass between ++ of_pass pass rest =
+      service.added_is ∙ ap (of_pass pass) later ∙ of_pass-append pass between rest in
+      let open'' : IsOpen session (mine ++ of_pass pass between) =
+      subst (λ (records : List Record). IsOpen session records)
+      (of_pass-append pass history between
+      ∙ ap (λ (first : List Record). first ++ of_pass pass between) (sym service.mine_is)) open' in
+      let connects : has_connect session added ≡ true =
+      subst (λ (records : List Record). has_connect session records ≡ true) (sym parts)
+      (connect_more session (of_pass pass between) (of_pass pass rest)
+      (opened_later session mine (of_pass pass between) (closed free session) open'')) in
+      elim (cases_eq session served.session) [
+        | inl same ↦ same
+        | inr other ↦ absurd (not_both _ connects (own_connects session served.session added service.own other))
+      ]
+
+  -- a session that was dropped
+  left_new : served.end ≡ end.Dropped → WasDropped start served.session (history ++ more) →
+      Left start served.session (history ++ more) drawn
+  left_new ends dropped =
+      let some : served.session ≢ 0 = dropped_some start begins served.session (history ++ more) dropped in
+      elim (service.sent some ends) [
+        | inl drained ↦ elim (gave_drained start begins served.session pass history more service.legal
+            service.by_owners
+            (subst (λ (records : List Record). has_connect served.session records ≡ true) service.added_is
+            (service.connected some))
+            (subst (λ (records : List Record). IsDrained (steps_of served.session records
+            (given_by_pass start pass served.session (history ++ more)))) service.added_is drained)) [
+              | inl gave ↦ inl gave
+              | inr stopped ↦ inr (inl stopped)
+            ]
+        | inr (inl full) ↦ inr (inr (inr (lt-ltb (2 ^ 62) drawn full)))
+        | inr (inr (inl stopped)) ↦ inr (inl stopped)
+        | inr (inr (inr (session, between, rest, is, (open', refused)))) ↦
+            elim (cases_Bool (is_lock_full drawn)) [
+              | inl full ↦ inr (inr (inr full))
+              | inr free ↦
+                  let same : session ≡ served.session = open_served free session between rest is open' in
+                  undrained session between rest is same open' refused
+            ]
+      ]
+    where
+      undrained : (session : ℕ) (between rest : List Record) → history ++ more ≡ (history ++ between) ++ rest →
+          session ≡ served.session → IsOpen session (of_pass pass (history ++ between)) →
+          WasOverrun start session (history ++ between)
+          ⊎ (refusal_of (state_after start (history ++ between)) (act.Drain session) ≡ Some (Gone why.Dropped)) →
+          Left start served.session (history ++ more) drawn
+      undrained session between rest is same open' (inl over) =
+          inr (inr (inl (subst (λ (all : List Record). WasOverrun start served.session all) (sym is)
+          (was_more start (λ row. row.overrun) served.session (history ++ between) rest
+          (subst (λ (n : ℕ). WasOverrun start n (history ++ between)) same over)))))
+      undrained session between rest is same open' (inr refused) =
+          inl (subst (λ (all : List Record). GaveAll start served.session all) (sym is)
+          (subst (λ (n : ℕ). GaveAll start n ((history ++ between) ++ rest)) same
+          (gave_dropped start begins session pass (history ++ between) rest
+          (subst (λ (all : List Record). IsLegal start all) is service.legal)
+          (subst (λ (all : List Record). AreByOwners start all) is service.by_owners) open' refused)))
+
+  -- it is open no more
+  closed_new : is_lock_full drawn ≡ false → (session : ℕ) → is_open session (mine ++ added) ≡ false
+  closed_new free session =
+      elim (cases_eq session served.session) [
+        | inl same ↦ elim (cases_eq session 0) [
+          | inl zero ↦
+              closed_still session mine added (closed free session)
+              (subst (λ (n : ℕ). has_connect n added ≡ false) (sym zero) (plain_connects added plain_added))
+          | inr some ↦
+              let some' : served.session ≢ 0 = λ zero. some (same ∙ zero) in
+              closed_now session mine added
+              (subst (λ (n : ℕ). has_close n added ≡ true) (sym same)
+              (ends_closed served.session added some' (service.connected some')
+              (service.talk.closed (waits_before drawn waits service.refused free))))
+        ]
+        | inr other ↦
+            closed_still session mine added (closed free session)
+            (own_connects session served.session added service.own other)
+      ]
+
   talks_new : Talks start (history ++ more) (mine ++ added) drawn link served
   talks_new =
       let connected : served.session ≢ 0 → has_connect served.session (mine ++ added) ≡ true =
@@ -417,7 +562,8 @@ module _ (start : State) (begins : IsStart start) (pass : ℕ) (history more min
             (given_to-own start begins served.session pass (history ++ more) service.legal service.by_owners connected')
             service.talk)));
         connected = connected;
-        cause = cause_new start link noted (history ++ more) drawn served.session served.end service.cause service.known;
+        cause = cause_new start link noted (history ++ more) drawn served.session served.end service.cause service.known
+            left_new;
         told = λ place is zero. told_by place noted served.end (service.cause.desk (none_rose link.faults zero))
             (λ none. service.tells_fault place is (none_rose link.faults zero) none);
       }
@@ -601,11 +747,15 @@ serves_more {L} view start begins pass more added drawn waits noted link served 
     let Is : List (L × Served) → Type 0 =
     λ links. AllByRecursion
     (λ back. Talks start (pass.seen ++ more) (pass.mine ++ added) drawn (view back.0) back.1) links in
+    let closed : is_lock_full drawn ≡ false → (session : ℕ) → is_open session pass.mine ≡ false =
+    λ free. before.closed (lock_before pass.drawn drawn grown free) in
     let fresh : served.session ≢ 0 → has_session served.session pass.mine ≡ false =
-    fresh_in start begins pass.number pass.seen more pass.mine added drawn waits noted (view link) served service in
+    fresh_in start begins pass.number pass.seen more pass.mine added drawn waits noted (view link) served service
+    closed in
     record {
       mine =
-          all_mine start begins pass.number pass.seen more pass.mine added drawn waits noted (view link) served service;
+          all_mine start begins pass.number pass.seen more pass.mine added drawn waits noted (view link) served service
+          closed;
       talks = told_more Was Is link served returned returned' gains
           (λ links talks. all_append
           (λ back. Talks start (pass.seen ++ more) (pass.mine ++ added) drawn (view back.0) back.1) links
@@ -613,9 +763,9 @@ serves_more {L} view start begins pass more added drawn waits noted link served 
           (all_map (λ back. Talks start pass.seen pass.mine pass.drawn (view back.0) back.1)
           (λ back. Talks start (pass.seen ++ more) (pass.mine ++ added) drawn (view back.0) back.1) links
           (λ back was. talks_still start begins pass.number pass.seen more pass.mine added drawn waits noted (view link)
-          served service (view back.0) back.1 pass.drawn grown was) talks) (
+          served service closed (view back.0) back.1 pass.drawn grown was) talks) (
             talks_new start begins pass.number pass.seen more pass.mine added drawn waits noted (view link) served
-                service,
+                service closed,
             tt,
           ))
           before.talks;
@@ -624,11 +774,13 @@ serves_more {L} view start begins pass more added drawn waits noted link served 
           gains
           (λ links owned. owned_links links link served pass.mine added
           (plain_added start begins pass.number pass.seen more pass.mine added drawn waits noted (view link) served
-          service) service.own owned)
+          service closed) service.own owned)
           before.owned;
       timed = timed_more gave gave' pass.mine added before.timed timed;
       distinct = told_more (λ links. Was links × IsDistinct nat_eq (sessions_of links))
           (λ links. IsDistinct nat_eq (sessions_of links)) link served returned returned' gains
           (λ links both. distinct_more view start pass.seen pass.mine pass.drawn links link served both.0 fresh both.1)
           (both_told Was (λ links. IsDistinct nat_eq (sessions_of links)) returned before.talks before.distinct);
+      closed = closed_new start begins pass.number pass.seen more pass.mine added drawn waits noted (view link) served
+          service closed;
     }

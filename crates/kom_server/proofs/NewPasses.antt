@@ -5,6 +5,7 @@ use Rattle.std.specs.List.{AllByRecursion, IsDistinct}
 use Rattle.kom_types.specs.declared.acts.Record.{Record}
 use Rattle.kom_links.specs.declared.served.Served.{Served}
 use Rattle.kom_links.specs.Outside.{LinkView}
+use Rattle.kom_links.specs.Records.{is_open}
 use Rattle.kom_links.specs.Talk.{IsChosen}
 use Rattle.kom_model.specs.State.{State}
 use Rattle.hall_desk.specs.Passes.{PassView, of_pass}
@@ -43,4 +44,5 @@ module _ {L : Type 0} where
         (λ links. subst (AllByRecursion (IsOfOne (sessions_of links))) (sym unused) tt);
     timed = no_moments pass.mine unused gave;
     distinct = of_none (λ links. IsDistinct nat_eq (sessions_of links)) returned new tt;
+    closed = λ free session. ap (is_open session) unused;
   }

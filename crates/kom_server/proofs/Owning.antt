@@ -23,13 +23,13 @@ use Rattle.kom_server.proofs.Histories.{legal_prefix, legal_tail, owners_prefix,
 use Rattle.kom_server.proofs.Within.{IsApart}
 
 -- the pass has the session, or it was there and is no more
-abbrev IsKept : ℕ → ℕ → State → Type 0
+abbrev pub IsKept : ℕ → ℕ → State → Type 0
 IsKept n pass state = Has n pass state ⊎ IsOver n state
 
-has_some : (n pass : ℕ) (state : State) → Has n pass state → IsSome (session_of n state)
+pub has_some : (n pass : ℕ) (state : State) → Has n pass state → IsSome (session_of n state)
 has_some n pass state has = rw has.1 refl
 
-not_over : (n : ℕ) (state : State) → IsOver n state → IsSome (session_of n state) → ⊥
+pub not_over : (n : ℕ) (state : State) → IsOver n state → IsSome (session_of n state) → ⊥
 not_over n state over some =
     let no : is_some (session_of n state) ≡ false = ap (λ (found : Option Session). is_some found) over.absent in cc
 
@@ -52,7 +52,7 @@ closed_now n state pass moment (act.Broken number) session short drawn may here 
 closed_now n state pass moment (act.Drain number) session short drawn may here = cc
 closed_now n state pass moment act.Flush session short drawn may here = cc
 
-kept_step : (n pass : ℕ) (state : State) (made : Record) → AreDrawn state → MayFollow state made →
+pub kept_step : (n pass : ℕ) (state : State) (made : Record) → AreDrawn state → MayFollow state made →
     IsByOwner state made.entry → IsKept n pass state → IsKept n pass (after state made)
 kept_step n pass state made drawn may owner (inr over) = inr (IsOver-after n state made over)
 kept_step n pass state made drawn may owner (inl has) =
@@ -121,7 +121,7 @@ undrawn_none n state pass moment act.Flush session short drawn may above drain =
 undrawn_none n state pass moment (act.Close number) session short drawn may above drain = cc
 
 -- a Connect of the session by the pass
-connects_it : (n pass : ℕ) (state : State) (by moment : ℕ) (what : Act) (session : ℕ) (short : Bool) →
+pub connects_it : (n pass : ℕ) (state : State) (by moment : ℕ) (what : Act) (session : ℕ) (short : Bool) →
     AreDrawn state → MayFollow state (record_of by moment what session short) → by ≡ pass →
     (is_connect what && (session == n)) ≡ true → Has n pass (after state (record_of by moment what session short))
 connects_it n pass state by moment (act.Connect user host) session short drawn may own here =

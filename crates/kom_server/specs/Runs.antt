@@ -1,8 +1,9 @@
 -- What a run leaves that serves gates, one for each of its passes.
-use Rattle.std.specs.Prelude.{◌≡◌, ◌≢◌, ℕ, ◌+◌, ◌^◌, ◌<◌, ◌==◌, ◌⊎◌, nat_eq, nat_lt, Bool, true}
-use Rattle.std.specs.Prelude.{false, not, IsTrue, List, [], ◌∷◌, length, map, filter, flat_map}
+use Rattle.std.specs.Prelude.{◌≡◌, ◌≢◌, ℕ, ◌+◌, ◌^◌, ◌<◌, ◌==◌, ◌⊎◌, ◌&&◌, nat_eq, nat_lt, Bool}
+use Rattle.std.specs.Prelude.{true, false, not, IsTrue, List, [], ◌∷◌, length, map, filter, flat_map}
 use Rattle.std.specs.Prelude.{codes, Option, ◌++◌, Some, None, IfSome}
 use Rattle.std.specs.List.{list_any, AllByRecursion, IsDistinct}
+use Rattle.kom_types.specs.declared.acts.Act.{Act}
 use Rattle.kom_types.specs.declared.acts.Act.TheVariants as act
 use Rattle.kom_types.specs.declared.acts.Record.{Record}
 use Rattle.kom_types.specs.declared.items.Item.{Item}
@@ -19,7 +20,8 @@ use Rattle.kom_links.specs.Talk.{IsTalk, IsPrefix, IsChosen}
 use Rattle.kom_model.specs.Initial.{initial}
 use Rattle.kom_model.specs.State.{State, opening}
 use Rattle.kom_model.specs.Legal.{IsLegal, AreByOwners}
-use Rattle.kom_model.specs.Out.{given_along}
+use Rattle.kom_model.specs.Out.{out_of, given_along}
+use Rattle.kom_model.specs.Laws.{all_given, IsPrefix as IsItemPrefix}
 use Rattle.kom_session.specs.Ends.{Tells}
 use Rattle.hall_desk.specs.Passes.{of_pass}
 use Rattle.hall_desk.specs.Desks.{WasOverrun, WasDropped, WasStopped, WasFull}
@@ -49,10 +51,36 @@ abbrev pub given_of : State → ℕ → List Record → List (List Item)
 given_of start session history =
     elim (session == 0) [ true ↦ [] | false ↦ given_along start session history ]
 
+abbrev pub is_call : Act → Bool
+is_call (act.Connect user host) = false
+is_call (act.Call session reference call) = true
+is_call (act.Broken session) = false
+is_call (act.Drain session) = false
+is_call act.Flush = false
+is_call (act.Close session) = false
+
+-- these records have a call of the session
+abbrev pub has_call : ℕ → List Record → Bool
+has_call session records =
+    list_any (λ made. is_call made.entry.act && made.session == session) records
+
+-- The drains of a session gave all that was queued for it until some moment, after which it neither
+-- connects nor makes a call.
+abbrev pub GaveAll : State → ℕ → List Record → Type 0
+GaveAll start session history =
+    (before rest : List Record) × (history ≡ before ++ rest)
+    × (has_connect session rest ≡ false) × (has_call session rest ≡ false)
+    × IsItemPrefix (out_of start session before) (all_given start session history)
+
+-- a ticket was drawn that has no turn; the number is one more than the greatest ticket
+abbrev pub is_lock_full : ℕ → Bool
+is_lock_full drawn = nat_lt (2 ^ 62) drawn
+
 -- Why the service of a link ended, in the history that was made and among the tickets that were
 -- drawn: it failed; or it did not, and it has ended, its stream is at fault, its session was overrun
 -- or dropped, the server was stopped, all numbers of sessions were drawn or a ticket that has no
--- turn, or memory ran out.
+-- turn, or memory ran out. A session that was dropped was given all that was queued for it, unless
+-- it was also overrun, the server stopped, or no turn was left.
 abbrev pub IsCause : State → LinkView → List Record → ℕ → ℕ → SessionEnd → Type 0
 IsCause start link history drawn session end.End = (link.faults ≡ 0) × (link.ended ≡ true)
 IsCause start link history drawn session (end.Broken place) = link.faults ≡ 0
@@ -60,6 +88,8 @@ IsCause start link history drawn session end.Overrun =
     (link.faults ≡ 0) × WasOverrun start session history
 IsCause start link history drawn session end.Dropped =
     (link.faults ≡ 0) × WasDropped start session history
+    × (GaveAll start session history ⊎ (WasStopped start history
+    ⊎ (WasOverrun start session history ⊎ IsTrue (is_lock_full drawn))))
 IsCause start link history drawn session end.Stopped =
     (link.faults ≡ 0) × WasStopped start history
 IsCause start link history drawn session end.LinkFault = link.faults ≢ 0
@@ -78,10 +108,6 @@ TellsOf place end.Stopped = Unit {0}
 TellsOf place end.LinkFault = ⊥
 TellsOf place (end.Full number) = Unit {0}
 TellsOf place end.Memory = Unit {0}
-
--- a ticket was drawn that has no turn; the number is one more than the greatest ticket
-abbrev pub is_lock_full : ℕ → Bool
-is_lock_full drawn = nat_lt (2 ^ 62) drawn
 
 -- A link that was given back, served so, is in talk with the records of its pass in the history, by
 -- the items that the drains of its session give along it. This speaks of whatever bytes there were:

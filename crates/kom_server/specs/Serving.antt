@@ -1,17 +1,18 @@
 -- What a pass leaves of its gate.
-use Rattle.std.specs.Prelude.{◌≡◌, ℕ, ◌+◌, nat_eq, List, [], ◌∷◌, length, map, Option, IfSome}
+use Rattle.std.specs.Prelude.{◌≡◌, ℕ, ◌+◌, nat_eq, false, List, [], ◌∷◌, length, map, Option, IfSome}
 use Rattle.std.specs.List.{AllByRecursion, IsDistinct}
 use Rattle.kom_links.specs.declared.served.Served.{Served}
 use Rattle.kom_links.specs.Doors.{GateView}
 use Rattle.kom_links.specs.Outside.{LinkView}
+use Rattle.kom_links.specs.Records.{is_open}
 use Rattle.kom_links.specs.Talk.{IsChosen}
 use Rattle.kom_model.specs.State.{State}
 use Rattle.hall_desk.specs.Passes.{PassView, of_pass}
-use Rattle.kom_server.specs.Runs.{Talks, sessions_of, IsOfOne, IsFirstReading}
+use Rattle.kom_server.specs.Runs.{is_lock_full, Talks, sessions_of, IsOfOne, IsFirstReading}
 
 -- The links that were given back are served by the pass's own records in what it has seen of the
 -- history from this state on. Each of its own records is of one of their sessions, or a flush, and
--- has a reading of its own.
+-- has a reading of its own. Unless no turn is left, the pass has closed each session.
 pub record Serves {L : Type 0} (view : L → LinkView) (start : State) (pass : PassView)
     (returned : Option (List (L × Served))) (gave : Option (List ℕ)) : Type 0 where
   pub mine : pass.mine ≡ of_pass pass.number pass.seen
@@ -21,6 +22,8 @@ pub record Serves {L : Type 0} (view : L → LinkView) (start : State) (pass : P
   pub timed : IfSome gave (λ readings.
       IsChosen (map (λ made. made.entry.moment) pass.mine) readings)
   pub distinct : IfSome returned (λ links. IsDistinct nat_eq (sessions_of links))
+  pub closed : is_lock_full pass.drawn ≡ false →
+      (session : ℕ) → is_open session pass.mine ≡ false
 
 -- what was the first reading of a clock still is
 abbrev pub KeepsFirst : Option (List ℕ) → Option (List ℕ) → Type 0

@@ -57,6 +57,7 @@ fn serve_new<R: Wait, B: Acts, G: Gate, C: Clock>(
     clock: &mut C,
 ) -> bool
     requires no_fault { (desk_view desk.old).fault_to 0 ≡ None }
+    requires none_refused { desk.old.tally.refused ≡ 0 }
     requires unseen { desk.old.pass.seen ≡ [] }
     requires unused { desk.old.pass.mine ≡ [] }
     requires fresh { IsNewGate (G.view gate.old) }
@@ -81,6 +82,7 @@ fn serve_gate<R: Wait, B: Acts, G: Gate, C: Clock>(
     clock: &mut C,
 )
     requires no_fault { (desk_view desk.old).fault_to 0 ≡ None }
+    requires none_refused { desk.old.tally.refused ≡ 0 }
     requires serves { Serves G.Link.view desk.old.start desk.old.pass (G.view gate.old).returned
         (C.gave clock.old) }
     requires all_back { AllGivenBack (G.view gate.old) }
@@ -112,11 +114,13 @@ fn serve_one<R: Wait, B: Acts, G: Gate, C: Clock>(
     mut link: G::Link,
 )
     requires no_fault { (desk_view desk.old).fault_to 0 ≡ None }
+    requires none_refused { desk.old.tally.refused ≡ 0 }
     requires fresh { IsFresh (G.Link.view link) }
     requires serves { Serves G.Link.view desk.old.start desk.old.pass (G.view gate.old).returned
         (C.gave clock.old) }
     requires one_out { OneIsOut (G.view gate.old) }
     ensures no_fault { (desk_view desk.new).fault_to 0 ≡ None }
+    ensures none_refused { desk.new.tally.refused ≡ 0 }
     ensures on { GoesOn desk.old desk.new }
     ensures serves { Serves G.Link.view desk.new.start desk.new.pass (G.view gate.new).returned
         (C.gave clock.new) }

@@ -1,5 +1,7 @@
-use Rattle.std.proofs.Common.{◌≡◌, [], ◌∷◌, inl, inr}
+use Rattle.std.proofs.Common.{◌≡◌, ℕ, [], ◌∷◌, inl, inr, sym, subst}
 use Rattle.kom_model.specs.Initial.{initial}
+use Rattle.kom_model.specs.State.{IsSound}
+use Rattle.kom_model.proofs.Opening.{IsSound-opening, IsProtected-initial, IsWhole-initial}
 use Rattle.kom_state_lock.proofs.Ready.{ready_every, ready_free}
 use Rattle.kom_server.proofs.WholeRuns.{sole, run_from, first_now}
 use Rattle.kom_server.proofs.running.once.Goals as goal
@@ -14,7 +16,12 @@ close-server-requires-clause-free g c =
 
 pub serve_alone-failed-requires-clause-opening : goal.serve_alone-failed-requires-clause-opening
 serve_alone-failed-requires-clause-opening g c =
-    (initial [] c.now-opened.result, c.in-Ok-open_hall.ensures.opening)
+    let opened : ℕ = c.now-opened.result in (
+      initial [] opened,
+      c.in-Ok-open_hall.ensures.opening,
+      subst IsSound (sym c.in-Ok-open_hall.ensures.opening)
+          (IsSound-opening (initial [] opened) (IsProtected-initial [] opened) (IsWhole-initial [] opened)),
+    )
 
 pub returns-clause-once : goal.returns-clause-once
 returns-clause-once g c =

@@ -1,3 +1,5 @@
+use Rattle.std.proofs.Common.{ap}
+use Rattle.kom_links.specs.declared.desk_tally.DeskTally.{DeskTally}
 use Rattle.hall_desk.specs.Going.{goes_on_further}
 use Rattle.kom_server.proofs.Links.{first_more}
 use Rattle.kom_server.proofs.ServedLinks.{forgotten, serves_one, given_back}
@@ -14,7 +16,8 @@ serve_link-served-requires-clause-untouched g c = record {
 pub returns-clause-on : goal.returns-clause-on
 returns-clause-on g c =
     goes_on_further c.args.desk.now c.serve_link-served.new.desk c.forget.new.self c.serve_link-served.ensures.goes_on
-    (forgotten c.serve_link-served.new.desk c.forget.new.self c.forget.ensures.same c.forget.ensures.pass)
+    (forgotten c.serve_link-served.new.desk c.forget.new.self c.forget.ensures.table c.forget.ensures.start
+    c.forget.ensures.pass (ap (λ (tally : DeskTally). tally.refused) c.forget.ensures.tally))
 
 pub returns-clause-serves : goal.returns-clause-serves
 returns-clause-serves g c =
@@ -22,8 +25,9 @@ returns-clause-serves g c =
     c.serve_link-served.new.link c.serve_link-served.result (g.G.Gate.view c.args.gate.now).returned
     (g.G.Gate.view c.give_back.new.self).returned (g.C.Clock.gave c.args.clock.now)
     (g.C.Clock.gave c.serve_link-served.new.clock) c.requires.fresh.no_fault c.serve_link-served.ensures.talk
-    c.serve_link-served.ensures.session c.serve_link-served.ensures.cause c.serve_link-served.ensures.others.host
-    c.serve_link-served.ensures.goes_on c.forget.ensures.stands c.forget.ensures.same.start c.forget.ensures.pass
+    c.serve_link-served.ensures.session c.serve_link-served.ensures.left c.requires.none_refused
+    c.serve_link-served.ensures.cause c.serve_link-served.ensures.others.host
+    c.serve_link-served.ensures.goes_on c.forget.ensures.stands c.forget.ensures.start c.forget.ensures.pass
     c.give_back.ensures.returned c.requires.serves
 
 pub returns-clause-all_back : goal.returns-clause-all_back
@@ -36,3 +40,6 @@ pub returns-clause-first : goal.returns-clause-first
 returns-clause-first g c =
     first_more (g.C.Clock.gave c.args.clock.now) (g.C.Clock.gave c.serve_link-served.new.clock)
     c.serve_link-served.ensures.talk.0 c.serve_link-served.ensures.talk.3
+
+pub returns-clause-none_refused : goal.returns-clause-none_refused
+returns-clause-none_refused g c = ap (λ (tally : DeskTally). tally.refused) c.forget.ensures.tally
