@@ -1,8 +1,8 @@
 -- The reads that a link in memory tells, as marks are added and as its output grows.
 use Rattle.std.proofs.Common.{◌≡◌, ◌≤◌, ◌∙◌, ℕ, Bool, List, [], ◌∷◌, ◌++◌, map, take, length, Option, Some, None}
-use Rattle.std.proofs.Common.{option_map, IfSome, refl, ap, arith}
+use Rattle.std.proofs.Common.{option_map, IfSome, refl, sym, ap, subst, arith}
 use Rattle.std.proofs.lemmas.List.{map-append, take-append-le, take_all}
-use Rattle.std.proofs.lemmas.List.Elements.{All-tail}
+use Rattle.std.proofs.lemmas.List.Elements.{All-tail, All-push}
 use Rattle.std.specs.List.{All}
 use Rattle.std.specs.Option.{ForSome}
 use Rattle.kom_links.specs.Doors.{Gains}
@@ -32,7 +32,7 @@ pub same_told : (input output more : List ℕ) (log : Option (List ReadMark)) �
 same_told input output more None told = refl
 same_told input output more (Some marks) told = ap Some (same_looks input output more marks (told marks refl))
 
-some_same : (xs ys : List ℕ) → Some xs ≡ Some ys → xs ≡ ys
+pub some_same : (xs ys : List ℕ) → Some xs ≡ Some ys → xs ≡ ys
 some_same xs ys same = cc
 
 -- with a mark more, one read more is told
@@ -59,3 +59,12 @@ looked input output written taken waited seen old (Some after) all same gains =
           ∙ ap (λ p. before ++ record { taken = take taken input; put = p; waited = waited } ∷ []) whole
           ∙ ap (λ w. before ++ record { taken = take taken input; put = output; waited = w } ∷ []) same,
     )
+
+-- with a mark more, each mark is still of a prefix of what was put
+pub marks_more : (size : ℕ) (old new : Option (List ReadMark)) (mark : ReadMark) →
+    ForSome old (All (IsWithin size)) → mark.put ≤ size → Gains old mark new → ForSome new (All (IsWithin size))
+marks_more size old None mark told fits gains marks is = cc
+marks_more size old (Some after) mark told fits gains marks is =
+    let same : after ≡ marks = cc in
+    subst (All (IsWithin size)) (sym gains.2 ∙ same)
+    (All-push (IsWithin size) gains.0 mark (told gains.0 gains.1) fits)

@@ -1,9 +1,10 @@
 -- What contracts see of the objects in memory: what each was made with, how far it has come, and
 -- what a link gives and takes by its plan.
-use Rattle.std.specs.Prelude.{◌≡◌, ◌≤◌, ◌+◌, ◌==◌, ◌⊎◌, ◌||◌, ℕ, min, if◌then◌else◌, Bool, true}
+use Rattle.std.specs.Prelude.{◌≡◌, ◌≤◌, ◌+◌, ◌-◌, ◌==◌, ◌⊎◌, ◌||◌, ℕ, min, if◌then◌else◌, Bool, true}
 use Rattle.std.specs.Prelude.{false, List, [], ◌∷◌, length, take, drop, map, Option, Some, None}
 use Rattle.std.specs.Prelude.{option_map, codes}
 use Rattle.std.specs.List.{AllByRecursion}
+use Rattle.std.specs.VecDeque.{deque_len}
 use Rattle.kom_links.specs.declared.desk.DeskFault.{DeskFault}
 use Rattle.kom_links.specs.declared.gate.Next.{Next}
 use Rattle.kom_links.specs.declared.gate.Next.TheVariants as next
@@ -12,6 +13,7 @@ use Rattle.kom_links.specs.declared.link.Got.TheVariants as got
 use Rattle.kom_links.specs.declared.link.Took.{Took}
 use Rattle.kom_links.specs.declared.link.Took.TheVariants as took
 use Rattle.kom_links.specs.DeskCalls.{DeskView, StaysForAll, ChangesAt, NotesEverywhere}
+use Rattle.kom_links.specs.Doors.{GateView}
 use Rattle.kom_links.specs.Outside.{Look, LinkView}
 use Rattle.memory_links.specs.declared.memory_link.LinkPlan.{LinkPlan}
 use Rattle.memory_links.specs.declared.read_log.ReadMark.{ReadMark}
@@ -108,6 +110,15 @@ next_failed next.NotYet = false
 next_failed next.Ended = false
 next_failed next.Failed = true
 
+-- what contracts see of a gate in memory
+abbrev pub gate_view : MemoryGate → GateView MemoryLink
+gate_view gate = record {
+  given = Some (gate.total - deque_len gate.clients);
+  returned = if gate.lost then None else Some gate.returned.items;
+  ended = gate.has_ended;
+  faults = gate.faults;
+}
+
 -- the clients whose links a gate has yet to give
 abbrev pub clients_of : MemoryGate → List Client
 clients_of gate = gate.clients.items
@@ -139,6 +150,10 @@ readings_of clock = clock.made
 -- the plan of a world's gate, where the gate has yet to be opened
 abbrev pub gate_plan_of : MemoryWorld → Option GatePlan
 gate_plan_of world = world.gate
+
+-- the plans of a world's gates at a port, where these have yet to be opened
+abbrev pub port_plans_of : MemoryWorld → List GatePlan
+port_plans_of world = world.port_gates.items
 
 -- the moments that a world's clocks give
 abbrev pub world_moments_of : MemoryWorld → List ℕ

@@ -4,6 +4,7 @@
 
 mod desk_plan;
 mod file_plan;
+mod flags;
 mod marks;
 mod memory_clock;
 mod memory_desk;
@@ -14,12 +15,14 @@ mod memory_link;
 mod memory_sink;
 mod memory_world;
 mod planned_items;
+mod port_gates;
 mod read_log;
 #[cfg(test)]
 mod tests;
 
 pub use desk_plan::DeskPlan;
 pub use file_plan::FilePlan;
+pub use flags::{Flag, Flags, Hold, Signal};
 pub use memory_clock::MemoryClock;
 pub use memory_desk::MemoryDesk;
 pub use memory_gate::{Client, MemoryGate};

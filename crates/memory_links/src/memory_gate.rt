@@ -77,17 +77,12 @@ impl MemoryGate {
 }
 
 impl Gate for MemoryGate {
-    ghost use Rattle.memory_links.specs.Memories.{clients_of, script_of, calls_of, next_failed};
+    ghost use Rattle.memory_links.specs.Memories.{gate_view, clients_of, script_of, calls_of, next_failed};
     ghost use Rattle.memory_links.specs.Memories.{IsLinkOfFirst, StaysWithNoLink};
 
     type Link = MemoryLink;
 
-    ghost view = { λ gate. record {
-      given = Some (gate.total - deque_len gate.clients);
-      returned = if gate.lost then None else Some gate.returned.items;
-      ended = gate.has_ended;
-      faults = gate.faults;
-    } };
+    ghost view = { λ gate. gate_view gate };
 
     fn faults(&self) -> u64 {
         self.faults

@@ -1,4 +1,5 @@
-ghost use Rattle.std.specs.Prelude.{◌≡◌, ◌<◌, ◌≤◌, ◌+◌, ◌==◌, ◌&&◌, ◌↔◌, [], Some, All, not};
+ghost use Rattle.std.specs.Prelude.{◌≡◌, ◌<◌, ◌≤◌, ◌+◌, ◌==◌, ◌&&◌, ◌↔◌, ◌⊎◌, ℕ, List, [], Some};
+ghost use Rattle.std.specs.Prelude.{All, not};
 ghost use Rattle.std.specs.Prelude.{is_some, take, drop, length, vec_len, codes};
 ghost use Rattle.std.specs.List.{list_any};
 ghost use Rattle.std.specs.Option.{ForSome};
@@ -6,9 +7,13 @@ ghost use Rattle.kom_links.specs.Outside.{Reads, Writes, read_bytes};
 ghost use Rattle.kom_links.specs.WorldCounts.{next_call};
 ghost use Rattle.memory_links.specs.Script.{faults_after, Fails, Waits};
 
+use crate::flags::Flags;
 use crate::read_log::{ReadLog, ReadMark};
 use kom_links::{Got, Link, Took};
 use std::alloc::Global;
+
+// How many calls of a link wait for its flags at most; those that come later fail.
+const MOST_HELD: u32 = 1_000_000;
 
 /// Which calls of an object in memory are not served, by their numbers, counted from 1.
 #[derive(Debug, Drop)]
@@ -51,6 +56,8 @@ pub struct LinkPlan {
     pub most_written: usize,
     pub reads: Script,
     pub writes: Script,
+    /// The flags for which it waits, and those that it sets.
+    pub flags: Flags,
 }
 
 // A call of its own, so that whoever lets a plan go has one step to prove and not one for each part.
@@ -62,8 +69,10 @@ impl Drop for LinkPlan {
             most_written: _,
             reads,
             writes,
+            flags,
         } = self;
         drop((cuts, reads, writes));
+        drop(flags);
     }
 }
 
@@ -76,6 +85,8 @@ impl LinkPlan {
         ensures reads_served { (result.reads.waits.items ≡ []) × (result.reads.fails.items ≡ []) }
         ensures writes_served { (result.writes.waits.items ≡ [])
             × (result.writes.fails.items ≡ []) }
+        ensures no_flags { (result.flags.holds.items ≡ [])
+            × (result.flags.signals.items ≡ []) }
     {
         LinkPlan {
             cuts: Vec::new(alloc),
@@ -83,6 +94,7 @@ impl LinkPlan {
             most_written: 0,
             reads: Script::new(alloc),
             writes: Script::new(alloc),
+            flags: Flags::new(alloc),
         }
     }
 }
@@ -96,6 +108,8 @@ pub struct MemoryLink {
     plan: LinkPlan,
     reads: u64,
     writes: u64,
+    // How many calls waited for a flag.
+    held: u32,
     has_ended: bool,
     faults: u64,
     log: ReadLog,
@@ -112,6 +126,7 @@ impl Drop for MemoryLink {
             plan,
             reads: _,
             writes: _,
+            held: _,
             has_ended: _,
             faults: _,
             log,
@@ -140,6 +155,7 @@ impl MemoryLink {
             plan,
             reads: 0,
             writes: 0,
+            held: 0,
             has_ended: false,
             faults: 0,
             log: ReadLog::new(alloc),
@@ -190,30 +206,12 @@ fn copy_to_start(into: &mut [u8], from: &[u8])
     into[..from.len()].copy_from_slice(from);
 }
 
-impl Link for MemoryLink {
+impl MemoryLink {
     ghost use Rattle.memory_links.specs.Memories.{plan_of, reads_of, writes_of, place_of, left_of};
     ghost use Rattle.memory_links.specs.Memories.{read_failed, write_failed, GivesMost, TakesMost};
-    ghost use Rattle.memory_links.specs.Memories.{told_reads};
 
-    ghost view = { λ link. record {
-      host = codes "memory";
-      taken = Some (take link.taken link.input.items);
-      left = Some (drop link.taken link.input.items);
-      put = Some link.output.items;
-      ended = link.has_ended;
-      faults = link.faults;
-      reads = told_reads link;
-    } };
-
-    fn host(&self) -> &[u8] {
-        b"memory"
-    }
-
-    fn faults(&self) -> u64 {
-        self.faults
-    }
-
-    fn read(&mut self, into: &mut [u8]) -> Got
+    /// A read that no flag holds.
+    fn read_free(&mut self, into: &mut [u8]) -> Got
         requires { 0 < length into.old }
         ensures reads { Reads (⟦<MemoryLink as Link>⟧.view self.old) into.new result
             (⟦<MemoryLink as Link>⟧.view self.new) }
@@ -259,7 +257,8 @@ impl Link for MemoryLink {
         Got::Some(count)
     }
 
-    fn write(&mut self, from: &[u8]) -> Took
+    /// A write that no flag holds.
+    fn write_free(&mut self, from: &[u8]) -> Took
         requires { 0 < length from.now }
         ensures writes { Writes (⟦<MemoryLink as Link>⟧.view self.old) from.now result
             (⟦<MemoryLink as Link>⟧.view self.new) }
@@ -294,5 +293,133 @@ impl Link for MemoryLink {
             return Took::Failed;
         }
         Took::Some(count)
+    }
+
+    /// A read that a flag holds: it waits, or fails if too many calls have waited.
+    fn hold_read(&mut self) -> Got
+        ensures held { (result ≡ Got.NotYet) ⊎ (result ≡ Got.Failed) }
+        ensures reads { (buffer : List ℕ) → Reads (⟦<MemoryLink as Link>⟧.view self.old) buffer
+            result (⟦<MemoryLink as Link>⟧.view self.new) }
+        ensures place { place_of self.new ≡ place_of self.old }
+        ensures fault { (⟦<MemoryLink as Link>⟧.view self.new).faults
+            ≡ faults_after (read_failed result) (⟦<MemoryLink as Link>⟧.view self.old).faults }
+        ensures counted { reads_of self.new ≡ next_call (reads_of self.old) }
+        ensures no_write { writes_of self.new ≡ writes_of self.old }
+        ensures plan { plan_of self.new ≡ plan_of self.old }
+    {
+        self.reads = self.reads.saturating_add(1);
+        let waits = self.held < MOST_HELD;
+        let mark = ReadMark {
+            taken: self.taken,
+            put: self.output().len(),
+            waited: waits,
+        };
+        self.log.add(mark);
+        if waits {
+            self.held += 1;
+            return Got::NotYet;
+        }
+        self.faults = self.faults.saturating_add(1);
+        Got::Failed
+    }
+
+    /// A write that a flag holds likewise.
+    fn hold_write(&mut self) -> Took
+        ensures held { (result ≡ Took.NotYet) ⊎ (result ≡ Took.Failed) }
+        ensures writes { (from : List ℕ) → Writes (⟦<MemoryLink as Link>⟧.view self.old) from
+            result (⟦<MemoryLink as Link>⟧.view self.new) }
+        ensures place { place_of self.new ≡ place_of self.old }
+        ensures fault { (⟦<MemoryLink as Link>⟧.view self.new).faults
+            ≡ faults_after (write_failed result) (⟦<MemoryLink as Link>⟧.view self.old).faults }
+        ensures counted { writes_of self.new ≡ next_call (writes_of self.old) }
+        ensures no_read { reads_of self.new ≡ reads_of self.old }
+        ensures plan { plan_of self.new ≡ plan_of self.old }
+    {
+        self.writes = self.writes.saturating_add(1);
+        if self.held < MOST_HELD {
+            self.held += 1;
+            return Took::NotYet;
+        }
+        self.faults = self.faults.saturating_add(1);
+        Took::Failed
+    }
+}
+
+impl Link for MemoryLink {
+    ghost use Rattle.memory_links.specs.Memories.{plan_of, reads_of, writes_of, place_of, left_of};
+    ghost use Rattle.memory_links.specs.Memories.{read_failed, write_failed, GivesMost, TakesMost};
+    ghost use Rattle.memory_links.specs.Memories.{told_reads};
+
+    ghost view = { λ link. record {
+      host = codes "memory";
+      taken = Some (take link.taken link.input.items);
+      left = Some (drop link.taken link.input.items);
+      put = Some link.output.items;
+      ended = link.has_ended;
+      faults = link.faults;
+      reads = told_reads link;
+    } };
+
+    fn host(&self) -> &[u8] {
+        b"memory"
+    }
+
+    fn faults(&self) -> u64 {
+        self.faults
+    }
+
+    fn read(&mut self, into: &mut [u8]) -> Got
+        requires { 0 < length into.old }
+        ensures reads { Reads (⟦<MemoryLink as Link>⟧.view self.old) into.new result
+            (⟦<MemoryLink as Link>⟧.view self.new) }
+
+        // What the plan says of this read, unless flags may hold it.
+        ensures failed { (plan_of self.old).flags.holds.items ≡ [] → ((result ≡ Got.Failed)
+            ↔ Fails (plan_of self.old).reads.fails.items (reads_of self.old)) }
+        ensures not_yet { (plan_of self.old).flags.holds.items ≡ [] → ((result ≡ Got.NotYet)
+            ↔ Waits (plan_of self.old).reads (reads_of self.old)) }
+        ensures gives { GivesMost (length into.new) (left_of self.old) (plan_of self.old)
+            (place_of self.old) result }
+        ensures place { place_of self.new
+            ≡ place_of self.old + length (read_bytes result into.new) }
+        ensures fault { (⟦<MemoryLink as Link>⟧.view self.new).faults
+            ≡ faults_after (read_failed result) (⟦<MemoryLink as Link>⟧.view self.old).faults }
+        ensures counted { reads_of self.new ≡ next_call (reads_of self.old) }
+        ensures no_write { writes_of self.new ≡ writes_of self.old }
+        ensures plan { plan_of self.new ≡ plan_of self.old }
+    {
+        if self.plan.flags.holds_read(self.taken) {
+            self.hold_read()
+        } else {
+            self.read_free(into)
+        }
+    }
+
+    fn write(&mut self, from: &[u8]) -> Took
+        requires { 0 < length from.now }
+        ensures writes { Writes (⟦<MemoryLink as Link>⟧.view self.old) from.now result
+            (⟦<MemoryLink as Link>⟧.view self.new) }
+
+        // What the plan says of this write, unless flags may hold it. One that finds no room fails
+        // too.
+        ensures failed { (plan_of self.old).flags.holds.items ≡ [] →
+            Fails (plan_of self.old).writes.fails.items (writes_of self.old) →
+            result ≡ Took.Failed }
+        ensures not_yet { (plan_of self.old).flags.holds.items ≡ [] → ((result ≡ Took.NotYet)
+            ↔ Waits (plan_of self.old).writes (writes_of self.old)) }
+        ensures takes { TakesMost (length from.now) (plan_of self.old) result }
+        ensures place { place_of self.new ≡ place_of self.old }
+        ensures fault { (⟦<MemoryLink as Link>⟧.view self.new).faults
+            ≡ faults_after (write_failed result) (⟦<MemoryLink as Link>⟧.view self.old).faults }
+        ensures counted { writes_of self.new ≡ next_call (writes_of self.old) }
+        ensures no_read { reads_of self.new ≡ reads_of self.old }
+        ensures plan { plan_of self.new ≡ plan_of self.old }
+    {
+        if self.plan.flags.holds_write(self.output.len()) {
+            return self.hold_write();
+        }
+        let took = self.write_free(from);
+        self.plan.flags.signal(self.output.len());
+        took
     }
 }

@@ -1,9 +1,11 @@
-ghost use Rattle.std.specs.Prelude.{◌≡◌, ◌<◌, ◌≤◌, ◌↔◌, [], None, Some, is_ok, is_err, IsErr, IfOk};
-ghost use Rattle.std.specs.Prelude.{IfSome, OnErr, vec_len};
+ghost use Rattle.std.specs.Prelude.{◌≡◌, ◌≢◌, ◌<◌, ◌≤◌, ◌↔◌, [], None, Some, is_ok, is_err, IsErr};
+ghost use Rattle.std.specs.Prelude.{IfOk, IfSome, OnErr, map, length, vec_len};
+ghost use Rattle.std.specs.List.{AllByRecursion};
 ghost use Rattle.kom_links.specs.Outside.{IsNothing, Rose};
 ghost use Rattle.kom_links.specs.Doors.{MayRefuse, has_failed, KeepsTold, IsFound, IsNewGate};
 ghost use Rattle.kom_links.specs.Doors.{IsNewSink};
-ghost use Rattle.kom_links.specs.WorldCounts.{with_gate, with_clock, with_sink, with_disk};
+ghost use Rattle.kom_links.specs.WorldCounts.{with_port, with_gate, with_clock, with_sink};
+ghost use Rattle.kom_links.specs.WorldCounts.{with_disk};
 ghost use Rattle.memory_links.specs.Files.{file_at, IsDiskOver};
 ghost use Rattle.memory_links.specs.Script.{faults_after, moment_at, Fails};
 
@@ -12,6 +14,7 @@ use crate::memory_clock::MemoryClock;
 use crate::memory_gate::{Client, MemoryGate};
 use crate::memory_link::Script;
 use crate::memory_sink::MemorySink;
+use crate::port_gates::open_all;
 use kom_disk::{Disk, MemoryDisk};
 use kom_links::{Clock, Failed, Gate, Sink, World, WorldCounts, WorldFault};
 use kom_types::{Memory, Moment};
@@ -38,7 +41,7 @@ impl GatePlan {
     ghost use Rattle.memory_links.specs.Memories.{clients_of, script_of, calls_of};
 
     /// The gate of this plan.
-    fn open(self, alloc: Global) -> Result<MemoryGate, Memory>
+    pub(crate) fn open(self, alloc: Global) -> Result<MemoryGate, Memory>
         ensures fresh { IfOk result (λ gate. IsNewGate (⟦<MemoryGate as Gate>⟧.view gate)) }
         ensures clients { IfOk result (λ gate. clients_of gate ≡ self.clients.items) }
         ensures script { IfOk result (λ gate. script_of gate ≡ self.script) }
@@ -49,12 +52,14 @@ impl GatePlan {
     }
 }
 
-/// A world in memory. It has one gate, over standard input and output: a second one is refused,
-/// which is counted. Of each file each disk begins as that is found.
+/// A world in memory. It has one gate, over standard input and output, and one row of gates at a
+/// port: a second one, and a row of another length, is refused, which is counted. Of each file each
+/// disk begins as that is found.
 #[derive(Debug)]
 pub struct MemoryWorld {
     alloc: Global,
     gate: Option<GatePlan>,
+    port_gates: Vec<GatePlan>,
     moments: Vec<Moment>,
     sink_fails: Vec<u64>,
     files: Vec<FilePlan>,
@@ -69,6 +74,7 @@ impl Drop for MemoryWorld {
         let MemoryWorld {
             alloc: _,
             gate,
+            port_gates,
             moments,
             sink_fails,
             files,
@@ -76,7 +82,8 @@ impl Drop for MemoryWorld {
             counts: _,
             faults: _,
         } = self;
-        drop((gate, moments, sink_fails));
+        drop((gate, port_gates));
+        drop((moments, sink_fails));
         drop((files, disk_fails));
     }
 }
@@ -84,6 +91,7 @@ impl Drop for MemoryWorld {
 impl MemoryWorld {
     ghost use Rattle.memory_links.specs.Memories.{gate_plan_of, world_moments_of, sink_fails_of};
     ghost use Rattle.memory_links.specs.Memories.{files_of, disk_fails_of};
+    ghost use Rattle.memory_links.specs.Memories.{port_plans_of};
 
     /// A world without files whose gate has this plan or is refused, whose clocks give these moments,
     /// and whose sink fails at the writes of these numbers, counted from 1.
@@ -96,6 +104,7 @@ impl MemoryWorld {
         requires { 0 < vec_len moments }
         ensures no_fault { (⟦<MemoryWorld as World>⟧.view result).faults ≡ 0 }
         ensures gate { gate_plan_of result ≡ gate }
+        ensures port { port_plans_of result ≡ [] }
         ensures moments { world_moments_of result ≡ moments.items }
         ensures sink_fails { sink_fails_of result ≡ sink_fails.items }
         ensures files { (files_of result ≡ []) × (disk_fails_of result ≡ []) }
@@ -103,6 +112,7 @@ impl MemoryWorld {
         MemoryWorld {
             alloc,
             gate,
+            port_gates: Vec::new(alloc),
             moments,
             sink_fails,
             files: Vec::new(alloc),
@@ -124,9 +134,25 @@ impl MemoryWorld {
         ensures gate { gate_plan_of self.new ≡ gate_plan_of self.old }
         ensures moments { world_moments_of self.new ≡ world_moments_of self.old }
         ensures sink_fails { sink_fails_of self.new ≡ sink_fails_of self.old }
+        ensures port { port_plans_of self.new ≡ port_plans_of self.old }
     {
         self.files = files;
         self.disk_fails = disk_fails;
+    }
+
+    /// From now on the world has gates of these plans at a port, whichever that is, and no others
+    /// there.
+    pub fn set_port(&mut self, plans: Vec<GatePlan>)
+        ensures view { ⟦<MemoryWorld as World>⟧.view self.new
+            ≡ ⟦<MemoryWorld as World>⟧.view self.old }
+        ensures port { port_plans_of self.new ≡ plans.items }
+        ensures gate { gate_plan_of self.new ≡ gate_plan_of self.old }
+        ensures moments { world_moments_of self.new ≡ world_moments_of self.old }
+        ensures sink_fails { sink_fails_of self.new ≡ sink_fails_of self.old }
+        ensures disks { (files_of self.new ≡ files_of self.old)
+            × (disk_fails_of self.new ≡ disk_fails_of self.old) }
+    {
+        self.port_gates = plans;
     }
 }
 
@@ -136,6 +162,7 @@ impl World for MemoryWorld {
     ghost use Rattle.memory_links.specs.Memories.{gate_plan_of, world_moments_of, sink_fails_of};
     ghost use Rattle.memory_links.specs.Memories.{files_of, disk_fails_of};
     ghost use Rattle.memory_links.specs.Files.{found_at};
+    ghost use Rattle.memory_links.specs.Memories.{port_plans_of};
 
     type Gate = MemoryGate;
 
@@ -154,6 +181,58 @@ impl World for MemoryWorld {
 
     fn faults(&self) -> u64 {
         self.faults
+    }
+
+    fn open_gates(
+        &mut self,
+        alloc: Global,
+        _port: u16,
+        number: u32,
+    ) -> Result<Vec<MemoryGate>, WorldFault>
+        ensures may { MayRefuse (⟦<MemoryWorld as World>⟧.view self.old).faults
+            (⟦<MemoryWorld as World>⟧.view self.new).faults result }
+        ensures fresh { IfOk result (λ gates.
+            AllByRecursion (λ gate. IsNewGate (⟦<MemoryGate as Gate>⟧.view gate)) gates.items) }
+        ensures number { IfOk result (λ gates. length gates.items ≡ number) }
+        ensures counts { (⟦<MemoryWorld as World>⟧.view self.new).counts
+            ≡ with_port (is_ok result) (⟦<MemoryWorld as World>⟧.view self.old).counts }
+        ensures faults { (⟦<MemoryWorld as World>⟧.view self.old).faults
+            ≤ (⟦<MemoryWorld as World>⟧.view self.new).faults }
+        ensures told { KeepsTold (⟦<MemoryWorld as World>⟧.view self.old)
+            (⟦<MemoryWorld as World>⟧.view self.new) }
+
+        // what it counts
+        ensures counted { (⟦<MemoryWorld as World>⟧.view self.new).faults
+            ≡ faults_after (has_failed result) (⟦<MemoryWorld as World>⟧.view self.old).faults }
+
+        // which gates are given
+        ensures failed { (result ≡ Err WorldFault.Failed)
+            ↔ (length (port_plans_of self.old) ≢ number) }
+        ensures clients { IfOk result (λ gates. map (λ gate. clients_of gate) gates.items
+            ≡ map (λ plan. plan.clients.items) (port_plans_of self.old)) }
+        ensures scripts { IfOk result (λ gates. map (λ gate. script_of gate) gates.items
+            ≡ map (λ plan. plan.script) (port_plans_of self.old)) }
+
+        // what is left
+        ensures port { port_plans_of self.new ≡ [] }
+        ensures gate { gate_plan_of self.new ≡ gate_plan_of self.old }
+        ensures moments { world_moments_of self.new ≡ world_moments_of self.old }
+        ensures sink_fails { sink_fails_of self.new ≡ sink_fails_of self.old }
+        ensures disks { (files_of self.new ≡ files_of self.old)
+            × (disk_fails_of self.new ≡ disk_fails_of self.old) }
+    {
+        let plans = mem::replace(&mut self.port_gates, Vec::new(self.alloc));
+        let opened = if plans.len() == number as usize {
+            match open_all(alloc, plans) {
+                Ok(gates) => Ok(gates),
+                Err(Memory) => Err(WorldFault::Memory),
+            }
+        } else {
+            self.faults = self.faults.saturating_add(1);
+            Err(WorldFault::Failed)
+        };
+        self.counts.count_port(opened.is_ok());
+        opened
     }
 
     fn std_gate(&mut self) -> Result<MemoryGate, WorldFault>
@@ -181,6 +260,7 @@ impl World for MemoryWorld {
 
         // what is left
         ensures gate { gate_plan_of self.new ≡ None }
+        ensures port { port_plans_of self.new ≡ port_plans_of self.old }
         ensures moments { world_moments_of self.new ≡ world_moments_of self.old }
         ensures sink_fails { sink_fails_of self.new ≡ sink_fails_of self.old }
         ensures disks { (files_of self.new ≡ files_of self.old)
@@ -219,6 +299,7 @@ impl World for MemoryWorld {
 
         // what is left
         ensures gate { gate_plan_of self.new ≡ gate_plan_of self.old }
+        ensures port { port_plans_of self.new ≡ port_plans_of self.old }
         ensures moments { world_moments_of self.new ≡ world_moments_of self.old }
         ensures sink_fails { sink_fails_of self.new ≡ sink_fails_of self.old }
         ensures disks { (files_of self.new ≡ files_of self.old)
@@ -245,6 +326,7 @@ impl World for MemoryWorld {
 
         // what is left
         ensures gate { gate_plan_of self.new ≡ gate_plan_of self.old }
+        ensures port { port_plans_of self.new ≡ port_plans_of self.old }
         ensures moments { world_moments_of self.new ≡ world_moments_of self.old }
         ensures sink_fails { sink_fails_of self.new ≡ [] }
         ensures disks { (files_of self.new ≡ files_of self.old)
@@ -282,6 +364,7 @@ impl World for MemoryWorld {
 
         // what is left
         ensures gate { gate_plan_of self.new ≡ gate_plan_of self.old }
+        ensures port { port_plans_of self.new ≡ port_plans_of self.old }
         ensures moments { world_moments_of self.new ≡ world_moments_of self.old }
         ensures sink_fails { sink_fails_of self.new ≡ sink_fails_of self.old }
         ensures disks { (files_of self.new ≡ files_of self.old)

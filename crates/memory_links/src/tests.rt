@@ -1,6 +1,6 @@
 use crate::{
-    Client, FilePlan, GatePlan, LinkPlan, MemoryClock, MemoryGate, MemoryLink, MemorySink,
-    MemoryWorld, Script,
+    Client, FilePlan, Flag, Flags, GatePlan, Hold, LinkPlan, MemoryClock, MemoryGate, MemoryLink,
+    MemorySink, MemoryWorld, Script, Signal,
 };
 use kom_disk::Disk;
 use kom_links::{Clock, Gate, Got, Link, Next, Served, SessionEnd, Sink, Took, World, WorldFault};
@@ -26,6 +26,7 @@ fn a_link_keeps_to_its_plan(rt: HostRuntime) -> Result<(), Fail> {
         most_written: 2,
         reads: script(alloc, &[2], &[4])?,
         writes: script(alloc, &[1], &[3])?,
+        flags: Flags::new(alloc),
     };
     let mut link = MemoryLink::new(alloc, Vec::from_slice(alloc, b"abcdef")?, plan);
     let reads = [
@@ -97,6 +98,38 @@ fn clocks_and_sinks_keep_to_their_scripts(rt: HostRuntime) -> Result<(), Fail> {
 }
 
 #[test]
+fn a_flag_holds_a_link_until_enough_was_put_to_another(rt: HostRuntime) -> Result<(), Fail> {
+    let alloc = rt.alloc();
+    let flag = Flag::new(alloc)?;
+    let mut told = LinkPlan::new(alloc);
+    told.flags.signals.push(Signal {
+        flag: flag.again()?,
+        put: 3,
+    })?;
+    let mut teller = MemoryLink::new(alloc, Vec::new(alloc), told);
+    let mut plan = LinkPlan::new(alloc);
+    plan.cuts.push(1)?;
+    plan.flags.holds.push(Hold {
+        flag,
+        reads_from: Some(1),
+        writes_from: Some(0),
+    })?;
+    let mut held = MemoryLink::new(alloc, Vec::from_slice(alloc, b"ab")?, plan);
+    let mut buffer = [0u8; 8];
+    assert_eq!(rt; held.read(&mut buffer), Got::Some(1));
+    assert_eq!(rt; held.read(&mut buffer), Got::NotYet);
+    assert_eq!(rt; held.write(b"x"), Took::NotYet);
+    assert_eq!(rt; teller.write(b"xy"), Took::Some(2));
+    assert_eq!(rt; held.read(&mut buffer), Got::NotYet);
+    assert_eq!(rt; teller.write(b"z"), Took::Some(1));
+    assert_eq!(rt; held.read(&mut buffer), Got::Some(1));
+    assert_eq!(rt; held.write(b"x"), Took::Some(1));
+    assert_eq!(rt; held.read(&mut buffer), Got::End);
+    assert!(rt; held.tells_reads());
+    Ok(())
+}
+
+#[test]
 fn a_world_has_one_gate(rt: HostRuntime) -> Result<(), Fail> {
     let alloc = rt.alloc();
     let plan = GatePlan {
@@ -105,10 +138,18 @@ fn a_world_has_one_gate(rt: HostRuntime) -> Result<(), Fail> {
     };
     let moments = [Moment::at_most(9)];
     let moments = Vec::from_slice(alloc, &moments)?;
+    let mut row = Vec::new(alloc);
+    row.push(GatePlan {
+        clients: VecDeque::new(alloc),
+        script: Script::new(alloc),
+    })?;
     let mut world = MemoryWorld::new(alloc, Some(plan), moments, Vec::from_slice(alloc, &[1])?);
+    world.set_port(row);
+    assert!(rt; matches!(world.open_gates(alloc, 1, 1), Ok(gates) if gates.len() == 1));
     assert!(rt; world.std_gate().is_ok());
     assert!(rt; matches!(world.std_gate(), Err(WorldFault::Failed)));
-    assert_eq!(rt; world.faults(), 1);
+    assert!(rt; matches!(world.open_gates(alloc, 1, 1), Err(WorldFault::Failed)));
+    assert_eq!(rt; world.faults(), 2);
     assert_eq!(rt; world.clock()?.now().seconds(), 9);
     assert_eq!(rt; world.clock()?.now().seconds(), 9);
     assert!(rt; world.out().write(b"x").is_err());

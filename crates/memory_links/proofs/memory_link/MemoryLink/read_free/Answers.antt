@@ -5,8 +5,8 @@ use Rattle.std.proofs.lemmas.List.{append-nil, drop-drop, take-append-drop, take
 use Rattle.std.proofs.lemmas.Bool.{false≢true}
 use Rattle.std.proofs.lemmas.Grind.{common_steps}
 use Rattle.memory_links.proofs.Scripted.{no_failure, failure_first, no_wait, fails_alone}
-use Rattle.memory_links.proofs.Told.{looked}
-use Rattle.memory_links.proofs.memory_link.MemoryLinkLink.read.Goals as goal
+use Rattle.memory_links.proofs.Told.{some_same, marks_more, looked}
+use Rattle.memory_links.proofs.memory_link.MemoryLink.read_free.Goals as goal
 
 or_false : (b : Bool) → b ≡ b || false
 or_false true = refl
@@ -124,3 +124,17 @@ returns-clause-not_yet c = no_wait c.args.self.now.plan.reads c.args.self.now.re
 pub returns-clause-gives : goal.returns-clause-gives
 returns-clause-gives c =
     let e : length c.copy_to_start.new.into ≡ length c.args.into.now = cc in rw e c.ready-count.ensures.most
+
+pub invariant_of-self-then-fails : goal.invariant_of-self-then-fails
+invariant_of-self-then-fails c = record {
+  within = c.args.self.now.within;
+  told = marks_more (length c.args.self.now.output.items) c.args.self.now.log c.add.new.self _ c.args.self.now.told
+      (omega (arith, ap length (some_same _ _ c.output.ensures))) c.add.ensures;
+}
+
+pub invariant_of-self-else-fails : goal.invariant_of-self-else-fails
+invariant_of-self-else-fails c = record {
+  within = c.args.self.now.within;
+  told = marks_more (length c.args.self.now.output.items) c.args.self.now.log c.add.new.self _ c.args.self.now.told
+      (omega (arith, ap length (some_same _ _ c.output.ensures))) c.add.ensures;
+}

@@ -2,8 +2,8 @@ use Rattle.std.proofs.Common.{rules, arith, ◌≡◌, ◌∙◌, ◌++◌, take
 use Rattle.memory_links.specs.Memories.{look_of}
 use Rattle.memory_links.proofs.Scripted.{not_failing, failure_first, no_wait}
 use Rattle.memory_links.proofs.Told.{same_told}
-use Rattle.memory_links.proofs.memory_link.MemoryLinkLink.write.Goals as goal
-use Rattle.memory_links.proofs.memory_link.MemoryLinkLink.write.Goals.{then-self-gt0, else-self-gt0}
+use Rattle.memory_links.proofs.memory_link.MemoryLink.write_free.Goals as goal
+use Rattle.memory_links.proofs.memory_link.MemoryLink.write_free.Goals.{then-self-gt0, else-self-gt0}
 
 pub returns-then-contains-clause-not_yet : goal.returns-then-contains-clause-not_yet
 returns-then-contains-clause-not_yet c =
