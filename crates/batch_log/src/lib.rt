@@ -13,6 +13,6 @@ mod walks;
 pub use encode::Encode;
 pub use errors::FlushFault;
 pub use laws::{batches_are_kept, batches_are_whole};
-pub use log::Log;
+pub use log::{Buffer, Log};
 pub use repairs::repair;
 pub use walks::{Found, Walked, look, read_block, walk};

@@ -21,6 +21,32 @@ const MAX_SIZE: u64 = 1 << 40;
 // The length of a body stands in so many bytes.
 const HEAD: usize = 8;
 
+/// Room for the body of a batch, taken before there is a log.
+#[derive(Drop)]
+pub struct Buffer {
+    /// Room for a length.
+    chunk: Vec<u8>,
+}
+
+impl Model for Buffer {
+    ghost use Rattle.std.specs.Prelude.{◌≡◌, ◌<◌, ◌-◌, ℕ, vec_len, vec_capacity};
+
+    /// How many bytes the body may get without taking memory.
+    ghost Value = { ℕ };
+
+    ghost view = { λ buffer. vec_capacity buffer.chunk - vec_len buffer.chunk - 1 };
+
+    ghost invariant = { λ buffer. (vec_len buffer.chunk ≡ 8) × (8 < vec_capacity buffer.chunk) };
+}
+
+impl Buffer {
+    pub fn new(alloc: Global) -> Result<Buffer, Memory> {
+        Ok(Buffer {
+            chunk: new_chunk(alloc)?,
+        })
+    }
+}
+
 /// A file whose last gate is closed, and the body of the batch that is to stand after it.
 #[derive(Drop)]
 pub struct Log<D: Disk> {
@@ -54,22 +80,19 @@ impl<D: Disk> Model for Log<D> {
 impl<D: Disk> Log<D> {
     /// A log with nothing to flush, whose closed gate is at this place of the disk, after so many
     /// batches.
-    pub fn new(alloc: Global, disk: D, place: u64, batches: u64) -> Result<Log<D>, (D, Memory)>
+    pub fn new(buffer: Buffer, disk: D, place: u64, batches: u64) -> Log<D>
         requires { (place < D.size disk) × (batches ≤ place) }
-        ensures disk { IfOk result (λ log. log.disk ≡ disk) }
-        ensures place { IfOk result (λ log. log.place ≡ place) }
-        ensures empty { IfOk result (λ log. log.body ≡ []) }
-        ensures batches { IfOk result (λ log. log.batches ≡ batches) }
-        ensures handed_back { IfErr result (λ refused. refused.0 ≡ disk) }
+        ensures disk { result.disk ≡ disk }
+        ensures place { result.place ≡ place }
+        ensures empty { result.body ≡ [] }
+        ensures spare { result.spare ≡ buffer }
+        ensures batches { result.batches ≡ batches }
     {
-        match new_chunk(alloc) {
-            Ok(chunk) => Ok(Log {
-                disk,
-                place,
-                chunk,
-                batches,
-            }),
-            Err(memory) => Err((disk, memory)),
+        Log {
+            disk,
+            place,
+            chunk: buffer.chunk,
+            batches,
         }
     }
 

@@ -1,20 +1,20 @@
--- A file that stands for rows is not damaged.
-use Rattle.std.proofs.Common.{◌≡◌, inl, inr, ℕ, Bool, true, ◌&&◌, List, [], ◌∷◌, ◌++◌, append_assoc, ap, sym, subst, ◌∙◌, refl, map}
+-- A file that stands for rows is not damaged, and one that is damaged is so at one place.
+use Rattle.std.proofs.Common.{◌≡◌, ◌<◌, ◌^◌, ◌⊎◌, inl, inr, ℕ, Bool, true, ◌&&◌, List, [], ◌∷◌, ◌++◌, length, append_assoc, length-append, ap, sym, subst, ◌∙◌, refl, arith, map}
 use Rattle.std.proofs.lemmas.Grind.{flat_map-append}
 use Rattle.std.specs.List.{AllByRecursion}
 use Rattle.kom_types.specs.declared.effects.Effect.{Effect}
 use Rattle.kom_model.specs.Db.{Db, empty_db}
 use Rattle.kom_model.specs.Effects.{fits, apply, apply_all, all_fit}
-use Rattle.batch_log.specs.Batches.{batch, batches, AreShort, IsEnd}
+use Rattle.batch_log.specs.Batches.{sized, batch, batches, AreShort, IsEnd, IsBroken}
 use Rattle.batch_log.proofs.Ends.{batches_more, short_more}
-use Rattle.batch_log.proofs.Parts.{no_end, after_gate, same_sized, same_tails, same_rest, has_no_break}
+use Rattle.batch_log.proofs.Parts.{no_end, after_gate, same_sized, same_tails, same_rest, not_broken, has_no_break}
 use Rattle.effect_codec.specs.Coding.{coded_effect, IsInRange}
 use Rattle.effect_codec.proofs.Effects.{begins_no_other}
-use Rattle.kom_journal.specs.Images.{StandsFor, header, body_of, all_of}
+use Rattle.kom_journal.specs.Files.{IsStoreOf, header, body_of, all_of}
 use Rattle.kom_journal.specs.Opening.{IsUnfit, HasUnfit, IsDamagedAt}
-use Rattle.kom_journal.proofs.Sound.{and_parts}
+use Rattle.kom_journal.proofs.Sound.{and_parts, apply_all-append}
 use Rattle.kom_journal.proofs.Spelled.{never_empty}
-use Rattle.kom_journal.proofs.Unique.{same_lists}
+use Rattle.kom_journal.proofs.Unique.{same_effects, same_lists}
 
 -- the batches of a file begin with those before any of its gates
 prefix_of : (ones twos : List (List ℕ)) (x y : List ℕ) → AreShort ones → AreShort twos → IsEnd x
@@ -120,7 +120,7 @@ all_of-both : (ones others : List (List Effect)) → all_of (ones ++ others) ≡
 all_of-both ones others = flat_map-append (λ (l : List Effect). l) ones others
 
 -- the unfit batch would be one of those that all fit
-unfit_stands : (db : Db) (file : List ℕ) (place : ℕ) (stands : StandsFor db file) (damaged : IsDamagedAt place file)
+unfit_stands : (db : Db) (file : List ℕ) (place : ℕ) (stands : IsStoreOf db file) (damaged : IsDamagedAt place file)
     → HasUnfit (apply_all (all_of damaged.batches) empty_db) damaged.rest → ⊥
 unfit_stands db file place stands damaged unfit =
     let lists = damaged.batches in
@@ -153,7 +153,7 @@ unfit_stands db file place stands damaged unfit =
     (subst (λ (l : List (List Effect)). all_fit split.here (apply_all (all_of l) empty_db) ≡ true) same fit_here)
 
 -- a file that stands for rows is not damaged
-pub stands_whole : (db : Db) (file : List ℕ) (place : ℕ) → StandsFor db file → IsDamagedAt place file → ⊥
+pub stands_whole : (db : Db) (file : List ℕ) (place : ℕ) → IsStoreOf db file → IsDamagedAt place file → ⊥
 stands_whole db file place stands damaged =
     elim damaged.damaged [
       | inl broken ↦ has_no_break header file (map body_of stands.batches) place stands.file (record {
@@ -166,3 +166,67 @@ stands_whole db file place stands damaged =
       })
       | inr unfit ↦ unfit_stands db file place stands damaged unfit
     ]
+
+tail_of : List ℕ → List ℕ
+tail_of [] = []
+tail_of (byte ∷ bytes) = bytes
+
+tails : {a b : List ℕ} → 1 ∷ a ≡ 1 ∷ b → a ≡ b
+unfolding tail_of
+tails same = ap tail_of same
+
+-- before bytes that are no batch that fits stands no further one that does
+no_first : (one : List Effect) (more : List (List Effect)) (db : Db) (x y : List ℕ) → length (body_of one) < 2 ^ 64
+    → AllByRecursion IsInRange one → all_fit (one ++ all_of more) db ≡ true → IsBroken x ⊎ HasUnfit db x
+    → 1 ∷ x ≡ batches (map body_of (one ∷ more)) ++ 1 ∷ y → ⊥
+no_first one more db x y short coded fit damaged same =
+    let after = batches (map body_of more) ++ 1 ∷ y in
+    let is : x ≡ sized (body_of one) ++ after = tails (same ∙ after_gate (body_of one) (map body_of more) (1 ∷ y)) in
+    let some : 0 < length after = omega (arith, length-append (batches (map body_of more)) (1 ∷ y)) in
+    elim damaged [
+      | inl broken ↦ not_broken (body_of one) after short some (subst IsBroken is broken)
+      | inr unfit ↦
+          let first = same_sized unfit.body (body_of one) unfit.after after unfit.short short (sym unfit.whole ∙ is) in
+          not_unfit db unfit.body one unfit.unfit coded first.0 (earlier_fit one (all_of more) db fit)
+    ]
+
+-- the batches before two such places are the same
+same_before : (ones twos : List (List Effect)) (db : Db) (x y : List ℕ) → AreShort (map body_of ones)
+    → AreShort (map body_of twos) → AllByRecursion (AllByRecursion IsInRange) ones
+    → AllByRecursion (AllByRecursion IsInRange) twos → all_fit (all_of ones) db ≡ true
+    → all_fit (all_of twos) db ≡ true → IsBroken x ⊎ HasUnfit (apply_all (all_of ones) db) x
+    → IsBroken y ⊎ HasUnfit (apply_all (all_of twos) db) y
+    → batches (map body_of ones) ++ 1 ∷ x ≡ batches (map body_of twos) ++ 1 ∷ y → ones ≡ twos
+same_before [] [] db x y short_a short_b in_a in_b fit_a fit_b at_x at_y same = refl
+same_before [] (b ∷ twos) db x y short_a short_b in_a in_b fit_a fit_b at_x at_y same =
+    absurd (no_first b twos db x y short_b.0 in_b.0 fit_b at_x same)
+same_before (a ∷ ones) [] db x y short_a short_b in_a in_b fit_a fit_b at_x at_y same =
+    absurd (no_first a ones db y x short_a.0 in_a.0 fit_a at_y (sym same))
+same_before (a ∷ ones) (b ∷ twos) db x y short_a short_b in_a in_b fit_a fit_b at_x at_y same =
+    let first =
+    same_sized (body_of a) (body_of b) (batches (map body_of ones) ++ 1 ∷ x) (batches (map body_of twos) ++ 1 ∷ y)
+    short_a.0 short_b.0 (same_tails (body_of a) (body_of b) (map body_of ones) (map body_of twos) (1 ∷ x) (1 ∷ y) same) in
+    let is : a ≡ b = same_effects a b in_a.0 in_b.0 first.0 in
+    let rows : apply_all b db ≡ apply_all a db = ap (λ (e : List Effect). apply_all e db) (sym is) in
+    let fit_later : all_fit (all_of twos) (apply_all a db) ≡ true =
+    subst (λ (d : Db). all_fit (all_of twos) d ≡ true) rows (later_fit b (all_of twos) db fit_b) in
+    let at_x_later : IsBroken x ⊎ HasUnfit (apply_all (all_of ones) (apply_all a db)) x =
+    subst (λ (d : Db). IsBroken x ⊎ HasUnfit d x) (apply_all-append a (all_of ones) db) at_x in
+    let at_y_later : IsBroken y ⊎ HasUnfit (apply_all (all_of twos) (apply_all a db)) y =
+    subst (λ (d : Db). IsBroken y ⊎ HasUnfit d y)
+    (apply_all-append b (all_of twos) db ∙ ap (apply_all (all_of twos)) rows) at_y in
+    let later =
+    same_before ones twos (apply_all a db) x y short_a.1 short_b.1 in_a.1 in_b.1 (later_fit a (all_of ones) db fit_a)
+    fit_later at_x_later at_y_later first.1 in
+    ap (λ (e : List Effect). e ∷ ones) is ∙ ap (λ (l : List (List Effect)). b ∷ l) later
+
+-- a file is damaged at one place
+pub damaged_once : (file : List ℕ) (place other : ℕ) → IsDamagedAt place file → IsDamagedAt other file → place ≡ other
+damaged_once file place other one two =
+    one.at
+    ∙ ap (λ (l : List (List Effect)). length (header ++ batches (map body_of l)))
+    (same_before one.batches two.batches empty_db one.rest two.rest one.short two.short one.coded two.coded one.fit
+    two.fit one.damaged two.damaged
+    (same_rest header (map body_of one.batches) (map body_of two.batches) (1 ∷ one.rest) (1 ∷ two.rest) file
+    one.whole two.whole))
+    ∙ sym two.at

@@ -11,7 +11,7 @@ use Rattle.batch_log.specs.Log.{flushed}
 use Rattle.batch_log.proofs.Ends.{before_is, flush_reads}
 use Rattle.batch_log.proofs.Parts.{unique_bodies}
 use Rattle.effect_codec.specs.Coding.{IsInRange}
-use Rattle.kom_journal.specs.Images.{StandsFor, body_of, header}
+use Rattle.kom_journal.specs.Files.{IsStoreOf, body_of, header}
 use Rattle.kom_journal.specs.Journals.{IsStored}
 use Rattle.kom_journal.specs.Opened.{Makes, store_of}
 use Rattle.kom_journal.proofs.Sound.{SoundFor, as_first, shut_sound, gated_sound, makes_more, opened_more}
@@ -24,7 +24,7 @@ pub record StandsBefore (db : Db) (place : ℕ) (file : List ℕ) : Type 0 where
   pub before : take place file ≡ store_of batches
 
 pub stands_before : (db : Db) (place : ℕ) (file : List ℕ) (images : List ℕ → Type 0)
-    → IsStored place file images → StandsFor db file → StandsBefore db place file
+    → IsStored place file images → IsStoreOf db file → StandsBefore db place file
 stands_before db place file images stored stands =
     let bodies = stored.bodies in
     let before = before_is header bodies place file stored.read in

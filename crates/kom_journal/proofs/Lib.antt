@@ -1,6 +1,7 @@
 pub mod Blocks
 pub mod Damage
 pub mod Flushing
+pub mod Images
 pub mod Opened
 pub mod Opens
 pub mod Reading

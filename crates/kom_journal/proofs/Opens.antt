@@ -11,9 +11,9 @@ use Rattle.batch_log.specs.Repair.{Mends}
 use Rattle.batch_log.specs.Walk.{IsReadTo}
 use Rattle.batch_log.proofs.Ends.{begins_read, before_is, reads_more, reads_end}
 use Rattle.kom_journal.specs.Batch.{MakesBatch}
-use Rattle.kom_journal.specs.Images.{Image, StandsFor, IsSoundImage, HasOneMore, header, body_of}
+use Rattle.kom_journal.specs.Files.{IsStoreOf, IsSoundFile, HasOneMore, header, body_of}
 use Rattle.kom_journal.specs.Journals.{IsStored}
-use Rattle.kom_journal.specs.Opened.{Makes, store_of, IsMadeTo, IsMadeOf, IsLeftOf}
+use Rattle.kom_journal.specs.Opened.{Makes, store_of, IsMadeTo, IsMadeOf, IsLeftOfFile}
 use Rattle.kom_journal.specs.Opening.{HasUnfit, IsDamagedAt}
 use Rattle.kom_journal.proofs.Sound.{SoundFor, makes_none, makes_more, bodies_more, stands_with, shut_sound, gated_sound, either_of, one_of}
 use Rattle.kom_journal.proofs.Unique.{same_lists, stands_for_one}
@@ -77,7 +77,7 @@ module _ (place gate count : ℕ) (db : Db) (file : List ℕ) (of : IsMadeOf pla
   before : take place file ≡ store_of of.made.lists
   before = before_is header (map body_of of.made.lists) place file of.made.read
 
-  pub opened_stands : StandsFor db file
+  pub opened_stands : IsStoreOf db file
   opened_stands =
       stands_with of.made.lists db of.made.makes file (gate ∷ of.more)
       (of.made.read.whole ∙ ap (λ (l : List ℕ). store_of of.made.lists ++ l) of.ends) of.shut
@@ -110,7 +110,7 @@ module _ (place gate count : ℕ) (db : Db) (file : List ℕ) (of : IsMadeOf pla
       }
 
   -- a gate that is not closed, where the file is sound, stands before one more whole batch that fits
-  pub further : (sound : IsSoundImage file) → gate ≢ 0 → HasOneMore sound.db of.more
+  pub further : (sound : IsSoundFile file) → gate ≢ 0 → HasOneMore sound.db of.more
   further sound torn =
       let has : HasBatches header (map body_of of.made.lists) file =
       reads_end header (map body_of of.made.lists) place file of.made.read gate of.more of.shut of.ends in
@@ -124,8 +124,8 @@ module _ (place gate count : ℕ) (db : Db) (file : List ℕ) (of : IsMadeOf pla
       elim (sound.ended gate of.more is) [ inl closed ↦ absurd (torn closed) | inr more ↦ more ]
 
   -- what a stop inside the repair leaves
-  pub mends_leave : IsSoundImage file → (at : ℕ) (image : Image)
-      → Mends (take place file) gate of.more at image → IsSoundImage image × IsLeftOf file db image
+  pub mends_leave : IsSoundFile file → (at : ℕ) (image : List ℕ)
+      → Mends (take place file) gate of.more at image → IsSoundFile image × IsLeftOfFile file db image
   mends_leave sound at image (inl (more, is)) =
       let found : SoundFor db db image =
       shut_sound of.made.lists db of.made.makes image more

@@ -11,7 +11,7 @@ use Rattle.effect_codec.specs.Coding.{coded_effect, effect_at, IsInRange}
 use Rattle.effect_codec.specs.Fields.{Whole, Short, Wrong}
 use Rattle.effect_codec.proofs.Effects.{effect_again, begins_no_other}
 use Rattle.effect_codec.proofs.Stays.{stays_wrong}
-use Rattle.kom_journal.specs.Images.{body_of}
+use Rattle.kom_journal.specs.Files.{body_of}
 use Rattle.kom_journal.specs.Opening.{BeginsWith, BeginsUnfit, IsUnfit}
 use Rattle.kom_journal.specs.Reading.{MakesOne, MakesSome, ComesUnfit, MakesPart, part}
 use Rattle.kom_journal.proofs.Spelled.{all_more, body_both, never_empty}

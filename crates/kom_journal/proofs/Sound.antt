@@ -10,7 +10,7 @@ use Rattle.kom_model.specs.Effects.{fits, apply, apply_all, all_fit}
 use Rattle.batch_log.specs.Batches.{sized, batch, batches, AreShort, IsEnd}
 use Rattle.batch_log.proofs.Ends.{batches_more, short_more}
 use Rattle.effect_codec.specs.Coding.{IsInRange}
-use Rattle.kom_journal.specs.Images.{Image, StandsFor, IsSoundImage, body_of, all_of, header}
+use Rattle.kom_journal.specs.Files.{IsStoreOf, IsSoundFile, body_of, all_of, header}
 use Rattle.kom_journal.specs.Opened.{Makes, store_of}
 use Rattle.kom_journal.proofs.Spelled.{all_more}
 
@@ -47,17 +47,17 @@ pub makes_none : Makes [] empty_db
 makes_none = record { coded = tt; short = tt; fit = refl; rows = refl }
 
 -- an image is sound, and stands for the one or the other rows
-pub record SoundFor (db other : Db) (image : Image) : Type 0 where
-  pub sound : IsSoundImage image
+pub record SoundFor (db other : Db) (image : List ℕ) : Type 0 where
+  pub sound : IsSoundFile image
   pub is : (sound.db ≡ db) ⊎ (sound.db ≡ other)
 
-pub as_first : (db other : Db) (image : Image) → SoundFor db db image → SoundFor db other image
+pub as_first : (db other : Db) (image : List ℕ) → SoundFor db db image → SoundFor db other image
 as_first db other image found = record {
   sound = found.sound;
   is = elim found.is [ inl one ↦ inl one | inr same ↦ inl same ];
 }
 
-pub as_second : (db other : Db) (image : Image) → SoundFor other other image → SoundFor db other image
+pub as_second : (db other : Db) (image : List ℕ) → SoundFor other other image → SoundFor db other image
 as_second db other image found = record {
   sound = found.sound;
   is = elim found.is [ inl one ↦ inr one | inr same ↦ inr same ];
@@ -78,7 +78,7 @@ module _ (lists : List (List Effect)) (db : Db) (makes : Makes lists db) where
   }
 
   -- a store of these batches, and an end, stands for these rows
-  pub stands_with : (image end : List ℕ) → image ≡ store_of lists ++ end → IsEnd end → StandsFor db image
+  pub stands_with : (image end : List ℕ) → image ≡ store_of lists ++ end → IsEnd end → IsStoreOf db image
   stands_with image end is ended = record {
     batches = lists;
     file = record { end = end; whole = is; ended = ended; short = makes.short };
@@ -146,7 +146,7 @@ opened_more lists effects more =
     ∙ ap (λ (l : List ℕ). l ++ more) (sym (store_more lists effects))
 
 -- a gate before one more whole batch and a closed gate: open it has the batch too
-pub gated_sound : (lists : List (List Effect)) (db : Db) (makes : Makes lists db) (image : Image) (gate : ℕ)
+pub gated_sound : (lists : List (List Effect)) (db : Db) (makes : Makes lists db) (image : List ℕ) (gate : ℕ)
     (effects : List Effect) (more : List ℕ) → AllByRecursion IsInRange effects → all_fit effects db ≡ true
     → length (body_of effects) < 2 ^ 64 → image ≡ store_of lists ++ gate ∷ (sized (body_of effects) ++ 0 ∷ more)
     → SoundFor db (apply_all effects db) image
@@ -163,13 +163,13 @@ gated_sound lists db makes image gate effects more coded fit short is =
           (makes_more lists db makes effects coded fit short) image more whole)
     ]
 
-pub either_of : (db other : Db) (image : Image) → SoundFor db other image
-    → StandsFor db image ⊎ StandsFor other image
+pub either_of : (db other : Db) (image : List ℕ) → SoundFor db other image
+    → IsStoreOf db image ⊎ IsStoreOf other image
 either_of db other image found =
     elim found.is [
-      | inl is ↦ inl (subst (λ (d : Db). StandsFor d image) is found.sound.stands)
-      | inr is ↦ inr (subst (λ (d : Db). StandsFor d image) is found.sound.stands)
+      | inl is ↦ inl (subst (λ (d : Db). IsStoreOf d image) is found.sound.stands)
+      | inr is ↦ inr (subst (λ (d : Db). IsStoreOf d image) is found.sound.stands)
     ]
 
-pub one_of : (db : Db) (image : Image) → SoundFor db db image → StandsFor db image
+pub one_of : (db : Db) (image : List ℕ) → SoundFor db db image → IsStoreOf db image
 one_of db image found = elim (either_of db db image found) [ inl one ↦ one | inr other ↦ other ]

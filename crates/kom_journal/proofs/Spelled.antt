@@ -7,7 +7,7 @@ use Rattle.kom_types.specs.declared.effects.Effect.{Effect}
 use Rattle.effect_codec.specs.Coding.{coded_effect, effect_at, IsInRange}
 use Rattle.effect_codec.specs.Fields.{Read, Whole, Short}
 use Rattle.effect_codec.proofs.Effects.{effect_again}
-use Rattle.kom_journal.specs.Images.{body_of}
+use Rattle.kom_journal.specs.Files.{body_of}
 use Rattle.kom_journal.specs.Pending.{and_after, first_effects, effects_in, IsSpelled}
 
 -- an effect has bytes

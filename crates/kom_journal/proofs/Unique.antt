@@ -1,5 +1,5 @@
 -- An image stands for one state of the rows: its bodies are unique, and a body has one list of effects.
-use Rattle.std.proofs.Common.{◌≡◌, List, [], ◌∷◌, ap, sym, ◌∙◌, refl, map}
+use Rattle.std.proofs.Common.{◌≡◌, ℕ, List, [], ◌∷◌, ap, sym, ◌∙◌, refl, map}
 use Rattle.std.specs.List.{AllByRecursion}
 use Rattle.kom_types.specs.declared.effects.Effect.{Effect}
 use Rattle.kom_model.specs.Db.{Db, empty_db}
@@ -7,7 +7,7 @@ use Rattle.kom_model.specs.Effects.{apply_all}
 use Rattle.batch_log.proofs.Parts.{unique_bodies}
 use Rattle.effect_codec.specs.Coding.{IsInRange}
 use Rattle.effect_codec.proofs.Effects.{begins_no_other}
-use Rattle.kom_journal.specs.Images.{Image, StandsFor, body_of, all_of, header}
+use Rattle.kom_journal.specs.Files.{IsStoreOf, body_of, all_of, header}
 use Rattle.kom_journal.proofs.Spelled.{never_empty}
 
 -- a body has one list of effects
@@ -38,14 +38,14 @@ same_lists (one ∷ ones) (other ∷ others) in_one in_other same =
     cc
 
 -- two readings of an image find the same effects
-pub same_stands : (image : Image) (db other : Db) (one : StandsFor db image) (two : StandsFor other image)
+pub same_stands : (image : List ℕ) (db other : Db) (one : IsStoreOf db image) (two : IsStoreOf other image)
     → one.batches ≡ two.batches
 same_stands image db other one two =
     same_lists one.batches two.batches one.coded two.coded
     (unique_bodies header image (map body_of one.batches) (map body_of two.batches) one.file two.file)
 
 -- an image stands for one state of the rows
-pub stands_for_one : (image : Image) (db other : Db) → StandsFor db image → StandsFor other image → db ≡ other
+pub stands_for_one : (image : List ℕ) (db other : Db) → IsStoreOf db image → IsStoreOf other image → db ≡ other
 stands_for_one image db other one two =
     one.rows
     ∙ ap (λ (lists : List (List Effect)). apply_all (all_of lists) empty_db) (same_stands image db other one two)

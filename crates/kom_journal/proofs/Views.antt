@@ -11,10 +11,13 @@ use Rattle.batch_log.specs.Batches.{batches}
 use Rattle.batch_log.specs.Gates.{IsAtRest, IsStable, IsShutOrWhole, chunk_of}
 use Rattle.batch_log.specs.Log.{LogView, flushed, size_after}
 use Rattle.effect_codec.specs.Coding.{coded_effect, IsInRange}
-use Rattle.kom_journal.specs.Images.{StandsFor, AreFor, IsKept, IsForEither, header, body_of}
+use Rattle.kom_journal.specs.Files.{IsStoreOf, IsStoreOfEither, header, body_of}
+use Rattle.kom_journal.specs.Images as store
+use Rattle.kom_journal.specs.Images.{AreFor, IsKept, IsForEither}
 use Rattle.kom_journal.specs.Journals.{IsStored, IsKeptWhole}
 use Rattle.kom_journal.specs.Pending.{effects_in, IsSpelled}
 use Rattle.kom_journal.proofs.Flushing.{StandsBefore, stands_before, flush_leaves, flush_leaves_all, stored_after}
+use Rattle.kom_journal.proofs.Images.{files_for, for_on, kept_on, either_on}
 use Rattle.kom_journal.proofs.Sound.{SoundFor, shut_sound, makes_none, either_of, one_of}
 use Rattle.kom_journal.proofs.Spelled.{effects_of_none, spelled_none, spells_more, none_waits}
 
@@ -128,11 +131,11 @@ module _ {D : Type 0} (moment : D → ℕ) (images_at : D → ℕ → List ℕ �
 
   module _ (told : IsTrue tells) (refused : Bool) (not : refused ≡ false) (old new : LogView D)
       (whole : Whole refused old) (short : length old.body < 2 ^ 64) (reads : images old.disk (bytes old.disk))
-      (db : Db) (base : AreFor (images old.disk) db) (fit : all_fit (effects_in old.body) db ≡ true) where
+      (db : Db) (base : AreFor (store.images images old.disk) db) (fit : all_fit (effects_in old.body) db ≡ true) where
     stands : StandsBefore db old.place (bytes old.disk)
     stands =
         stands_before db old.place (bytes old.disk) (images old.disk) (whole.stored not told)
-        (base (bytes old.disk) reads)
+        (files_for old.disk images db base (bytes old.disk) reads)
 
     leaves : (at : ℕ) (image : List ℕ) → IsShutOrWhole (take old.place (bytes old.disk)) (chunk_of old.body) at image
         → SoundFor db (apply_all (effects_in old.body) db) image
@@ -144,29 +147,32 @@ module _ {D : Type 0} (moment : D → ℕ) (images_at : D → ℕ → List ℕ �
     pub flush_moments :
         LeavesOnly moment images_at old.disk new.disk
         (IsShutOrWhole (take old.place (bytes old.disk)) (chunk_of old.body))
-        → LeavesOnly moment images_at old.disk new.disk (IsForEither db (apply_all (effects_in old.body) db))
+        → LeavesOnly (store.moment moment) (store.images_at images_at) old.disk new.disk
+        (IsForEither db (apply_all (effects_in old.body) db))
     flush_moments any =
-        wider moment images_at old.disk new.disk
+        either_on moment images_at old.disk new.disk db (apply_all (effects_in old.body) db)
+        (wider moment images_at old.disk new.disk
         (IsShutOrWhole (take old.place (bytes old.disk)) (chunk_of old.body))
-        (IsForEither db (apply_all (effects_in old.body) db)) any
-        (λ at image from to is. either_of db (apply_all (effects_in old.body) db) image (leaves at image is))
+        (IsStoreOfEither db (apply_all (effects_in old.body) db)) any
+        (λ at image from to is. either_of db (apply_all (effects_in old.body) db) image (leaves at image is)))
 
     -- each image is sound
     pub flush_kept : LeavesOnly moment images_at old.disk new.disk
         (IsShutOrWhole (take old.place (bytes old.disk)) (chunk_of old.body))
         → ((image : List ℕ) → images new.disk image → images_at new.disk (moment new.disk) image)
-        → IsKept (images new.disk)
-    flush_kept any now image left =
-        (leaves (moment new.disk) image
-        (any.each (moment new.disk) image any.forward (omega arith) (now image left))).sound
+        → IsKept (store.images images new.disk)
+    flush_kept any now =
+        kept_on new.disk images (λ image left. (leaves (moment new.disk) image
+        (any.each (moment new.disk) image any.forward (omega arith) (now image left))).sound)
 
     -- and after it
     pub flush_rows : Only (bytes new.disk) (images new.disk)
         → bytes new.disk ≡ take old.place (bytes old.disk) ++ batches (flushed old.body) ++ 0 ∷ []
-        → AreFor (images new.disk) (apply_all (effects_in old.body) db)
-    flush_rows stable is image left =
+        → AreFor (store.images images new.disk) (apply_all (effects_in old.body) db)
+    flush_rows stable is =
         let found : SoundFor (apply_all (effects_in old.body) db) (apply_all (effects_in old.body) db) (bytes new.disk) =
         flush_leaves_all db old.place (bytes old.disk) stands (effects_in old.body) old.body whole.spelled.whole
         whole.spelled.coded fit short (bytes new.disk) is in
-        subst (StandsFor (apply_all (effects_in old.body) db)) (sym (stable image left))
-        (one_of (apply_all (effects_in old.body) db) (bytes new.disk) found)
+        for_on new.disk images (apply_all (effects_in old.body) db)
+        (λ image left. subst (IsStoreOf (apply_all (effects_in old.body) db)) (sym (stable image left))
+        (one_of (apply_all (effects_in old.body) db) (bytes new.disk) found))

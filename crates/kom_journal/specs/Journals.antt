@@ -3,7 +3,7 @@ use Rattle.std.specs.Prelude.{◌≡◌, ℕ, Bool, false, IsTrue, List}
 use Rattle.kom_types.specs.declared.effects.Effect.{Effect}
 use Rattle.batch_log.specs.Gates.{IsAtRest}
 use Rattle.batch_log.specs.Walk.{IsReadTo}
-use Rattle.kom_journal.specs.Images.{header}
+use Rattle.kom_journal.specs.Files.{header}
 use Rattle.kom_journal.specs.Pending.{IsSpelled}
 
 -- a journal: its disk; the effects that wait for a flush; for how many bytes more it has room;

@@ -1,4 +1,5 @@
 pub mod Batch
+pub mod Files
 pub mod Images
 pub mod Journals
 pub mod Laws

@@ -8,7 +8,7 @@ use Rattle.kom_disk.specs.Moments.{LeavesOnly}
 use Rattle.batch_log.specs.Batches.{batches, sized, AreShort, HasBatches}
 use Rattle.batch_log.specs.Walk.{IsReadTo}
 use Rattle.effect_codec.specs.Coding.{IsInRange}
-use Rattle.kom_journal.specs.Images.{Image, StandsFor, header, body_of, all_of}
+use Rattle.kom_journal.specs.Files.{IsStoreOf, header, body_of, all_of}
 
 -- the effects of these batches all fit, one after the other from the empty rows on, and make these
 pub record Makes (lists : List (List Effect)) (db : Db) : Type 0 where
@@ -46,9 +46,9 @@ pub record HasFurther (db : Db) (effects : List Effect) (file : List ℕ) : Type
   pub whole : file ≡ store_of lists ++ gate ∷ (sized (body_of effects) ++ 0 ∷ more)
   pub fit : all_fit effects db ≡ true
 
-abbrev pub IsLeftOf : List ℕ → Db → Image → Type 0
-IsLeftOf file db image = StandsFor db image
-    ⊎ ((effects : List Effect) × HasFurther db effects file × StandsFor (apply_all effects db) image)
+abbrev pub IsLeftOfFile : List ℕ → Db → List ℕ → Type 0
+IsLeftOfFile file db image = IsStoreOf db image
+    ⊎ ((effects : List Effect) × HasFurther db effects file × IsStoreOf (apply_all effects db) image)
 
 -- until some moment a stop leaves what it could before, and from then on what has this fact
 abbrev pub IsUntil : {I : Type 0} → ℕ → (I → Type 0) → (I → Type 0) → ℕ → I → Type 0
@@ -61,7 +61,7 @@ module _ {D I : Type 0} (moment : D → ℕ) (images_at : D → ℕ → I → Ty
     pub leaves : LeavesOnly moment images_at old new (IsUntil synced before after)
 
 -- the file has so many batches
-pub record HasCount (count : ℕ) (file : List ℕ) : Type 0 where
+pub record CountsBatches (count : ℕ) (file : List ℕ) : Type 0 where
   pub bodies : List (List ℕ)
   pub has : HasBatches header bodies file
   pub counts : length bodies ≡ count

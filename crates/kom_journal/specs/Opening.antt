@@ -7,7 +7,7 @@ use Rattle.kom_model.specs.Db.{Db, empty_db}
 use Rattle.kom_model.specs.Effects.{apply_all, all_fit, fits}
 use Rattle.batch_log.specs.Batches.{sized, batch, AreShort, IsBroken}
 use Rattle.effect_codec.specs.Coding.{coded_effect, IsInRange}
-use Rattle.kom_journal.specs.Images.{header, body_of, all_of}
+use Rattle.kom_journal.specs.Files.{header, body_of, all_of}
 use Rattle.kom_journal.specs.declared.errors.OpenFault.{OpenFault}
 use Rattle.kom_journal.specs.declared.errors.OpenFault.TheVariants as fault
 
@@ -66,13 +66,13 @@ pub record IsTooShort (len : ℕ) (file : List ℕ) : Type 0 where
   pub begins : file ≡ take len header
 
 -- why a store is not opened, where the disk does not fail and memory does not run out
-abbrev pub IsCause : List ℕ → OpenFault → Type 0
-IsCause file fault.Fault = Unit {0}
-IsCause file (fault.Foreign place byte) = IsForeignAt place byte file
-IsCause file (fault.Short len) = IsTooShort len file
-IsCause file (fault.Damaged place) = IsDamagedAt place file
-IsCause file (fault.Used len) = ⊥
-IsCause file fault.Memory = Unit {0}
+abbrev pub IsCauseInFile : List ℕ → OpenFault → Type 0
+IsCauseInFile file fault.Fault = Unit {0}
+IsCauseInFile file (fault.Foreign place byte) = IsForeignAt place byte file
+IsCauseInFile file (fault.Short len) = IsTooShort len file
+IsCauseInFile file (fault.Damaged place) = IsDamagedAt place file
+IsCauseInFile file (fault.Used len) = ⊥
+IsCauseInFile file fault.Memory = Unit {0}
 
 -- why a store is not made: it fails, it is used, or memory has run out
 abbrev pub IsMakeFault : OpenFault → Type 0

@@ -4,7 +4,7 @@ use Rattle.std.specs.List.{AllByRecursion}
 use Rattle.kom_types.specs.declared.effects.Effect.{Effect}
 use Rattle.effect_codec.specs.Coding.{effect_at, IsInRange}
 use Rattle.effect_codec.specs.Fields.{Read, Whole, Short, Wrong}
-use Rattle.kom_journal.specs.Images.{body_of}
+use Rattle.kom_journal.specs.Files.{body_of}
 
 -- an effect, and then what the bytes after it spell
 abbrev pub and_after : Read Effect → (List ℕ → List Effect) → List Effect

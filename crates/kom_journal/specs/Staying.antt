@@ -3,7 +3,7 @@ use Rattle.std.proofs.Common.{◌≤◌, ℕ, List, ◌∷◌, length, length-ap
 use Rattle.std.proofs.Math.Nat.{le_trans, le-add_left}
 use Rattle.kom_types.specs.declared.effects.Effect.{Effect}
 use Rattle.effect_codec.specs.Coding.{coded_effect}
-use Rattle.kom_journal.specs.Images.{body_of}
+use Rattle.kom_journal.specs.Files.{body_of}
 use Rattle.kom_journal.specs.Journals.{JournalView, StaysAs}
 
 -- room for effects is room for those after the first

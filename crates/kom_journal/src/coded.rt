@@ -1,6 +1,6 @@
 // Effects as what a body is made of.
 ghost use Rattle.std.specs.Prelude.{◌≡◌, length, IfSome};
-ghost use Rattle.kom_journal.specs.Images.{body_of};
+ghost use Rattle.kom_journal.specs.Files.{body_of};
 
 use batch_log::Encode;
 use effect_codec::{append, coded_len};

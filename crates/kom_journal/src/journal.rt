@@ -10,15 +10,16 @@ ghost use Rattle.batch_log.specs.Log.{flushed, size_after};
 ghost use Rattle.effect_codec.specs.Coding.{coded_effect, IsShortEnough};
 ghost use Rattle.kom_model.specs.Db.{Db, empty_db};
 ghost use Rattle.kom_model.specs.Effects.{apply_all, all_fit};
-ghost use Rattle.kom_journal.specs.Images.{header, body_of, AreFor, IsKept, IsForEither};
-ghost use Rattle.kom_journal.specs.Images.{StandsFor};
-ghost use Rattle.kom_journal.specs.Opened.{HasCount, IsLeftOf, Opens};
-ghost use Rattle.kom_journal.specs.Opening.{IsCause, IsMakeFault};
+ghost use Rattle.kom_journal.specs.Files.{header, body_of};
+ghost use Rattle.kom_journal.specs.Images.{StandsFor, AreFor, IsKept, IsForEither, IsCause};
+ghost use Rattle.kom_journal.specs.Images.{HasCount, IsLeftOf, as_read, images, images_at, moment};
+ghost use Rattle.kom_journal.specs.Opened.{Opens};
+ghost use Rattle.kom_journal.specs.Opening.{IsMakeFault};
 
 use crate::coded::{Coded, total_len};
 use crate::errors::OpenFault;
 use crate::opening::open_rows;
-use batch_log::{FlushFault, Log};
+use batch_log::{Buffer, FlushFault, Log};
 use kom_disk::{Disk, Failed};
 use kom_state::StoredRows;
 use kom_types::{Effect, Memory};
@@ -67,27 +68,31 @@ impl<D: Disk> Journal<D> {
         ensures refused { IfOk result (λ journal. journal.refused ≡ false) }
         ensures batches { IfOk result (λ journal. journal.batches ≡ 0) }
         ensures rows { IsTrue D.tells
-            → IfOk result (λ journal. AreFor (D.images journal.disk) empty_db) }
-        ensures kept { IsTrue D.tells → IfOk result (λ journal. IsKept (D.images journal.disk)) }
-        ensures new { IsTrue D.tells → IfOk result (λ journal. D.bytes disk ≡ []) }
+            → IfOk result (λ journal. AreFor (images D.images journal.disk) empty_db) }
+        ensures kept { IsTrue D.tells → IfOk result (λ journal. IsKept (images D.images journal.disk)) }
+        ensures new { IsTrue D.tells → IfOk result (λ journal. D.size disk ≡ 0) }
+
+        // Why it is not made.
         ensures used { IsTrue D.tells → (n : ℕ) → IfErr result (λ refused.
-            refused.1 ≡ OpenFault.Used n → (n ≢ 0) × (n ≡ length (D.bytes disk))) }
+            refused.1 ≡ OpenFault.Used n → (n ≢ 0) × (n ≡ D.size disk)) }
         ensures kinds { IfErr result (λ refused. IsMakeFault refused.1) }
+        ensures out_of_memory { IfErr result (λ refused.
+            refused.1 ≡ OpenFault.Memory → refused.0 ≡ disk) }
         ensures cause { IfErr result (λ refused. refused.1 ≡ OpenFault.Fault
             → Rose (D.faults disk) (D.faults refused.0)) }
         ensures no_cause { IfOk result (λ journal. D.faults journal.disk ≡ D.faults disk) }
     {
+        let buffer = match Buffer::new(alloc) {
+            Ok(buffer) => buffer,
+            Err(_) => return Err((disk, OpenFault::Memory)),
+        };
         match write_header(&mut disk) {
-            Ok(()) => {}
-            Err(fault) => return Err((disk, fault)),
-        }
-        match Log::new(alloc, disk, FIRST_GATE, 0) {
-            Ok(log) => Ok(Journal {
-                log,
+            Ok(()) => Ok(Journal {
+                log: Log::new(buffer, disk, FIRST_GATE, 0),
                 refused: false,
                 batches: 0,
             }),
-            Err((disk, _)) => Err((disk, OpenFault::Memory)),
+            Err(fault) => Err((disk, fault)),
         }
     }
 
@@ -96,47 +101,49 @@ impl<D: Disk> Journal<D> {
     /// Memory grows with its rows, and with the longest of its effects, and not with its length.
     pub fn open(alloc: Global, mut disk: D) -> Result<(Journal<D>, StoredRows), (D, OpenFault)>
         ensures stands { IsTrue D.tells
-            → IfOk result (λ opened. StandsFor opened.1.db (D.bytes disk)) }
+            → IfOk result (λ opened. StandsFor opened.1.db (as_read D.bytes disk)) }
         ensures rows { IsTrue D.tells
-            → IfOk result (λ opened. AreFor (D.images opened.0.disk) opened.1.db) }
+            → IfOk result (λ opened. AreFor (images D.images opened.0.disk) opened.1.db) }
         ensures pending { IfOk result (λ opened. opened.0.pending ≡ []) }
         ensures refused { IfOk result (λ opened. opened.0.refused ≡ false) }
         ensures batches { IsTrue D.tells
-            → IfOk result (λ opened. HasCount opened.0.batches (D.bytes disk)) }
+            → IfOk result (λ opened. HasCount opened.0.batches (as_read D.bytes disk)) }
 
         // Why it is not opened.
-        ensures cause { IsTrue D.tells → IfErr result (λ refused. IsCause (D.bytes disk) refused.1) }
+        ensures cause { IsTrue D.tells
+            → IfErr result (λ refused. IsCause (as_read D.bytes disk) refused.1) }
         ensures fault { IfErr result (λ refused. refused.1 ≡ OpenFault.Fault
             → Rose (D.faults disk) (D.faults refused.0)) }
         ensures no_fault { IfOk result (λ opened. D.faults opened.0.disk ≡ D.faults disk) }
-        ensures undamaged { IsTrue D.tells → IsKept (D.images disk) → (place : ℕ)
+        ensures undamaged { IsTrue D.tells → IsKept (images D.images disk) → (place : ℕ)
             → IfErr result (λ refused. refused.1 ≢ OpenFault.Damaged place) }
 
         // What a stop leaves.
-        ensures any_moment { IsTrue D.tells → (db : Db) → StandsFor db (D.bytes disk)
-            → IsKept (D.images disk)
+        ensures any_moment { IsTrue D.tells → (db : Db) → StandsFor db (as_read D.bytes disk)
+            → IsKept (images D.images disk)
             → MatchResult result
-            (λ opened. Opens D.moment D.images_at disk opened.0.disk (D.images disk)
-            (IsLeftOf (D.bytes disk) db))
-            (λ refused. Opens D.moment D.images_at disk refused.0 (D.images disk)
-            (IsLeftOf (D.bytes disk) db)) }
-        ensures kept { IsTrue D.tells → IsKept (D.images disk) → MatchResult result
-            (λ opened. IsKept (D.images opened.0.disk)) (λ refused. IsKept (D.images refused.0)) }
+            (λ opened. Opens (moment D.moment) (images_at D.images_at) disk opened.0.disk
+            (images D.images disk) (IsLeftOf (as_read D.bytes disk) db))
+            (λ refused. Opens (moment D.moment) (images_at D.images_at) disk refused.0
+            (images D.images disk) (IsLeftOf (as_read D.bytes disk) db)) }
+        ensures kept { IsTrue D.tells → IsKept (images D.images disk) → MatchResult result
+            (λ opened. IsKept (images D.images opened.0.disk))
+            (λ refused. IsKept (images D.images refused.0)) }
     {
         let (rows, end) = match open_rows(alloc, &mut disk) {
             Ok(opened) => opened,
             Err(fault) => return Err((disk, fault)),
         };
-        match Log::new(alloc, disk, end.place, end.batches) {
-            Ok(log) => Ok((
+        match Buffer::new(alloc) {
+            Ok(buffer) => Ok((
                 Journal {
-                    log,
+                    log: Log::new(buffer, disk, end.place, end.batches),
                     refused: false,
                     batches: end.batches,
                 },
                 rows,
             )),
-            Err((disk, _)) => Err((disk, OpenFault::Memory)),
+            Err(_) => Err((disk, OpenFault::Memory)),
         }
     }
 
@@ -190,19 +197,19 @@ impl<D: Disk> Journal<D> {
         ensures left { (n : ℕ) → result ≡ Err (FlushFault.Full n) → self.new ≡ self.old }
 
         // What the store stands for after it.
-        ensures rows { IsTrue D.tells → (db : Db) → AreFor (D.images self.old.disk) db
+        ensures rows { IsTrue D.tells → (db : Db) → AreFor (images D.images self.old.disk) db
             → all_fit self.old.pending db ≡ true
-            → OnOk result (AreFor (D.images self.new.disk) (apply_all self.old.pending db)) }
+            → OnOk result (AreFor (images D.images self.new.disk) (apply_all self.old.pending db)) }
         ensures emptied { OnOk result (self.new.pending ≡ []) }
 
         // What a stop leaves.
-        ensures any_moment { IsTrue D.tells → (db : Db) → AreFor (D.images self.old.disk) db
+        ensures any_moment { IsTrue D.tells → (db : Db) → AreFor (images D.images self.old.disk) db
             → all_fit self.old.pending db ≡ true
-            → LeavesOnly D.moment D.images_at self.old.disk self.new.disk
+            → LeavesOnly (moment D.moment) (images_at D.images_at) self.old.disk self.new.disk
             (IsForEither db (apply_all self.old.pending db)) }
-        ensures kept { IsTrue D.tells → (db : Db) → AreFor (D.images self.old.disk) db
-            → all_fit self.old.pending db ≡ true → IsKept (D.images self.old.disk)
-            → IsKept (D.images self.new.disk) }
+        ensures kept { IsTrue D.tells → (db : Db) → AreFor (images D.images self.old.disk) db
+            → all_fit self.old.pending db ≡ true → IsKept (images D.images self.old.disk)
+            → IsKept (images D.images self.new.disk) }
 
         // What stays.
         ensures same_pending { OnErr result (self.new.pending ≡ self.old.pending) }
@@ -239,10 +246,11 @@ fn write_header<D: Disk>(disk: &mut D) -> Result<(), OpenFault>
     ensures written { IsTrue D.tells → OnOk result
         (IsStable (header ++ 0 ∷ []) (D.bytes disk.new) (D.images disk.new)) }
     ensures size { OnOk result (D.size disk.new ≡ 17) }
-    ensures new { IsTrue D.tells → OnOk result (D.bytes disk.old ≡ []) }
+    ensures new { IsTrue D.tells → OnOk result (D.size disk.old ≡ 0) }
     ensures used { IsTrue D.tells → (n : ℕ) → result ≡ Err (OpenFault.Used n)
-        → (n ≢ 0) × (n ≡ length (D.bytes disk.old)) }
+        → (n ≢ 0) × (n ≡ D.size disk.old) }
     ensures kinds { IfErr result IsMakeFault }
+    ensures no_memory { result ≢ Err OpenFault.Memory }
     ensures cause { result ≡ Err OpenFault.Fault → Rose (D.faults disk.old) (D.faults disk.new) }
     ensures no_cause { OnOk result (D.faults disk.new ≡ D.faults disk.old) }
 {

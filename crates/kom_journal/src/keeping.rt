@@ -7,7 +7,7 @@ use kom_types::{Effect, Memory};
 
 impl<D: Disk> Keeper for Journal<D> {
     ghost use Rattle.std.specs.Prelude.{◌≤◌, Some, length};
-    ghost use Rattle.kom_journal.specs.Images.{body_of};
+    ghost use Rattle.kom_journal.specs.Files.{body_of};
     ghost use Rattle.kom_journal.specs.Journals.{StaysAs};
     ghost use Rattle.kom_journal.specs.Staying.{less_room, itself, in_turn};
 

@@ -5,10 +5,10 @@ ghost use Rattle.kom_disk.specs.Faults.{Rose};
 ghost use Rattle.kom_disk.specs.Moments.{LeavesOnly};
 ghost use Rattle.batch_log.specs.Walk.{Stays};
 ghost use Rattle.kom_model.specs.Db.{Db};
-ghost use Rattle.kom_journal.specs.Images.{header, StandsFor, AreFor, IsKept};
+ghost use Rattle.kom_journal.specs.Files.{header, IsStoreOf, AreStoresOf, AreSoundFiles};
 ghost use Rattle.kom_journal.specs.Journals.{IsStored};
-ghost use Rattle.kom_journal.specs.Opening.{IsCause, IsForeignAt};
-ghost use Rattle.kom_journal.specs.Opened.{IsMadeOf, IsLeftOf, Opens, HasCount};
+ghost use Rattle.kom_journal.specs.Opening.{IsCauseInFile, IsForeignAt};
+ghost use Rattle.kom_journal.specs.Opened.{IsMadeOf, IsLeftOfFile, Opens, CountsBatches};
 ghost use Rattle.kom_journal.specs.Batch.{IsNext, IsNoNext, EndsBefore, IsWithin};
 
 use crate::bodies::make_body;
@@ -40,7 +40,7 @@ pub(crate) fn check_header<D: Disk>(disk: &mut D, len: u64) -> Result<(), OpenFa
     requires { len ≡ D.size disk.old }
     ensures ok { IsTrue D.tells → OnOk result (take 16 (D.bytes disk.old) ≡ header) }
     ensures long { OnOk result (17 ≤ len) }
-    ensures cause { IsTrue D.tells → IfErr result (IsCause (D.bytes disk.old)) }
+    ensures cause { IsTrue D.tells → IfErr result (IsCauseInFile (D.bytes disk.old)) }
     ensures size { D.size disk.new ≡ D.size disk.old }
     ensures bytes { IsTrue D.tells → D.bytes disk.new ≡ D.bytes disk.old }
     ensures stop { IsTrue D.tells → LeavesOnly D.moment D.images_at disk.old disk.new
@@ -85,7 +85,7 @@ pub(crate) fn make_rows<D: Disk>(
     ensures made { IsTrue D.tells → IfOk result (λ made. IsMadeOf made.1.place made.1.gate
         made.1.batches made.0.db (D.bytes disk.old)) }
     ensures within { IfOk result (λ made. IsWithin len made.1) }
-    ensures cause { IsTrue D.tells → IfErr result (IsCause (D.bytes disk.old)) }
+    ensures cause { IsTrue D.tells → IfErr result (IsCauseInFile (D.bytes disk.old)) }
     ensures size { D.size disk.new ≡ D.size disk.old }
     ensures bytes { IsTrue D.tells → D.bytes disk.new ≡ D.bytes disk.old }
     ensures stop { IsTrue D.tells → LeavesOnly D.moment D.images_at disk.old disk.new
@@ -181,7 +181,7 @@ fn read_store<D: Disk>(alloc: Global, disk: &mut D) -> Result<(StoredRows, End),
     ensures made { IsTrue D.tells → IfOk result (λ made. IsMadeOf made.1.place made.1.gate
         made.1.batches made.0.db (D.bytes disk.old)) }
     ensures within { IfOk result (λ made. IsWithin (D.size disk.new) made.1) }
-    ensures cause { IsTrue D.tells → IfErr result (IsCause (D.bytes disk.old)) }
+    ensures cause { IsTrue D.tells → IfErr result (IsCauseInFile (D.bytes disk.old)) }
     ensures bytes { IsTrue D.tells → D.bytes disk.new ≡ D.bytes disk.old }
     ensures stop { IsTrue D.tells → LeavesOnly D.moment D.images_at disk.old disk.new
         (Stays (D.images disk.old)) }
@@ -202,20 +202,20 @@ pub(crate) fn open_rows<D: Disk>(
     disk: &mut D,
 ) -> Result<(StoredRows, End), OpenFault>
     ensures stands { IsTrue D.tells
-        → IfOk result (λ opened. StandsFor opened.0.db (D.bytes disk.old)) }
+        → IfOk result (λ opened. IsStoreOf opened.0.db (D.bytes disk.old)) }
     ensures rows { IsTrue D.tells
-        → IfOk result (λ opened. AreFor (D.images disk.new) opened.0.db) }
+        → IfOk result (λ opened. AreStoresOf (D.images disk.new) opened.0.db) }
     ensures stored { IsTrue D.tells
         → IfOk result (λ opened. IsStored opened.1.place (D.bytes disk.new) (D.images disk.new)) }
     ensures counts { IsTrue D.tells
-        → IfOk result (λ opened. HasCount opened.1.batches (D.bytes disk.old)) }
+        → IfOk result (λ opened. CountsBatches opened.1.batches (D.bytes disk.old)) }
     ensures within { IfOk result (λ opened.
         (opened.1.place < D.size disk.new) × (opened.1.batches ≤ opened.1.place)) }
-    ensures cause { IsTrue D.tells → IfErr result (IsCause (D.bytes disk.old)) }
-    ensures any_moment { IsTrue D.tells → (db : Db) → StandsFor db (D.bytes disk.old)
-        → IsKept (D.images disk.old) → Opens D.moment D.images_at disk.old disk.new
-        (D.images disk.old) (IsLeftOf (D.bytes disk.old) db) }
-    ensures kept { IsTrue D.tells → IsKept (D.images disk.old) → IsKept (D.images disk.new) }
+    ensures cause { IsTrue D.tells → IfErr result (IsCauseInFile (D.bytes disk.old)) }
+    ensures any_moment { IsTrue D.tells → (db : Db) → IsStoreOf db (D.bytes disk.old)
+        → AreSoundFiles (D.images disk.old) → Opens D.moment D.images_at disk.old disk.new
+        (D.images disk.old) (IsLeftOfFile (D.bytes disk.old) db) }
+    ensures kept { IsTrue D.tells → AreSoundFiles (D.images disk.old) → AreSoundFiles (D.images disk.new) }
     ensures fault { result ≡ Err OpenFault.Fault → Rose (D.faults disk.old) (D.faults disk.new) }
     ensures no_fault { IfOk result (λ opened. D.faults disk.new ≡ D.faults disk.old) }
 {

@@ -1,9 +1,12 @@
-use Rattle.kom_journal.proofs.Damage.{stands_whole}
+use Rattle.kom_journal.specs.Images.{StandsFor, IsDamaged}
+use Rattle.kom_journal.proofs.Damage.{stands_whole, damaged_once}
 use Rattle.kom_journal.proofs.Unique.{stands_for_one}
 use Rattle.kom_journal.proofs.laws.images_stand_for_one.Goals as goal
 
 pub returns : goal.returns
+unfolding StandsFor IsDamaged
 returns c = record {
-  rows = stands_for_one;
-  undamaged = λ image db place. stands_whole db image place;
+  rows = λ image. stands_for_one image.file;
+  undamaged = λ image db place. stands_whole db image.file place;
+  damaged_once = λ image place other. damaged_once image.file place other;
 }

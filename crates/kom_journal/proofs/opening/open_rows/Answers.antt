@@ -1,5 +1,5 @@
 use Rattle.std.proofs.Common.{sym, subst, ◌∙◌}
-use Rattle.kom_journal.specs.Opened.{IsMadeOf, IsLeftOf}
+use Rattle.kom_journal.specs.Opened.{IsMadeOf, IsLeftOfFile}
 use Rattle.kom_journal.proofs.Opened.{gate_is, counts_all, sync_fails, read_leaves, read_opens, repair_opens, repair_keeps}
 use Rattle.kom_journal.proofs.Opens.{opened_stands, repaired_sound, repaired_stored}
 use Rattle.kom_journal.proofs.Sound.{one_of}
@@ -9,7 +9,7 @@ pub returns-in-Err-clause-any_moment : goal.returns-in-Err-clause-any_moment
 returns-in-Err-clause-any_moment g c told db stands kept =
     sync_fails g.D.Disk.moment g.D.Disk.images_at g.D.Disk.bytes g.D.Disk.images g.D.Disk.tells told
     (λ disk image. g.met.D.Disk.images_now disk image told) c.args.disk.now c.sync.new.self
-    (IsLeftOf (g.D.Disk.bytes c.args.disk.now) db) c.sync.ensures.time (c.sync.ensures.stop told)
+    (IsLeftOfFile (g.D.Disk.bytes c.args.disk.now) db) c.sync.ensures.time (c.sync.ensures.stop told)
 
 pub returns-in_err-rows-clause-any_moment : goal.returns-in_err-rows-clause-any_moment
 returns-in_err-rows-clause-any_moment g c told db stands kept =

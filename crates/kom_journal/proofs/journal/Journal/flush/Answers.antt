@@ -1,7 +1,11 @@
-use Rattle.std.proofs.Common.{◌<◌, ◌+◌, ◌^◌, ℕ, List, length, ap, ◌∙◌}
+use Rattle.std.proofs.Common.{◌<◌, ◌+◌, ◌^◌, ℕ, List, length, ap, sym, subst, refl, ◌∙◌}
+use Rattle.kom_disk.specs.Moments.{LeavesOnly}
+use Rattle.kom_model.specs.Effects.{apply_all}
 use Rattle.batch_log.specs.Batches.{batches}
 use Rattle.batch_log.specs.Log.{flushed}
+use Rattle.kom_journal.specs.Images.{images_at, moment, IsForEither}
 use Rattle.kom_journal.specs.Pending.{effects_in}
+use Rattle.kom_journal.proofs.Images.{stays_for}
 use Rattle.kom_journal.proofs.Spelled.{effects_of_none}
 use Rattle.kom_journal.proofs.Views.{short_of, full_is, flushed_whole, flush_moments, flush_kept, flush_rows}
 use Rattle.kom_journal.proofs.journal.Journal.flush.Goals as goal
@@ -95,3 +99,20 @@ returns-in-Err-Full-clause-full g c =
     rw (← c.self.view_is)
     (full_is _ c.self.inside.refused c.self.inside.log.place c.self.inside.log.body c.self.invariant.spelled
     c.if-self.false (rw c.in-Err-Full.field-0-is at c.in-Err-Full.ensures).full)
+
+pub returns-then-self-clause-any_moment : goal.returns-then-self-clause-any_moment
+returns-then-self-clause-any_moment g c =
+    rw (← c.self.view_is) (λ told db base fit.
+    stays_for g.D.Disk.moment g.D.Disk.images_at g.D.Disk.images c.self.inside.log.disk
+    (λ image. g.met.D.Disk.images_now c.self.inside.log.disk image told) db
+    (apply_all (effects_in c.self.inside.log.body) db) base)
+
+pub returns-in-Err-Full-clause-any_moment : goal.returns-in-Err-Full-clause-any_moment
+returns-in-Err-Full-clause-any_moment g c =
+    let log = c.self.inside.log in
+    let said = rw c.in-Err-Full.field-0-is at c.in-Err-Full.ensures in
+    rw (← c.self.view_is) (λ told db base fit.
+    subst (λ l. LeavesOnly (moment g.D.Disk.moment) (images_at g.D.Disk.images_at) log.disk l.disk
+    (IsForEither db (apply_all (effects_in log.body) db))) (sym (said.refused c.in-Err-Full.len refl))
+    (stays_for g.D.Disk.moment g.D.Disk.images_at g.D.Disk.images log.disk
+    (λ image. g.met.D.Disk.images_now log.disk image told) db (apply_all (effects_in log.body) db) base))

@@ -1,6 +1,7 @@
 use Rattle.std.proofs.Common.{ap, ◌∙◌}
 use Rattle.kom_model.specs.Db.{empty_db}
 use Rattle.kom_journal.specs.Pending.{effects_in}
+use Rattle.kom_journal.proofs.Images.{for_on, kept_on}
 use Rattle.kom_journal.proofs.Sound.{one_of}
 use Rattle.kom_journal.proofs.Spelled.{effects_of_none}
 use Rattle.kom_journal.proofs.Views.{made_whole, made_for}
@@ -8,20 +9,27 @@ use Rattle.kom_journal.proofs.journal.Journal.make.Goals as goal
 
 pub invariant_of-result : goal.invariant_of-result
 invariant_of-result g c =
+    let made = c.new-in-Ok-write_header in
     made_whole g.D.Disk.moment g.D.Disk.images_at g.D.Disk.bytes g.D.Disk.images g.D.Disk.tells
-    c.write_header.new.disk c.in-Ok-new.log c.in-Ok-new.ensures.disk c.in-Ok-new.ensures.place
-    c.in-Ok-new.ensures.empty c.in-Ok.ensures.written
+    c.write_header.new.disk made.result made.ensures.disk made.ensures.place made.ensures.empty
+    c.in-Ok-write_header.ensures.written
 
-pub returns-in-Ok-new-clause-pending : goal.returns-in-Ok-new-clause-pending
-returns-in-Ok-new-clause-pending g c = ap effects_in c.in-Ok-new.ensures.empty ∙ effects_of_none
+pub returns-in-Ok-write_header-clause-pending : goal.returns-in-Ok-write_header-clause-pending
+returns-in-Ok-write_header-clause-pending g c =
+    ap effects_in c.new-in-Ok-write_header.ensures.empty ∙ effects_of_none
 
-pub returns-in-Ok-new-clause-rows : goal.returns-in-Ok-new-clause-rows
-returns-in-Ok-new-clause-rows g c told image left =
-    one_of empty_db image
+pub returns-in-Ok-write_header-clause-rows : goal.returns-in-Ok-write_header-clause-rows
+returns-in-Ok-write_header-clause-rows g c told =
+    let made = c.new-in-Ok-write_header in
+    for_on made.result.disk g.D.Disk.images empty_db
+    (λ bytes left. one_of empty_db bytes
     (made_for g.D.Disk.moment g.D.Disk.images_at g.D.Disk.bytes g.D.Disk.images g.D.Disk.tells
-    c.write_header.new.disk c.in-Ok-new.log.disk c.in-Ok-new.ensures.disk (c.in-Ok.ensures.written told) image left)
+    c.write_header.new.disk made.result.disk made.ensures.disk (c.in-Ok-write_header.ensures.written told) bytes left))
 
-pub returns-in-Ok-new-clause-kept : goal.returns-in-Ok-new-clause-kept
-returns-in-Ok-new-clause-kept g c told image left =
-    (made_for g.D.Disk.moment g.D.Disk.images_at g.D.Disk.bytes g.D.Disk.images g.D.Disk.tells
-    c.write_header.new.disk c.in-Ok-new.log.disk c.in-Ok-new.ensures.disk (c.in-Ok.ensures.written told) image left).sound
+pub returns-in-Ok-write_header-clause-kept : goal.returns-in-Ok-write_header-clause-kept
+returns-in-Ok-write_header-clause-kept g c told =
+    let made = c.new-in-Ok-write_header in
+    kept_on made.result.disk g.D.Disk.images
+    (λ bytes left. (made_for g.D.Disk.moment g.D.Disk.images_at g.D.Disk.bytes g.D.Disk.images g.D.Disk.tells
+    c.write_header.new.disk made.result.disk made.ensures.disk (c.in-Ok-write_header.ensures.written told) bytes
+    left).sound)
