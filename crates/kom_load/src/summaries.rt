@@ -1,7 +1,7 @@
-ghost use Rattle.std.specs.Prelude.{◌≡◌, ◌++◌, IfOk, OnOk};
-ghost use Rattle.kom_load.specs.Summaries.{line, lines_of};
+ghost use Rattle.std.specs.Prelude.{◌≡◌, IfOk};
+ghost use Rattle.kom_load.specs.Summaries.{lines_of};
 
-use itoa::Buffer;
+use kom_commands::push_line;
 use kom_types::{Bytes, Memory};
 use std::alloc::Global;
 
@@ -29,15 +29,4 @@ impl Summary {
         push_line(&mut bytes, b"texts", self.texts)?;
         Ok(Bytes::of(bytes))
     }
-}
-
-/// Adds a word and a number, as a line.
-fn push_line(bytes: &mut Vec<u8>, word: &[u8], number: u64) -> Result<(), Memory>
-    ensures { OnOk result (bytes.new.items ≡ bytes.old.items ++ line word.now number) }
-{
-    bytes.extend_from_slice(word)?;
-    bytes.push(b' ')?;
-    bytes.extend_from_slice(Buffer::new().format(number).as_bytes())?;
-    bytes.push(b'\n')?;
-    Ok(())
 }

@@ -1,0 +1,36 @@
+ghost use Rattle.std.specs.Prelude.{◌≡◌};
+ghost use Rattle.kom_commands.specs.Statuses.{status_of};
+
+/// What went wrong as a command was carried out.
+#[derive(Clone, Copy, Debug)]
+pub struct Cases {
+    /// The disk failed, was not opened, or the store on it refused a flush.
+    pub store_failed: bool,
+    /// The disk holds no store, or is not empty where one is to be made.
+    pub is_unfit: bool,
+    /// A gate failed, or the world.
+    pub gate_failed: bool,
+    /// Memory ran out outside a session.
+    pub no_memory: bool,
+}
+
+impl Cases {
+    /// The exit status, by these cases and whether the sink failed.
+    pub fn status(self, sink_failed: bool) -> u8
+        ensures { result ≡ status_of self sink_failed }
+    {
+        if self.store_failed {
+            3
+        } else if self.is_unfit {
+            4
+        } else if self.gate_failed {
+            5
+        } else if sink_failed {
+            7
+        } else if self.no_memory {
+            6
+        } else {
+            0
+        }
+    }
+}

@@ -1,0 +1,11 @@
+//! The command lines of the program: what its words ask for, its exit statuses, and the lines of its
+//! reports.
+#![tactic(auto)]
+
+mod cases;
+mod reports;
+mod words;
+
+pub use cases::Cases;
+pub use reports::{MADE, check_report, push_line, put_text};
+pub use words::{Command, command_of};

@@ -1,0 +1,71 @@
+// The words of a command line.
+ghost use Rattle.std.specs.Prelude.{[], ◌∷◌, MatchOption};
+ghost use Rattle.kom_commands.specs.Words.{IsSpelled, IsRefused};
+
+use kom_types::Words;
+
+/// A command of the program.
+#[derive(Clone, Copy, Debug)]
+pub enum Command {
+    /// Serves standard input and output, on a new server.
+    Once,
+    /// The same on the server that a store keeps.
+    OnceOver,
+    /// Makes a store.
+    Init,
+    /// Opens a store, and tells what it holds.
+    Check,
+}
+
+// The most bytes of a password.
+const LONGEST_PASSWORD: usize = 128;
+
+/// The command that the words are, if they are one.
+pub fn command_of(words: &Words) -> Option<Command>
+    ensures { MatchOption result (IsRefused words.now) (IsSpelled words.now) }
+{
+    match words.len() {
+        1 => command_alone(words.word(0)),
+        2 => command_over(words.word(0), words.word(1)),
+        3 => command_with(words.word(0), words.word(1), words.word(2)),
+        _ => None,
+    }
+}
+
+fn command_alone(word: &str) -> Option<Command>
+    ensures { MatchOption result (IsRefused (word.now ∷ [])) (IsSpelled (word.now ∷ [])) }
+{
+    if word == "once" {
+        Some(Command::Once)
+    } else {
+        None
+    }
+}
+
+fn command_over(word: &str, store: &str) -> Option<Command>
+    ensures { MatchOption result (IsRefused (word.now ∷ store.now ∷ []))
+        (IsSpelled (word.now ∷ store.now ∷ [])) }
+{
+    if store.is_empty() {
+        None
+    } else if word == "once" {
+        Some(Command::OnceOver)
+    } else if word == "check" {
+        Some(Command::Check)
+    } else {
+        None
+    }
+}
+
+fn command_with(word: &str, store: &str, password: &str) -> Option<Command>
+    ensures { MatchOption result (IsRefused (word.now ∷ store.now ∷ password.now ∷ []))
+        (IsSpelled (word.now ∷ store.now ∷ password.now ∷ [])) }
+{
+    if store.is_empty() || LONGEST_PASSWORD < password.len() {
+        None
+    } else if word == "init" {
+        Some(Command::Init)
+    } else {
+        None
+    }
+}
