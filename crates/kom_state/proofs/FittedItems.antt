@@ -15,23 +15,11 @@ use Rattle.kom_types.specs.tables.Texts.{number_of_text}
 use Rattle.kom_model.specs.Db.{Db, conference_of, text_of, items_of, next_item_of}
 use Rattle.kom_model.specs.Effects.{fits, has_object, has_item}
 use Rattle.aux_items.specs.Items.{item_numbered}
-use Rattle.kom_state.specs.Drawing.{next_item}
-
--- whether the text, or the conference, is there
-abbrev pub is_there : Bool → ℕ → List ConferenceRow → List TextRow → Bool
-is_there true object conferences texts = is_some (row_of number_of_text object texts)
-is_there false object conferences texts = is_some (row_of number_of_conference object conferences)
+use Rattle.kom_state.proofs.Drawn.{next_item}
 
 pub record ItemFits (db : Db) (on_text : Bool) (object : ℕ) (item : AuxRow) : Type 0 where
-  pub there : is_there on_text object db.conferences db.texts ≡ true
   pub from : next_item on_text object db.conferences db.texts ≤ item.number
   pub last : item.number ≤ 4294967294
-
-there_is : (db : Db) (on_text : Bool) (object : ℕ) →
-    has_object db on_text object ≡ is_there on_text object db.conferences db.texts
-unfolding text_of conference_of
-there_is db true object = refl
-there_is db false object = refl
 
 next_is : (db : Db) (on_text : Bool) (object : ℕ) →
     next_item_of db on_text object ≡ next_item on_text object db.conferences db.texts
@@ -45,7 +33,6 @@ unfolding fits
 item-fits db on_text object item fits' =
     let known = (and_parts _ _ (and_parts _ _ fits').0).0 in let last = and_parts _ _ (and_parts _ _ known).0 in
     let from = and_parts _ _ last.0 in record {
-      there = sym (there_is db on_text object) ∙ from.0;
       from = rw (← next_is db on_text object) (leb-true _ _ from.1);
       last = leb-true _ _ last.1;
     }

@@ -1,93 +1,148 @@
--- What is kept of the conferences and their names stays so when a conference is added, changed or taken away.
-use Rattle.std.proofs.Common.{◌≡◌, ℕ, ◌+◌, ◌≤◌, true, false, List, [], None, is_some, refl, sym, ap, ◌∙◌, arith}
-use Rattle.std.specs.List.{list_any}
+-- What is kept of the rows stays so as effects that fit are made.
+use Rattle.std.proofs.Common.{◌≡◌, ℕ, ◌<◌, ◌≤◌, true, false, List, map, None, refl, sym, ap, ◌∙◌, arith}
 use Rattle.std.proofs.lemmas.Bool.{and_parts, not-true, leb-true}
-use Rattle.row_table.specs.Tables.{row_of, with_row, without_row, changed_row}
-use Rattle.row_table.proofs.Rows.{IsByNumber-with_row, IsByNumber-without_row, IsByNumber-changed_row}
-use Rattle.kom_types.specs.declared.conferences.ConferenceRow.{ConferenceRow}
+use Rattle.row_table.specs.Tables.{changed_row}
+use Rattle.kom_types.specs.declared.effects.Counter.{Counter}
+use Rattle.kom_types.specs.declared.effects.Counter.TheVariants as counter
+use Rattle.kom_types.specs.declared.effects.Effect.{Effect}
 use Rattle.kom_types.specs.declared.effects.Effect.TheVariants as effect
+use Rattle.kom_types.specs.declared.effects.PersonField.{PersonField}
+use Rattle.kom_types.specs.declared.effects.PersonField.TheVariants as person_field
+use Rattle.kom_types.specs.declared.persons.PersonRow.{PersonRow}
 use Rattle.kom_types.specs.tables.Conferences as Conferences
-use Rattle.kom_types.specs.tables.Conferences.{number_of_conference}
+use Rattle.kom_types.specs.tables.Persons as Persons
+use Rattle.kom_types.specs.tables.Persons.{number_of_person, fresh_person, counted}
 use Rattle.kom_model.specs.Db.{Db, conference_of, conferences_of}
-use Rattle.kom_model.specs.Effects.{fits, may_name}
+use Rattle.kom_model.specs.Effects.{fits, made, may_name}
+use Rattle.kom_model.specs.Whole.{IsWhole}
+use Rattle.kom_model.proofs.whole.Effects.{made-whole}
 use Rattle.name_lookup.specs.NamedRows.{Named, with_name, without_name, taken}
-use Rattle.kom_state.specs.Keeping.{name_row, IsKept}
-use Rattle.kom_state.proofs.Below.{below-with_row, below-without_row, below-changed_row}
-use Rattle.kom_state.proofs.Names.{is_other, names-with_row, names-without_row, names-kept, names-renamed, taken-free}
+use Rattle.kom_state.specs.Keeping.{name_row, DrawFromOne, IsKept}
+use Rattle.kom_state.proofs.Names.{names-with_row, names-without_row, names-kept, names-renamed, name-with_field}
+use Rattle.kom_state.proofs.Names.{taken-free}
+use Rattle.kom_state.proofs.TableRows.{all_with_row, all_without_row, all_changed_row}
 
-may_name-free : (db : Db) (number : ℕ) (name : List ℕ) → may_name db number name ≡ true →
-    list_any (is_other number name) db.conferences ≡ false
+-- ---- the names of the conferences
+-- the names after an effect
+abbrev pub names_made : Effect → List Named → List Named
+names_made (effect.ConfAdded number name kind at creator supervisor) names = with_name number name names
+names_made (effect.ConfGone number) names = without_name number names
+names_made (effect.ConfNamed number name) names = with_name number name names
+names_made other names = names
+
+made-names : (what : Effect) (db : Db) → fits what db ≡ true → IsWhole db →
+    map name_row (made what db).conferences ≡ names_made what (map name_row db.conferences)
+unfolding fits made conference_of
+made-names (effect.ConfAdded number name kind at creator supervisor) db fit whole = names-with_row _ db.conferences
+made-names (effect.ConfGone number) db fit whole = names-without_row number db.conferences
+made-names (effect.ConfNamed number name) db fit whole =
+    names-renamed number name db.conferences whole.conferences.rising (and_parts _ _ fit).0
+made-names (effect.ConfField number what) db fit whole =
+    names-kept number (Conferences.with_field what) db.conferences (name-with_field what)
+made-names (effect.PersonAdded number privileges flags last_login) db fit whole = refl
+made-names (effect.PersonGone number) db fit whole = refl
+made-names (effect.PersonField number what) db fit whole = refl
+made-names (effect.Password number hash) db fit whole = refl
+made-names (effect.LoggedIn number at user) db fit whole = refl
+made-names (effect.Counted number counter by) db fit whole = refl
+made-names (effect.TextAdded number author at body) db fit whole = refl
+made-names (effect.TextGone number) db fit whole = refl
+made-names (effect.RecipientAdded given) db fit whole =
+    names-kept given.conference (Conferences.with_local_drawn given.local) db.conferences (λ row. refl)
+made-names (effect.RecipientGone text conference) db fit whole = refl
+made-names (effect.LinkAdded given) db fit whole = refl
+made-names (effect.LinkGone child parent footnote) db fit whole = refl
+made-names (effect.MemberSet person conference position priority added_by added_at kind) db fit whole = refl
+made-names (effect.MemberGone person conference) db fit whole = refl
+made-names (effect.ReadSet person conference at ranges) db fit whole = refl
+made-names (effect.MarkSet person text kind) db fit whole = refl
+made-names (effect.MarkGone person text) db fit whole = refl
+made-names (effect.AuxAdded true object item) db fit whole = refl
+made-names (effect.AuxAdded false object item) db fit whole =
+    names-kept object (Conferences.with_item_drawn item.number) db.conferences (λ row. refl)
+made-names (effect.AuxGone on_text object number) db fit whole = refl
+made-names (effect.Created person local text) db fit whole = refl
+
+-- ---- the number that a person gives to its next text
+field-positive : (what : PersonField) (row : PersonRow) → 0 < row.next_created →
+    0 < (Persons.with_field what row).next_created
+field-positive (person_field.Privileges privileges) row positive = positive
+field-positive (person_field.Flags flags) row positive = positive
+field-positive (person_field.UserArea text) row positive = positive
+
+counted-positive : (what : Counter) (by : ℕ) (row : PersonRow) → 0 < row.next_created →
+    0 < (counted what by row).next_created
+counted-positive counter.TimePresent by row positive = positive
+counted-positive counter.CreatedLines by row positive = positive
+counted-positive counter.CreatedBytes by row positive = positive
+counted-positive counter.ReadTexts by row positive = positive
+counted-positive counter.TextFetches by row positive = positive
+counted-positive counter.CreatedPersons by row positive = positive
+counted-positive counter.CreatedConferences by row positive = positive
+
+changed-from_one : (number : ℕ) (change : PersonRow → PersonRow) →
+    ((row : PersonRow) → 0 < row.next_created → 0 < (change row).next_created) → (rows : List PersonRow) →
+    DrawFromOne rows → DrawFromOne (changed_row number_of_person number change rows)
+changed-from_one number change keeps rows from =
+    all_changed_row number_of_person (λ row. 0 < row.next_created) number change keeps rows from
+
+made-from_one : (what : Effect) (db : Db) → DrawFromOne db.persons → DrawFromOne (made what db).persons
+unfolding made
+made-from_one (effect.ConfAdded number name kind at creator supervisor) db from = from
+made-from_one (effect.ConfGone number) db from = from
+made-from_one (effect.ConfNamed number name) db from = from
+made-from_one (effect.ConfField number what) db from = from
+made-from_one (effect.PersonAdded number privileges flags last_login) db from =
+    all_with_row number_of_person (λ row. 0 < row.next_created) (fresh_person number privileges flags last_login)
+    db.persons (omega arith) from
+made-from_one (effect.PersonGone number) db from =
+    all_without_row number_of_person (λ row. 0 < row.next_created) number db.persons from
+made-from_one (effect.PersonField number what) db from =
+    changed-from_one number (Persons.with_field what) (field-positive what) db.persons from
+made-from_one (effect.Password number hash) db from =
+    changed-from_one number (Persons.with_hash hash) (λ row positive. positive) db.persons from
+made-from_one (effect.LoggedIn number at user) db from =
+    changed-from_one number (Persons.logged_in at user) (λ row positive. positive) db.persons from
+made-from_one (effect.Counted number counter by) db from =
+    changed-from_one number (counted counter by) (counted-positive counter by) db.persons from
+made-from_one (effect.TextAdded number author at body) db from = from
+made-from_one (effect.TextGone number) db from = from
+made-from_one (effect.RecipientAdded given) db from = from
+made-from_one (effect.RecipientGone text conference) db from = from
+made-from_one (effect.LinkAdded given) db from = from
+made-from_one (effect.LinkGone child parent footnote) db from = from
+made-from_one (effect.MemberSet person conference position priority added_by added_at kind) db from = from
+made-from_one (effect.MemberGone person conference) db from = from
+made-from_one (effect.ReadSet person conference at ranges) db from = from
+made-from_one (effect.MarkSet person text kind) db from = from
+made-from_one (effect.MarkGone person text) db from = from
+made-from_one (effect.AuxAdded true object item) db from = from
+made-from_one (effect.AuxAdded false object item) db from = from
+made-from_one (effect.AuxGone on_text object number) db from = from
+made-from_one (effect.Created person local text) db from =
+    changed-from_one person (Persons.with_created_drawn local) (λ row positive. omega arith) db.persons from
+
+-- ---- all that is kept
+pub IsKept-made : (what : Effect) (old new : Db) (names new_names : List Named) → IsKept old names →
+    fits what old ≡ true → new ≡ made what old → new_names ≡ names_made what names → IsKept new new_names
+IsKept-made what old new names new_names kept fit is names_are = rw is (record {
+  whole = made-whole what old fit kept.whole;
+  same_names = names_are ∙ ap (names_made what) kept.same_names ∙ sym (made-names what old fit kept.whole);
+  from_one = made-from_one what old kept.from_one;
+})
+
+-- ---- a name that may be given
+-- no other number has it
+pub taken-kept : (db : Db) (names : List Named) → IsKept db names → (number : ℕ) (name : List ℕ) →
+    may_name db number name ≡ true → taken name (without_name number names) ≡ None
 unfolding conferences_of
-may_name-free db number name may = not-true _ (and_parts _ _ may).1
+taken-kept db names kept number name may =
+    rw kept.same_names (taken-free number name db.conferences (not-true _ (and_parts _ _ may).1))
 
--- what an addition, or another name, that fits says of the conferences
 pub added-parts : (db : Db) (number : ℕ) (name : List ℕ) (kind at creator supervisor : ℕ) →
     fits (effect.ConfAdded number name kind at creator supervisor) db ≡ true →
-    (list_any (is_other number name) db.conferences ≡ false)
-    × (db.next_conference ≤ number)
-    × (number ≤ 65535)
+    (may_name db number name ≡ true) × (number ≤ 65535)
 unfolding fits
-added-parts db number name kind at creator supervisor fits' =
-    let named = and_parts _ _ (and_parts _ _ fits').0 in
-    let numbered = and_parts _ _ (and_parts _ _ named.0).0 in
-    (may_name-free db number name named.1, leb-true _ _ numbered.0, leb-true _ _ numbered.1)
-
-pub renamed-parts : (db : Db) (number : ℕ) (name : List ℕ) → fits (effect.ConfNamed number name) db ≡ true →
-    (is_some (row_of number_of_conference number db.conferences) ≡ true)
-    × (list_any (is_other number name) db.conferences ≡ false)
-unfolding fits conference_of
-renamed-parts db number name fits' =
-    let parts = and_parts _ _ fits' in (parts.0, may_name-free db number name parts.1)
-
-module _ (rows : List ConferenceRow) (names : List Named) (next : ℕ) (kept : IsKept rows names next) where
-  pub taken-kept : (number : ℕ) (name : List ℕ) → list_any (is_other number name) rows ≡ false →
-      taken name (without_name number names) ≡ None
-  taken-kept number name free = rw kept.same_names (taken-free number name rows free)
-
-  pub IsKept-added : (row : ConferenceRow) (new : List ConferenceRow) (new_names : List Named) → next ≤ row.number →
-      row.number ≤ 65535 → new ≡ with_row number_of_conference row rows →
-      new_names ≡ with_name row.number row.name names → IsKept new new_names (row.number + 1)
-  IsKept-added row new new_names from last is names_are = rw (is, names_are) (record {
-    by_number = IsByNumber-with_row number_of_conference row rows kept.by_number;
-    below = below-with_row next row rows from kept.below;
-    same_names = ap (with_name row.number row.name) kept.same_names ∙ sym (names-with_row row rows);
-    within = omega arith;
-  })
-
-  pub IsKept-renamed : (number : ℕ) (name : List ℕ) (new : List ConferenceRow) (new_names : List Named) →
-      is_some (row_of number_of_conference number rows) ≡ true →
-      new ≡ changed_row number_of_conference number (Conferences.with_name name) rows →
-      new_names ≡ with_name number name names → IsKept new new_names next
-  IsKept-renamed number name new new_names there is names_are = rw (is, names_are) (record {
-    by_number =
-        IsByNumber-changed_row number_of_conference (Conferences.with_name name) (λ row. refl) number rows
-        kept.by_number;
-    below = below-changed_row next number (Conferences.with_name name) (λ row. refl) rows kept.below;
-    same_names = ap (with_name number name) kept.same_names ∙ sym (names-renamed number name rows kept.by_number there);
-    within = kept.within;
-  })
-
-  pub IsKept-changed : (number : ℕ) (change : ConferenceRow → ConferenceRow) (new : List ConferenceRow) →
-      ((row : ConferenceRow) → name_row (change row) ≡ name_row row) →
-      new ≡ changed_row number_of_conference number change rows → IsKept new names next
-  IsKept-changed number change new keeps is = rw is (record {
-    by_number = IsByNumber-changed_row number_of_conference change
-        (λ row. ap (λ (one : Named). one.number) (keeps row)) number rows kept.by_number;
-    below = below-changed_row next number change (λ row. ap (λ (one : Named). one.number) (keeps row)) rows kept.below;
-    same_names = kept.same_names ∙ sym (names-kept number change rows keeps);
-    within = kept.within;
-  })
-
-  pub IsKept-gone : (number : ℕ) (new : List ConferenceRow) (new_names : List Named) →
-      new ≡ without_row number_of_conference number rows → new_names ≡ without_name number names →
-      IsKept new new_names next
-  IsKept-gone number new new_names is names_are = rw (is, names_are) (record {
-    by_number = IsByNumber-without_row number_of_conference number rows kept.by_number;
-    below = below-without_row next number rows kept.below;
-    same_names = ap (without_name number) kept.same_names ∙ sym (names-without_row number rows);
-    within = kept.within;
-  })
-
-pub IsKept-none : (rows : List ConferenceRow) (names : List Named) → rows ≡ [] → names ≡ [] → IsKept rows names 1
-IsKept-none rows names no_rows no_names =
-    rw (no_rows, no_names) (record { by_number = tt; below = tt; same_names = refl; within = omega arith })
+added-parts db number name kind at creator supervisor fit =
+    let named = and_parts _ _ (and_parts _ _ fit).0 in
+    (named.1, leb-true _ _ (and_parts _ _ (and_parts _ _ named.0).0).1)

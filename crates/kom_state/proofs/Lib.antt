@@ -1,4 +1,3 @@
-pub mod Below
 pub mod Members
 pub mod Names
 pub mod Kept
@@ -10,15 +9,13 @@ pub mod Making
 pub mod Rooms
 pub mod TableRows
 pub mod LocalNumbers
-pub mod Drawing
+pub mod Drawn
 pub mod Needed
 pub mod Counted
 pub mod Fitted
 pub mod Walking
 pub mod Pushing
-pub mod Held
 pub mod Placed
-pub mod Numbering
 pub mod FittedItems
 pub mod ItemRooms
 pub mod NewItems

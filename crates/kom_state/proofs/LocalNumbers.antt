@@ -10,24 +10,10 @@ use Rattle.kom_types.specs.tables.Texts.{locals_of, created_by, is_created_by, c
 use Rattle.local_maps.specs.Pairs.{AllBelow}
 use Rattle.kom_state.proofs.TableRows.{all_weaker}
 
-pub below_from : (low high : ℕ) (pairs : List LocalText) → low ≤ high → AllBelow low pairs → AllBelow high pairs
-below_from low high pairs from below =
-    all_weaker (λ (pair : LocalText). pair.local < low) (λ pair. pair.local < high)
-    (λ pair less. omega (arith, less, from)) pairs below
-
 -- ---- those of the rows that pass a test
 module _ {X : Type 0} (test : X → Bool) (pair : X → LocalText) (bound : ℕ) where
   abbrev pub IsBelow : X → Type 0
   IsBelow x = test x ≡ true → (pair x).local < bound
-
-  pub below_each : (xs : List X) → AllBelow bound (map pair (filter test xs)) → AllByRecursion IsBelow xs
-  below_each [] below = tt
-  below_each (x ∷ xs) below = by (test x) refl (below_each xs) below
-    where
-      by : (b : Bool) → test x ≡ b → (AllBelow bound (map pair (filter test xs)) → AllByRecursion IsBelow xs) →
-          AllBelow bound (map pair (cond b (x ∷ filter test xs) (filter test xs))) → AllByRecursion IsBelow (x ∷ xs)
-      by true is rest below = (λ _. below.0, rest below.1)
-      by false is rest below = (λ passes. let no : true ≡ false = sym passes ∙ is in cc, rest below)
 
   pub each_below : (xs : List X) → AllByRecursion IsBelow xs → AllBelow bound (map pair (filter test xs))
   each_below [] each = tt
@@ -44,18 +30,6 @@ below_by_local bound pair (first ∷ pairs) less below =
     cond_both (ltb pair.local first.local) _ _ (AllBelow bound) (λ _. (less, below))
     (λ _. (below.0, below_by_local bound pair pairs less below.1))
 
-by_local_below : (bound : ℕ) (pair : LocalText) (pairs : List LocalText) → AllBelow bound (by_local pair pairs) →
-    (pair.local < bound) × AllBelow bound pairs
-by_local_below bound pair [] below = below
-by_local_below bound pair (first ∷ pairs) below =
-    by (ltb pair.local first.local) (by_local_below bound pair pairs) below
-  where
-    by : (b : Bool) → (AllBelow bound (by_local pair pairs) → (pair.local < bound) × AllBelow bound pairs) →
-        AllBelow bound (cond b (pair ∷ first ∷ pairs) (first ∷ by_local pair pairs)) →
-        (pair.local < bound) × AllBelow bound (first ∷ pairs)
-    by true rest below = below
-    by false rest below = let later = rest below.1 in (later.0, (below.0, later.1))
-
 abbrev placed : List LocalText → List LocalText → List LocalText
 placed sorted pairs = fold (λ sorted pair. by_local pair sorted) sorted pairs
 
@@ -65,24 +39,12 @@ below_placed bound sorted [] below below' = below
 below_placed bound sorted (pair ∷ pairs) below below' =
     below_placed bound (by_local pair sorted) pairs (below_by_local bound pair sorted below'.0 below) below'.1
 
-placed_below : (bound : ℕ) (sorted pairs : List LocalText) → AllBelow bound (placed sorted pairs) →
-    AllBelow bound sorted × AllBelow bound pairs
-placed_below bound sorted [] below = (below, tt)
-placed_below bound sorted (pair ∷ pairs) below =
-    let later = placed_below bound (by_local pair sorted) pairs below in
-    let here = by_local_below bound pair sorted later.0 in (here.1, (here.0, later.1))
-
 -- ---- the local numbers of a conference, and of a person
 abbrev pub local_pair : Recipient → LocalText
 local_pair row = record { local = row.local; text = row.text }
 
 abbrev pub IsLocalBelow : ℕ → ℕ → Recipient → Type 0
 IsLocalBelow conference bound row = eqb row.conference conference ≡ true → row.local < bound
-
-pub locals_each : (conference bound : ℕ) (rows : List Recipient) → AllBelow bound (locals_of conference rows) →
-    AllByRecursion (IsLocalBelow conference bound) rows
-locals_each conference bound rows below =
-    below_each (λ (row : Recipient). eqb row.conference conference) local_pair bound rows below
 
 pub locals_below : (conference bound : ℕ) (rows : List Recipient) →
     AllByRecursion (IsLocalBelow conference bound) rows → AllBelow bound (locals_of conference rows)
@@ -91,12 +53,6 @@ locals_below conference bound rows each =
 
 abbrev pub IsCreatedBelow : ℕ → ℕ → TextRow → Type 0
 IsCreatedBelow person bound row = is_created_by person row ≡ true → row.created_local < bound
-
-pub created_each : (person bound : ℕ) (rows : List TextRow) → AllBelow bound (created_by person rows) →
-    AllByRecursion (IsCreatedBelow person bound) rows
-created_each person bound rows below =
-    below_each (is_created_by person) created_pair bound rows
-    (placed_below bound [] (map created_pair (filter (is_created_by person) rows)) below).1
 
 pub created_below : (person bound : ℕ) (rows : List TextRow) → AllByRecursion (IsCreatedBelow person bound) rows →
     AllBelow bound (created_by person rows)

@@ -11,7 +11,7 @@ use Rattle.kom_types.specs.tables.Memberships.{by_position, is_membership}
 use Rattle.kom_model.specs.Db.{Db, conference_of, membership_of, memberships_of}
 use Rattle.memberships.specs.Entries.{same_key}
 use Rattle.memberships.specs.Table.{IsOrderly}
-use Rattle.kom_state.specs.Keeping.{AreHeld}
+use Rattle.kom_model.specs.Whole.{IsWhole}
 use Rattle.kom_state.specs.Placed.{AreThere, AreInPlace, AreFound}
 use Rattle.kom_state.proofs.Members.{length-memberships_of}
 use Rattle.kom_state.proofs.Secrecy.{none_after}
@@ -38,12 +38,13 @@ module _ (P : MembershipRow → Type 0) where
   all_own person rows all = all_placed [] (filter (λ row. eqb row.person person) rows) tt all
 
 -- ---- what is known of them
-pub are_there : (db : Db) (person : ℕ) → AreHeld db.conferences db.memberships → AreThere db person
+pub are_there : (db : Db) (person : ℕ) → IsWhole db → AreThere db person
 unfolding conference_of memberships_of
-are_there db person held =
+are_there db person whole =
     let P : MembershipRow → Type 0 =
     λ row. is_some (row_of number_of_conference row.conference db.conferences) ≡ true in
-    all_own P person db.memberships (all_kept P (λ row. eqb row.person person) db.memberships held)
+    all_own P person db.memberships
+    (all_kept P (λ row. eqb row.person person) db.memberships whole.memberships.conference_there)
 
 counted : (db : Db) (person : ℕ) → IsOrderly db.memberships →
     map (λ row. row.position) (memberships_of db person) ≡ range_with_len 0 (Memberships.count_of person db.memberships)

@@ -1,13 +1,13 @@
 -- How the stored rows are kept: in tables, beside the names of the conferences.
-use Rattle.std.specs.Prelude.{◌≡◌, ℕ, ◌<◌, ◌≤◌, List, map, IsTrue, is_some}
+use Rattle.std.specs.Prelude.{◌≡◌, ℕ, ◌<◌, List, map}
 use Rattle.std.specs.List.{AllByRecursion}
-use Rattle.row_table.specs.Tables.{Tabled, IsByNumber, row_of}
+use Rattle.row_table.specs.Tables.{Tabled}
 use Rattle.aux_items.specs.Items.{Attached}
 use Rattle.kom_types.specs.declared.conferences.ConferenceRow.{ConferenceRow}
-use Rattle.kom_types.specs.declared.memberships.MembershipRow.{MembershipRow}
 use Rattle.kom_types.specs.declared.persons.PersonRow.{PersonRow}
 use Rattle.kom_types.specs.declared.texts.TextRow.{TextRow}
-use Rattle.kom_types.specs.tables.Conferences.{number_of_conference}
+use Rattle.kom_model.specs.Db.{Db}
+use Rattle.kom_model.specs.Whole.{IsWhole}
 use Rattle.memberships.specs.Table.{Table}
 use Rattle.name_lookup.specs.NamedRows.{Named, Lookup, named}
 use Rattle.texts.specs.Stored.{Stored as Texts}
@@ -54,15 +54,13 @@ AreBelow next rows = AllByRecursion (λ row. row.number < next) rows
 abbrev pub AreTextsBelow : ℕ → List TextRow → Type 0
 AreTextsBelow next rows = AllByRecursion (λ row. row.number < next) rows
 
--- the numbers of the conferences rise, and are below the next one; the names are theirs; and a
--- number may be left to give
-pub record IsKept (conferences : List ConferenceRow) (names : List Named) (next : ℕ) : Type 0 where
-  pub by_number : IsByNumber number_of_conference conferences
-  pub below : AreBelow next conferences
-  pub same_names : names ≡ map name_row conferences
-  pub within : next ≤ 65536
+-- no person gives a text that it makes the number 0
+abbrev pub DrawFromOne : List PersonRow → Type 0
+DrawFromOne rows = AllByRecursion (λ row. 0 < row.next_created) rows
 
--- the conference of each membership is there
-abbrev pub AreHeld : List ConferenceRow → List MembershipRow → Type 0
-AreHeld conferences memberships = AllByRecursion
-    (λ row. IsTrue (is_some (row_of number_of_conference row.conference conferences))) memberships
+-- The rows are whole; the names are those of the conferences, in their order; and no text gets the
+-- number 0 among those of its author.
+pub record IsKept (db : Db) (names : List Named) : Type 0 where
+  pub whole : IsWhole db
+  pub same_names : names ≡ map name_row db.conferences
+  pub from_one : DrawFromOne db.persons

@@ -1,4 +1,3 @@
-pub mod Drawing
 pub mod Secrecy
 pub mod Keeping
 pub mod Placed

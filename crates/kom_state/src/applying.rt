@@ -188,6 +188,7 @@ impl StoredRows {
     }
 
     fn set_conference_field(&mut self, number: u32, field: ConfField)
+        requires { IsPossible (Effect.ConfField number field) self.old }
         ensures { IsMade (Effect.ConfField number field) self.old self.new }
     {
         self.conferences.set_field(number, field);
@@ -204,6 +205,7 @@ impl StoredRows {
 
     /// Takes a person out, with the numbers of the texts that it made.
     fn remove_person(&mut self, number: u32)
+        requires { IsPossible (Effect.PersonGone number) self.old }
         ensures { IsMade (Effect.PersonGone number) self.old self.new }
     {
         self.persons.remove(number);
@@ -211,24 +213,28 @@ impl StoredRows {
     }
 
     fn set_person_field(&mut self, number: u32, field: PersonField)
+        requires { IsPossible (Effect.PersonField number field) self.old }
         ensures { IsMade (Effect.PersonField number field) self.old self.new }
     {
         self.persons.set_field(number, field);
     }
 
     fn set_password(&mut self, number: u32, hash: [u8; 32])
+        requires { IsPossible (Effect.Password number hash) self.old }
         ensures { IsMade (Effect.Password number hash) self.old self.new }
     {
         self.persons.set_hash(number, hash);
     }
 
     fn log_in(&mut self, number: u32, at: Moment, user: Bytes)
+        requires { IsPossible (Effect.LoggedIn number at user) self.old }
         ensures { IsMade (Effect.LoggedIn number at user) self.old self.new }
     {
         self.persons.log_in(number, at, user);
     }
 
     fn count(&mut self, number: u32, counter: Counter, by: u64)
+        requires { IsPossible (Effect.Counted number counter by) self.old }
         ensures { IsMade (Effect.Counted number counter by) self.old self.new }
     {
         self.persons.count(number, counter, by);
@@ -243,6 +249,7 @@ impl StoredRows {
     }
 
     fn remove_membership(&mut self, person: u32, conference: u32)
+        requires { IsPossible (Effect.MemberGone person conference) self.old }
         ensures { IsMade (Effect.MemberGone person conference) self.old self.new }
     {
         self.memberships.remove(person, conference);

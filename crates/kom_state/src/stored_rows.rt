@@ -47,18 +47,14 @@ impl Drop for StoredRows {
 impl Model for StoredRows {
     ghost use Rattle.kom_state.specs.Room.{Stored};
     ghost use Rattle.kom_state.specs.Keeping.{stored, IsKept};
-    ghost use Rattle.kom_state.specs.Drawing.{AreDrawn, AreNumbered};
-    ghost use Rattle.kom_state.specs.Keeping.{AreHeld};
 
     ghost Value = { Stored };
 
     ghost view = { λ s. stored s.conferences s.persons s.memberships s.names s.texts
         s.items s.next_conference s.next_text };
 
-    ghost invariant = { λ s. IsKept s.conferences.rows s.names.names s.next_conference
-        × AreDrawn s.conferences.rows s.persons.rows s.texts.rows s.next_text
-        × AreNumbered s.conferences.rows s.texts.rows.texts s.items.rows
-        × AreHeld s.conferences.rows s.memberships.rows };
+    ghost invariant = { λ s. IsKept (stored s.conferences s.persons s.memberships s.names s.texts
+        s.items s.next_conference s.next_text).db s.names.names };
 }
 
 impl StoredRows {

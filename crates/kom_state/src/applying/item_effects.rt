@@ -43,6 +43,7 @@ impl StoredRows {
     }
 
     pub(crate) fn remove_item(&mut self, on_text: bool, object: u32, number: u32)
+        requires { IsPossible (Effect.AuxGone on_text object number) self.old }
         ensures { IsMade (Effect.AuxGone on_text object number) self.old self.new }
     {
         self.items.remove(on_text, object, number);

@@ -64,6 +64,7 @@ impl StoredRows {
     }
 
     fn remove_recipient(&mut self, text: u32, conference: u32)
+        requires { IsPossible (Effect.RecipientGone text conference) self.old }
         ensures { IsMade (Effect.RecipientGone text conference) self.old self.new }
     {
         self.texts.remove_recipient(text, conference);
@@ -77,6 +78,7 @@ impl StoredRows {
     }
 
     fn remove_link(&mut self, child: u32, parent: u32, footnote: bool)
+        requires { IsPossible (Effect.LinkGone child parent footnote) self.old }
         ensures { IsMade (Effect.LinkGone child parent footnote) self.old self.new }
     {
         self.texts.remove_link(child, parent, footnote);
@@ -90,6 +92,7 @@ impl StoredRows {
     }
 
     fn remove_mark(&mut self, person: u32, text: u32)
+        requires { IsPossible (Effect.MarkGone person text) self.old }
         ensures { IsMade (Effect.MarkGone person text) self.old self.new }
     {
         self.texts.remove_mark(person, text);

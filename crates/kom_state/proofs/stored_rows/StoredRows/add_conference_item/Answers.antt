@@ -1,14 +1,11 @@
 use Rattle.std.proofs.Common.{refl, arith, false}
 use Rattle.kom_types.specs.declared.effects.Effect.TheVariants as effect
 use Rattle.kom_model.specs.Effects.{made}
-use Rattle.kom_types.specs.tables.Conferences.{with_item_drawn}
-use Rattle.kom_state.proofs.Drawing.{AreDrawn-conference}
-use Rattle.kom_state.proofs.Held.{AreHeld-conference_changed}
-use Rattle.kom_state.proofs.Kept.{IsKept-changed}
-use Rattle.kom_state.proofs.Numbering.{AreNumbered-conference_item, absent_item}
 use Rattle.kom_state.proofs.FittedItems.{item-fits}
 use Rattle.kom_state.proofs.ItemRooms.{room_to_add, added_uses_spare, added_uses_objects}
 use Rattle.kom_state.proofs.Making.{IsMade-items}
+use Rattle.kom_state.proofs.Drawn.{absent_item}
+use Rattle.kom_state.proofs.Kept.{IsKept-made}
 use Rattle.kom_state.proofs.stored_rows.StoredRows.add_conference_item.Goals as goal
 
 pub draw_item-requires : goal.draw_item-requires
@@ -16,7 +13,7 @@ draw_item-requires c = omega (arith, (item-fits _ false _ _ c.requires.fits).las
 
 pub add-requires-clause-absent : goal.add-requires-clause-absent
 add-requires-clause-absent c =
-    absent_item _ _ _ c.self.invariant.2 false c.args.object c.args.item.number
+    absent_item _ c.self.invariant.whole false c.args.object c.args.item.number
     (item-fits _ false _ _ (rw (← c.self.view_is) at c.requires.fits)).from
 
 pub add-requires-clause-room : goal.add-requires-clause-room
@@ -24,17 +21,10 @@ add-requires-clause-room c =
     room_to_add _ false c.args.object c.args.item (rw (← c.self.view_is) at c.requires.room).items
 
 pub invariant_of-self : goal.invariant_of-self
+unfolding made
 invariant_of-self c =
-    let parts = item-fits _ false c.args.object c.args.item (rw (← c.self.view_is) at c.requires.fits) in (
-      IsKept-changed _ _ _ c.self.invariant.0 c.args.object (with_item_drawn c.args.item.number) _
-          (λ _. refl) c.draw_item.ensures.rows,
-      AreDrawn-conference _ _ _ _ c.self.invariant.1 c.args.object (with_item_drawn c.args.item.number) _
-          (λ _. refl) (λ _. refl) c.draw_item.ensures.rows,
-      AreNumbered-conference_item _ _ _ c.self.invariant.2 c.args.object c.args.item _ _ parts.there parts.from
-          c.draw_item.ensures.rows c.add.ensures.rows,
-      AreHeld-conference_changed _ _ c.self.invariant.3 c.args.object (with_item_drawn c.args.item.number) _
-          (λ _. refl) c.draw_item.ensures.rows,
-    )
+    IsKept-made (effect.AuxAdded false c.args.object c.args.item) _ _ _ _ c.self.invariant
+    (rw (← c.self.view_is) at c.requires.fits) (rw (c.draw_item.ensures.rows, c.add.ensures.rows) refl) refl
 
 pub returns : goal.returns
 unfolding made

@@ -1,22 +1,19 @@
-use Rattle.std.proofs.Common.{refl, arith, ap}
+use Rattle.std.proofs.Common.{refl, arith}
 use Rattle.kom_types.specs.declared.effects.Effect.TheVariants as effect
 use Rattle.kom_model.specs.Effects.{made}
-use Rattle.kom_state.proofs.Drawing.{AreDrawn-tied}
 use Rattle.kom_state.proofs.Fitted.{link-fits}
 use Rattle.kom_state.proofs.Making.{IsMade-texts}
-use Rattle.kom_state.proofs.Numbering.{AreNumbered-same}
+use Rattle.kom_state.proofs.Kept.{IsKept-made}
 use Rattle.kom_state.proofs.stored_rows.StoredRows.add_link.Goals as goal
 
 pub add_link-requires-clause-absent : goal.add_link-requires-clause-absent
 add_link-requires-clause-absent c = link-fits _ _ (rw (← c.self.view_is) at c.requires.fits)
 
 pub invariant_of-self : goal.invariant_of-self
-invariant_of-self c = (
-  c.self.invariant.0,
-  AreDrawn-tied _ _ _ _ c.self.invariant.1 _ _ _ c.add_link.ensures.rows,
-  AreNumbered-same _ _ _ _ c.self.invariant.2 (ap (λ rows. rows.texts) c.add_link.ensures.rows),
-  c.self.invariant.3,
-)
+unfolding made
+invariant_of-self c =
+    IsKept-made (effect.LinkAdded c.args.given) _ _ _ _ c.self.invariant
+    (rw (← c.self.view_is) at c.requires.fits) (rw c.add_link.ensures.rows refl) refl
 
 pub returns : goal.returns
 unfolding made

@@ -1,18 +1,16 @@
 use Rattle.kom_state.proofs.Making.{IsMade-joined}
 use Rattle.std.proofs.Common.{refl}
-use Rattle.kom_state.proofs.Drawing.{AreDrawn-person_added}
-use Rattle.kom_state.proofs.Fitted.{joined-absent}
+use Rattle.kom_types.specs.declared.effects.Effect.TheVariants as effect
+use Rattle.kom_model.specs.Effects.{made}
+use Rattle.kom_state.proofs.Kept.{IsKept-made}
 use Rattle.kom_state.proofs.stored_rows.StoredRows.add_person.Goals as goal
 
 pub invariant_of-self : goal.invariant_of-self
-invariant_of-self c = (
-  c.self.invariant.0,
-  AreDrawn-person_added _ _ _ _ c.self.invariant.1 _ _ refl
-      (joined-absent _ _ _ _ _ (rw (← c.self.view_is) at c.requires.fits))
-      (rw (c.unwrap.ensures, c.fresh_person-row.ensures) at c.put.ensures.ok),
-  c.self.invariant.2,
-  c.self.invariant.3,
-)
+unfolding made
+invariant_of-self c =
+    let rows = rw (c.unwrap.ensures, c.fresh_person-row.ensures) at c.put.ensures.ok in
+    IsKept-made (effect.PersonAdded c.args.number c.args.privileges c.args.flags c.args.last_login) _ _ _ _
+    c.self.invariant (rw (← c.self.view_is) at c.requires.fits) (rw rows refl) refl
 
 pub returns : goal.returns
 returns c = rw (← c.self.view_is)

@@ -1,10 +1,9 @@
-use Rattle.std.proofs.Common.{refl, arith, ap}
+use Rattle.std.proofs.Common.{refl, arith}
 use Rattle.kom_types.specs.declared.effects.Effect.TheVariants as effect
 use Rattle.kom_model.specs.Effects.{made}
-use Rattle.kom_state.proofs.Drawing.{AreDrawn-text}
 use Rattle.kom_state.proofs.Fitted.{text-fits}
 use Rattle.kom_state.proofs.Making.{IsMade-texts}
-use Rattle.kom_state.proofs.Numbering.{AreNumbered-text_added}
+use Rattle.kom_state.proofs.Kept.{IsKept-made}
 use Rattle.kom_state.proofs.stored_rows.StoredRows.add_text.Goals as goal
 
 pub add-requires-clause-size : goal.add-requires-clause-size
@@ -17,15 +16,10 @@ pub overflow_add-self : goal.overflow_add-self
 overflow_add-self c = omega (arith, (text-fits _ _ _ _ _ c.requires.fits).last)
 
 pub invariant_of-self : goal.invariant_of-self
-invariant_of-self c = (
-  c.self.invariant.0,
-  AreDrawn-text _ _ _ _ c.self.invariant.1 c.args.number c.args.author c.args.at c.args.body _
-      (text-fits _ _ _ _ _ (rw (← c.self.view_is) at c.requires.fits)).from c.add.ensures.rows,
-  AreNumbered-text_added _ _ _ c.self.invariant.2 c.args.number c.args.author c.args.at c.args.body _
-      (text-fits _ _ _ _ _ (rw (← c.self.view_is) at c.requires.fits)).absent
-      (ap (λ rows. rows.texts) c.add.ensures.rows),
-  c.self.invariant.3,
-)
+unfolding made
+invariant_of-self c =
+    IsKept-made (effect.TextAdded c.args.number c.args.author c.args.at c.args.body) _ _ _ _ c.self.invariant
+    (rw (← c.self.view_is) at c.requires.fits) (rw c.add.ensures.rows refl) refl
 
 pub returns : goal.returns
 unfolding made

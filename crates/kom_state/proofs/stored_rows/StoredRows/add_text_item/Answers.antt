@@ -1,11 +1,11 @@
-use Rattle.std.proofs.Common.{refl, ap, arith, true}
+use Rattle.std.proofs.Common.{refl, arith, true}
 use Rattle.kom_types.specs.declared.effects.Effect.TheVariants as effect
 use Rattle.kom_model.specs.Effects.{made}
-use Rattle.kom_state.proofs.Drawing.{AreDrawn-item}
-use Rattle.kom_state.proofs.Numbering.{AreNumbered-text_item, absent_item}
 use Rattle.kom_state.proofs.FittedItems.{item-fits}
 use Rattle.kom_state.proofs.ItemRooms.{room_to_add, added_uses_spare, added_uses_objects}
 use Rattle.kom_state.proofs.Making.{IsMade-items}
+use Rattle.kom_state.proofs.Drawn.{absent_item}
+use Rattle.kom_state.proofs.Kept.{IsKept-made}
 use Rattle.kom_state.proofs.stored_rows.StoredRows.add_text_item.Goals as goal
 
 pub draw_item-requires : goal.draw_item-requires
@@ -13,7 +13,7 @@ draw_item-requires c = omega (arith, (item-fits _ true _ _ c.requires.fits).last
 
 pub add-requires-clause-absent : goal.add-requires-clause-absent
 add-requires-clause-absent c =
-    absent_item _ _ _ c.self.invariant.2 true c.args.object c.args.item.number
+    absent_item _ c.self.invariant.whole true c.args.object c.args.item.number
     (item-fits _ true _ _ (rw (← c.self.view_is) at c.requires.fits)).from
 
 pub add-requires-clause-room : goal.add-requires-clause-room
@@ -21,14 +21,10 @@ add-requires-clause-room c =
     room_to_add _ true c.args.object c.args.item (rw (← c.self.view_is) at c.requires.room).items
 
 pub invariant_of-self : goal.invariant_of-self
+unfolding made
 invariant_of-self c =
-    let parts = item-fits _ true c.args.object c.args.item (rw (← c.self.view_is) at c.requires.fits) in (
-      c.self.invariant.0,
-      AreDrawn-item _ _ _ _ c.self.invariant.1 c.args.object c.args.item.number _ c.draw_item.ensures.rows,
-      AreNumbered-text_item _ _ _ c.self.invariant.2 c.args.object c.args.item _ _ parts.there parts.from
-          (ap (λ rows. rows.texts) c.draw_item.ensures.rows) c.add.ensures.rows,
-      c.self.invariant.3,
-    )
+    IsKept-made (effect.AuxAdded true c.args.object c.args.item) _ _ _ _ c.self.invariant
+    (rw (← c.self.view_is) at c.requires.fits) (rw (c.draw_item.ensures.rows, c.add.ensures.rows) refl) refl
 
 pub returns : goal.returns
 unfolding made

@@ -11,6 +11,6 @@ unfolding conferences_of
 returns-clause-found c =
     let pattern = c.args.pattern.now in
     subst (λ (numbers : List ℕ). IfOk c.find.result (λ found. found ≡ numbers))
-    (ap (found pattern) c.self.invariant.0.same_names ∙ found-names pattern c.self.inside.conferences.rows
+    (ap (found pattern) c.self.invariant.same_names ∙ found-names pattern c.self.inside.conferences.rows
     ∙ ap (λ s. map number_of_conference (filter (λ row. finds pattern row.name) s.db.conferences)) c.self.view_is)
     c.find.ensures

@@ -14,8 +14,8 @@ refused : (c : In-Some) → (c.in-Some.other ≡ c.args.number → ⊥) →
 refused c apart =
     let name = c.args.name.now in
     rw (← c.self.view_is)
-    (free_guard-taken _ c.args.number c.in-Some.other name c.self.invariant.0.by_number
-    (sym (ap (taken name) c.self.invariant.0.same_names) ∙ sym c.taken.ensures.number ∙ c.in-Some.is) apart)
+    (free_guard-taken _ c.args.number c.in-Some.other name c.self.invariant.whole.conferences.rising
+    (sym (ap (taken name) c.self.invariant.same_names) ∙ sym c.taken.ensures.number ∙ c.in-Some.is) apart)
 
 pub returns-then-has_letterbox : goal.returns-then-has_letterbox
 returns-then-has_letterbox c =
@@ -33,8 +33,8 @@ returns-else-has_letterbox c =
 pub returns-then-other-number : goal.returns-then-other-number
 returns-then-other-number c =
     let rows = c.self.inside.conferences.rows in let name = c.args.name.now in
-    let found = sym (ap (taken name) c.self.invariant.0.same_names) ∙ sym c.taken.ensures.number ∙ c.in-Some.is in
-    let apart = rw c.self.invariant.0.same_names at c.taken.ensures.none_clash in
+    let found = sym (ap (taken name) c.self.invariant.same_names) ∙ sym c.taken.ensures.number ∙ c.in-Some.is in
+    let apart = rw c.self.invariant.same_names at c.taken.ensures.none_clash in
     rw (← c.self.view_is)
     (free_guard-free _ c.args.number name (not-true _
     (free-taken c.args.number c.in-Some.other name rows apart found
@@ -43,5 +43,5 @@ returns-then-other-number c =
 pub returns-in-None : goal.returns-in-None
 returns-in-None c =
     let rows = c.self.inside.conferences.rows in let name = c.args.name.now in
-    let none = sym (ap (taken name) c.self.invariant.0.same_names) ∙ sym c.taken.ensures.number ∙ c.in-None.is in
+    let none = sym (ap (taken name) c.self.invariant.same_names) ∙ sym c.taken.ensures.number ∙ c.in-None.is in
     rw (← c.self.view_is) (free_guard-free _ c.args.number name (free-not_taken c.args.number name rows none))

@@ -3,8 +3,8 @@ use Rattle.row_table.specs.Tables.{IsByNumber}
 use Rattle.kom_types.specs.tables.Conferences.{number_of_conference}
 use Rattle.kom_types.specs.tables.Memberships.{count_of}
 use Rattle.kom_model.specs.Db.{Db}
+use Rattle.kom_model.specs.Whole.{IsWhole}
 use Rattle.memberships.specs.Table.{IsOrderly}
-use Rattle.kom_state.specs.Keeping.{AreHeld}
 use Rattle.kom_state.proofs.Members.{length-memberships_of}
 use Rattle.kom_state.proofs.Placed.{are_there, are_in_place, are_found}
 use Rattle.kom_state.proofs.Secrecy.{found_by_secret}
@@ -18,7 +18,7 @@ returns-clause-count c =
 pub returns-clause-there : goal.returns-clause-there
 returns-clause-there c =
     are_there c.args.self.now.db c.args.person
-    (subst (λ (db : Db). AreHeld db.conferences db.memberships) (ap (λ s. s.db) c.self.view_is) c.self.invariant.3)
+    (subst IsWhole (ap (λ s. s.db) c.self.view_is) c.self.invariant.whole)
 
 pub returns-clause-in_place : goal.returns-clause-in_place
 returns-clause-in_place c =
@@ -33,5 +33,6 @@ returns-clause-found c =
 pub returns-clause-by_secret : goal.returns-clause-by_secret
 returns-clause-by_secret c =
     found_by_secret c.args.self.now.db c.args.person
-    (subst (IsByNumber number_of_conference) (ap (λ s. s.db.conferences) c.self.view_is) c.self.invariant.0.by_number)
+    (subst (IsByNumber number_of_conference) (ap (λ s. s.db.conferences) c.self.view_is)
+    c.self.invariant.whole.conferences.rising)
     (subst (λ (db : Db). IsOrderly db.memberships) (ap (λ s. s.db) c.self.view_is) c.count_of_person.ensures.orderly)

@@ -1,12 +1,10 @@
-use Rattle.std.proofs.Common.{refl, arith, ap}
+use Rattle.std.proofs.Common.{refl, arith}
 use Rattle.kom_types.specs.declared.effects.Effect.TheVariants as effect
 use Rattle.kom_model.specs.Effects.{made}
-use Rattle.kom_state.proofs.Drawing.{AreDrawn-created}
 use Rattle.kom_state.proofs.Fitted.{created-fits}
-use Rattle.kom_state.proofs.LocalNumbers.{below_from}
+use Rattle.kom_state.proofs.Drawn.{above_created, positive_created}
 use Rattle.kom_state.proofs.Making.{IsMade-texts}
-use Rattle.kom_state.proofs.Numbering.{AreNumbered-text_changed}
-use Rattle.kom_types.specs.tables.Texts.{with_created_local}
+use Rattle.kom_state.proofs.Kept.{IsKept-made}
 use Rattle.kom_state.proofs.stored_rows.StoredRows.number_created.Goals as goal
 
 pub draw_created-requires : goal.draw_created-requires
@@ -20,24 +18,18 @@ number_created-requires-clause-unnumbered c =
 pub number_created-requires-clause-positive : goal.number_created-requires-clause-positive
 number_created-requires-clause-positive c =
     let parts = created-fits _ _ _ _ (rw (← c.self.view_is) at c.requires.fits) in
-    omega (arith, c.self.invariant.1.from_one c.args.person, parts.from)
+    omega (arith, positive_created c.args.person _ c.self.invariant.from_one, parts.from)
 
 pub number_created-requires-clause-above : goal.number_created-requires-clause-above
 number_created-requires-clause-above c =
     let parts = created-fits _ _ _ _ (rw (← c.self.view_is) at c.requires.fits) in
-    below_from _ _ _ parts.from (c.self.invariant.1.created c.args.person)
+    above_created _ c.self.invariant.whole c.args.person c.args.local parts.from
 
 pub invariant_of-self : goal.invariant_of-self
+unfolding made
 invariant_of-self c =
-    let parts = created-fits _ _ _ _ (rw (← c.self.view_is) at c.requires.fits) in (
-      c.self.invariant.0,
-      AreDrawn-created _ _ _ _ c.self.invariant.1 c.args.person c.args.local c.args.text parts.row parts.found
-          parts.author parts.there parts.from _ _ c.draw_created.ensures.rows c.number_created.ensures.rows,
-      AreNumbered-text_changed _ _ _ c.self.invariant.2 c.args.text (with_created_local c.args.local) _ (λ _. refl)
-          (λ _. refl)
-          (ap (λ rows. rows.texts) c.number_created.ensures.rows),
-      c.self.invariant.3,
-    )
+    IsKept-made (effect.Created c.args.person c.args.local c.args.text) _ _ _ _ c.self.invariant
+    (rw (← c.self.view_is) at c.requires.fits) (rw (c.draw_created.ensures.rows, c.number_created.ensures.rows) refl) refl
 
 pub returns : goal.returns
 unfolding made

@@ -1,24 +1,15 @@
-use Rattle.std.proofs.Common.{ap}
+use Rattle.std.proofs.Common.{ap, refl}
+use Rattle.kom_types.specs.declared.effects.Effect.TheVariants as effect
 use Rattle.kom_model.specs.Effects.{made}
-use Rattle.kom_state.proofs.Drawing.{AreDrawn-conference_gone}
-use Rattle.kom_state.proofs.Fitted.{gone-empty, gone-itemless, gone-memberless}
-use Rattle.kom_state.proofs.Kept.{IsKept-gone}
 use Rattle.kom_state.proofs.Making.{IsMade-conference_gone}
-use Rattle.kom_state.proofs.Held.{AreHeld-conference_gone}
-use Rattle.kom_state.proofs.Numbering.{AreNumbered-conference_gone}
+use Rattle.kom_state.proofs.Kept.{IsKept-made}
 use Rattle.kom_state.proofs.stored_rows.StoredRows.remove_conference.Goals as goal
 
 pub invariant_of-self : goal.invariant_of-self
-invariant_of-self c = (
-  IsKept-gone _ _ _ c.self.invariant.0 c.args.number _ _ c.remove-2.ensures.rows
-      (ap (λ lookup. lookup.names) c.remove.ensures),
-  AreDrawn-conference_gone _ _ _ _ c.self.invariant.1 c.args.number _
-      (gone-empty _ _ (rw (← c.self.view_is) at c.requires.fits)) c.remove-2.ensures.rows,
-  AreNumbered-conference_gone _ _ _ c.self.invariant.2 c.args.number _
-      (gone-itemless _ _ (rw (← c.self.view_is) at c.requires.fits)) c.remove-2.ensures.rows,
-  AreHeld-conference_gone _ _ c.self.invariant.3 c.args.number _
-      (gone-memberless _ _ (rw (← c.self.view_is) at c.requires.fits)) c.remove-2.ensures.rows,
-)
+unfolding made
+invariant_of-self c =
+    IsKept-made (effect.ConfGone c.args.number) _ _ _ _ c.self.invariant
+    (rw (← c.self.view_is) at c.requires.fits) (rw c.remove-2.ensures.rows refl) (ap (λ lookup. lookup.names) c.remove.ensures)
 
 pub returns : goal.returns
 unfolding made

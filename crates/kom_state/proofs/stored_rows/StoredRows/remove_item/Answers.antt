@@ -2,17 +2,14 @@ use Rattle.std.proofs.Common.{refl, arith}
 use Rattle.kom_types.specs.declared.effects.Effect.TheVariants as effect
 use Rattle.kom_model.specs.Effects.{made}
 use Rattle.kom_state.proofs.Making.{IsMade-items}
-use Rattle.kom_state.proofs.Numbering.{AreNumbered-item_gone}
+use Rattle.kom_state.proofs.Kept.{IsKept-made}
 use Rattle.kom_state.proofs.stored_rows.StoredRows.remove_item.Goals as goal
 
 pub invariant_of-self : goal.invariant_of-self
-invariant_of-self c = (
-  c.self.invariant.0,
-  c.self.invariant.1,
-  AreNumbered-item_gone _ _ _ c.self.invariant.2 c.args.on_text c.args.object c.args.number _
-      c.remove.ensures.rows,
-  c.self.invariant.3,
-)
+unfolding made
+invariant_of-self c =
+    IsKept-made (effect.AuxGone c.args.on_text c.args.object c.args.number) _ _ _ _ c.self.invariant
+    (rw (← c.self.view_is) at c.requires.fits) (rw c.remove.ensures.rows refl) refl
 
 pub returns : goal.returns
 unfolding made

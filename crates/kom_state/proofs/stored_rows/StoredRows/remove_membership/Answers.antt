@@ -4,16 +4,14 @@ use Rattle.kom_types.specs.tables.Memberships.{without_membership}
 use Rattle.kom_model.specs.Effects.{made}
 use Rattle.read_ranges.specs.Reads.{without_reader}
 use Rattle.kom_state.proofs.Making.{IsMade-members}
-use Rattle.kom_state.proofs.Held.{AreHeld-gone}
+use Rattle.kom_state.proofs.Kept.{IsKept-made}
 use Rattle.kom_state.proofs.stored_rows.StoredRows.remove_membership.Goals as goal
 
 pub invariant_of-self : goal.invariant_of-self
-invariant_of-self c = (
-  c.self.invariant.0,
-  c.self.invariant.1,
-  c.self.invariant.2,
-  AreHeld-gone _ _ c.self.invariant.3 c.args.person c.args.conference _ c.remove.ensures.rows,
-)
+unfolding made
+invariant_of-self c =
+    IsKept-made (effect.MemberGone c.args.person c.args.conference) _ _ _ _ c.self.invariant
+    (rw (← c.self.view_is) at c.requires.fits) (rw (c.remove.ensures.rows, c.remove.ensures.reads) refl) refl
 
 pub returns : goal.returns
 unfolding made

@@ -1,22 +1,15 @@
-use Rattle.std.proofs.Common.{refl, arith, ap}
+use Rattle.std.proofs.Common.{refl, arith}
 use Rattle.kom_types.specs.declared.effects.Effect.TheVariants as effect
 use Rattle.kom_model.specs.Effects.{made}
-use Rattle.kom_state.proofs.Drawing.{AreDrawn-person_gone}
 use Rattle.kom_state.proofs.Making.{IsMade-texts}
-use Rattle.kom_state.proofs.Numbering.{AreNumbered-texts_mapped}
-use Rattle.kom_model.specs.Effects.{without_number}
-use Rattle.kom_state.proofs.Numbering.{next-without_number, number-without_number}
+use Rattle.kom_state.proofs.Kept.{IsKept-made}
 use Rattle.kom_state.proofs.stored_rows.StoredRows.remove_person.Goals as goal
 
 pub invariant_of-self : goal.invariant_of-self
-invariant_of-self c = (
-  c.self.invariant.0,
-  AreDrawn-person_gone _ _ _ _ c.self.invariant.1 c.args.number _ _ c.remove.ensures.rows
-      c.forget_created.ensures.rows,
-  AreNumbered-texts_mapped _ _ _ c.self.invariant.2 (without_number c.args.number) _ (next-without_number c.args.number)
-      (number-without_number c.args.number) (ap (λ rows. rows.texts) c.forget_created.ensures.rows),
-  c.self.invariant.3,
-)
+unfolding made
+invariant_of-self c =
+    IsKept-made (effect.PersonGone c.args.number) _ _ _ _ c.self.invariant
+    (rw (← c.self.view_is) at c.requires.fits) (rw (c.remove.ensures.rows, c.forget_created.ensures.rows) refl) refl
 
 pub returns : goal.returns
 unfolding made

@@ -1,18 +1,15 @@
-use Rattle.std.proofs.Common.{refl, arith, ap}
+use Rattle.std.proofs.Common.{refl, arith}
 use Rattle.kom_types.specs.declared.effects.Effect.TheVariants as effect
 use Rattle.kom_model.specs.Effects.{made}
-use Rattle.kom_state.proofs.Drawing.{AreDrawn-recipient_gone}
 use Rattle.kom_state.proofs.Making.{IsMade-texts}
-use Rattle.kom_state.proofs.Numbering.{AreNumbered-same}
+use Rattle.kom_state.proofs.Kept.{IsKept-made}
 use Rattle.kom_state.proofs.stored_rows.StoredRows.remove_recipient.Goals as goal
 
 pub invariant_of-self : goal.invariant_of-self
-invariant_of-self c = (
-  c.self.invariant.0,
-  AreDrawn-recipient_gone _ _ _ _ c.self.invariant.1 c.args.text c.args.conference _ c.remove_recipient.ensures.rows,
-  AreNumbered-same _ _ _ _ c.self.invariant.2 (ap (λ rows. rows.texts) c.remove_recipient.ensures.rows),
-  c.self.invariant.3,
-)
+unfolding made
+invariant_of-self c =
+    IsKept-made (effect.RecipientGone c.args.text c.args.conference) _ _ _ _ c.self.invariant
+    (rw (← c.self.view_is) at c.requires.fits) (rw c.remove_recipient.ensures.rows refl) refl
 
 pub returns : goal.returns
 unfolding made

@@ -1,27 +1,16 @@
 use Rattle.std.proofs.Common.{refl}
 use Rattle.kom_types.specs.tables.Conferences.{with_field}
+use Rattle.kom_types.specs.declared.effects.Effect.TheVariants as effect
 use Rattle.kom_model.specs.Effects.{made}
-use Rattle.kom_state.proofs.Names.{name-with_field}
-use Rattle.kom_state.proofs.Kept.{IsKept-changed}
 use Rattle.kom_state.proofs.Making.{IsMade-conference}
-use Rattle.conferences.specs.Numbers.{number-with_field}
-use Rattle.kom_state.proofs.Drawing.{AreDrawn-conference, next-with_field}
-use Rattle.kom_state.proofs.Held.{AreHeld-conference_changed}
-use Rattle.kom_state.proofs.Numbering.{AreNumbered-conference_changed, next_item-with_field}
+use Rattle.kom_state.proofs.Kept.{IsKept-made}
 use Rattle.kom_state.proofs.stored_rows.StoredRows.set_conference_field.Goals as goal
 
 pub invariant_of-self : goal.invariant_of-self
-invariant_of-self c = (
-  IsKept-changed _ _ _ c.self.invariant.0 c.args.number (with_field c.args.field) _ (name-with_field c.args.field)
-      c.set_field.ensures.rows,
-  AreDrawn-conference _ _ _ _ c.self.invariant.1 c.args.number (with_field c.args.field) _
-      (number-with_field c.args.field) (next-with_field c.args.field) c.set_field.ensures.rows,
-  AreNumbered-conference_changed _ _ _ c.self.invariant.2 c.args.number (with_field c.args.field) _
-      (next_item-with_field c.args.field)
-      (number-with_field c.args.field) c.set_field.ensures.rows,
-  AreHeld-conference_changed _ _ c.self.invariant.3 c.args.number (with_field c.args.field) _
-      (number-with_field c.args.field) c.set_field.ensures.rows,
-)
+unfolding made
+invariant_of-self c =
+    IsKept-made (effect.ConfField c.args.number c.args.field) _ _ _ _ c.self.invariant
+    (rw (← c.self.view_is) at c.requires.fits) (rw c.set_field.ensures.rows refl) refl
 
 pub returns : goal.returns
 unfolding made

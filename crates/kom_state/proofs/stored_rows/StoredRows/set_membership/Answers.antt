@@ -1,17 +1,16 @@
 use Rattle.kom_state.proofs.Making.{IsMade-set, room_to_set}
-use Rattle.kom_state.proofs.Fitted.{member-fits}
-use Rattle.kom_state.proofs.Held.{AreHeld-set}
+use Rattle.std.proofs.Common.{refl}
+use Rattle.kom_state.specs.Room.{set_of}
+use Rattle.kom_state.proofs.Kept.{IsKept-made}
 use Rattle.kom_state.proofs.stored_rows.StoredRows.set_membership.Goals as goal
 
 pub invariant_of-self : goal.invariant_of-self
-invariant_of-self c = (
-  c.self.invariant.0,
-  c.self.invariant.1,
-  c.self.invariant.2,
-  AreHeld-set _ _ c.self.invariant.3 c.args.row _
-      (member-fits _ _ _ _ _ _ _ _ (rw (← c.self.view_is) at c.requires.possible.fits))
-      (rw c.unwrap.ensures at c.set.ensures.ok),
-)
+invariant_of-self c =
+    IsKept-made (set_of c.args.row) _ _ _ _ c.self.invariant
+    (rw (← c.self.view_is) at c.requires.possible.fits)
+    (IsMade-set {items = c.self.inside.items} c.args.row c.self.inside.conferences c.self.inside.persons _ _
+    c.self.inside.names c.self.inside.texts _ _ c.requires.fresh (rw c.unwrap.ensures at c.set.ensures.ok)
+    (rw c.unwrap.ensures at c.set.ensures.reads) c.set.ensures.room).db refl
 
 pub unwrap-requires : goal.unwrap-requires
 unwrap-requires c =

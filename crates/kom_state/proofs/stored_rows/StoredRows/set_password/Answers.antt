@@ -1,18 +1,16 @@
 use Rattle.std.proofs.Common.{refl}
 use Rattle.kom_types.specs.tables.Persons.{with_hash}
+use Rattle.kom_types.specs.declared.effects.Effect.TheVariants as effect
 use Rattle.kom_model.specs.Effects.{made}
 use Rattle.kom_state.proofs.Making.{IsMade-person}
-use Rattle.kom_state.proofs.Drawing.{AreDrawn-person}
+use Rattle.kom_state.proofs.Kept.{IsKept-made}
 use Rattle.kom_state.proofs.stored_rows.StoredRows.set_password.Goals as goal
 
 pub invariant_of-self : goal.invariant_of-self
-invariant_of-self c = (
-  c.self.invariant.0,
-  AreDrawn-person _ _ _ _ c.self.invariant.1 c.args.number (with_hash c.args.hash) _ (λ _. refl) (λ _. refl)
-      c.set_hash.ensures.rows,
-  c.self.invariant.2,
-  c.self.invariant.3,
-)
+unfolding made
+invariant_of-self c =
+    IsKept-made (effect.Password c.args.number c.args.hash) _ _ _ _ c.self.invariant
+    (rw (← c.self.view_is) at c.requires.fits) (rw c.set_hash.ensures.rows refl) refl
 
 pub returns : goal.returns
 unfolding made

@@ -7,16 +7,14 @@ use Rattle.read_ranges.specs.Merged.{merged}
 use Rattle.read_ranges.specs.Reads.{with_read, read_at}
 use Rattle.read_ranges.proofs.Rising.{rise_faultless}
 use Rattle.kom_state.proofs.Making.{IsMade-members}
-use Rattle.kom_state.proofs.Held.{AreHeld-read}
+use Rattle.kom_state.proofs.Kept.{IsKept-made}
 use Rattle.kom_state.proofs.stored_rows.StoredRows.set_read.Goals as goal
 
 pub invariant_of-self : goal.invariant_of-self
-invariant_of-self c = (
-  c.self.invariant.0,
-  c.self.invariant.1,
-  c.self.invariant.2,
-  AreHeld-read _ _ c.self.invariant.3 c.args.person c.args.conference c.args.at _ c.set_read.ensures.rows,
-)
+unfolding made
+invariant_of-self c =
+    IsKept-made (effect.ReadSet c.args.person c.args.conference c.args.at c.args.ranges) _ _ _ _ c.self.invariant
+    (rw (← c.self.view_is) at c.requires.fits) (rw (c.set_read.ensures.rows, rw c.into_vec.ensures at c.set_read.ensures.reads) refl) refl
 
 pub set_read-requires : goal.set_read-requires
 unfolding fits
