@@ -54,6 +54,13 @@ impl Conferences {
         }
     }
 
+    /// How many conferences there are.
+    pub fn len(&self) -> usize
+        ensures { result ≡ length self.now.rows }
+    {
+        self.rows.len()
+    }
+
     /// The row of a conference, if it is there.
     pub fn get(&self, number: u32) -> Option<&ConferenceRow>
         ensures row { option_copied result ≡ row_of number_of_conference number self.now.rows }

@@ -12,6 +12,7 @@ ghost use Rattle.kom_state.specs.Keeping.{AreBelow};
 ghost use Rattle.kom_state.specs.Placed.{AreThere, AreInPlace, AreFound};
 ghost use Rattle.kom_state.specs.Secrecy.{AreFoundBySecret};
 
+mod counts;
 mod item_rows;
 mod secrecy;
 mod text_rows;

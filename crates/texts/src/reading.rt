@@ -14,6 +14,13 @@ use kom_types::{Mapping, MarkRow, Marks, Memory, Recipient, TextLink, TextRow};
 use local_maps::PairsFrom;
 
 impl Texts {
+    /// How many texts there are.
+    pub fn text_count(&self) -> usize
+        ensures { result ≡ length self.now.rows.texts }
+    {
+        self.texts.len()
+    }
+
     /// The row of a text, in constant time.
     pub fn text(&self, number: u32) -> Option<&TextRow>
         ensures row { option_copied result ≡ row_of number_of_text number self.now.rows.texts }

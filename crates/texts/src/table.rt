@@ -1,4 +1,4 @@
-ghost use Rattle.std.specs.Prelude.{◌≡◌, ◌+◌, ◌<◌, ◌≤◌, [], None, option_copied};
+ghost use Rattle.std.specs.Prelude.{◌≡◌, ◌+◌, ◌<◌, ◌≤◌, [], None, length, option_copied};
 ghost use Rattle.std.specs.Prelude.{IsOk, OnOk, OnErr};
 ghost use Rattle.row_table.specs.Tables.{row_of, with_row, without_row, changed_row, IsByNumber};
 ghost use Rattle.kom_types.specs.tables.Texts.{number_of_text, with_created_local};
@@ -36,6 +36,13 @@ impl TextTable {
         TextTable {
             rows: Table::new(alloc),
         }
+    }
+
+    /// How many texts there are.
+    pub fn len(&self) -> usize
+        ensures { result ≡ length self.now.rows }
+    {
+        self.rows.len()
     }
 
     /// The row of a text, if it is there.
