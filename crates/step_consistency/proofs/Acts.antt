@@ -52,7 +52,7 @@ module _ (group : Group) where
         by false among = refl
 
   module _ (one other : State) (same : erased group one ≡ erased group other) where
-    session-same : (session : ℕ) → is_among group.sessions session ≡ true →
+    pub session-same : (session : ℕ) → is_among group.sessions session ≡ true →
         session_of session one ≡ session_of session other
     session-same session own = sym (found-erased session own one.sessions)
         ∙ ap (λ (state : State). find (is_session session) state.sessions) same

@@ -145,19 +145,19 @@ module _ (group : Group) (one other : State) (moment session reference : ℕ) (c
   db-same : erased_db group one.db ≡ erased_db group other.db
   db-same = ap (λ (state : State). state.db) worlds.same
 
-  seats-same : seats_of one ≡ seats_of other
+  pub seats-same : seats_of one ≡ seats_of other
   seats-same = sym (seats-erased group one.sessions)
       ∙ ap (λ (state : State). map (λ (session : Session). session.seat) state.sessions) worlds.same
       ∙ seats-erased group other.sessions
 
-  viewers-same : (seat : Seat) → viewer_of one.db seat ≡ viewer_of other.db seat
+  pub viewers-same : (seat : Seat) → viewer_of one.db seat ≡ viewer_of other.db seat
   viewers-same seat = sym (viewer-erased group one.db seat) ∙ ap (λ db. viewer_of db seat) db-same
       ∙ viewer-erased group other.db seat
 
   one-own : AllByRecursion (IsOwn group one.db) (seats_of one)
   one-own = all-onto (IsOwn group one.db) (λ (session : Session). session.seat) one.sessions worlds.of_group
 
-  other-own : AllByRecursion (IsOwn group other.db) (seats_of other)
+  pub other-own : AllByRecursion (IsOwn group other.db) (seats_of other)
   other-own = subst (λ seats. AllByRecursion (IsOwn group other.db) seats) seats-same
       (all-also (IsOwn group one.db) (IsOwn group other.db) (λ seat is among.
       subst (λ viewer. IsOfGroup group viewer) (viewers-same seat) (is among)) (seats_of one) one-own)
@@ -175,7 +175,7 @@ module _ (group : Group) (one other : State) (moment session reference : ℕ) (c
         reference = reference;
       }
 
-  asked-same : erased_asked group (asked_at one) ≡ erased_asked group (asked_at other)
+  pub asked-same : erased_asked group (asked_at one) ≡ erased_asked group (asked_at other)
   asked-same = asked-erased one ∙ ap asked_at worlds.same ∙ sym (asked-erased other)
 
   pub decided-same : is_among group.sessions session ≡ true → decision one ≡ decision other

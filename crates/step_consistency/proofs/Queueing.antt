@@ -29,7 +29,7 @@ seat-queued limits entry item row = by row.overrun (fits limits row.waiting item
   by false true = refl
   by false false = refl
 
-seat-row : (limits : Limits) (entry : ℕ) (items : List Item) (row : Session) →
+pub seat-row : (limits : Limits) (entry : ℕ) (items : List Item) (row : Session) →
     (queue_row limits entry items row).seat ≡ row.seat
 seat-row limits entry [] row = refl
 seat-row limits entry (item ∷ items) row =
