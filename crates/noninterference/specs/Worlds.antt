@@ -16,6 +16,7 @@ use Rattle.kom_model.specs.Db.{Db, empty_db}
 use Rattle.kom_model.specs.Effects.{apply_all}
 use Rattle.kom_model.specs.State.{State, opening}
 use Rattle.kom_laws.specs.Groups.{Group}
+use Rattle.step_consistency.specs.Same.{IsSameFor}
 use Rattle.step_consistency.specs.Steps.{HasNoOpening}
 use Rattle.local_respect.specs.Hidden.{is_hidden, may_differ, are_as_long, text_of_act, AreAlike}
 use Rattle.local_respect.specs.Quiet.{AreWeak, recipients_seen}
@@ -150,6 +151,7 @@ pub record WorldRows : Type 0 where
   pub own_drain : is_hidden di before di_drains ≡ false
   pub own_query : is_hidden di before (calls 3 (call.GetConfStat 6)) ≡ false
   pub alike : AreAlike di (yes ∷ di_drains ∷ []) (no ∷ di_drains ∷ [])
+  pub not_of_another_length : AreAlike di (yes ∷ []) [] → ⊥
   pub not_as_long : are_as_long (text_of_act yes.act) (text_of_act short_no.act) ≡ false
   pub not_against_another_act : are_as_long (text_of_act yes.act) (text_of_act cy_drains.act)
       ≡ false
@@ -162,3 +164,4 @@ pub record WorldRows : Type 0 where
   pub opened_conference : HasNoOpening di stored with_di → ⊥
   pub made_strong : AreWeak di strong → ⊥
   pub weak_sessions : AreWeak di before
+  pub same_worlds : IsSameFor di before before

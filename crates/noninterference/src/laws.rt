@@ -1,4 +1,18 @@
+ghost use Rattle.noninterference.specs.Hiding.{AllHide, StepsHide};
 ghost use Rattle.noninterference.specs.Worlds.{WorldRows};
+
+/// A law alone: two quiet records whose entries may stand at one place in two worlds are the same
+/// step to a group, from sound states that are the same for it.
+pub fn steps_hide()
+    ensures { StepsHide }
+{}
+
+/// A law alone: every history from a sound state is the same to a group as any that is alike and
+/// quiet beside it: the states after them are the same for the group, each of its sessions is sent
+/// the same, and each of its drains gives the same.
+pub fn histories_hide()
+    ensures { AllHide }
+{}
 
 /// A law alone: the definitions of hidden entries, of lists that are alike and of an Opening give
 /// what was worked out by hand.

@@ -1,5 +1,5 @@
 -- Each row is computed.
-use Rattle.std.proofs.Common.{◌≡◌, true, false, refl, inl, inr}
+use Rattle.std.proofs.Common.{◌≡◌, true, false, refl, sym, inl, inr, true≢false}
 use Rattle.std.specs.Fmt.{digits}
 use Rattle.kom_types.specs.AuxItems.{refused_change, inherited}
 use Rattle.kom_types.specs.Names.{is_name}
@@ -34,6 +34,7 @@ returns c = record {
   own_drain = refl;
   own_query = refl;
   alike = (refl, inr (record { first = refl; second = refl; texts = refl }), (refl, inl refl, tt));
+  not_of_another_length = λ none. none;
   not_as_long = refl;
   not_against_another_act = refl;
   not_without_an_author = refl;
@@ -43,4 +44,11 @@ returns c = record {
   opened_conference = λ none. let wrong : false ≡ true = none.conference 10 refl refl refl in cc;
   made_strong = λ weak. let wrong : false ≡ true = weak.0 in cc;
   weak_sessions = (refl, (refl, (refl, tt)));
+  same_worlds = record {
+    of_group = (
+      λ among. absurd (true≢false (sym among)),
+      (λ among. absurd (true≢false (sym among)), (λ among. (refl, refl), tt)),
+    );
+    same = refl;
+  };
 }

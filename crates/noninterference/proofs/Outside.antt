@@ -1,0 +1,158 @@
+-- An equal call from outside a group that changes the same in states that are the same for the group leaves such states.
+use Rattle.std.proofs.Common.{◌≡◌, ℕ, Bool, true, false, cond, not, ◌==◌, ◌||◌, ◌&&◌, List, [], ◌∷◌, refl, sym, ap, ap₂}
+use Rattle.std.proofs.Common.{◌∙◌, inl, inr, true≢false}
+use Rattle.std.specs.Prelude.{IsTrue}
+use Rattle.std.specs.List.{list_all}
+use Rattle.std.proofs.lemmas.Bool.{cases_Bool, and_parts, not-true}
+use Rattle.kom_types.specs.Errors as error
+use Rattle.kom_types.specs.declared.calls.Call.{Call}
+use Rattle.kom_types.specs.declared.calls.Call.TheVariants as call
+use Rattle.kom_types.specs.declared.decisions.Decision.{Decision}
+use Rattle.kom_types.specs.declared.effects.Effect.{Effect}
+use Rattle.kom_types.specs.declared.seats.Seat.{Seat}
+use Rattle.kom_types.specs.declared.session_changes.SessionChange.{SessionChange}
+use Rattle.kom_model.specs.After.{after, decision_at, moment_of}
+use Rattle.kom_model.specs.Db.{Db}
+use Rattle.kom_model.specs.Decide.{asked_in, decision_of, limited}
+use Rattle.kom_model.specs.Kinds.{is_among}
+use Rattle.kom_model.specs.Messages.{send_message, is_member_with}
+use Rattle.kom_model.specs.Sending.{delivered, delivered_to}
+use Rattle.kom_model.specs.State.{State}
+use Rattle.kom_model.specs.ToWhom.{is_refused}
+use Rattle.kom_model.specs.calls.Call.{Asked, decided, seat_of}
+use Rattle.kom_model.specs.calls.Guards.{caller}
+use Rattle.kom_model.specs.calls.Sessions.{send_message_to}
+use Rattle.kom_laws.specs.Erasing.{erased_db, erased, mask_of}
+use Rattle.kom_laws.specs.Groups.{Group}
+use Rattle.kom_laws.proofs.Rights.{sees-masked}
+use Rattle.output_consistency.specs.Answers.{erased_asked}
+use Rattle.output_consistency.proofs.Alike.{viewer-same}
+use Rattle.output_consistency.proofs.Masked.{public-masked}
+use Rattle.output_consistency.proofs.Rows.{filter_map-tells}
+use Rattle.step_consistency.specs.Calls.{called, IsReadyToCall, ActsAlike}
+use Rattle.step_consistency.specs.Same.{AreOfGroup, IsSameFor}
+use Rattle.step_consistency.proofs.Calls.{calls-erased, asked-same}
+use Rattle.local_respect.specs.Calls.{later}
+use Rattle.local_respect.specs.Vanishing.{is_masked}
+use Rattle.local_respect.proofs.Calls.{calls-vanish}
+use Rattle.noninterference.proofs.Accepting.{is_none_of, none-of, is_idle, accepts_async, refused-spares, spares_refused}
+use Rattle.noninterference.proofs.Silent.{is_public, idle-silent}
+
+-- ---- the calls that hang on nothing that is ever hidden come to the same without it, whoever makes them
+module _ (group : Group) (asked : Asked) where
+  abbrev part : Asked
+  part = erased_asked group asked
+
+  caller-erased : caller part ≡ caller asked
+  caller-erased = viewer-same (erased_db group asked.db) asked.db (public-masked (mask_of group asked.db) asked.db)
+      (seat_of asked)
+
+  delivered-erased : (recipient : ℕ) (text : List ℕ) (seat : Seat) →
+      delivered part.db (send_message part.db recipient (caller asked).person text) seat
+      ≡ delivered asked.db (send_message asked.db recipient (caller asked).person text) seat
+  delivered-erased recipient text seat =
+      rw ((public-masked (mask_of group asked.db) asked.db).kind seat.person recipient, is_member_with) refl
+
+  sent-erased : (recipient : ℕ) (text : List ℕ) →
+      delivered_to part.db asked.seats (send_message part.db recipient (caller asked).person text)
+      ≡ delivered_to asked.db asked.seats (send_message asked.db recipient (caller asked).person text)
+  sent-erased recipient text = filter_map-tells
+      (delivered part.db (send_message part.db recipient (caller asked).person text))
+      (delivered asked.db (send_message asked.db recipient (caller asked).person text))
+      (delivered-erased recipient text) asked.seats
+
+  message-erased : (recipient : ℕ) (text : List ℕ) →
+      send_message_to part recipient text ≡ send_message_to asked recipient text
+  message-erased recipient text = rw caller-erased
+      (rw (sees-masked (mask_of group asked.db) asked.db (caller asked) recipient)
+      (rw (sent-erased recipient text) refl))
+
+  public-decided : (what : Call) → is_public what ≡ true → decision_of part what ≡ decision_of asked what
+  unfolding decision_of
+  public-decided (call.AcceptAsync numbers) public = refl
+  public-decided call.SyncKom public = rw caller-erased refl
+  public-decided (call.SendMessage recipient text) public =
+      ap (λ definition. limited asked.reference (decided definition)) (message-erased recipient text)
+  public-decided what public = absurd (true≢false (sym public))
+
+module _ (group : Group) (one other : State) (pass moment session reference : ℕ) (what : Call)
+    (ready : IsReadyToCall group one moment session reference what)
+    (ready' : IsReadyToCall group other moment session reference what) (worlds : IsSameFor group one other)
+    (of_group' : AreOfGroup group other) (outside : is_among group.sessions session ≡ false) where
+  abbrev asked_at : State → Asked
+  asked_at state = asked_in state (moment_of state moment) session reference
+
+  abbrev decision : State → Decision
+  decision state = decision_at state moment session reference what
+
+  abbrev next : State → State
+  next state = after state (called pass moment session reference what)
+
+  public-same : is_public what ≡ true → decision one ≡ decision other
+  public-same public = sym (public-decided group (asked_at one) what public)
+      ∙ ap (λ asked. decision_of asked what)
+      (asked-same group one other moment session reference what ready.sound ready'.sound worlds)
+      ∙ public-decided group (asked_at other) what public
+
+  alike-same : ActsAlike (decision one) (decision other) → erased group (next one) ≡ erased group (next other)
+  alike-same alike = calls-erased.outside group one other pass moment session reference what ready ready' worlds
+      (ap not outside) alike
+
+  -- a call that changes nothing and sends nothing
+  idle-vanishes : (state : State) → IsReadyToCall group state moment session reference what → AreOfGroup group state →
+      is_public what ≡ false → (decision state).effects ≡ [] → (decision state).changes ≡ [] →
+      erased group (next state) ≡ later moment (erased group state)
+  idle-vanishes state is of_group other none still = calls-vanish group state pass moment session reference what
+      (record {
+        sound = is.sound;
+        of_group = of_group;
+        outside = ap not outside;
+        closed = is.ready.closed;
+        masked = ap (list_all (is_masked (mask_of group state.db))) none;
+        still = still;
+        silent = λ seat own. idle-silent (asked_at state) seat what other none still;
+      })
+
+  not-public : is_public what ≡ false → accepts_async what ≡ false
+  not-public other = by what other where
+    by : (what : Call) → is_public what ≡ false → accepts_async what ≡ false
+    by (call.AcceptAsync numbers) other = absurd (true≢false other)
+    by what other = refl
+
+  -- a call that changes something is not refused
+  busy-accepted : (state : State) → is_public what ≡ false → is_idle (decision state) ≡ false →
+      is_refused (decision state).reply ≡ false
+  busy-accepted state other busy = by (is_refused (decision state).reply) (is_idle (decision state)) busy
+      (refused-spares (asked_at state) what (not-public other)) where
+        by : (refused idle : Bool) → idle ≡ false → (not refused || idle) ≡ true → refused ≡ false
+        by false idle busy spared = refl
+        by true idle busy spared = absurd (true≢false (sym spared ∙ busy))
+
+  pub outside-same : (decision one).effects ≡ (decision other).effects →
+      (decision one).changes ≡ (decision other).changes → erased group (next one) ≡ erased group (next other)
+  outside-same effects changes = elim (cases_Bool (is_public what)) [
+    | inl public ↦
+        let same : decision one ≡ decision other = public-same public in
+        alike-same (record {
+          effects = effects;
+          changes = changes;
+          refused = ap (λ (decision : Decision). is_refused decision.reply) same;
+        })
+    | inr private ↦ elim (cases_Bool (is_idle (decision one))) [
+      | inl idle ↦
+          let parts = and_parts (is_none_of (decision one).effects) (is_none_of (decision one).changes) idle in
+          let none : (decision one).effects ≡ [] = none-of (decision one).effects parts.0 in
+          let still : (decision one).changes ≡ [] = none-of (decision one).changes parts.1 in
+          idle-vanishes one ready worlds.of_group private none still
+          ∙ ap (later moment) worlds.same
+          ∙ sym (idle-vanishes other ready' of_group' private (sym effects ∙ none) (sym changes ∙ still))
+      | inr busy ↦ alike-same (record {
+        effects = effects;
+        changes = changes;
+        refused = busy-accepted one private busy
+            ∙ sym (busy-accepted other private
+            (ap₂ (λ (effects : List Effect) (changes : List SessionChange).
+            is_none_of effects && is_none_of changes) (sym effects) (sym changes) ∙ busy));
+      })
+    ]
+  ]

@@ -1,0 +1,8 @@
+-- The lists are alike where what is left of them is.
+use Rattle.std.proofs.Common.{◌↔◌, drop}
+use Rattle.local_respect.specs.Hidden.{AreAlike}
+use Rattle.noninterference.proofs.worlds.are_alike.Given as goal
+
+abbrev pub invariant-loop-place : goal.invariant-loop-place
+invariant-loop-place l =
+    AreAlike l.group l.ones l.others ↔ AreAlike l.group (drop l.place l.ones) (drop l.place l.others)

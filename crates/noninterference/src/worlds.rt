@@ -1,0 +1,203 @@
+ghost use Rattle.std.specs.Prelude.{◌≡◌, ◌↔◌, option_copied, IsTrue};
+ghost use Rattle.kom_types.specs.tables.Texts.{lines_of};
+ghost use Rattle.local_respect.specs.Hidden.{may_be_hidden, may_differ, text_of_act, are_as_long};
+ghost use Rattle.local_respect.specs.Hidden.{AreAlike, MayDiffer, text_of_call};
+ghost use Rattle.noninterference.specs.Hiding.{AreSameAlong, StandAlike};
+
+use crate::group::Group;
+use call_equality::are_equal_entries;
+use kom_types::{Act, Call, Entry, NewText};
+
+/// A call that asks, that the reader refused, or one of the eleven whose change may be hidden.
+fn may_be_hidden(call: &Call) -> bool
+    ensures { result ≡ may_be_hidden call.now }
+{
+    match call {
+        Call::Logout => false,
+        Call::ChangeConference { .. } => false,
+        Call::ChangeWhatIAmDoing { .. } => false,
+        Call::Enable { .. } => false,
+        Call::SendMessage { .. } => false,
+        Call::Disconnect { .. } => false,
+        Call::WhoAmI => true,
+        Call::Login { .. } => false,
+        Call::SetClientVersion(_) => false,
+        Call::GetClientName { .. } => true,
+        Call::GetClientVersion { .. } => true,
+        Call::AcceptAsync { .. } => false,
+        Call::QueryAsync => true,
+        Call::UserActive => false,
+        Call::WhoIsOnDynamic { .. } => true,
+        Call::GetStaticSessionInfo { .. } => true,
+        Call::GetTime => true,
+        Call::SyncKom => false,
+        Call::ShutdownKom { .. } => false,
+        Call::GetVersionInfo => true,
+        Call::GetCollateTable => true,
+        Call::GetInfo => true,
+        Call::SetPrivBits { .. } => false,
+        Call::SetPasswd(_) => false,
+        Call::GetPersonStat { .. } => true,
+        Call::SetUserArea { .. } => false,
+        Call::CreatePerson(_) => false,
+        Call::SetPersFlags { .. } => false,
+        Call::ChangeName { .. } => false,
+        Call::DeleteConf { .. } => false,
+        Call::SetPresentation { .. } => true,
+        Call::SetEtcMotd { .. } => true,
+        Call::SetSupervisor { .. } => false,
+        Call::SetPermittedSubmitters { .. } => false,
+        Call::SetSuperConf { .. } => false,
+        Call::SetConfType { .. } => false,
+        Call::SetGarbNice { .. } => false,
+        Call::LookupZName { .. } => true,
+        Call::GetUconfStat { .. } => true,
+        Call::CreateConf(_) => false,
+        Call::GetConfStat { .. } => true,
+        Call::SetExpire { .. } => false,
+        Call::SetKeepCommented { .. } => false,
+        Call::FirstUnusedConfNo => true,
+        Call::FindNextConfNo { .. } => true,
+        Call::FindPreviousConfNo { .. } => true,
+        Call::GetMarks => true,
+        Call::GetText { .. } => true,
+        Call::DeleteText { .. } => false,
+        Call::AddRecipient { .. } => true,
+        Call::SubRecipient { .. } => true,
+        Call::AddComment { .. } => false,
+        Call::SubComment { .. } => false,
+        Call::AddFootnote { .. } => false,
+        Call::SubFootnote { .. } => false,
+        Call::FindNextTextNo { .. } => true,
+        Call::FindPreviousTextNo { .. } => true,
+        Call::MarkText { .. } => false,
+        Call::UnmarkText { .. } => false,
+        Call::CreateText(_) => true,
+        Call::CreateAnonymousText(_) => false,
+        Call::GetTextStat { .. } => true,
+        Call::LocalToGlobal { .. } => true,
+        Call::MapCreatedTexts { .. } => true,
+        Call::FirstUnusedTextNo => true,
+        Call::LocalToGlobalReverse { .. } => true,
+        Call::SubMember { .. } => false,
+        Call::MarkAsRead { .. } => true,
+        Call::SetUnread { .. } => false,
+        Call::GetUnreadConfs { .. } => true,
+        Call::SetLastRead { .. } => true,
+        Call::AddMember { .. } => false,
+        Call::GetMembers { .. } => true,
+        Call::SetMembershipType { .. } => false,
+        Call::QueryReadTexts { .. } => true,
+        Call::GetMembership { .. } => true,
+        Call::MarkAsUnread { .. } => true,
+        Call::SetReadRanges { .. } => true,
+        Call::ModifyTextInfo(_) => true,
+        Call::ModifyConfInfo(_) => true,
+        Call::QueryPredefinedAuxItems => true,
+        Call::Refused(_, _) => true,
+    }
+}
+
+/// Whether an act of a session outside the group may be another in another world.
+fn may_differ(group: &Group, act: &Act) -> bool
+    ensures { result ≡ may_differ group.now act.now }
+{
+    match act {
+        Act::Connect { .. } => false,
+        Act::Call { session, call, .. } => !group.has_session(*session) && may_be_hidden(call),
+        Act::Broken { .. } => false,
+        Act::Drain { session } => !group.has_session(*session),
+        Act::Flush => false,
+        Act::Close { .. } => false,
+    }
+}
+
+/// The text that a call makes, with an author.
+fn text_of_call(call: &Call) -> Option<&NewText>
+    ensures { option_copied result ≡ text_of_call call.now }
+{
+    match call {
+        Call::CreateText(given) => Some(given.get()),
+        _ => None,
+    }
+}
+
+/// The text that an act makes, with an author.
+fn text_of_act(act: &Act) -> Option<&NewText>
+    ensures { option_copied result ≡ text_of_act act.now }
+{
+    match act {
+        Act::Connect { .. } => None,
+        Act::Call { call, .. } => text_of_call(call),
+        Act::Broken { .. } => None,
+        Act::Drain { .. } => None,
+        Act::Flush => None,
+        Act::Close { .. } => None,
+    }
+}
+
+/// How many lines a body has: each ends at a line feed.
+fn lines_of(body: &[u8]) -> usize
+    ensures { result ≡ lines_of body.now }
+{
+    body.iter().filter(|byte| **byte == b'\n').count()
+}
+
+/// Two acts that make texts make texts as long, in bytes and in lines; and one that makes a text
+/// stands against no other act.
+fn are_as_long(one: &Act, other: &Act) -> bool
+    ensures { result ≡ are_as_long (text_of_act one.now) (text_of_act other.now) }
+{
+    match text_of_act(one) {
+        None => text_of_act(other).is_none(),
+        Some(given) => match text_of_act(other) {
+            None => false,
+            Some(other_given) => {
+                given.body.len() == other_given.body.len()
+                    && lines_of(given.body.as_slice()) == lines_of(other_given.body.as_slice())
+            }
+        },
+    }
+}
+
+/// Whether two acts of sessions outside the group may stand at one place.
+fn may_both_differ(group: &Group, one: &Act, other: &Act) -> bool
+    ensures { IsTrue result ↔ MayDiffer group.now one.now other.now }
+{
+    may_differ(group, one) && may_differ(group, other) && are_as_long(one, other)
+}
+
+/// Whether two entries may stand at one place.
+fn may_stand(group: &Group, one: &Entry, other: &Entry) -> bool
+    ensures { IsTrue result ↔ StandAlike group.now one.now other.now }
+{
+    if one.moment.seconds() != other.moment.seconds() {
+        return false;
+    }
+    are_equal_entries(one, other) || may_both_differ(group, &one.act, &other.act)
+}
+
+/// Whether two lists of entries are as long and may stand beside each other, place by place.
+fn are_alike(group: &Group, ones: &[Entry], others: &[Entry]) -> bool
+    ensures { IsTrue result ↔ AreAlike group.now ones.now others.now }
+{
+    if ones.len() != others.len() {
+        return false;
+    }
+    for place in 0..ones.len() {
+        if !may_stand(group, &ones[place], &others[place]) {
+            return false;
+        }
+    }
+    true
+}
+
+/// Whether two lists of entries are those of two worlds that a group cannot tell apart: they are
+/// as long, with equal moments, and differ in what sessions outside the group ask, drain, or
+/// change in hiding, alone. Whether they are quiet in given states is not looked at.
+pub fn two_worlds(group: &Group, ones: &[Entry], others: &[Entry]) -> bool
+    ensures alike { IsTrue result ↔ AreAlike group.now ones.now others.now }
+    ensures same { IsTrue result → AreSameAlong group.now ones.now others.now }
+{
+    are_alike(group, ones, others)
+}
