@@ -24,10 +24,8 @@ pub(crate) struct Tried {
 impl Tried {
     /// No act was handed to it yet.
     pub(crate) fn new(alloc: Global) -> Result<Tried, Memory> {
-        Ok(Tried {
-            core: Core::fresh(alloc, b"", Moment::at_most(0))?,
-            acts: 0,
-        })
+        let core = Core::fresh(alloc, b"", Moment::at_most(0))?;
+        Ok(Tried { core, acts: 0 })
     }
 
     /// Whether the server was shut down.
