@@ -1,6 +1,6 @@
 -- What a stop may leave of a store, and what that stands for. Above this crate no byte of it is
 -- seen: these definitions stay closed there.
-use Rattle.std.specs.Prelude.{◌≡◌, ◌⊎◌, ℕ, List}
+use Rattle.std.specs.Prelude.{◌⊎◌, ℕ, List}
 use Rattle.kom_types.specs.declared.effects.Effect.{Effect}
 use Rattle.kom_model.specs.Db.{Db}
 use Rattle.kom_model.specs.Effects.{apply_all}

@@ -1,6 +1,5 @@
 -- Two texts that are hidden from a group as they are made, and alike as far as it sees them, leave states that are the
 -- same for it.
-use mathlib.Core.Path.{fun_ext}
 use Rattle.std.proofs.Common.{◌≡◌, ℕ, Bool, true, false, cond, not, ◌==◌, ◌||◌, ◌&&◌, List, [], ◌∷◌, ◌++◌, Some}
 use Rattle.std.proofs.Common.{refl, sym, ap, ap₂, ◌∙◌, subst, eqb-true, true≢false, length}
 use Rattle.std.specs.Prelude.{map, max}
@@ -40,8 +39,7 @@ use Rattle.kom_model.proofs.whole.Counts.{all-weaker}
 use Rattle.kom_masks.specs.Laws.{HidesMore}
 use Rattle.kom_masks.specs.Masks.{masked_db}
 use Rattle.kom_laws.specs.Erasing.{erased_db, erased, mask_of}
-use Rattle.kom_laws.specs.Groups.{Group, IsOfGroup, is_unseen, is_unread}
-use Rattle.kom_laws.proofs.Rights.{unseen-masked, hidden-erased}
+use Rattle.kom_laws.specs.Groups.{Group, IsOfGroup, is_unseen}
 use Rattle.kom_laws.proofs.fitting.Calls.{decided-fit}
 use Rattle.output_consistency.specs.Brought.{brought_to}
 use Rattle.output_consistency.proofs.Masked.{public-masked, conference-masked}
@@ -49,7 +47,7 @@ use Rattle.step_consistency.specs.Calls.{called}
 use Rattle.step_consistency.specs.Same.{AreOfGroup, IsSameFor}
 use Rattle.step_consistency.specs.Steps.{HasNoOpening}
 use Rattle.step_consistency.proofs.Agreeing.{all-from}
-use Rattle.step_consistency.proofs.Below.{erased-below}
+use Rattle.step_consistency.proofs.Below.{unseen-erased, masks-erased, erased-below}
 use Rattle.step_consistency.proofs.Calls.{IsOwn, all-onto, seats-erased, viewer-erased}
 use Rattle.local_respect.specs.Calls.{later}
 use Rattle.local_respect.specs.Entries.{IsSilentTo, AreHiddenTexts, VanishAlike, HiddenTextsVanish}
@@ -160,26 +158,6 @@ map-kept {X} {Y} make make' test same (row ∷ rows) =
 
 module _ (group : Group) (one other : Db) (protected : IsProtected one) (protected' : IsProtected other)
     (same : erased_db group one ≡ erased_db group other) where
-  unseen-erased : (number : ℕ) → is_unseen group one number ≡ is_unseen group other number
-  unseen-erased number = sym (unseen-masked group (mask_of group one) one number)
-      ∙ ap (λ db. is_unseen group db number) same ∙ unseen-masked group (mask_of group other) other number
-
-  unread-erased : (number : ℕ) → is_unread group one number ≡ is_unread group other number
-  unread-erased number = sym ((hidden-erased group one protected).unread number)
-      ∙ ap (λ db. is_unread group db number) same ∙ (hidden-erased group other protected').unread number
-
-  pub masks-same : mask_of group one ≡ mask_of group other
-  masks-same =
-      let conference : (λ number. is_unseen group one number) ≡ (λ number. is_unseen group other number) =
-      fun_ext unseen-erased in
-      let text : (λ number. is_unread group one number) ≡ (λ number. is_unread group other number) =
-      fun_ext unread-erased in
-      λ i. record {
-        conference = conference i;
-        text = text i;
-        person = λ person. not (is_among group.persons person);
-      }
-
   pub next_text-same : next_text_of one ≡ next_text_of other
   next_text-same = sym (public-masked (mask_of group one) one).next_text ∙ ap next_text_of same
       ∙ (public-masked (mask_of group other) other).next_text
@@ -193,7 +171,8 @@ module _ (group : Group) (one other : Db) (protected : IsProtected one) (protect
   next_local-same conference seen =
       sym (conference-masked (mask_of group one) one conference seen).next_local
       ∙ ap (λ db. next_local_of db conference) same
-      ∙ (conference-masked (mask_of group other) other conference (sym (unseen-erased conference) ∙ seen)).next_local
+      ∙ (conference-masked (mask_of group other) other conference
+      (sym (unseen-erased group one other protected protected' same conference) ∙ seen)).next_local
 
 module _ (group : Group) (one other : State) (pass pass' moment moment' session session' reference reference' : ℕ)
     (given given' : NewText) (text : IsHiddenText group one pass moment session reference given)
@@ -231,7 +210,7 @@ module _ (group : Group) (one other : State) (pass pass' moment moment' session 
   db-same = ap (λ (state : State). state.db) same
 
   masks : mask_of group one.db ≡ mask_of group other.db
-  masks = masks-same group one.db other.db text.sound.protected text'.sound.protected db-same
+  masks = masks-erased group one.db other.db text.sound.protected text'.sound.protected db-same
 
   moments : moment_of one moment ≡ moment_of other moment'
   moments = λ i. max (same i).moment (at i)

@@ -85,7 +85,7 @@ module _ (mask : Mask) where
     text-made db = same-db refl refl refl refl (text-placed db.texts) refl refl refl refl refl refl
 
   -- So the same is left of two texts that are made, whatever their bodies are, where the same is left of the effects
-  -- behind them.
+  -- after them.
   pub texts-masked : (number author at : ℕ) (body body' : List ℕ) (effects effects' : List Effect) (one other : Db) →
       mask.text number ≡ true → left effects ≡ left effects' →
       all_fit (effect.TextAdded number author at body ∷ effects) one ≡ true →

@@ -22,7 +22,8 @@ use Rattle.kom_model.specs.ToWhom.{is_refused}
 use Rattle.kom_model.specs.calls.AuxItems.{item_effects, changed, object_of, numbers_guard}
 use Rattle.kom_model.specs.calls.Call.{Asked, answer, done}
 use Rattle.kom_model.specs.calls.Conferences.{nearest}
-use Rattle.kom_model.specs.calls.Guards.{Guard, with_items, caller, first_refusal, items_guard, new_items_guard, seat_at}
+use Rattle.kom_model.specs.calls.Guards.{Guard, with_items, caller, first_refusal, items_guard, new_items_guard}
+use Rattle.kom_model.specs.calls.Guards.{seat_at}
 use Rattle.kom_model.specs.calls.NewTexts.{new_text}
 use Rattle.kom_model.specs.calls.Persons.{maker}
 use Rattle.kom_model.specs.calls.Sessions.{session_meant, ended, static_of}
@@ -100,7 +101,8 @@ new_text-spares anonymous asked given =
 
 rest-spares : (asked : Asked) (what : Call) → accepts_async what ≡ false → Spares (definition_of asked what).rest
 rest-spares asked (call.AcceptAsync numbers) other = absurd (true≢false other)
-rest-spares asked (call.Disconnect session) other = ended-spares asked (seat_at asked.seats (session_meant asked session))
+rest-spares asked (call.Disconnect session) other =
+    ended-spares asked (seat_at asked.seats (session_meant asked session))
 rest-spares asked (call.GetStaticSessionInfo session) other = static-spares (seat_at asked.seats session)
 rest-spares asked (call.GetPersonStat person) other = answer-spares _
 rest-spares asked (call.GetTextStat text) other = answer-spares _
@@ -132,9 +134,11 @@ pub refused-idle : (asked : Asked) (what : Call) → accepts_async what ≡ fals
     is_refused (decision_of asked what).reply ≡ true →
     ((decision_of asked what).effects ≡ []) × ((decision_of asked what).changes ≡ [])
 refused-idle asked what other refused =
-    let idle : is_idle (decision_of asked what) ≡ true = ap (λ is. not is || is_idle (decision_of asked what)) (sym refused)
+    let idle : is_idle (decision_of asked what) ≡ true =
+    ap (λ is. not is || is_idle (decision_of asked what)) (sym refused)
     ∙ refused-spares asked what other in
-    let parts = and_parts (is_none_of (decision_of asked what).effects) (is_none_of (decision_of asked what).changes) idle in
+    let parts =
+    and_parts (is_none_of (decision_of asked what).effects) (is_none_of (decision_of asked what).changes) idle in
     (none-of _ parts.0, none-of _ parts.1)
 
 -- ---- what is not refused is what the definition gives

@@ -21,7 +21,8 @@ use Rattle.noninterference.proofs.Seats.{after-of_group}
 use Rattle.noninterference.proofs.Stepping.{StepsAlike, pair-step}
 
 -- what two histories do to a group
-record GoAlike (group : Group) (one : State) (history : List Record) (other : State) (history' : List Record) : Type 0 where
+record GoAlike (group : Group) (one : State) (history : List Record) (other : State) (history' : List Record)
+    : Type 0 where
   states : IsSameFor group (state_after one history) (state_after other history')
   queued : (session : ℕ) → is_among group.sessions session ≡ true →
       queued_along one session history ≡ queued_along other session history'
@@ -58,7 +59,8 @@ module _ (group : Group) where
       let step : IsSameStep group one made other made' =
       step-hides one other made made' sound sound' worlds (alike.0, alike.1) quiet.0 in
       let rest : GoAlike group (after one made) ones (after other made') others =
-      go-alike (after one made) (after other made') ones others (IsSound-after one made quiet.0.first.follows.user sound)
+      go-alike (after one made) (after other made') ones others
+      (IsSound-after one made quiet.0.first.follows.user sound)
       (IsSound-after other made' quiet.0.second.follows.user sound') step.states alike.2 quiet.1 in
       record {
         states = rest.states;

@@ -1,4 +1,4 @@
--- An equal call from outside a group that changes the same in states that are the same for the group leaves such states.
+-- An equal call from outside a group that changes the same, in states that are the same for it, leaves such states.
 use Rattle.std.proofs.Common.{◌≡◌, ℕ, Bool, true, false, cond, not, ◌==◌, ◌||◌, ◌&&◌, List, [], ◌∷◌, refl, sym, ap, ap₂}
 use Rattle.std.proofs.Common.{◌∙◌, inl, inr, true≢false}
 use Rattle.std.specs.Prelude.{IsTrue}
@@ -35,7 +35,7 @@ use Rattle.step_consistency.proofs.Calls.{calls-erased, asked-same}
 use Rattle.local_respect.specs.Calls.{later}
 use Rattle.local_respect.specs.Vanishing.{is_masked}
 use Rattle.local_respect.proofs.Calls.{calls-vanish}
-use Rattle.noninterference.proofs.Accepting.{is_none_of, none-of, is_idle, accepts_async, refused-spares, spares_refused}
+use Rattle.noninterference.proofs.Accepting.{is_none_of, none-of, is_idle, accepts_async, refused-spares}
 use Rattle.noninterference.proofs.Silent.{is_public, idle-silent}
 
 -- ---- the calls that hang on nothing that is ever hidden come to the same without it, whoever makes them

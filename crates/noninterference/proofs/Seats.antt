@@ -37,7 +37,8 @@ use Rattle.kom_model.specs.calls.AuxItems as AuxItems
 use Rattle.kom_model.specs.calls.AuxItems.{item_effects, object_of, numbers_guard}
 use Rattle.kom_model.specs.calls.Call.{Asked, answer, done}
 use Rattle.kom_model.specs.calls.Conferences.{nearest, left_by_deletion}
-use Rattle.kom_model.specs.calls.Guards.{Guard, caller, with_items, first_refusal, items_guard, new_items_guard, seat_at}
+use Rattle.kom_model.specs.calls.Guards.{Guard, caller, with_items, first_refusal, items_guard, new_items_guard}
+use Rattle.kom_model.specs.calls.Guards.{seat_at}
 use Rattle.kom_model.specs.calls.Memberships.{is_in_conference}
 use Rattle.kom_model.specs.calls.NewTexts.{new_text}
 use Rattle.kom_model.specs.calls.Persons.{maker}
@@ -240,7 +241,8 @@ module _ (group : Group) where
         short = short;
       })).sessions
   acted-own state pass moment (act.Connect user host) session short own all =
-      all-more IsOwn state.sessions (fresh_session (state.connects + 1) pass user host (moment_of state moment)) all refl
+      all-more IsOwn state.sessions (fresh_session (state.connects + 1) pass user host (moment_of state moment)) all
+      refl
   acted-own state pass moment (act.Call number reference what) session true own all = all
   acted-own state pass moment (act.Call number reference what) session false own all =
       let decision : Decision = decision_at state moment number reference what in

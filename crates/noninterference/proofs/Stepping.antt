@@ -132,14 +132,16 @@ module _ (group : Group) (one other : State) (sound : IsSound one) (sound' : IsS
 
     by-texts : (text text' : Option NewText) → text_of_act made.entry.act ≡ text →
         text_of_act made'.entry.act ≡ text' → are_as_long text text' ≡ true → StepsAlike group one other made made'
-    by-texts None None is is' long = both-vanish (textless-by one made None is refl) (textless-by other made' None is' refl)
+    by-texts None None is is' long =
+        both-vanish (textless-by one made None is refl) (textless-by other made' None is' refl)
     by-texts None (Some given') is is' long = absurd (true≢false (sym long))
     by-texts (Some given) None is is' long = absurd (true≢false (sym long))
     by-texts (Some given) (Some given') is is' long =
         let alike = quietly.texts given given' hidden is is' in
         elim (cases_Bool (is_accepted one made.entry)) [
           | inl accepted ↦
-              let gone : VanishAlike group one other made made' = texts-vanish group one other made made' given given' (record {
+              let gone : VanishAlike group one other made made' =
+              texts-vanish group one other made made' given given' (record {
                 sound = sound;
                 sound' = sound';
                 same = worlds;
@@ -207,7 +209,8 @@ module _ (group : Group) (one other : State) (sound : IsSound one) (sound' : IsS
           | inl among ↦ from-states asked
               (calls-erased.own group one other pass moment at reference what ready ready' worlds among)
           | inr outside ↦ elim (quietly.outside refl (ap not outside)) [
-            | inl hidden ↦ hidden-step (made asked) (made' asked) quietly refl hidden (itself-as_long (text_of_act asked))
+            | inl hidden ↦ hidden-step (made asked) (made' asked) quietly refl hidden
+                (itself-as_long (text_of_act asked))
             | inr changes ↦ from-states asked (outside-same group one other pass moment at reference what ready ready'
                 worlds of_group' outside changes.effects changes.changes)
           ]

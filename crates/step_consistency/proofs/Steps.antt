@@ -19,10 +19,9 @@ use Rattle.kom_masks.proofs.Rows.{told}
 use Rattle.kom_masks.proofs.Stepping.{effects-masked}
 use Rattle.kom_laws.specs.Erasing.{erased_db, mask_of}
 use Rattle.kom_laws.specs.Groups.{Group, is_unseen, is_unread, weak}
-use Rattle.kom_laws.proofs.Rights.{unseen-masked, hidden-erased}
 use Rattle.step_consistency.specs.Steps.{IsReadyFor, EffectsStandErased}
 use Rattle.step_consistency.proofs.Agreeing.{AgreesOn, masked-agrees}
-use Rattle.step_consistency.proofs.Below.{erased-below}
+use Rattle.step_consistency.proofs.Below.{unseen-erased, unread-erased, erased-below}
 use Rattle.step_consistency.proofs.Standing.{conferences-stood, texts-stood}
 
 -- ---- what is not there is hidden
@@ -84,12 +83,10 @@ module _ (group : Group) (effects : List Effect) (one other : Db) (ready : IsRea
 
   -- the same is hidden, and the same numbers were drawn, in both
   unseen-same : (number : ℕ) → is_unseen group other number ≡ is_unseen group one number
-  unseen-same number = sym (unseen-masked group (mask_of group other) other number)
-      ∙ ap (λ db. is_unseen group db number) (sym same) ∙ unseen-masked group (mask_of group one) one number
+  unseen-same number = sym (unseen-erased group one other ready.protected ready'.protected same number)
 
   unread-same : (number : ℕ) → is_unread group other number ≡ is_unread group one number
-  unread-same number = sym ((hidden-erased group other ready'.protected).unread number)
-      ∙ ap (λ db. is_unread group db number) (sym same) ∙ (hidden-erased group one ready.protected).unread number
+  unread-same number = sym (unread-erased group one other ready.protected ready'.protected same number)
 
   next_conference-same : other.next_conference ≡ one.next_conference
   next_conference-same = ap (λ (db : Db). db.next_conference) (sym same)

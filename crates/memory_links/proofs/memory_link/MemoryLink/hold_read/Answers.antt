@@ -1,5 +1,5 @@
-use Rattle.std.proofs.Common.{arith, rules, ◌≡◌, ◌||◌, Bool, true, false, Some, length, refl, sym, ap, append-nil}
-use Rattle.std.proofs.lemmas.Bool.{false≢true}
+use Rattle.std.proofs.Common.{arith, rules, ◌≡◌, ◌||◌, nat_lt, Bool, true, false, Some, length, refl, sym, ap, append-nil}
+use Rattle.std.proofs.lemmas.Bool.{false≢true, lt-ltb, le-ltb}
 use Rattle.memory_links.proofs.Told.{some_same, marks_more, looked}
 use Rattle.memory_links.proofs.memory_link.MemoryLink.hold_read.Goals as goal
 
@@ -32,7 +32,8 @@ returns-then-waits-clause-reads c buffer = record {
   faults = omega arith;
   host = refl;
   looked = looked c.args.self.now.input.items c.args.self.now.output.items c.output.result.now c.args.self.now.taken
-      _ _ c.args.self.now.log c.add.new.self c.output.ensures c.if-waits.true c.add.ensures;
+      (nat_lt c.args.self.now.held 1000000) true c.args.self.now.log c.add.new.self c.output.ensures
+      (lt-ltb c.args.self.now.held 1000000 c.if-waits.true) c.add.ensures;
 }
 
 pub returns-clause-reads : goal.returns-clause-reads
@@ -46,5 +47,6 @@ returns-clause-reads c buffer = record {
   faults = omega (arith, c.saturating_add-self-2.ensures);
   host = refl;
   looked = looked c.args.self.now.input.items c.args.self.now.output.items c.output.result.now c.args.self.now.taken
-      _ _ c.args.self.now.log c.add.new.self c.output.ensures c.if-waits.false c.add.ensures;
+      (nat_lt c.args.self.now.held 1000000) false c.args.self.now.log c.add.new.self c.output.ensures
+      (le-ltb c.args.self.now.held 1000000 c.if-waits.false) c.add.ensures;
 }
