@@ -11,3 +11,4 @@ pub mod Spelled
 pub mod Stopping
 pub mod Unique
 pub mod Views
+pub mod Wholeness

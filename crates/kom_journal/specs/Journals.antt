@@ -3,7 +3,8 @@ use Rattle.std.specs.Prelude.{◌≡◌, ℕ, Bool, false, IsTrue, List}
 use Rattle.kom_types.specs.declared.effects.Effect.{Effect}
 use Rattle.batch_log.specs.Gates.{IsAtRest}
 use Rattle.batch_log.specs.Walk.{IsReadTo}
-use Rattle.kom_journal.specs.Files.{header}
+use Rattle.batch_log.specs.Log.{size_after}
+use Rattle.kom_journal.specs.Files.{header, body_of}
 use Rattle.kom_journal.specs.Pending.{IsSpelled}
 
 -- a journal: its disk; the effects that wait for a flush; for how many bytes more it has room;
@@ -16,6 +17,10 @@ pub record JournalView (D : Type 0) : Type 0 where
   pub refused : Bool
   pub batches : ℕ
   pub place : ℕ
+
+-- how long the store gets by a flush of what waits, or the end of its type
+abbrev pub size_with : {D : Type 0} → JournalView D → ℕ
+size_with journal = size_after journal.place (body_of journal.pending)
 
 -- the bytes are a store whose closed gate at this place ends them, and all of it is stable
 pub record IsStored (place : ℕ) (bytes : List ℕ) (images : List ℕ → Type 0) : Type 0 where

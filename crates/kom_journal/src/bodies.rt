@@ -8,9 +8,9 @@ ghost use Rattle.kom_journal.specs.Opening.{IsUnfit};
 ghost use Rattle.kom_journal.specs.Reading.{MakesPart, part, FallsTo};
 
 use crate::making::{Stop, make_effects};
+use crate::rows::MadeRows;
 use batch_log::read_block;
 use kom_disk::Disk;
-use kom_state::StoredRows;
 use std::alloc::Global;
 
 /// Makes the effects of the body that stands between two places. The buffer grows where an effect
@@ -18,7 +18,7 @@ use std::alloc::Global;
 pub(crate) fn make_body<D: Disk>(
     alloc: Global,
     disk: &mut D,
-    rows: &mut StoredRows,
+    rows: &mut MadeRows,
     buffer: &mut Vec<u8>,
     from: u64,
     end: u64,
@@ -50,7 +50,7 @@ pub(crate) fn make_body<D: Disk>(
 fn make_block<D: Disk>(
     alloc: Global,
     disk: &mut D,
-    rows: &mut StoredRows,
+    rows: &mut MadeRows,
     buffer: &mut Vec<u8>,
     at: u64,
     end: u64,

@@ -9,7 +9,8 @@ ghost use Rattle.batch_log.specs.Batches.{batches};
 ghost use Rattle.batch_log.specs.Log.{flushed, size_after};
 ghost use Rattle.effect_codec.specs.Coding.{coded_effect, IsShortEnough};
 ghost use Rattle.kom_model.specs.Db.{Db, empty_db};
-ghost use Rattle.kom_model.specs.Effects.{apply_all, all_fit};
+ghost use Rattle.kom_model.specs.Effects.{apply_all, all_fit, IsProtected};
+ghost use Rattle.kom_model.specs.Whole.{IsWhole};
 ghost use Rattle.kom_journal.specs.Files.{header, body_of};
 ghost use Rattle.kom_journal.specs.Images.{StandsFor, AreFor, IsKept, IsForEither, IsCause};
 ghost use Rattle.kom_journal.specs.Images.{HasCount, IsLeftOf, as_read, images, images_at, moment};
@@ -67,6 +68,7 @@ impl<D: Disk> Journal<D> {
         ensures pending { IfOk result (λ journal. journal.pending ≡ []) }
         ensures refused { IfOk result (λ journal. journal.refused ≡ false) }
         ensures batches { IfOk result (λ journal. journal.batches ≡ 0) }
+        ensures place { IfOk result (λ journal. journal.place ≡ 16) }
         ensures rows { IsTrue D.tells
             → IfOk result (λ journal. AreFor (images D.images journal.disk) empty_db) }
         ensures kept { IsTrue D.tells → IfOk result (λ journal. IsKept (images D.images journal.disk)) }
@@ -108,6 +110,8 @@ impl<D: Disk> Journal<D> {
         ensures refused { IfOk result (λ opened. opened.0.refused ≡ false) }
         ensures batches { IsTrue D.tells
             → IfOk result (λ opened. HasCount opened.0.batches (as_read D.bytes disk)) }
+        ensures protected { IfOk result (λ opened. IsProtected opened.1.db) }
+        ensures whole { IfOk result (λ opened. IsWhole opened.1.db) }
 
         // Why it is not opened.
         ensures cause { IsTrue D.tells
@@ -141,7 +145,7 @@ impl<D: Disk> Journal<D> {
                     refused: false,
                     batches: end.batches,
                 },
-                rows,
+                rows.into_stored(),
             )),
             Err(_) => Err((disk, OpenFault::Memory)),
         }

@@ -10,6 +10,7 @@ mod keeping;
 mod laws;
 mod making;
 mod opening;
+mod rows;
 
 pub use errors::OpenFault;
 pub use journal::Journal;

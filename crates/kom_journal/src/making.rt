@@ -3,12 +3,11 @@ ghost use Rattle.std.specs.Prelude.{◌≡◌, ◌≢◌, ◌++◌, ◌<◌, ℕ
 ghost use Rattle.kom_journal.specs.Opening.{BeginsUnfit};
 ghost use Rattle.kom_journal.specs.Reading.{MakesNext, MakesSome, ComesUnfit};
 
+use crate::rows::MadeRows;
 use effect_codec::{ReadError, read};
 use kom_disk::Failed;
-use kom_state::StoredRows;
 use kom_types::Memory;
 use std::alloc::Global;
-use std::slice;
 
 /// Why no more of a body is made.
 #[derive(Clone, Copy, Debug)]
@@ -24,7 +23,7 @@ pub(crate) enum Stop {
 /// have to come.
 pub(crate) fn make_next(
     alloc: Global,
-    rows: &mut StoredRows,
+    rows: &mut MadeRows,
     bytes: &[u8],
 ) -> Result<Option<usize>, Stop>
     ensures made { IfOk result (MakesNext bytes.now rows.old.db rows.new.db) }
@@ -42,7 +41,7 @@ pub(crate) fn make_next(
     if !rows.fits(&effect) {
         return Err(Stop::Unfit);
     }
-    match rows.reserve(slice::from_ref(&effect)) {
+    match rows.reserve_one(&effect) {
         Ok(()) => {}
         Err(Memory) => return Err(Stop::Memory),
     }
@@ -51,11 +50,7 @@ pub(crate) fn make_next(
 }
 
 /// Makes all whole effects that the bytes begin with, and tells how many bytes are theirs.
-pub(crate) fn make_effects(
-    alloc: Global,
-    rows: &mut StoredRows,
-    bytes: &[u8],
-) -> Result<usize, Stop>
+pub(crate) fn make_effects(alloc: Global, rows: &mut MadeRows, bytes: &[u8]) -> Result<usize, Stop>
     ensures made { IfOk result (MakesSome bytes.now rows.old.db rows.new.db) }
     ensures unfit { result ≡ Err Stop.Unfit → ComesUnfit bytes.now rows.old.db }
     ensures no_fault { result ≢ Err Stop.Fault }

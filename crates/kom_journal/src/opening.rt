@@ -14,9 +14,9 @@ ghost use Rattle.kom_journal.specs.Batch.{IsNext, IsNoNext, EndsBefore, IsWithin
 use crate::bodies::make_body;
 use crate::errors::OpenFault;
 use crate::making::Stop;
+use crate::rows::MadeRows;
 use batch_log::{Found, look, read_block, repair};
 use kom_disk::Disk;
-use kom_state::StoredRows;
 use std::alloc::Global;
 
 const HEADER: [u8; 16] = *b"KOMSTORE\x01\0\0\0\0\0\0\0";
@@ -79,7 +79,7 @@ pub(crate) fn make_rows<D: Disk>(
     alloc: Global,
     disk: &mut D,
     len: u64,
-) -> Result<(StoredRows, End), OpenFault>
+) -> Result<(MadeRows, End), OpenFault>
     requires header { IsTrue D.tells → take 16 (D.bytes disk.old) ≡ header }
     requires long { (17 ≤ len) × (len ≡ D.size disk.old) }
     ensures made { IsTrue D.tells → IfOk result (λ made. IsMadeOf made.1.place made.1.gate
@@ -93,7 +93,7 @@ pub(crate) fn make_rows<D: Disk>(
     ensures fault { result ≡ Err OpenFault.Fault → Rose (D.faults disk.old) (D.faults disk.new) }
     ensures no_fault { IfOk result (λ made. D.faults disk.new ≡ D.faults disk.old) }
 {
-    let mut rows = StoredRows::empty(alloc);
+    let mut rows = MadeRows::empty(alloc);
     let mut buffer = new_buffer(alloc)?;
     let mut at = 16;
     let mut batches = 0;
@@ -129,7 +129,7 @@ pub(crate) enum Next {
 fn make_batch<D: Disk>(
     alloc: Global,
     disk: &mut D,
-    rows: &mut StoredRows,
+    rows: &mut MadeRows,
     buffer: &mut Vec<u8>,
     at: u64,
     len: u64,
@@ -177,7 +177,7 @@ fn new_buffer(alloc: Global) -> Result<Vec<u8>, OpenFault>
 }
 
 // The rows of a stable store, and where it ends.
-fn read_store<D: Disk>(alloc: Global, disk: &mut D) -> Result<(StoredRows, End), OpenFault>
+fn read_store<D: Disk>(alloc: Global, disk: &mut D) -> Result<(MadeRows, End), OpenFault>
     ensures made { IsTrue D.tells → IfOk result (λ made. IsMadeOf made.1.place made.1.gate
         made.1.batches made.0.db (D.bytes disk.old)) }
     ensures within { IfOk result (λ made. IsWithin (D.size disk.new) made.1) }
@@ -197,10 +197,7 @@ fn read_store<D: Disk>(alloc: Global, disk: &mut D) -> Result<(StoredRows, End),
 }
 
 /// Opens the store on a disk: makes it stable, makes its rows, and repairs its end.
-pub(crate) fn open_rows<D: Disk>(
-    alloc: Global,
-    disk: &mut D,
-) -> Result<(StoredRows, End), OpenFault>
+pub(crate) fn open_rows<D: Disk>(alloc: Global, disk: &mut D) -> Result<(MadeRows, End), OpenFault>
     ensures stands { IsTrue D.tells
         → IfOk result (λ opened. IsStoreOf opened.0.db (D.bytes disk.old)) }
     ensures rows { IsTrue D.tells

@@ -1,5 +1,6 @@
 use Rattle.std.proofs.Common.{ap, sym, subst, ◌∙◌}
-use Rattle.kom_journal.specs.Images.{as_read, images, images_at, moment, IsLeftOf}
+use Rattle.kom_model.specs.Db.{Db}
+use Rattle.kom_journal.specs.Images.{StandsFor, AreFor, as_read, images, images_at, moment, IsLeftOf}
 use Rattle.kom_journal.specs.Opened.{Opens}
 use Rattle.kom_journal.specs.Opening.{IsCauseInFile}
 use Rattle.kom_journal.specs.Pending.{effects_in}
@@ -40,13 +41,17 @@ invariant_of-result g c =
 
 pub returns-in-Ok-new-clause-stands : goal.returns-in-Ok-new-clause-stands
 returns-in-Ok-new-clause-stands g c told =
-    stands_on c.args.disk g.D.Disk.bytes c.in-Ok.opened.0.db (c.in-Ok.ensures.stands told)
+    subst (λ (db : Db). StandsFor db (as_read g.D.Disk.bytes c.args.disk))
+    (sym (ap (λ stored. stored.db) c.into_stored.ensures.same))
+    (stands_on c.args.disk g.D.Disk.bytes c.in-Ok.opened.0.db (c.in-Ok.ensures.stands told))
 
 pub returns-in-Ok-new-clause-rows : goal.returns-in-Ok-new-clause-rows
 returns-in-Ok-new-clause-rows g c told =
     let made = c.new-in-Ok-new in
-    for_on made.result.disk g.D.Disk.images c.in-Ok.opened.0.db
-    (λ bytes left. c.in-Ok.ensures.rows told bytes (subst (λ d. g.D.Disk.images d bytes) made.ensures.disk left))
+    subst (λ (db : Db). AreFor (images g.D.Disk.images made.result.disk) db)
+    (sym (ap (λ stored. stored.db) c.into_stored.ensures.same))
+    (for_on made.result.disk g.D.Disk.images c.in-Ok.opened.0.db
+    (λ bytes left. c.in-Ok.ensures.rows told bytes (subst (λ d. g.D.Disk.images d bytes) made.ensures.disk left)))
 
 pub returns-in-Ok-new-clause-pending : goal.returns-in-Ok-new-clause-pending
 returns-in-Ok-new-clause-pending g c = ap effects_in c.new-in-Ok-new.ensures.empty ∙ effects_of_none
