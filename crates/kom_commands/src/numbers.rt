@@ -1,0 +1,85 @@
+// The numbers among the words of a command line.
+ghost use Rattle.std.specs.Prelude.{◌≡◌, ◌≤◌, [], ◌∷◌, Some, IfSome, IfNone, length, ℕ};
+ghost use Rattle.std.specs.List.{list_all};
+ghost use Rattle.kom_types.specs.ByteKind.{is_digit as is_decimal};
+ghost use Rattle.kom_types.specs.Token.{number_of};
+ghost use Rattle.kom_commands.specs.Numbers.{number_in as number_between, SaysServe};
+
+/// Where sessions are served, and by how many workers.
+#[derive(Clone, Copy, Debug)]
+pub struct AtPort {
+    pub port: u16,
+    pub workers: u32,
+}
+
+// The most workers.
+const MOST_WORKERS: u32 = 64;
+
+// The most digits of a number.
+const MOST_DIGITS: usize = 6;
+
+/// What the words of `serve` say, if they are right.
+pub fn serve_of(word: &str, store: &str, port: &str, workers: &str) -> Option<AtPort>
+    ensures some { IfSome result (λ served. SaysServe
+        (word.now ∷ store.now ∷ port.now ∷ workers.now ∷ []) served.port served.workers) }
+    ensures none { IfNone result ((port_number workers_number : ℕ) → SaysServe
+        (word.now ∷ store.now ∷ port.now ∷ workers.now ∷ []) port_number workers_number → ⊥) }
+{
+    if word != "serve" || store.is_empty() {
+        return None;
+    }
+    let port = port_in(port)?;
+    let workers = number_in(workers, 1, MOST_WORKERS)?;
+    Some(AtPort { port, workers })
+}
+
+/// The port that a word is, if it is one.
+fn port_in(word: &str) -> Option<u16>
+    ensures { result ≡ number_between 1 65535 word.now }
+{
+    match number_in(word, 1, u32::from(u16::MAX)) {
+        Some(number) => Some(number as u16),
+        None => None,
+    }
+}
+
+/// The number that a word is, if it is one from the least to the greatest.
+pub fn number_in(word: &str, least: u32, greatest: u32) -> Option<u32>
+    ensures number { result ≡ number_between least greatest word.now }
+    ensures within { IfSome result (λ number. number ≤ greatest) }
+{
+    let digits = word.as_bytes();
+    if digits.is_empty() || MOST_DIGITS < digits.len() || !are_digits(digits) {
+        return None;
+    }
+    let number = number(digits);
+    if least <= number && number <= greatest {
+        Some(number)
+    } else {
+        None
+    }
+}
+
+fn are_digits(bytes: &[u8]) -> bool
+    ensures { result ≡ list_all is_decimal bytes.now }
+{
+    bytes.iter().all(|byte| is_digit(byte))
+}
+
+fn is_digit(byte: &u8) -> bool
+    ensures { result ≡ is_decimal byte.now }
+{
+    b'0' <= *byte && *byte <= b'9'
+}
+
+/// The number that a run of six digits at most spells.
+fn number(digits: &[u8]) -> u32
+    requires { length digits.now ≤ 6 }
+    ensures { result ≡ number_of digits.now }
+{
+    let mut number = 0;
+    for digit in digits {
+        number = 10 * number + u32::from(digit.saturating_sub(b'0'));
+    }
+    number
+}
