@@ -340,7 +340,8 @@ def main(words):
         return 0
     functions, errors = all_functions()
     names, by_tests = wanted(functions, errors), listed()
-    tests = {function.name for function in functions if function.is_test}
+    # A crate of tests may be a program, whose output is compared.
+    tests = {function.name for function in functions if function.is_test or OTHER_CRATES.fullmatch(function.name.split("::")[0])}
     faults = []
     for name, test in by_tests.items():
         if name not in names:
