@@ -1,10 +1,8 @@
 -- An equal call from outside a group that changes the same, in states that are the same for it, leaves such states.
-use Rattle.std.proofs.Common.{◌≡◌, ℕ, Bool, true, false, cond, not, ◌==◌, ◌||◌, ◌&&◌, List, [], ◌∷◌, refl, sym, ap, ap₂}
+use Rattle.std.proofs.Common.{◌≡◌, ℕ, Bool, true, false, not, ◌||◌, ◌&&◌, List, [], refl, sym, ap, ap₂}
 use Rattle.std.proofs.Common.{◌∙◌, inl, inr, true≢false}
-use Rattle.std.specs.Prelude.{IsTrue}
 use Rattle.std.specs.List.{list_all}
-use Rattle.std.proofs.lemmas.Bool.{cases_Bool, and_parts, not-true}
-use Rattle.kom_types.specs.Errors as error
+use Rattle.std.proofs.lemmas.Bool.{cases_Bool, and_parts}
 use Rattle.kom_types.specs.declared.calls.Call.{Call}
 use Rattle.kom_types.specs.declared.calls.Call.TheVariants as call
 use Rattle.kom_types.specs.declared.decisions.Decision.{Decision}
@@ -12,7 +10,6 @@ use Rattle.kom_types.specs.declared.effects.Effect.{Effect}
 use Rattle.kom_types.specs.declared.seats.Seat.{Seat}
 use Rattle.kom_types.specs.declared.session_changes.SessionChange.{SessionChange}
 use Rattle.kom_model.specs.After.{after, decision_at, moment_of}
-use Rattle.kom_model.specs.Db.{Db}
 use Rattle.kom_model.specs.Decide.{asked_in, decision_of, limited}
 use Rattle.kom_model.specs.Kinds.{is_among}
 use Rattle.kom_model.specs.Messages.{send_message, is_member_with}

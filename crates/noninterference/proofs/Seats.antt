@@ -23,7 +23,7 @@ use Rattle.kom_types.specs.declared.session_changes.SessionChange.TheVariants as
 use Rattle.kom_types.specs.declared.texts.NewText.{NewText}
 use Rattle.kom_types.specs.declared.texts.TextRow.{TextRow}
 use Rattle.kom_types.specs.Sessions.{Session, waiting_limits, fresh_session, is_session, drained, changed_session}
-use Rattle.kom_types.specs.Sessions.{changed_seat, changed, with_invisible}
+use Rattle.kom_types.specs.Sessions.{changed, with_invisible}
 use Rattle.kom_model.specs.After.{after, acted, deliveries, decision_at, moment_of, make_change, make_changes}
 use Rattle.kom_model.specs.Db.{next_conference_of, items_of}
 use Rattle.kom_model.specs.Decide.{asked_in, decision_of, definition_of}
@@ -50,7 +50,7 @@ use Rattle.kom_model.proofs.whole.Counts.{all-along, all-mapped, all-kept, all-m
 use Rattle.kom_laws.specs.Groups.{Group, IsOfGroup}
 use Rattle.step_consistency.specs.Same.{AreOfGroup}
 use Rattle.step_consistency.proofs.Queueing.{rows-filled, seat-row, items_for}
-use Rattle.local_respect.specs.Quiet.{AreWeak, IsQuiet, logs_in_own, is_accepted}
+use Rattle.local_respect.specs.Quiet.{IsQuiet, logs_in_own}
 use Rattle.noninterference.proofs.Accepting.{refused-idle, accepted-rest}
 
 -- who logs in at a session of the group is of it

@@ -1,10 +1,9 @@
 -- A call that changes nothing sends nothing, but for those that only send; and these come to the same whatever is
 -- hidden.
-use Rattle.std.proofs.Common.{◌≡◌, ℕ, Bool, true, false, cond, not, ◌==◌, ◌||◌, ◌&&◌, List, [], ◌∷◌, ◌++◌, length}
-use Rattle.std.proofs.Common.{Option, Some, None, refl, sym, ap, ap₂, ◌∙◌, inl, inr, true≢false}
+use Rattle.std.proofs.Common.{◌≡◌, ℕ, Bool, true, false, cond, ◌&&◌, List, [], ◌∷◌, ◌++◌}
+use Rattle.std.proofs.Common.{Option, Some, None, refl, sym, ap, ap₂, ◌∙◌, true≢false}
 use Rattle.std.specs.Prelude.{map, is_some, option_map}
 use Rattle.std.specs.List.{filter_map, cons_option}
-use Rattle.std.proofs.lemmas.Bool.{cases_Bool}
 use Rattle.kom_types.specs.declared.aux_items.AuxChange.{AuxChange}
 use Rattle.kom_types.specs.declared.calls.Call.{Call}
 use Rattle.kom_types.specs.declared.calls.Call.TheVariants as call
@@ -16,13 +15,12 @@ use Rattle.kom_types.specs.declared.memberships.MembershipRow.{MembershipRow}
 use Rattle.kom_types.specs.declared.messages.Message.{Message}
 use Rattle.kom_types.specs.declared.seats.Seat.{Seat}
 use Rattle.kom_types.specs.declared.session_changes.SessionChange.{SessionChange}
-use Rattle.kom_model.specs.Db.{Db, membership_of, recipients_of, links_of, marks_on, items_of}
+use Rattle.kom_model.specs.Db.{membership_of, recipients_of, links_of, marks_on, items_of}
 use Rattle.kom_model.specs.Decide.{decision_of, definition_of}
 use Rattle.kom_model.specs.Messages.{text_aux_changed, told_if, new_membership}
 use Rattle.kom_model.specs.Sending.{Delivery, Sending}
 use Rattle.kom_model.specs.ToWhom.{sendings, sent_by, left, of_made, items_named, items_made, is_refused, logged_out}
 use Rattle.kom_model.specs.ToWhom.{logged_in}
-use Rattle.kom_model.specs.calls.AuxItems.{item_effects}
 use Rattle.kom_model.specs.calls.Call.{Asked, done}
 use Rattle.kom_model.specs.calls.Guards.{Guard, caller, with_items}
 use Rattle.kom_model.specs.calls.Memberships.{joins, set_member, is_near}

@@ -1,7 +1,7 @@
 -- Two quiet records at one place leave states that are the same for a group, and queue and give its sessions the same.
-use Rattle.std.proofs.Common.{◌≡◌, ℕ, Bool, true, false, not, ◌==◌, ◌&&◌, List, [], Option, Some, None, refl, sym, ap}
+use Rattle.std.proofs.Common.{◌≡◌, ℕ, Bool, true, false, not, ◌&&◌, Option, Some, None, refl, sym, ap}
 use Rattle.std.proofs.Common.{ap₂, ◌∙◌, inl, inr, ◌⊎◌, subst, true≢false}
-use Rattle.std.specs.Prelude.{length, is_some, IsTrue}
+use Rattle.std.specs.Prelude.{length, is_some}
 use Rattle.std.proofs.lemmas.Bool.{cases_Bool, eq-eqb, and_from}
 use Rattle.kom_types.specs.declared.acts.Act.{Act}
 use Rattle.kom_types.specs.declared.acts.Act.TheVariants as act
