@@ -25,17 +25,17 @@ use Rattle.kom_model.proofs.Seating.{of-seats}
 use Rattle.kom_laws.specs.Erasing.{erased}
 use Rattle.kom_laws.specs.Groups.{Group}
 use Rattle.kom_laws.proofs.Kept.{sound-fit}
-use Rattle.step_consistency.specs.Calls.{called, IsReadyToCall}
-use Rattle.step_consistency.specs.Same.{AreOfGroup, IsSameFor}
-use Rattle.step_consistency.specs.Steps.{HasNoOpening}
-use Rattle.step_consistency.proofs.Acts.{acts-erased}
-use Rattle.step_consistency.proofs.Calls.{IsOwn, calls-erased, other-own}
-use Rattle.local_respect.specs.Calls.{later}
-use Rattle.local_respect.specs.Entries.{makes_text, VanishesFor, VanishAlike}
-use Rattle.local_respect.specs.Hidden.{text_of_act, are_as_long, MayDiffer}
-use Rattle.local_respect.specs.Quiet.{IsQuiet, AreQuietly, AreHidden, is_accepted}
-use Rattle.local_respect.proofs.Entries.{entries-vanish}
-use Rattle.local_respect.proofs.Pairs.{texts-vanish}
+use Rattle.unwinding.specs.steps.Calls.{called, IsReadyToCall}
+use Rattle.unwinding.specs.steps.Same.{AreOfGroup, IsSameFor}
+use Rattle.unwinding.specs.steps.Steps.{HasNoOpening}
+use Rattle.unwinding.proofs.steps.Acts.{acts-erased}
+use Rattle.unwinding.proofs.steps.Calls.{IsOwn, calls-erased, other-own}
+use Rattle.unwinding.specs.respect.Calls.{later}
+use Rattle.unwinding.specs.respect.Entries.{makes_text, VanishesFor, VanishAlike}
+use Rattle.unwinding.specs.respect.Hidden.{text_of_act, are_as_long, MayDiffer}
+use Rattle.unwinding.specs.respect.Quiet.{IsQuiet, AreQuietly, AreHidden, is_accepted}
+use Rattle.unwinding.proofs.respect.Entries.{entries-vanish}
+use Rattle.unwinding.proofs.respect.Pairs.{texts-vanish}
 use Rattle.noninterference.proofs.Given.{waiting-same, given-same, queued-same}
 use Rattle.noninterference.proofs.Outside.{outside-same}
 

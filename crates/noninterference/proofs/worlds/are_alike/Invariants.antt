@@ -1,6 +1,6 @@
 -- The lists are alike where what is left of them is.
 use Rattle.std.proofs.Common.{◌↔◌, drop}
-use Rattle.local_respect.specs.Hidden.{AreAlike}
+use Rattle.unwinding.specs.respect.Hidden.{AreAlike}
 use Rattle.noninterference.proofs.worlds.are_alike.Given as goal
 
 abbrev pub invariant-loop-place : goal.invariant-loop-place

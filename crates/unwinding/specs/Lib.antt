@@ -1,0 +1,3 @@
+pub mod outputs
+pub mod steps
+pub mod respect
