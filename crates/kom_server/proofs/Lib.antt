@@ -8,3 +8,4 @@ pub mod Links
 pub mod NewPasses
 pub mod ServedLinks
 pub mod WholeRuns
+pub mod Hiding

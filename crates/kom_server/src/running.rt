@@ -5,6 +5,7 @@ ghost use Rattle.kom_links.specs.Outside.{IsNothing, Rose};
 ghost use Rattle.kom_links.specs.WorldCounts.{with_sink};
 ghost use Rattle.kom_state_lock.specs.Passes.{AreNewPasses, AreReady};
 ghost use Rattle.kom_book.specs.Books.{state_in};
+ghost use Rattle.noninterference.specs.Hiding.{IsHiding};
 ghost use Rattle.kom_server.specs.Runs.{new_server, IsRefused, HasUsage, Opens, IsRun};
 ghost use Rattle.kom_server.specs.Runs.{IsFirstReading, HasFailed};
 
@@ -63,6 +64,10 @@ pub fn run<R: Threads + Wait + Sync, W: World>(
         (map (λ gate. W.Gate.view gate) closing.gates.items)
         (map (λ clock. W.Clock.gave clock) closing.clocks.items)) }
     ensures one_gate { IfSome result.end (λ closing. length closing.gates.items ≡ 1) }
+
+    // What the rights hide from a group of persons changes nothing that its sessions are sent.
+    ensures hides { IfSome result.end (λ closing. (opened : ℕ)
+        → IsHiding (new_server opened) (map (λ entry. entry.made) closing.pass.seen)) }
 {
     let before = world.faults();
     let mut sink = world.out();

@@ -6,6 +6,7 @@ use Rattle.kom_links.specs.Outside.{IsNothing, Rose, grown}
 use Rattle.kom_links.specs.Talk.{IsPrefix}
 use Rattle.kom_server.specs.Runs.{HasUsage, usage}
 use Rattle.kom_server.proofs.Links.{none_rose}
+use Rattle.kom_server.proofs.Hiding.{hides}
 use Rattle.kom_server.proofs.running.run.Goals as goal
 
 abbrev Shows : ℕ → Option (List ℕ) → Type 0
@@ -35,3 +36,6 @@ returns-in_default-clause-usage g c refused = (
       c.out-sink.ensures.fresh.nothing_put c.out-sink.ensures.fresh.no_fault c.write.ensures,
   refl,
 )
+
+pub returns-clause-hides : goal.returns-clause-hides
+returns-clause-hides g c = hides _ c.once.result.1
