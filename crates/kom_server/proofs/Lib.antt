@@ -5,7 +5,12 @@ pub mod Calls
 pub mod Given
 pub mod Opened
 pub mod Links
+pub mod Lifting
+pub mod Apart
+pub mod Rows
+pub mod Overs
 pub mod NewPasses
 pub mod ServedLinks
 pub mod WholeRuns
 pub mod Hiding
+pub mod WorkerRuns

@@ -41,7 +41,7 @@ use Rattle.kom_server.proofs.Owning.{given_own, given_on}
 use Rattle.kom_server.proofs.Given.{gave_dropped, gave_drained, gave_on}
 use Rattle.kom_server.proofs.Opened.{opened_later, own_connects, plain_connects, closed_still, closed_now, ends_closed}
 
-all_append : {X : Type 0} (P : X → Type 0) (xs ys : List X) → AllByRecursion P xs → AllByRecursion P ys →
+pub all_append : {X : Type 0} (P : X → Type 0) (xs ys : List X) → AllByRecursion P xs → AllByRecursion P ys →
     AllByRecursion P (xs ++ ys)
 all_append P [] ys first last = last
 all_append P (x ∷ xs) ys first last = (first.0, all_append P xs ys first.1 last)
@@ -122,7 +122,7 @@ alike : (none : Bool) (xs ys : List (List Item)) → (none ≡ false → xs ≡ 
 alike true xs ys same = refl
 alike false xs ys same = same refl
 
-not_zero : (n : ℕ) → (n == 0) ≡ false → n ≡ 0 → ⊥
+pub not_zero : (n : ℕ) → (n == 0) ≡ false → n ≡ 0 → ⊥
 not_zero n some zero = not_both _ (eq-eqb n 0 zero) some
 
 given_of-on : (start : State) → IsStart start → (n pass : ℕ) (history more : List Record) →
@@ -324,7 +324,7 @@ told_by place (Some (fault.Full number)) ending (inr is) tells = is_told place e
 -- ---- tickets
 
 -- where no ticket without a turn is known at last, none was before
-lock_before : (drawn drawn' : ℕ) → drawn ≤ drawn' → is_lock_full drawn' ≡ false → is_lock_full drawn ≡ false
+pub lock_before : (drawn drawn' : ℕ) → drawn ≤ drawn' → is_lock_full drawn' ≡ false → is_lock_full drawn ≡ false
 lock_before drawn drawn' grown none =
     elim (cases_Bool (is_lock_full drawn)) [
       | inl full ↦

@@ -28,7 +28,7 @@ told_map P Q None turn before = tt
 told_map P Q (Some x) turn before = turn x before
 
 -- no record of a longer history, none of a shorter one
-none_later : (number : ℕ) (made : Record) (history : List Record) → of_pass number (made ∷ history) ≡ [] →
+pub none_later : (number : ℕ) (made : Record) (history : List Record) → of_pass number (made ∷ history) ≡ [] →
     of_pass number history ≡ []
 none_later number made history none =
     elim (cases_Bool (eqb made.entry.pass number)) [
@@ -195,7 +195,7 @@ module _ {B E : Type 0} (made : E → Record) (server : B → State) (pass_of : 
     (names : (entry : E) → pass_of entry ≡ (made entry).entry.pass)
     (leads : (opening : B) (history : List E) (value : B) → led opening history value
     → IsLed made server opening history value) where
-  entries_made : (number : ℕ) (history : List E) →
+  pub entries_made : (number : ℕ) (history : List E) →
       map made (entries_of pass_of number history) ≡ of_pass number (map made history)
   entries_made number [] = refl
   entries_made number (entry ∷ history) =

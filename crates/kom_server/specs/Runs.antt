@@ -166,12 +166,12 @@ told_sessions gate = elim gate.returned [ None ↦ [] | Some links ↦ sessions_
 
 -- What was seen is a legal history of the one-thread server from this state on, in which each
 -- session's acts are made by the pass that connected it; each record is of one of the passes that
--- have a gate; each of these has served its gate by it; and different links have different sessions.
+-- have a clock; each of these has served its gate by it; and different links have different sessions.
 pub record IsRun {L : Type 0} (view : L → LinkView) (start : State) (history : List Record)
     (drawn : ℕ) (gates : List (GateView L)) (clocks : List (Option (List ℕ))) : Type 0 where
   pub legal : IsLegal start history
   pub by_owners : AreByOwners start history
-  pub numbered : AllByRecursion (λ made. made.entry.pass < length gates) history
+  pub numbered : AllByRecursion (λ made. made.entry.pass < length clocks) history
   pub workers : AreWorkers view start history drawn 0 gates clocks
   pub distinct : IsDistinct nat_eq (flat_map told_sessions gates)
 
@@ -181,6 +181,16 @@ IsFirstReading moment [] = ⊥
 IsFirstReading moment (None ∷ clocks) = Unit {0}
 IsFirstReading moment (Some [] ∷ clocks) = ⊥
 IsFirstReading moment (Some (reading ∷ readings) ∷ clocks) = moment ≡ reading
+
+-- a gate failed or has ended, or the server was stopped in this history
+abbrev pub IsDone : {L : Type 0} → State → List Record → GateView L → Type 0
+IsDone start history gate =
+    (gate.faults ≢ 0) ⊎ ((gate.ended ≡ true) ⊎ WasStopped start history)
+
+-- each of these gates has ended, or the server was stopped in this history
+abbrev pub IsOver : {L : Type 0} → State → List Record → List (GateView L) → Type 0
+IsOver start history gates =
+    AllByRecursion (λ gate. gate.ended ≡ true) gates ⊎ WasStopped start history
 
 -- one of these gates failed
 abbrev pub HasFailed : {L : Type 0} → List (GateView L) → Type 0

@@ -4,6 +4,7 @@
 mod outcome;
 mod running;
 mod serving;
+mod workers;
 
 pub use outcome::{Closing, Outcome};
 pub use running::run;

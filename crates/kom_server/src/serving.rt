@@ -105,7 +105,7 @@ fn serve_gate<R: Wait, B: Acts, G: Gate, C: Clock>(
 }
 
 /// Serves a link that the gate gave, and gives it back.
-fn serve_one<R: Wait, B: Acts, G: Gate, C: Clock>(
+pub(crate) fn serve_one<R: Wait, B: Acts, G: Gate, C: Clock>(
     rt: &R,
     alloc: Global,
     desk: &mut HallDesk<'_, R, B>,
