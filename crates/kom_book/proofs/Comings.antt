@@ -11,7 +11,8 @@ use Rattle.kom_core.specs.Acts.{Held, kind_of, IsMade, IsUnchanged, Kinded}
 use Rattle.kom_model.specs.State.{State}
 use Rattle.kom_model.specs.Refusal.{refusal_of}
 use Rattle.hall_desk.specs.Acts.{IsMadeBy}
-use Rattle.kom_book.specs.Making.{IsNotRefused, refused_in}
+use Rattle.kom_book.specs.Stores.{IsNotRefused}
+use Rattle.kom_book.specs.Making.{refused_in}
 
 -- no act that is made is answered by a refusal
 kind_none : (state : State) (what : Act) → refused_in (kind_of state what) ≡ None
@@ -27,7 +28,7 @@ Made old entry new which = (refused_in which ≡ None) × ((made : Record) × Is
 
 abbrev Refused : State → Entry → Held → AnswerKind → Type 0
 Refused old entry new which =
-    (refusal : Refusal) × (refused_in which ≡ Some refusal) × (new.state ≡ old)
+    (refusal : Refusal) × (refused_in which ≡ Some refusal) × IsUnchanged old new
     × (refusal_of old entry.act ≡ Some refusal)
 
 cases : (old : State) (entry : Entry) (new : Held) (which : AnswerKind) → Kinded old entry new which →
@@ -40,7 +41,7 @@ cases old entry new which kinded = go (refusal_of old entry.act) refl kinded
           | Some refusal ↦ (which ≡ kind.Refused refusal) × IsUnchanged old new
         ] → Made old entry new which ⊎ Refused old entry new which
     go None is one = inl (ap refused_in one.0 ∙ kind_none old entry.act, one.1)
-    go (Some refusal) is one = inr (refusal, ap refused_in one.0, one.1.state, is)
+    go (Some refusal) is one = inr (refusal, ap refused_in one.0, one.1, is)
 
 -- an answer that tells of no refusal
 pub was_made : (old : State) (entry : Entry) (new : Held) (which : AnswerKind) → refused_in which ≡ None →
@@ -54,7 +55,7 @@ was_made old entry new which none kinded =
 -- one that tells of a refusal
 pub was_refused : (old : State) (entry : Entry) (new : Held) (which : AnswerKind) (refusal : Refusal) →
     refused_in which ≡ Some refusal → Kinded old entry new which →
-    (new.state ≡ old) × (refusal_of old entry.act ≡ Some refusal)
+    IsUnchanged old new × (refusal_of old entry.act ≡ Some refusal)
 was_refused old entry new which refusal told kinded =
     elim (cases old entry new which kinded) [
       | inl made ↦ absurd (let wrong : Some refusal ≡ None = sym told ∙ made.0 in cc)

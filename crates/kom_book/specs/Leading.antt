@@ -1,18 +1,33 @@
 -- A history leads from a book to the next.
-use Rattle.std.proofs.Common.{◌≡◌, List, [], ◌∷◌, ◌++◌, refl, sym, ap, ◌∙◌, subst}
+use Rattle.std.proofs.Common.{◌≡◌, ◌<◌, ◌≤◌, ◌^◌, ◌⊎◌, inl, inr, ℕ, true, false, List, [], ◌∷◌, ◌++◌, cond, Option, Some, None, refl, sym, ap, ◌∙◌, subst}
 use Rattle.std.specs.Prelude.{map}
 use Rattle.std.specs.List.{AllByRecursion}
-use Rattle.std.proofs.lemmas.List.{map-append}
+use Rattle.std.proofs.lemmas.List.{append-nil, map-append}
 use Rattle.kom_types.specs.declared.acts.Record.{Record}
-use Rattle.kom_model.specs.State.{State}
+use Rattle.kom_types.specs.declared.effects.Effect.{Effect}
+use Rattle.kom_model.specs.Db.{Db}
+use Rattle.kom_model.specs.State.{State, opening as opening_state}
 use Rattle.kom_model.specs.After.{MayFollow, after}
+use Rattle.kom_model.specs.Kept.{kept_of}
+use Rattle.kom_model.specs.Refusal.{refusal_of}
 use Rattle.kom_model.specs.Legal.{IsLegal, IsByOwner, AreByOwners, state_after}
 use Rattle.hall_desk.proofs.Histories.{legal-append, owners-append, state_after-append}
-use Rattle.kom_book.specs.Making.{IsNotRefused}
-use Rattle.kom_book.specs.Books.{BookView, Follows, Stays, Leads, state_in, record_of}
+use Rattle.hall_desk.specs.Acts.{IsLed}
+use Rattle.kom_disk.specs.Faults.{Rose}
+use Rattle.batch_log.specs.declared.errors.FlushFault.{FlushFault}
+use Rattle.batch_log.specs.declared.errors.FlushFault.TheVariants as fault
+use Rattle.kom_journal.specs.Journals.{JournalView, StaysAs, size_with}
+use Rattle.kom_book.specs.Stores.{IsFlush, IsNotRefused, IfBoth, StoreStays, StoreFollows, IsFlushCause}
+use Rattle.kom_book.specs.Stores.{pending_after}
+use Rattle.kom_book.specs.Stops.{record_of, records_of, pending_along, StoreLeads}
+use Rattle.kom_book.specs.Books.{BookView, Follows, Stays, Leads, IsPlain, state_in}
+use Rattle.kom_book.specs.Records.{refused_or_not, marked_same, flush_unmarked, only_closes}
+use Rattle.kom_book.specs.Records.{marked_refused, not_taken}
+use Rattle.kom_journal.specs.Staying.{itself}
+use Rattle.kom_book.specs.Along.{pending_more}
 use Rattle.kom_book.specs.declared.ticked.Ticked.{Ticked}
 
-all_then : {X : Type 0} (P : X → Type 0) (xs : List X) (x : X) → AllByRecursion P xs → P x →
+pub all_then : {X : Type 0} (P : X → Type 0) (xs : List X) (x : X) → AllByRecursion P xs → P x →
     AllByRecursion P (xs ++ x ∷ [])
 all_then P [] x all one = (one, tt)
 all_then P (y ∷ xs) x all one = (all.0, all_then P xs x all.1 one)
@@ -34,35 +49,156 @@ led_on start old new records made legal owned led follows own next =
           ∙ sym (state_after-append start records (made ∷ [])),
     )
 
-module _ {D : Type 0} where
-  pub itself_stays : (book : BookView D) → Stays book book
-  itself_stays book = record { state = refl; disk = refl }
+-- ---- both stores, or neither
 
-  pub empty_leads : (opening : BookView D) → Leads opening [] opening
-  empty_leads opening = record {
-    led = record { legal = tt; owned = tt; state = refl };
-    flushed = tt;
-    disk = refl;
-    ticked = tt;
+pub both_then : {X : Type 0} (N M L : Type 0) (P Q R : X → X → Type 0) (one two three : Option X) →
+    (N → M → L) → ((a b c : X) → P a b → Q b c → R a c) →
+    IfBoth N P one two → IfBoth M Q two three → IfBoth L R one three
+both_then N M L P Q R None None None none some first second = none first second
+both_then N M L P Q R None None (Some c) none some first second = absurd second
+both_then N M L P Q R None (Some b) three none some first second = absurd first
+both_then N M L P Q R (Some a) None three none some first second = absurd first
+both_then N M L P Q R (Some a) (Some b) None none some first second = absurd second
+both_then N M L P Q R (Some a) (Some b) (Some c) none some first second = some a b c first second
+
+pub both_same : {X : Type 0} (N : Type 0) (P : X → X → Type 0) (one : Option X) → N → ((a : X) → P a a) →
+    IfBoth N P one one
+both_same N P None none some = none
+both_same N P (Some a) none some = some a
+
+-- ---- one store
+
+module _ {D : Type 0} where
+  -- how long it gets stays with the place and what waits
+  pub size_same : (old new : JournalView D) → new.place ≡ old.place → new.pending ≡ old.pending →
+      size_with new ≡ size_with old
+  size_same old new place pending = rw (place, pending) refl
+
+  rose_same : (faults : D → ℕ) (first old new : JournalView D) → faults new.disk ≡ faults old.disk →
+      Rose (faults first.disk) (faults old.disk) → Rose (faults first.disk) (faults new.disk)
+  rose_same faults first old new same rose =
+      subst (λ (n : ℕ). Rose (faults first.disk) n) (sym same) rose
+
+  -- one of a plain opening
+  store_empty : (faults : D → ℕ) (start : State) (store : JournalView D) → start.stable ≡ 0 →
+      start.store_refused ≡ false → store.pending ≡ [] → StoreLeads faults start [] store start store
+  store_empty faults start store nothing unmarked waits = record {
+    pending = waits ∙ rw nothing refl;
+    batches = refl;
+    unrefused = λ is. refl;
+    refused = λ is. absurd (let wrong : true ≡ false = sym is ∙ unmarked in cc);
   }
 
-  pub staying_leads : (opening : BookView D) (history : List (Ticked D)) (old new : BookView D) →
-      Leads opening history old → Stays old new → Leads opening history new
-  staying_leads opening history old new leads stays = record {
+  store_stays : (faults : D → ℕ) (start : State) (history : List (Ticked D)) (first old new : JournalView D)
+      (state later : State) → later ≡ state → StoreLeads faults start history first state old →
+      StoreStays old new → StoreLeads faults start history first later new
+  store_stays faults start history first old new state later same leads stays = record {
+    pending = stays.1 ∙ leads.pending;
+    batches = stays.0.batches ∙ leads.batches;
+    unrefused = λ is. ap faults stays.0.disk ∙ leads.unrefused (sym (ap (λ s. s.store_refused) same) ∙ is);
+    refused = λ is. elim (leads.refused (sym (ap (λ s. s.store_refused) same) ∙ is)) [
+      | inl rose ↦ inl (rose_same faults first old new (ap faults stays.0.disk) rose)
+      | inr full ↦ inr (subst (λ (n : ℕ). 2 ^ 40 < n)
+          (sym (size_same old new stays.0.place stays.1)) full)
+    ];
+  }
+
+  -- why the flush of a record was refused, since the opening
+  store_cause : (faults : D → ℕ) (first old new : JournalView D) (why : FlushFault) →
+      faults old.disk ≡ faults first.disk → IsFlushCause faults old new why →
+      Rose (faults first.disk) (faults new.disk) ⊎ (2 ^ 40 < size_with new)
+  store_cause faults first old new fault.Fault calm cause =
+      inl (subst (λ (n : ℕ). Rose n (faults new.disk)) calm cause)
+  store_cause faults first old new (fault.Full n) calm cause =
+      inr (subst (λ (m : ℕ). 2 ^ 40 < m)
+      (cause.1 ∙ sym (size_same old new cause.2.0.place cause.2.1)) cause.0)
+
+  store_follows : (faults : D → ℕ) (start : State) (history : List (Ticked D)) (first old new : JournalView D)
+      (state : State) (entry : Ticked D) (why : Option FlushFault) → start.entries ≡ 0 → start.stable ≡ 0 →
+      state ≡ state_after start (records_of history) → MayFollow state entry.made →
+      StoreLeads faults start history first state old → StoreFollows faults state old entry.made why new →
+      StoreLeads faults start (history ++ entry ∷ []) first (after state entry.made) new
+  store_follows faults start history first old new state entry why none nothing led may leads follows =
+      let made : Record = entry.made in
+      let records : List Record = records_of history in
+      record {
+        pending =
+            follows.pending
+            ∙ ap (λ (list : List Effect). pending_after state list made) leads.pending
+            ∙ ap (λ (s : State). pending_after s (pending_along start records) made) led
+            ∙ pending_more start records made none nothing
+            ∙ ap (λ (all : List Record). pending_along start all)
+            (sym (map-append record_of history (entry ∷ [])));
+        batches = follows.batches ∙ leads.batches;
+        unrefused = λ is. elim (refused_or_not made) [
+          | inl refused ↦ absurd (let marked : (after state made).store_refused ≡ true =
+              marked_refused state made refused.0 in cc)
+          | inr other ↦ follows.unrefused other.1
+              ∙ leads.unrefused (sym (marked_same state made other.1) ∙ is)
+        ];
+        refused = λ is. elim (refused_or_not made) [
+          | inl refused ↦
+              let cause = follows.refused refused.1 refused.2 in
+              store_cause faults first old new cause.0
+              (leads.unrefused (flush_unmarked state (subst (λ what. refusal_of state what ≡ None)
+              refused.1 may.possible))) cause.2
+          | inr other ↦
+              let marked : state.store_refused ≡ true = sym (marked_same state made other.1) ∙ is in
+              let closes = only_closes state made marked may.possible in
+              let stays : StaysAs old new = follows.unflushed closes.unflushed in
+              let waits : new.pending ≡ old.pending = follows.pending
+              ∙ ap (λ b. cond b [] (old.pending ++ kept_of state made)) (not_taken made closes.unflushed)
+              ∙ ap (λ (more : List Effect). old.pending ++ more) closes.none ∙ append-nil old.pending in
+              elim (leads.refused marked) [
+                | inl rose ↦ inl (rose_same faults first old new (ap faults stays.disk) rose)
+                | inr full ↦ inr (subst (λ (n : ℕ). 2 ^ 40 < n)
+                    (sym (size_same old new stays.place waits)) full)
+              ]
+        ];
+      }
+
+-- ---- a book
+
+module _ {D : Type 0} where
+  pub itself_stays : (book : BookView D) → Stays book book
+  itself_stays book = record {
+    state = refl;
+    refused = refl;
+    store = both_same (Unit {0}) StoreStays book.journal tt (λ store. (itself store, refl));
+  }
+
+  pub empty_leads : (faults : D → ℕ) (opening : BookView D) → Leads faults opening [] opening
+  empty_leads faults opening = record {
+    led = record { legal = tt; owned = tt; state = refl };
+    store = plain_store opening.journal refl;
+  }
+    where
+      plain_store : (journal : Option (JournalView D)) → opening.journal ≡ journal →
+          IfBoth (AllByRecursion (λ (entry : Ticked D). IsNotRefused entry.made) []) (λ one other. IsPlain opening
+          → StoreLeads faults (state_in opening) [] one (state_in opening) other) journal journal
+      plain_store None is = tt
+      plain_store (Some store) is = λ plain.
+          let waits : store.pending ≡ [] = (rw is at plain.waits) in
+          store_empty faults (state_in opening) store (ap (λ s. s.stable) plain.opening.1)
+          (ap (λ s. s.store_refused) plain.opening.1) waits
+
+  pub staying_leads : (faults : D → ℕ) (opening : BookView D) (history : List (Ticked D)) (old new : BookView D) →
+      Leads faults opening history old → Stays old new → Leads faults opening history new
+  staying_leads faults opening history old new leads stays = record {
     led = record {
       legal = leads.led.legal;
       owned = leads.led.owned;
       state = stays.state ∙ leads.led.state;
     };
-    flushed = leads.flushed;
-    disk = stays.disk ∙ leads.disk;
-    ticked = leads.ticked;
+    store = both_then _ _ _ _ _ _ opening.journal old.journal new.journal (λ none same. none)
+        (λ first one other since same plain. store_stays faults (state_in opening) history first one other
+        (state_in old) (state_in new) stays.state (since plain) same) leads.store stays.store;
   }
 
-  pub following_leads : (opening : BookView D) (history : List (Ticked D)) (old : BookView D)
-      (entry : Ticked D) (new : BookView D) → Leads opening history old → Follows old entry new →
-      Leads opening (history ++ entry ∷ []) new
-  following_leads opening history old entry new leads follows =
+  pub following_leads : (faults : D → ℕ) (opening : BookView D) (history : List (Ticked D)) (old : BookView D)
+      (entry : Ticked D) (new : BookView D) → Leads faults opening history old → Follows faults old entry new →
+      Leads faults opening (history ++ entry ∷ []) new
+  following_leads faults opening history old entry new leads follows =
       let start : State = state_in opening in
       let on : IsLegal start (map record_of history ++ entry.made ∷ [])
       × AreByOwners start (map record_of history ++ entry.made ∷ [])
@@ -79,9 +215,12 @@ module _ {D : Type 0} where
           owned = subst (λ (records : List Record). AreByOwners start records) records on.1;
           state = on.2 ∙ ap (λ (records : List Record). state_after start records) records;
         };
-        flushed = all_then (λ (entry : Ticked D). IsNotRefused entry.made) history entry leads.flushed
-            follows.flushed;
-        disk = follows.disk ∙ leads.disk;
-        ticked = all_then (λ (entry : Ticked D). entry.disk.value ≡ opening.disk) history entry
-            leads.ticked (follows.ticked ∙ follows.disk ∙ leads.disk);
+        store = both_then _ _ _ _ _ _ opening.journal old.journal new.journal
+            (λ before now. all_then (λ (entry : Ticked D). IsNotRefused entry.made) history entry before now)
+            (λ first one other since on plain.
+            subst (λ (state : State). StoreLeads faults start (history ++ entry ∷ []) first state other)
+            (sym follows.state)
+            (store_follows faults start history first one other (state_in old) entry new.refused
+            (ap (λ s. s.entries) plain.opening.1) (ap (λ s. s.stable) plain.opening.1)
+            leads.led.state follows.follows (since plain) on)) leads.store follows.store;
       }

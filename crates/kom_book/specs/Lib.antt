@@ -1,4 +1,10 @@
 pub mod Making
 pub mod Ticking
+pub mod Stores
+pub mod Stops
 pub mod Books
+pub mod Records
+pub mod Along
+pub mod Ticks
 pub mod Leading
+pub mod StopLeading

@@ -3,16 +3,15 @@ ghost use Rattle.kom_model.specs.Legal.{HasUser, IsByOwner};
 ghost use Rattle.kom_model.specs.Out.{taken_by};
 ghost use Rattle.kom_model.specs.Refusal.{TakesNoMemory};
 ghost use Rattle.hall_desk.specs.Acts.{Comes};
-ghost use Rattle.kom_book.specs.Books.{Follows, Stays, state_in, record_of};
+ghost use Rattle.kom_journal.specs.Images.{images_at, moment};
+ghost use Rattle.kom_book.specs.Books.{GoesOn, Stays, state_in, record_of};
 
 use crate::book::Book;
-use crate::making::make_record;
 use crate::ticked::{Ticked, entry_with};
 use arrayvec::ArrayVec;
 use hall_desk::Acts;
 use kom_disk::Disk;
 use kom_types::{Entry, Item, Memory, Refusal};
-use std::snapshot::Snapshot;
 
 impl<D: Disk + Drop> Acts for Book<D> {
     ghost use Rattle.std.proofs.Common.{refl};
@@ -30,20 +29,21 @@ impl<D: Disk + Drop> Acts for Book<D> {
         requires own { IsByOwner (state_in self.old) entry }
         requires user { HasUser entry.act }
         ensures comes { IfOk result
-            (Comes Follows Stays record_of state_in self.old entry self.new) }
+            (Comes (GoesOn (moment D.moment) (images_at D.images_at) D.tells D.faults) Stays record_of state_in
+            self.old entry self.new) }
         ensures taken { items.new.items ≡ taken_by (state_in self.old) entry.act }
         ensures memory { OnErr result (Stays self.old self.new) }
         ensures none_taken { TakesNoMemory (state_in self.old) entry.act → IsOk result }
     {
-        let came = make_record(&mut self.inner.core, entry, items);
-        let disk = Snapshot::of(&self.inner.disk);
-        entry_with(came, disk)
+        let came = self.inner.make(entry, items);
+        let store = self.inner.store();
+        entry_with(came, store)
     }
 
     fn stopped(&self) -> bool
         ensures { result ≡ ((state_in self.now).stopped || (state_in self.now).store_refused) }
     {
-        self.inner.core.stopped()
+        self.inner.stopped()
     }
 
     fn session(entry: &Ticked<D>) -> u32 {
@@ -56,5 +56,5 @@ impl<D: Disk + Drop> Acts for Book<D> {
 
     ghost names = { λ entry. refl };
 
-    ghost leads = { λ opening history value leads. leads.led };
+    ghost leads = { λ opening history value leads. leads.0.led };
 }

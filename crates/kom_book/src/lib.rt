@@ -4,7 +4,10 @@
 mod acting;
 mod book;
 mod booked;
+mod inner;
 mod making;
+mod starting;
+mod storing;
 mod ticked;
 
 pub use book::Book;
