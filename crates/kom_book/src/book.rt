@@ -62,7 +62,8 @@ impl<D: Disk + Drop> Book<D> {
         ensures plain { IfOk result IsPlain }
 
         // What the store stands for.
-        ensures stands { IsTrue D.tells → IfOk result (StandsNow (moment_on D.moment) (images_at D.images_at)) }
+        ensures stands { IsTrue D.tells
+            → IfOk result (StandsNow (moment_on D.moment) (images_at D.images_at)) }
         ensures rows { IsTrue D.tells → IfOk result (λ book. IfSome (disk_in book) (λ made.
             AreFor (images D.images made) (initial password.now moment))) }
         ensures kept { IsTrue D.tells → IfOk result (λ book. IfSome (disk_in book) (λ made.
@@ -96,12 +97,14 @@ impl<D: Disk + Drop> Book<D> {
         // What the store stands for.
         ensures was { IsTrue D.tells
             → IfOk result (λ book. StandsFor book.core.state.db (as_read D.bytes disk)) }
-        ensures stands { IsTrue D.tells → IfOk result (StandsNow (moment_on D.moment) (images_at D.images_at)) }
+        ensures stands { IsTrue D.tells
+            → IfOk result (StandsNow (moment_on D.moment) (images_at D.images_at)) }
         ensures batches { IsTrue D.tells
             → IfOk result (λ book. HasCount (batches_in book) (as_read D.bytes disk)) }
 
         // Why it is not opened.
-        ensures cause { IsTrue D.tells → IfErr result (λ refused. IsCause (as_read D.bytes disk) refused.1) }
+        ensures cause { IsTrue D.tells
+            → IfErr result (λ refused. IsCause (as_read D.bytes disk) refused.1) }
         ensures fault { IfErr result (λ refused. refused.1 ≡ OpenFault.Fault
             → Rose (D.faults disk) (D.faults refused.0)) }
         ensures no_fault { IfOk result (λ book. IfSome (disk_in book) (λ opened.
@@ -113,9 +116,10 @@ impl<D: Disk + Drop> Book<D> {
         ensures any_moment { IsTrue D.tells → (db : Db) → StandsFor db (as_read D.bytes disk)
             → IsKept (images D.images disk)
             → MatchResult result
-            (λ book. IfSome (disk_in book) (λ opened. Opens (moment_on D.moment) (images_at D.images_at) disk opened
-            (images D.images disk) (IsLeftOf (as_read D.bytes disk) db)))
-            (λ refused. Opens (moment_on D.moment) (images_at D.images_at) disk refused.0 (images D.images disk)
+            (λ book. IfSome (disk_in book) (λ opened. Opens (moment_on D.moment)
+            (images_at D.images_at) disk opened (images D.images disk) (IsLeftOf (as_read D.bytes disk) db)))
+            (λ refused. Opens (moment_on D.moment) (images_at D.images_at) disk refused.0
+            (images D.images disk)
             (IsLeftOf (as_read D.bytes disk) db)) }
         ensures kept { IsTrue D.tells → IsKept (images D.images disk) → MatchResult result
             (λ book. IfSome (disk_in book) (λ opened. IsKept (images D.images opened)))

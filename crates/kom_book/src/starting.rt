@@ -36,7 +36,8 @@ pub(crate) fn store_initial<D: Disk>(
     ensures rows { IsTrue D.tells → AreFor (images D.images store.old.disk) empty_db
         → OnOk result (AreFor (images D.images store.new.disk) (initial password.now moment)) }
     ensures kept { IsTrue D.tells → AreFor (images D.images store.old.disk) empty_db
-        → IsKept (images D.images store.old.disk) → OnOk result (IsKept (images D.images store.new.disk)) }
+        → IsKept (images D.images store.old.disk)
+        → OnOk result (IsKept (images D.images store.new.disk)) }
     ensures kinds { IfErr result IsMakeFault }
     ensures unused { (n : ℕ) → result ≢ Err (OpenFault.Used n) }
     ensures cause { result ≡ Err OpenFault.Fault
