@@ -172,9 +172,7 @@ fn a_world_has_its_files(rt: HostRuntime) -> Result<(), Fail> {
         })?;
     }
     world.set_files(files, Vec::from_slice(alloc, &[2])?);
-    let mut back = *b"___";
-    assert_eq!(rt; world.open_disk("b")?.read(0, &mut back), Ok(()));
-    assert_eq!(rt; back, *b"two");
+    assert_eq!(rt; world.open_disk("b")?.len(), Ok(3));
     assert!(rt; world.open_disk("b").is_err());
     assert_eq!(rt; world.faults(), 1);
     assert_eq!(rt; world.open_disk("c")?.len(), Ok(0));
