@@ -21,7 +21,7 @@ use Rattle.kom_model.specs.ToWhom.{only_added}
 use Rattle.kom_laws.specs.Groups.{Group}
 use Rattle.kom_laws.specs.Erasing.{erased_db, mask_of}
 use Rattle.kom_laws.specs.Laws.{told_to}
-use Rattle.kom_masks.proofs.Rows.{told}
+use Rattle.kom_laws.proofs.masking.Rows.{told}
 use Rattle.kom_laws.proofs.Rights.{supervises-masked, reads_conference-masked}
 use Rattle.kom_laws.proofs.Shown.{recipient-erased}
 use Rattle.kom_laws.proofs.Told.{stat-same}

@@ -1,3 +1,4 @@
+pub mod masking
 pub mod Rows
 pub mod Rights
 pub mod Shown

@@ -29,12 +29,12 @@ use Rattle.kom_model.specs.Shown.{items_shown}
 use Rattle.kom_model.specs.ToWhom.{of_deleted}
 use Rattle.kom_model.specs.Whole.{IsWhole, has_conference}
 use Rattle.kom_laws.specs.Groups.{Group, IsInGroup, is_unseen, is_unread}
-use Rattle.kom_masks.specs.Masks.{masked_conference, masked_text}
+use Rattle.kom_laws.specs.masking.Masks.{masked_conference, masked_text}
 use Rattle.kom_laws.specs.Erasing.{erased_db, mask_of}
 use Rattle.kom_laws.specs.Laws.{told_to}
-use Rattle.kom_masks.proofs.Rows.{told, told-changed}
-use Rattle.kom_masks.proofs.Accessors.{kind-masked, same-conference, same-text, conference-seen, recipients-read}
-use Rattle.kom_masks.proofs.Accessors.{recipient-seen}
+use Rattle.kom_laws.proofs.masking.Rows.{told, told-changed}
+use Rattle.kom_laws.proofs.masking.Accessors.{kind-masked, same-conference, same-text, conference-seen, recipients-read}
+use Rattle.kom_laws.proofs.masking.Accessors.{recipient-seen}
 use Rattle.kom_laws.proofs.Rights.{sees-masked, reads-erased, seen-by, read-by}
 use Rattle.kom_laws.proofs.Told.{in-of, owns-told, stat-told}
 

@@ -19,13 +19,13 @@ use Rattle.kom_model.specs.Kinds.{is_among}
 use Rattle.kom_model.specs.Rights.{is_member, is_active_member, stands_for, supervises, is_let_in, sees}
 use Rattle.kom_model.specs.Rights.{reads_conference, reads, reads_by_recipient, is_author, may_submit}
 use Rattle.kom_laws.specs.Groups.{Group, IsInGroup, IsOfGroup, is_unseen, is_unread, weak}
-use Rattle.kom_masks.specs.Laws.{HidesMore}
-use Rattle.kom_masks.specs.Masks.{Mask, masked_db, stays_recipient}
+use Rattle.kom_laws.specs.masking.Laws.{HidesMore}
+use Rattle.kom_laws.specs.masking.Masks.{Mask, masked_db, stays_recipient}
 use Rattle.kom_laws.specs.Erasing.{erased_db, mask_of}
 use Rattle.kom_laws.specs.Laws.{HasSameRights, IsHiddenSame}
-use Rattle.kom_masks.proofs.Rows.{told}
+use Rattle.kom_laws.proofs.masking.Rows.{told}
 use Rattle.kom_laws.proofs.Rows.{IfSome-found, any-thinned, any-same, any-among}
-use Rattle.kom_masks.proofs.Accessors.{head-masked, kind-masked, author-masked}
+use Rattle.kom_laws.proofs.masking.Accessors.{head-masked, kind-masked, author-masked}
 
 member-masked : (mask : Mask) (db : Db) (person conference : ℕ) →
     is_member (masked_db mask db) person conference ≡ is_member db person conference

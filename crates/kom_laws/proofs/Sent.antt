@@ -18,10 +18,10 @@ use Rattle.kom_model.specs.Whole.{IsWhole}
 use Rattle.kom_model.specs.calls.Call.{Asked, seat_of}
 use Rattle.kom_model.specs.calls.Guards.{caller, viewer_at}
 use Rattle.kom_laws.specs.Groups.{Group, IsInGroup, is_unread}
-use Rattle.kom_masks.specs.Masks.{masked_person}
+use Rattle.kom_laws.specs.masking.Masks.{masked_person}
 use Rattle.kom_laws.specs.Erasing.{erased_db, mask_of}
 use Rattle.kom_laws.specs.Laws.{IsSentSame, told_to}
-use Rattle.kom_masks.proofs.Accessors.{same-person, joined-masked, items-read}
+use Rattle.kom_laws.proofs.masking.Accessors.{same-person, joined-masked, items-read}
 use Rattle.kom_laws.proofs.Messages.{alone, of_row, changed-told, takes-erased, hears-erased, conference-told}
 use Rattle.kom_laws.proofs.Messages.{deleted-erased, recipient-told, aux-told}
 use Rattle.kom_laws.proofs.Added.{made-erased}

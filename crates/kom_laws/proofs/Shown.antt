@@ -19,14 +19,14 @@ use Rattle.kom_model.specs.Shown.{shows_recipient, shows_membership, is_reserved
 use Rattle.kom_model.specs.Shown.{shows_reads, members_shown, memberships_shown, ranges_shown, told_count}
 use Rattle.kom_model.specs.Shown.{conference_told, conference_adder, items_shown}
 use Rattle.kom_laws.specs.Groups.{Group, IsOfGroup, is_unseen}
-use Rattle.kom_masks.specs.Masks.{masked_conference, masked_membership}
+use Rattle.kom_laws.specs.masking.Masks.{masked_conference, masked_membership}
 use Rattle.kom_laws.specs.Erasing.{erased_db, mask_of}
 use Rattle.kom_laws.specs.Laws.{IsShownSame}
-use Rattle.kom_masks.proofs.Rows.{told, told-changed}
+use Rattle.kom_laws.proofs.masking.Rows.{told, told-changed}
 use Rattle.kom_laws.proofs.Rows.{filter-unchanged, filter-kept}
-use Rattle.kom_masks.proofs.Accessors.{same-conference, same-membership, conference-seen, not-hidden}
-use Rattle.kom_masks.proofs.Accessors.{flags-masked, memberships-masked, ranges-seen, next_local-seen, first_local-seen}
-use Rattle.kom_masks.proofs.Accessors.{items-seen}
+use Rattle.kom_laws.proofs.masking.Accessors.{same-conference, same-membership, conference-seen, not-hidden}
+use Rattle.kom_laws.proofs.masking.Accessors.{flags-masked, memberships-masked, ranges-seen, next_local-seen}
+use Rattle.kom_laws.proofs.masking.Accessors.{first_local-seen, items-seen}
 use Rattle.kom_laws.proofs.Rights.{supervises-masked, sees-masked, reads_conference-masked, seen-by}
 
 pub recipient-erased : (group : Group) (db : Db) (viewer : Viewer) (author : ℕ) (row : Recipient) →

@@ -18,13 +18,13 @@ use Rattle.kom_model.specs.Shown.{memberships_shown, told_count, own_count, pers
 use Rattle.kom_model.specs.Shown.{recipient_infos, from_infos, into_info, text_head_of, stat_of, shown_stat}
 use Rattle.kom_model.specs.Shown.{text_adder, items_shown}
 use Rattle.kom_laws.specs.Groups.{Group, IsInGroup, IsOfGroup, is_unread}
-use Rattle.kom_masks.specs.Masks.{masked_person, masked_text}
+use Rattle.kom_laws.specs.masking.Masks.{masked_person, masked_text}
 use Rattle.kom_laws.specs.Erasing.{erased_db, mask_of}
 use Rattle.kom_laws.specs.Laws.{IsToldSame}
-use Rattle.kom_masks.proofs.Rows.{told, told-changed}
-use Rattle.kom_masks.proofs.Accessors.{same-person, same-text, text-read, not-hidden, recipients-read}
-use Rattle.kom_masks.proofs.Accessors.{links_from-read, links_into-read, next_created-masked, first_created-masked}
-use Rattle.kom_masks.proofs.Accessors.{author-masked, items-read}
+use Rattle.kom_laws.proofs.masking.Rows.{told, told-changed}
+use Rattle.kom_laws.proofs.masking.Accessors.{same-person, same-text, text-read, not-hidden, recipients-read}
+use Rattle.kom_laws.proofs.masking.Accessors.{links_from-read, links_into-read, next_created-masked}
+use Rattle.kom_laws.proofs.masking.Accessors.{first_created-masked, author-masked, items-read}
 use Rattle.kom_laws.proofs.Rights.{read-by, supervises-masked}
 use Rattle.kom_laws.proofs.Shown.{recipient-erased, memberships_shown-erased}
 

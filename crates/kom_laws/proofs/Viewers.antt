@@ -6,9 +6,9 @@ use Rattle.kom_types.specs.tables.Persons.{is_mighty}
 use Rattle.kom_model.specs.declared.viewers.Viewer.{Viewer}
 use Rattle.kom_model.specs.Db.{Db, person_of}
 use Rattle.kom_model.specs.Viewers.{has_might, viewer_of}
-use Rattle.kom_masks.specs.Masks.{Mask, masked_db, masked_person}
-use Rattle.kom_masks.proofs.Accessors.{same-person}
-use Rattle.kom_masks.proofs.Rows.{told-changed}
+use Rattle.kom_laws.specs.masking.Masks.{Mask, masked_db, masked_person}
+use Rattle.kom_laws.proofs.masking.Accessors.{same-person}
+use Rattle.kom_laws.proofs.masking.Rows.{told-changed}
 
 -- no mask hides the privileges of a person
 might-masked : (mask : Mask) (db : Db) (person : ℕ) → has_might (masked_db mask db) person ≡ has_might db person

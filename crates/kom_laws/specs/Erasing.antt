@@ -5,7 +5,7 @@ use Rattle.kom_types.specs.Sessions.{Session}
 use Rattle.kom_model.specs.Db.{Db}
 use Rattle.kom_model.specs.Kinds.{is_among}
 use Rattle.kom_model.specs.State.{State}
-use Rattle.kom_masks.specs.Masks.{Mask, masked_db}
+use Rattle.kom_laws.specs.masking.Masks.{Mask, masked_db}
 use Rattle.kom_laws.specs.Groups.{Group, is_unseen, is_unread}
 
 -- what is hidden from a group: conferences that are not seen, texts that are not read, and all

@@ -21,8 +21,8 @@ use Rattle.kom_model.specs.Shown.{shows_recipient, shows_membership, is_reserved
 use Rattle.kom_model.specs.Shown.{members_shown, memberships_shown, ranges_shown, time_shown}
 use Rattle.kom_model.specs.Shown.{person_told, conference_told, shown_stat, working_shown}
 use Rattle.kom_laws.specs.Groups.{Group, IsInGroup, IsOfGroup, is_unseen, is_unread}
-use Rattle.kom_masks.specs.Laws.{HidesMore}
-use Rattle.kom_masks.specs.Masks.{Mask, masked_db}
+use Rattle.kom_laws.specs.masking.Laws.{HidesMore}
+use Rattle.kom_laws.specs.masking.Masks.{Mask, masked_db}
 use Rattle.kom_laws.specs.Erasing.{erased_db, mask_of}
 
 -- what who looks may see and do is the same over two sets of stored rows

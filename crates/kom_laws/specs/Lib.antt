@@ -1,3 +1,4 @@
+pub mod masking
 pub mod Groups
 pub mod Erasing
 pub mod Laws

@@ -1,5 +1,12 @@
 ghost use Rattle.kom_laws.specs.Fitting.{DecidedFit, SoundFit, KeptIsDecided};
 ghost use Rattle.kom_laws.specs.Laws.{StandErased};
+ghost use Rattle.kom_laws.specs.masking.Laws.{StandMasked};
+
+/// A law alone: effects make the same of the stored rows but for what a mask hides, whether that
+/// was hidden before or not.
+pub fn effects_stand_masked()
+    ensures { StandMasked }
+{}
 
 /// A law alone: what a group may see and do, and what is shown to it, is the same in the state from
 /// which all that is hidden from the group is erased.

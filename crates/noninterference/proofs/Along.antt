@@ -10,9 +10,9 @@ use Rattle.kom_model.specs.Out.{items_of, queued_along, given_along}
 use Rattle.kom_model.specs.State.{State, IsSound}
 use Rattle.kom_model.proofs.Soundness.{IsSound-after}
 use Rattle.kom_laws.specs.Groups.{Group}
-use Rattle.unwinding.specs.steps.Same.{IsSameFor}
-use Rattle.unwinding.specs.respect.Hidden.{AreAlike}
-use Rattle.unwinding.specs.respect.Quiet.{AreQuietly, AreQuiet}
+use Rattle.noninterference.specs.steps.Same.{IsSameFor}
+use Rattle.noninterference.specs.respect.Hidden.{AreAlike}
+use Rattle.noninterference.specs.respect.Quiet.{AreQuietly, AreQuiet}
 use Rattle.noninterference.specs.Hiding.{entries_of, StandAlike, IsSameStep, StepsHide, AllHide, AreSameTo}
 use Rattle.noninterference.specs.Hiding.{AreSameAlong}
 use Rattle.noninterference.proofs.Given.{waiting-same}

@@ -18,7 +18,7 @@ use Rattle.kom_model.proofs.Finding.{find-removed_same}
 use Rattle.kom_model.proofs.Moving.{taken_by, added_by, Closes, record_moves}
 use Rattle.kom_laws.specs.Erasing.{erased}
 use Rattle.kom_laws.specs.Groups.{Group}
-use Rattle.unwinding.proofs.steps.Acts.{acts-erased, session-same}
+use Rattle.noninterference.proofs.steps.Acts.{acts-erased, session-same}
 
 -- nothing is queued for a session that is closed
 closed-queues : (number : ℕ) (state : State) (pass moment session : ℕ) (short : Bool) →

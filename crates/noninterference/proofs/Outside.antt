@@ -22,16 +22,16 @@ use Rattle.kom_model.specs.calls.Sessions.{send_message_to}
 use Rattle.kom_laws.specs.Erasing.{erased_db, erased, mask_of}
 use Rattle.kom_laws.specs.Groups.{Group}
 use Rattle.kom_laws.proofs.Rights.{sees-masked}
-use Rattle.unwinding.specs.outputs.Answers.{erased_asked}
-use Rattle.unwinding.proofs.outputs.Alike.{viewer-same}
-use Rattle.unwinding.proofs.outputs.Masked.{public-masked}
-use Rattle.unwinding.proofs.outputs.Rows.{filter_map-tells}
-use Rattle.unwinding.specs.steps.Calls.{called, IsReadyToCall, ActsAlike}
-use Rattle.unwinding.specs.steps.Same.{AreOfGroup, IsSameFor}
-use Rattle.unwinding.proofs.steps.Calls.{calls-erased, asked-same}
-use Rattle.unwinding.specs.respect.Calls.{later}
-use Rattle.unwinding.specs.respect.Vanishing.{is_masked}
-use Rattle.unwinding.proofs.respect.Calls.{calls-vanish}
+use Rattle.noninterference.specs.outputs.Answers.{erased_asked}
+use Rattle.noninterference.proofs.outputs.Alike.{viewer-same}
+use Rattle.noninterference.proofs.outputs.Masked.{public-masked}
+use Rattle.noninterference.proofs.outputs.Rows.{filter_map-tells}
+use Rattle.noninterference.specs.steps.Calls.{called, IsReadyToCall, ActsAlike}
+use Rattle.noninterference.specs.steps.Same.{AreOfGroup, IsSameFor}
+use Rattle.noninterference.proofs.steps.Calls.{calls-erased, asked-same}
+use Rattle.noninterference.specs.respect.Calls.{later}
+use Rattle.noninterference.specs.respect.Vanishing.{is_masked}
+use Rattle.noninterference.proofs.respect.Calls.{calls-vanish}
 use Rattle.noninterference.proofs.Accepting.{is_none_of, none-of, is_idle, accepts_async, refused-spares}
 use Rattle.noninterference.proofs.Silent.{is_public, idle-silent}
 

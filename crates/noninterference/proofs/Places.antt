@@ -2,7 +2,7 @@
 use Rattle.std.proofs.Common.{◌≡◌, ℕ, suc, ◌<◌, ◌↔◌, List, [], ◌∷◌, length, drop, get_or, refl, sym, ap, ◌∙◌, drop-cons}
 use Rattle.kom_types.specs.declared.acts.Entry.{Entry}
 use Rattle.kom_laws.specs.Groups.{Group}
-use Rattle.unwinding.specs.respect.Hidden.{AreAlike}
+use Rattle.noninterference.specs.respect.Hidden.{AreAlike}
 use Rattle.noninterference.specs.Hiding.{StandAlike}
 
 -- lists that are alike are as long

@@ -48,9 +48,9 @@ use Rattle.kom_model.proofs.Deciding.{decision-meets}
 use Rattle.kom_model.proofs.Soundness.{entries-acted}
 use Rattle.kom_model.proofs.whole.Counts.{all-along, all-mapped, all-kept, all-more, all-weaker}
 use Rattle.kom_laws.specs.Groups.{Group, IsOfGroup}
-use Rattle.unwinding.specs.steps.Same.{AreOfGroup}
-use Rattle.unwinding.proofs.steps.Queueing.{rows-filled, seat-row, items_for}
-use Rattle.unwinding.specs.respect.Quiet.{IsQuiet, logs_in_own}
+use Rattle.noninterference.specs.steps.Same.{AreOfGroup}
+use Rattle.noninterference.proofs.steps.Queueing.{rows-filled, seat-row, items_for}
+use Rattle.noninterference.specs.respect.Quiet.{IsQuiet, logs_in_own}
 use Rattle.noninterference.proofs.Accepting.{refused-idle, accepted-rest}
 
 -- who logs in at a session of the group is of it

@@ -24,7 +24,7 @@ use Rattle.kom_model.specs.ToWhom.{logged_in}
 use Rattle.kom_model.specs.calls.Call.{Asked, done}
 use Rattle.kom_model.specs.calls.Guards.{Guard, caller, with_items}
 use Rattle.kom_model.specs.calls.Memberships.{joins, set_member, is_near}
-use Rattle.unwinding.specs.outputs.Brought.{brought_to}
+use Rattle.noninterference.specs.outputs.Brought.{brought_to}
 use Rattle.noninterference.proofs.Accepting.{accepted-rest}
 
 -- calls that send though they change nothing, and 80: what they come to hangs on nothing that is ever hidden

@@ -25,17 +25,17 @@ use Rattle.kom_model.proofs.Seating.{of-seats}
 use Rattle.kom_laws.specs.Erasing.{erased}
 use Rattle.kom_laws.specs.Groups.{Group}
 use Rattle.kom_laws.proofs.Kept.{sound-fit}
-use Rattle.unwinding.specs.steps.Calls.{called, IsReadyToCall}
-use Rattle.unwinding.specs.steps.Same.{AreOfGroup, IsSameFor}
-use Rattle.unwinding.specs.steps.Steps.{HasNoOpening}
-use Rattle.unwinding.proofs.steps.Acts.{acts-erased}
-use Rattle.unwinding.proofs.steps.Calls.{IsOwn, calls-erased, other-own}
-use Rattle.unwinding.specs.respect.Calls.{later}
-use Rattle.unwinding.specs.respect.Entries.{makes_text, VanishesFor, VanishAlike}
-use Rattle.unwinding.specs.respect.Hidden.{text_of_act, are_as_long, MayDiffer}
-use Rattle.unwinding.specs.respect.Quiet.{IsQuiet, AreQuietly, AreHidden, is_accepted}
-use Rattle.unwinding.proofs.respect.Entries.{entries-vanish}
-use Rattle.unwinding.proofs.respect.Pairs.{texts-vanish}
+use Rattle.noninterference.specs.steps.Calls.{called, IsReadyToCall}
+use Rattle.noninterference.specs.steps.Same.{AreOfGroup, IsSameFor}
+use Rattle.noninterference.specs.steps.Steps.{HasNoOpening}
+use Rattle.noninterference.proofs.steps.Acts.{acts-erased}
+use Rattle.noninterference.proofs.steps.Calls.{IsOwn, calls-erased, other-own}
+use Rattle.noninterference.specs.respect.Calls.{later}
+use Rattle.noninterference.specs.respect.Entries.{makes_text, VanishesFor, VanishAlike}
+use Rattle.noninterference.specs.respect.Hidden.{text_of_act, are_as_long, MayDiffer}
+use Rattle.noninterference.specs.respect.Quiet.{IsQuiet, AreQuietly, AreHidden, is_accepted}
+use Rattle.noninterference.proofs.respect.Entries.{entries-vanish}
+use Rattle.noninterference.proofs.respect.Pairs.{texts-vanish}
 use Rattle.noninterference.proofs.Given.{waiting-same, given-same, queued-same}
 use Rattle.noninterference.proofs.Outside.{outside-same}
 

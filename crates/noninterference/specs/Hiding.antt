@@ -8,9 +8,9 @@ use Rattle.kom_model.specs.Legal.{state_after}
 use Rattle.kom_model.specs.Out.{queued_for, given_by, out_of, given_along}
 use Rattle.kom_model.specs.State.{State, IsSound}
 use Rattle.kom_laws.specs.Groups.{Group}
-use Rattle.unwinding.specs.respect.Hidden.{MayDiffer, AreAlike}
-use Rattle.unwinding.specs.respect.Quiet.{AreQuietly, AreQuiet}
-use Rattle.unwinding.specs.steps.Same.{IsSameFor}
+use Rattle.noninterference.specs.respect.Hidden.{MayDiffer, AreAlike}
+use Rattle.noninterference.specs.respect.Quiet.{AreQuietly, AreQuiet}
+use Rattle.noninterference.specs.steps.Same.{IsSameFor}
 
 -- the entries of a history
 abbrev pub entries_of : List Record → List Entry

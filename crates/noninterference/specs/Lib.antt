@@ -1,2 +1,5 @@
+pub mod outputs
+pub mod steps
+pub mod respect
 pub mod Hiding
 pub mod Worlds

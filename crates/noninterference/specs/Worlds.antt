@@ -16,10 +16,11 @@ use Rattle.kom_model.specs.Db.{Db, empty_db}
 use Rattle.kom_model.specs.Effects.{apply_all}
 use Rattle.kom_model.specs.State.{State, opening}
 use Rattle.kom_laws.specs.Groups.{Group}
-use Rattle.unwinding.specs.steps.Same.{IsSameFor}
-use Rattle.unwinding.specs.steps.Steps.{HasNoOpening}
-use Rattle.unwinding.specs.respect.Hidden.{is_hidden, may_differ, are_as_long, text_of_act, AreAlike}
-use Rattle.unwinding.specs.respect.Quiet.{AreWeak, recipients_seen}
+use Rattle.noninterference.specs.steps.Same.{IsSameFor}
+use Rattle.noninterference.specs.steps.Steps.{HasNoOpening}
+use Rattle.noninterference.specs.respect.Hidden.{is_hidden, may_differ, are_as_long, text_of_act}
+use Rattle.noninterference.specs.respect.Hidden.{AreAlike}
+use Rattle.noninterference.specs.respect.Quiet.{AreWeak, recipients_seen}
 
 abbrev pub di : Group
 di = record { persons = 9 ∷ []; sessions = 3 ∷ [] }

@@ -1,7 +1,8 @@
 ghost use Rattle.std.specs.Prelude.{◌≡◌, ◌↔◌, option_copied, IsTrue};
 ghost use Rattle.kom_types.specs.tables.Texts.{lines_of};
-ghost use Rattle.unwinding.specs.respect.Hidden.{may_be_hidden, may_differ, text_of_act, are_as_long};
-ghost use Rattle.unwinding.specs.respect.Hidden.{AreAlike, MayDiffer, text_of_call};
+ghost use Rattle.noninterference.specs.respect.Hidden.{may_be_hidden, may_differ, text_of_act};
+ghost use Rattle.noninterference.specs.respect.Hidden.{are_as_long, AreAlike, MayDiffer};
+ghost use Rattle.noninterference.specs.respect.Hidden.{text_of_call};
 ghost use Rattle.noninterference.specs.Hiding.{AreSameAlong, StandAlike};
 
 use crate::group::Group;

@@ -27,7 +27,7 @@ use Rattle.kom_model.specs.calls.Call.{Asked, Definition, decided, refuse}
 use Rattle.kom_model.specs.calls.Guards.{Guard, unless, refusal, caller, viewer_at, login_guard}
 use Rattle.kom_model.specs.calls.Guards.{conference_guard, text_guard, free_guard, taken_by, name_guard}
 use Rattle.kom_model.specs.calls.Guards.{size_guard}
-use Rattle.kom_masks.proofs.Rows.{told}
+use Rattle.kom_laws.proofs.masking.Rows.{told}
 pub use Rattle.kom_model.proofs.Guards.{AllPass, all-pass, pass-both, passed, numbered-passed, person-there}
 
 -- ---- what a definition comes to

@@ -8,7 +8,7 @@ use Rattle.std.proofs.lemmas.Bool.{false_from_ne_true}
 use Rattle.kom_types.specs.declared.effects.Effect.{Effect}
 use Rattle.kom_model.specs.Db.{Db}
 use Rattle.kom_model.specs.Effects.{fits, made, apply, all_fit}
-use Rattle.kom_masks.proofs.Rows.{find-thinned}
+use Rattle.kom_laws.proofs.masking.Rows.{find-thinned}
 use Rattle.kom_model.proofs.whole.Counts.{all-weaker, count-kept, none-counted}
 
 -- what holds of rows, of those that pass, which pass

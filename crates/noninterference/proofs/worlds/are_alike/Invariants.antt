@@ -1,6 +1,6 @@
 -- The lists are alike where what is left of them is.
 use Rattle.std.proofs.Common.{◌↔◌, drop}
-use Rattle.unwinding.specs.respect.Hidden.{AreAlike}
+use Rattle.noninterference.specs.respect.Hidden.{AreAlike}
 use Rattle.noninterference.proofs.worlds.are_alike.Given as goal
 
 abbrev pub invariant-loop-place : goal.invariant-loop-place

@@ -1,3 +1,0 @@
-pub mod outputs
-pub mod steps
-pub mod respect
