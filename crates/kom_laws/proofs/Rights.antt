@@ -133,8 +133,9 @@ shown-below : (hides wider : Bool) → (hides ≡ true → wider ≡ true) → w
 shown-below true wider more shown = absurd (true≢false (sym (more refl) ∙ shown))
 shown-below false wider more shown = refl
 
--- a mask of no more than is hidden from a group
-module _ (group : Group) (mask : Mask) (db : Db) (below : HidesMore mask (mask_of group db))
+-- a mask of no more conferences than are unseen
+module _ (group : Group) (mask : Mask) (db : Db)
+    (below : (number : ℕ) → mask.conference number ≡ true → is_unseen group db number ≡ true)
     (protected : IsProtected db) where
   by_recipient-masked : (viewer : Viewer) (text : ℕ) → IsOfGroup group viewer →
       reads_by_recipient (masked_db mask db) viewer text ≡ reads_by_recipient db viewer text
@@ -147,7 +148,7 @@ module _ (group : Group) (mask : Mask) (db : Db) (below : HidesMore mask (mask_o
       ap (λ pass. list_any pass (filter test (filter (stays_recipient mask) db.recipients))) (fun_ext same)
       ∙ any-thinned pass test (stays_recipient mask)
       (λ row is. not_from_false _ (and_right _ _ (shown-below (mask.conference row.conference) _
-      (below.conference row.conference) (seen-by group db viewer row.conference of_group
+      (below row.conference) (seen-by group db viewer row.conference of_group
       (reads-sees db viewer row.conference protected is))))) db.recipients
 
   reads-masked : (viewer : Viewer) (text : ℕ) → IsOfGroup group viewer →
@@ -169,7 +170,7 @@ no-more group db = record {
 pub reads-erased : (group : Group) (db : Db) (viewer : Viewer) (text : ℕ) → IsProtected db →
     IsOfGroup group viewer → reads (erased_db group db) viewer text ≡ reads db viewer text
 reads-erased group db viewer text protected of_group =
-    reads-masked group (mask_of group db) db (no-more group db) protected viewer text of_group
+    reads-masked group (mask_of group db) db (λ number hidden. hidden) protected viewer text of_group
 
 pub rights-erased : (group : Group) (db : Db) (viewer : Viewer) → IsProtected db → IsOfGroup group viewer →
     HasSameRights viewer (erased_db group db) db
@@ -190,14 +191,19 @@ pub unseen-masked : (group : Group) (mask : Mask) (db : Db) (conference : ℕ) �
 unseen-masked group mask db conference = ap (λ (test : ℕ → Bool). not (list_any test (0 ∷ group.persons)))
     (fun_ext (λ person. sees-masked mask db (weak person) conference))
 
+pub unread-masked : (group : Group) (mask : Mask) (db : Db) → IsProtected db →
+    ((number : ℕ) → mask.conference number ≡ true → is_unseen group db number ≡ true) → (text : ℕ) →
+    is_unread group (masked_db mask db) text ≡ is_unread group db text
+unread-masked group mask db protected below text = ap not (any-same
+    (λ person. reads (masked_db mask db) (weak person) text) (λ person. reads db (weak person) text) group.persons
+    (λ person among. reads-masked group mask db below protected (weak person) text
+    (weak-of_group group person among)))
+
 pub hidden-masked : (group : Group) (mask : Mask) (db : Db) → IsProtected db → HidesMore mask (mask_of group db) →
     IsHiddenSame group (masked_db mask db) db
 hidden-masked group mask db protected below = record {
   unseen = unseen-masked group mask db;
-  unread = λ text. ap not (any-same (λ person. reads (masked_db mask db) (weak person) text)
-      (λ person. reads db (weak person) text) group.persons
-      (λ person among. reads-masked group mask db below protected (weak person) text
-      (weak-of_group group person among)));
+  unread = unread-masked group mask db protected below.conference;
 }
 
 pub hidden-erased : (group : Group) (db : Db) → IsProtected db → IsHiddenSame group (erased_db group db) db

@@ -8,4 +8,5 @@ pub mod Outside
 pub mod Given
 pub mod Stepping
 pub mod Along
+pub mod Own
 pub mod Places

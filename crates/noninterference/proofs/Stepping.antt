@@ -50,7 +50,7 @@ never true = refl
 never false = refl
 
 -- the rows after a call
-rows-after : (state : State) (pass moment session reference : ℕ) (what : Call) →
+pub rows-after : (state : State) (pass moment session reference : ℕ) (what : Call) →
     (after state (called pass moment session reference what)).db
     ≡ apply_all (decision_at state moment session reference what).effects state.db
 rows-after state pass moment session reference what =
@@ -62,7 +62,7 @@ rows-after state pass moment session reference what =
     (record state { db = apply_all decision.effects state.db }))
 
 -- a quiet call may be made, and is no Opening
-ready-to-call : (group : Group) (state : State) (pass moment session reference number : ℕ) (what : Call) →
+pub ready-to-call : (group : Group) (state : State) (pass moment session reference number : ℕ) (what : Call) →
     IsSound state → IsQuiet group state (record {
       entry = record { pass = pass; moment = moment; act = act.Call session reference what };
       session = number;

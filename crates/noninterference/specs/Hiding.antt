@@ -1,15 +1,16 @@
 -- What the rights hide from a group changes nothing that it is sent.
-use Rattle.std.specs.Prelude.{◌≡◌, ℕ, List, map, IsTrue, ◌⊎◌}
+use Rattle.std.specs.Prelude.{◌≡◌, ℕ, false, List, map, IsTrue, ◌⊎◌}
 use Rattle.kom_types.specs.declared.acts.Entry.{Entry}
 use Rattle.kom_types.specs.declared.acts.Record.{Record}
-use Rattle.kom_model.specs.After.{after}
+use Rattle.kom_model.specs.After.{MayFollow, after}
 use Rattle.kom_model.specs.Kinds.{is_among}
 use Rattle.kom_model.specs.Legal.{state_after}
 use Rattle.kom_model.specs.Out.{queued_for, given_by, out_of, given_along}
 use Rattle.kom_model.specs.State.{State, IsSound}
 use Rattle.kom_laws.specs.Groups.{Group}
 use Rattle.noninterference.specs.respect.Hidden.{MayDiffer, AreAlike}
-use Rattle.noninterference.specs.respect.Quiet.{AreQuietly, AreQuiet}
+use Rattle.noninterference.specs.respect.Quiet.{IsQuiet, AreQuietly, AreQuiet}
+use Rattle.noninterference.specs.steps.Acts.{is_by}
 use Rattle.noninterference.specs.steps.Same.{IsSameFor}
 
 -- the entries of a history
@@ -39,6 +40,16 @@ StepsHide = (group : Group) (one other : State) (made made' : Record)
     → IsSound one → IsSound other → IsSameFor group one other
     → StandAlike group made.entry made'.entry → AreQuietly group one other made made'
     → IsSameStep group one made other made'
+
+-- Output and step consistency of a group's own acts: from two such states, an act of one of its
+-- sessions, or of none, that is quiet in the one is quiet in the other, if it may follow there and
+-- is not short, and it is the same step to the group.
+abbrev pub OwnStepsHide : Type 0
+OwnStepsHide = (group : Group) (one other : State) (made made' : Record)
+    → IsSound one → IsSound other → IsSameFor group one other
+    → IsTrue (is_by group made.entry.act) → made.entry ≡ made'.entry
+    → IsQuiet group one made → MayFollow other made' → made'.short ≡ false
+    → IsSameStep group one made other made' × IsQuiet group other made'
 
 -- a session is to be sent the same along two histories, and its drains give the same
 pub record IsSentSame (session : ℕ) (one : State) (history : List Record) (other : State)

@@ -1,10 +1,16 @@
-ghost use Rattle.noninterference.specs.Hiding.{AllHide, StepsHide};
+ghost use Rattle.noninterference.specs.Hiding.{AllHide, OwnStepsHide, StepsHide};
 ghost use Rattle.noninterference.specs.Worlds.{WorldRows};
 
 /// A law alone: two quiet records whose entries may stand at one place in two worlds are the same
 /// step to a group, from sound states that are the same for it.
 pub fn steps_hide()
     ensures { StepsHide }
+{}
+
+/// A law alone: an act of a session of a group, or of none, that is quiet in one of two such states
+/// is quiet in the other, if it may follow there and is not short, and the same step to the group.
+pub fn own_steps_hide()
+    ensures { OwnStepsHide }
 {}
 
 /// A law alone: every history from a sound state is the same to a group as any that is alike and
