@@ -9,4 +9,5 @@ pub mod Given
 pub mod Stepping
 pub mod Along
 pub mod Own
+pub mod Quieting
 pub mod Places

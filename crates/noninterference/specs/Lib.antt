@@ -3,3 +3,4 @@ pub mod steps
 pub mod respect
 pub mod Hiding
 pub mod Worlds
+pub mod Mail

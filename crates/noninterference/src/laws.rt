@@ -1,4 +1,5 @@
 ghost use Rattle.noninterference.specs.Hiding.{AllHide, OwnStepsHide, StepsHide};
+ghost use Rattle.noninterference.specs.Mail.{MailRows};
 ghost use Rattle.noninterference.specs.Worlds.{WorldRows};
 
 /// A law alone: two quiet records whose entries may stand at one place in two worlds are the same
@@ -24,4 +25,10 @@ pub fn histories_hide()
 /// what was worked out by hand.
 pub fn worked_worlds()
     ensures { WorldRows }
+{}
+
+/// A law alone: two worlds that were worked out by hand, in which one person writes another this or
+/// that, are quiet to a third person until the text is sent on to it, and it is sent the same.
+pub fn worked_mail()
+    ensures { MailRows }
 {}

@@ -9,7 +9,7 @@ mod unwinding;
 mod worlds;
 
 pub use group::Group;
-pub use laws::{histories_hide, own_steps_hide, steps_hide, worked_worlds};
+pub use laws::{histories_hide, own_steps_hide, steps_hide, worked_mail, worked_worlds};
 pub use unwinding::{
     acts_stand_erased, answers_stand_erased, calls_stand_erased, effects_stand_erased,
     hidden_calls_vanish, hidden_effects_vanish, hidden_entries_vanish, hidden_texts_vanish,
