@@ -4,3 +4,4 @@ pub mod Orderly
 pub mod Firm
 pub mod Sending
 pub mod Making
+pub mod Worlds

@@ -2,3 +2,4 @@ pub mod Acts
 pub mod Deciding
 pub mod Keeping
 pub mod Steps
+pub mod Worlds

@@ -12,6 +12,7 @@ ghost use Rattle.kom_types.specs.declared.acts.Act.TheVariants as act;
 ghost use Rattle.kom_state.specs.Keepers.{appended};
 ghost use Rattle.kom_core.specs.Keeping.{kept_by};
 ghost use Rattle.kom_core.specs.Acts.{Answered, Kinded, IsUnchanged, refused_flush};
+ghost use Rattle.kom_core.specs.Worlds.{IsConsistent, RespectsGroups};
 
 use crate::answer_kind::AnswerKind;
 use crate::server_state::ServerState;
@@ -81,6 +82,8 @@ impl Core {
         ensures counted { self.new.state.entries ≤ self.old.state.entries + 1 }
         ensures was_sound { IsSound self.old.state }
         ensures sound { IsSound self.new.state }
+        ensures consistent { IfOk result (IsConsistent self.old.state entry self.new) }
+        ensures respects { OnOk result (RespectsGroups self.old.state entry self.new) }
     {
         self.act_kept(entry, &mut Unkept)
     }
