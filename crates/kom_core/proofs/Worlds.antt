@@ -1,6 +1,6 @@
 -- What an act of a core does to a group, beside an act of a core whose state is the same for the group.
-use Rattle.std.proofs.Common.{◌≡◌, ℕ, ◌+◌, true, false, List, [], Option, Some, None, refl, sym, ap, ◌∙◌, subst}
-use Rattle.std.specs.Prelude.{Result, Ok, Err, IfOk, OnOk, IfSome, IsTrue}
+use Rattle.std.proofs.Common.{◌≡◌, ◌+◌, true, false, List, [], Option, Some, None, refl, sym, ap, ◌∙◌, subst}
+use Rattle.std.specs.Prelude.{Result, Ok, Err, IfOk, OnOk, IfSome}
 use Rattle.kom_types.specs.declared.acts.Act.{Act}
 use Rattle.kom_types.specs.declared.acts.Act.TheVariants as act
 use Rattle.kom_types.specs.declared.acts.Entry.{Entry}
@@ -9,8 +9,7 @@ use Rattle.kom_types.specs.declared.answers.Answer.{Answer}
 use Rattle.kom_types.specs.declared.answers.Refusal.{Refusal}
 use Rattle.kom_types.specs.declared.items.Item.{Item}
 use Rattle.kom_model.specs.After.{after}
-use Rattle.kom_model.specs.Kinds.{is_among}
-use Rattle.kom_model.specs.Out.{queued_for, given_from, taken_by}
+use Rattle.kom_model.specs.Out.{queued_for, taken_by}
 use Rattle.kom_model.specs.Refusal.{refusal_of}
 use Rattle.kom_model.specs.State.{State, IsSound}
 use Rattle.kom_laws.specs.Groups.{Group}
@@ -24,7 +23,7 @@ use Rattle.noninterference.proofs.steps.Acts.{acts-erased}
 use Rattle.kom_core.specs.declared.answer_kind.AnswerKind.{AnswerKind}
 use Rattle.kom_core.specs.declared.answer_kind.AnswerKind.TheVariants as kind
 use Rattle.kom_core.specs.Acts.{Held, IsMade, IsUnchanged, IsAnswer, Answered, kind_of}
-use Rattle.kom_core.specs.Worlds.{IsSameAnswer, DoSame, IsConsistent, RespectsGroups, queued_by}
+use Rattle.kom_core.specs.Worlds.{IsSameAnswer, DoSame, IsConsistent, RespectsGroups}
 
 -- what a core does where this refuses an act, or nothing does
 abbrev KindedBy : Option Refusal → State → Entry → Held → AnswerKind → Type 0
