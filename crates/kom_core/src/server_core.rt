@@ -14,6 +14,8 @@ ghost use Rattle.kom_core.specs.Keeping.{kept_by};
 ghost use Rattle.kom_core.specs.Acts.{Answered, Kinded, IsUnchanged, refused_flush};
 ghost use Rattle.kom_core.specs.Worlds.{IsConsistent, RespectsGroups};
 
+mod reading;
+
 use crate::answer_kind::AnswerKind;
 use crate::server_state::ServerState;
 use arrayvec::ArrayVec;

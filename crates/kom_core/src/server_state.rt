@@ -13,6 +13,7 @@ ghost use Rattle.kom_core.specs.Steps.{Steps, counted};
 mod acting;
 mod calling;
 mod queueing;
+mod reading;
 mod refusing;
 
 use crate::answer_kind::AnswerKind;
