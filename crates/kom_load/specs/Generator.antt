@@ -1,5 +1,5 @@
--- The calls of a run that loads the server, which the server makes up itself. They are this server's
--- own choice.
+-- The calls of a run that loads the server, which the server makes up itself. They are this
+-- server's own choice.
 use Rattle.std.specs.Prelude.{ℕ, ◌%◌, ◌==◌, [], ◌∷◌, if◌then◌else◌}
 use Rattle.std.specs.Fmt.{decimal}
 use Rattle.kom_types.specs.declared.calls.Call.{Call}

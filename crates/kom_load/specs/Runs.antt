@@ -21,11 +21,11 @@ abbrev pub begun : Run
 begun = record { calls = 0; refused = 0; conference = 0 }
 
 -- the next call
-abbrev pub next_of : Run → Call
+unfoldable pub next_of : Run → Call
 next_of run = generated (run.calls + 1) run.conference
 
 -- the run once its next call was answered
-abbrev pub answered : Run → Reply → Run
+unfoldable pub answered : Run → Reply → Run
 answered run reply = record {
   calls = run.calls + 1;
   refused = run.refused + (if is_refusal reply then 1 else 0);

@@ -27,6 +27,7 @@ impl Run {
     }
 
     /// The next call.
+    #[tactic(auto, unfolding(crate::specs::Runs::next_of))]
     pub fn next_call(&self, alloc: Global) -> Result<Call, Memory>
         requires { self.now.calls < 100000 }
         ensures { IfOk result (λ call. call ≡ next_of self.now) }
@@ -35,6 +36,7 @@ impl Run {
     }
 
     /// Takes note of the answer to the next call.
+    #[tactic(auto, unfolding(crate::specs::Runs::answered))]
     pub fn answer(&mut self, reply: &Reply)
         requires few { self.old.calls < 100000 }
         requires refused { self.old.refused ≤ self.old.calls }

@@ -5,8 +5,8 @@ use kom_commands::push_line;
 use kom_types::{Bytes, Memory};
 use std::alloc::Global;
 
-/// What a run came to: how many calls were made, how many of them answered with a good reply and how
-/// many refused, and how many conferences and texts there are at its end.
+/// What a run came to: how many calls were made, how many of them answered with a good reply and
+/// how many refused, and how many conferences and texts there are at its end.
 #[derive(Clone, Copy, Debug)]
 pub struct Summary {
     pub calls: u64,

@@ -1,0 +1,5 @@
+mod Waiting
+mod Handing
+mod Replying
+mod Leading
+mod Going
