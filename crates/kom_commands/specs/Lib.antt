@@ -2,3 +2,4 @@ pub mod Words
 pub mod Statuses
 pub mod Reports
 pub mod Numbers
+pub mod Loads

@@ -3,11 +3,13 @@
 #![tactic(auto)]
 
 mod cases;
+mod loads;
 mod numbers;
 mod reports;
 mod words;
 
 pub use cases::Cases;
+pub use loads::load_of;
 pub use numbers::{AtPort, number_in, serve_of};
 pub use reports::{MADE, check_report, push_line, put_text};
 pub use words::{Command, command_of};
