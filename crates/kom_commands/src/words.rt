@@ -2,6 +2,8 @@
 ghost use Rattle.std.specs.Prelude.{[], ◌∷◌, MatchOption};
 ghost use Rattle.kom_commands.specs.Words.{IsSpelled, IsRefused};
 
+use crate::loads::load_of;
+use crate::numbers::{AtPort, serve_of};
 use kom_types::Words;
 
 /// A command of the program.
@@ -11,10 +13,14 @@ pub enum Command {
     Once,
     /// The same on the server that a store keeps.
     OnceOver,
+    /// Serves that server at a port.
+    Serve(AtPort),
     /// Makes a store.
     Init,
     /// Opens a store, and tells what it holds.
     Check,
+    /// Loads a new server in memory with so many calls, and tells what they came to.
+    Load(u32),
 }
 
 // The most bytes of a password.
@@ -28,6 +34,7 @@ pub fn command_of(words: &Words) -> Option<Command>
         1 => command_alone(words.word(0)),
         2 => command_over(words.word(0), words.word(1)),
         3 => command_with(words.word(0), words.word(1), words.word(2)),
+        4 => command_at(words.word(0), words.word(1), words.word(2), words.word(3)),
         _ => None,
     }
 }
@@ -46,7 +53,9 @@ fn command_over(word: &str, store: &str) -> Option<Command>
     ensures { MatchOption result (IsRefused (word.now ∷ store.now ∷ []))
         (IsSpelled (word.now ∷ store.now ∷ [])) }
 {
-    if store.is_empty() {
+    if let Some(count) = load_of(word, store) {
+        Some(Command::Load(count))
+    } else if store.is_empty() {
         None
     } else if word == "once" {
         Some(Command::OnceOver)
@@ -67,5 +76,16 @@ fn command_with(word: &str, store: &str, password: &str) -> Option<Command>
         Some(Command::Init)
     } else {
         None
+    }
+}
+
+fn command_at(word: &str, store: &str, port: &str, workers: &str) -> Option<Command>
+    ensures { MatchOption result
+        (IsRefused (word.now ∷ store.now ∷ port.now ∷ workers.now ∷ []))
+        (IsSpelled (word.now ∷ store.now ∷ port.now ∷ workers.now ∷ [])) }
+{
+    match serve_of(word, store, port, workers) {
+        Some(at) => Some(Command::Serve(at)),
+        None => None,
     }
 }

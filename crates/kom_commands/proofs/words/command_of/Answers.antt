@@ -23,6 +23,15 @@ three_words (x ∷ y ∷ []) a b d long first second third = absurd (omega arith
 three_words (x ∷ y ∷ z ∷ []) a b d long first second third = cc
 three_words (x ∷ y ∷ z ∷ w ∷ words) a b d long first second third = absurd (omega arith)
 
+four_words : (words : List (List ℕ)) (a b d e : List ℕ) → length words ≡ 4 → slice_get words 0 ≡ Some a →
+    slice_get words 1 ≡ Some b → slice_get words 2 ≡ Some d → slice_get words 3 ≡ Some e → words ≡ a ∷ b ∷ d ∷ e ∷ []
+four_words [] a b d e long first second third fourth = absurd (omega arith)
+four_words (x ∷ []) a b d e long first second third fourth = absurd (omega arith)
+four_words (x ∷ y ∷ []) a b d e long first second third fourth = absurd (omega arith)
+four_words (x ∷ y ∷ z ∷ []) a b d e long first second third fourth = absurd (omega arith)
+four_words (x ∷ y ∷ z ∷ w ∷ []) a b d e long first second third fourth = cc
+four_words (x ∷ y ∷ z ∷ w ∷ v ∷ words) a b d e long first second third fourth = absurd (omega arith)
+
 pub returns-in-1 : goal.returns-in-1
 returns-in-1 c =
     subst (λ (words : List (List ℕ)). MatchOption c.command_alone.result (IsRefused words) (IsSpelled words))
@@ -42,3 +51,11 @@ returns-in-3 c =
     (sym (three_words c.args.words.now c.word-in-3.result.now c.word-in-3-2.result.now c.word-in-3-3.result.now
     (omega (arith, c.len.ensures, c.in-3.is)) c.word-in-3.ensures c.word-in-3-2.ensures c.word-in-3-3.ensures))
     c.command_with.ensures
+
+pub returns-in-4 : goal.returns-in-4
+returns-in-4 c =
+    subst (λ (words : List (List ℕ)). MatchOption c.command_at.result (IsRefused words) (IsSpelled words))
+    (sym (four_words c.args.words.now c.word-in-4.result.now c.word-in-4-2.result.now c.word-in-4-3.result.now
+    c.word-in-4-4.result.now (omega (arith, c.len.ensures, c.in-4.is)) c.word-in-4.ensures c.word-in-4-2.ensures
+    c.word-in-4-3.ensures c.word-in-4-4.ensures))
+    c.command_at.ensures

@@ -1,0 +1,25 @@
+use Rattle.std.proofs.Common.{ℕ, List, [], ◌∷◌, length, ap, arith}
+use Rattle.kom_commands.specs.declared.words.Command.{Command}
+use Rattle.kom_commands.specs.declared.words.Command.TheVariants as command
+use Rattle.kom_commands.specs.Numbers.{SaysServe}
+use Rattle.kom_commands.specs.Words.{IsSpelled}
+use Rattle.kom_commands.proofs.words.command_at.Goals as goal
+
+-- four words are no other command
+none_of_four : (a b d e : List ℕ) → ((port workers : ℕ) → SaysServe (a ∷ b ∷ d ∷ e ∷ []) port workers → ⊥) →
+    (said : Command) → IsSpelled (a ∷ b ∷ d ∷ e ∷ []) said → ⊥
+none_of_four a b d e no_serve command.Once spelled =
+    omega (arith, ap (λ (words : List (List ℕ)). length words) spelled)
+none_of_four a b d e no_serve command.OnceOver spelled =
+    omega (arith, ap (λ (words : List (List ℕ)). length words) spelled.1)
+none_of_four a b d e no_serve (command.Serve at) spelled = no_serve at.port at.workers spelled
+none_of_four a b d e no_serve command.Init spelled =
+    omega (arith, ap (λ (words : List (List ℕ)). length words) spelled.2)
+none_of_four a b d e no_serve command.Check spelled =
+    omega (arith, ap (λ (words : List (List ℕ)). length words) spelled.1)
+none_of_four a b d e no_serve (command.Load count) spelled =
+    omega (arith, ap (λ (words : List (List ℕ)). length words) spelled.1)
+
+pub returns-in-None : goal.returns-in-None
+returns-in-None c =
+    none_of_four c.args.word.now c.args.store.now c.args.port.now c.args.workers.now c.in-None.ensures.none
