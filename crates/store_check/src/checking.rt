@@ -1,4 +1,5 @@
-ghost use Rattle.std.specs.Prelude.{◌≡◌, ◌↔◌, ◌⊎◌, ◌<◌, ◌^◌, IsTrue, OnOk, OnErr, false, is_some, length};
+ghost use Rattle.std.specs.Prelude.{◌≡◌, ◌↔◌, ◌⊎◌, ◌<◌, ◌^◌, IsTrue, IsNone, OnOk, OnErr, false, is_some};
+ghost use Rattle.std.specs.Prelude.{length};
 ghost use Rattle.kom_commands.specs.Reports.{check_lines, HasText};
 ghost use Rattle.kom_links.specs.Doors.{IsNewSink, KeepsTold};
 ghost use Rattle.kom_links.specs.Outside.{Rose};
@@ -37,6 +38,7 @@ pub fn check<W: World>(
     // Its cases.
     ensures failed { IsTrue result.cases.store_failed ↔ Fails W.Disk.faults
         (Rose (W.view world.old).faults (W.view world.new).faults) result.disk }
+    ensures unopened { IsNone result.disk → IsTrue result.cases.store_failed }
     ensures unfit { IsTrue result.cases.is_unfit
         → IfFound W.Disk.tells (W.view world.old).files path.now IsNoStore }
     ensures exact { IsWrong result.cases ⊎ IfFound W.Disk.tells (W.view world.old).files path.now
