@@ -35,7 +35,7 @@ printf 'A5Hceder\n1 56\n' >"$work/in"
 expect 'one session' 0 $'LysKOM\n=1 1' "$komd" once
 expect 'no word' 2 "$usage" "$komd"
 expect 'an unknown word' 2 "$usage" "$komd" twice
-expect 'a word too many' 2 "$usage" "$komd" once more
+expect 'a word too many' 2 "$usage" "$komd" once more words
 expect 'an empty word' 2 "$usage" "$komd" ''
 expect 'a command that is not built yet' 2 "$usage" "$komd" serve 127.0.0.1:4894 store
 expect 'a word that is no text' 2 "$usage" "$komd" $'once\xff'

@@ -1,6 +1,6 @@
 -- Who makes the calls of a session: its own pass alone, and nobody once a call has ended it.
-use Rattle.std.proofs.Common.{◌≡◌, ℕ, ◌+◌, ◌<◌, ◌≤◌, ◌⊎◌, inl, inr, Bool, true, false, ◌&&◌, ◌||◌, eqb, ◌==◌, List, [], ◌∷◌, ◌++◌, Option, Some, None, refl, sym, ap, subst, ◌∙◌, arith}
-use Rattle.std.specs.List.{find, AllByRecursion}
+use Rattle.std.proofs.Common.{◌≡◌, ℕ, ◌+◌, ◌<◌, ◌≤◌, ◌⊎◌, inl, inr, Bool, true, false, ◌&&◌, eqb, ◌==◌, List, [], ◌∷◌, Option, Some, None, refl, sym, ap, subst, ◌∙◌, arith}
+use Rattle.std.specs.List.{list_all, AllByRecursion}
 use Rattle.std.specs.Option.{IsSome, IfSome}
 use Rattle.std.proofs.lemmas.Bool.{cases_Bool, cases_eq, ne_eqb, eqb-true, eq-eqb}
 use Rattle.kom_types.specs.declared.acts.Act.{Act}
@@ -10,11 +10,10 @@ use Rattle.kom_types.specs.declared.calls.Call.{Call}
 use Rattle.kom_types.specs.declared.answers.Refusal.TheVariants.{Gone}
 use Rattle.kom_types.specs.declared.answers.Why.TheVariants as why
 use Rattle.kom_types.specs.declared.items.Item.{Item}
-use Rattle.kom_types.specs.Sessions.{Session, is_session, fresh_session}
+use Rattle.kom_types.specs.Sessions.{Session, fresh_session}
 use Rattle.kom_links.specs.DeskCalls.{record_of}
 use Rattle.kom_links.specs.Records.{is_connect, has_connect}
 use Rattle.kom_links.specs.Talk.{Drains, first_given, other_given, is_quiet, steps_of}
-use Rattle.std.specs.List.{list_all, filter}
 use Rattle.kom_model.specs.State.{State, session_of}
 use Rattle.kom_model.specs.Refusal.{is_drained, call_refused, drain_refused, unless_store_refused}
 use Rattle.kom_model.specs.After.{MayFollow, moment_of, after}

@@ -1,18 +1,23 @@
--- The history of a new server hides.
-use Rattle.std.proofs.Common.{ℕ, List, [], Option, Some, None}
-use Rattle.std.specs.Option.{IfSome}
+-- The history of a server from its opening on hides.
+use Rattle.std.proofs.Common.{◌≡◌, ℕ, List, Option, sym, subst}
 use Rattle.kom_types.specs.declared.acts.Record.{Record}
-use Rattle.kom_model.proofs.Opening.{IsProtected-initial, IsWhole-initial, IsSound-opening}
-use Rattle.kom_model.specs.Initial.{initial}
+use Rattle.kom_model.specs.State.{State}
+use Rattle.hall_desk.specs.Acts.{IsOpening}
 use Rattle.noninterference.specs.Hiding.{IsHiding}
 use Rattle.noninterference.proofs.Along.{all-hide}
-use Rattle.kom_server.specs.Runs.{new_server}
+use Rattle.kom_links.specs.Doors.{GateView}
+use Rattle.kom_links.specs.Outside.{LinkView}
+use Rattle.kom_server.specs.Runs.{IsRun, IsHidingRun}
 
-pub new_hides : (opened : ℕ) (history : List Record) → IsHiding (new_server opened) history
-new_hides opened history = all-hide (new_server opened) history
-    (IsSound-opening (initial [] opened) (IsProtected-initial [] opened) (IsWhole-initial [] opened))
+pub opened_hides : (state : State) → IsOpening state → (history : List Record) → IsHiding state history
+opened_hides state opening history = all-hide state history opening.2
 
-pub hides : {T : Type 0} (history_of : T → List Record) (end : Option T) →
-    IfSome end (λ closing. (opened : ℕ) → IsHiding (new_server opened) (history_of closing))
-hides history_of None = tt
-hides history_of (Some closing) = λ opened. new_hides opened (history_of closing)
+-- a run from a server before its first entry
+pub hiding_run : {L : Type 0} (view : L → LinkView) (start state : State) (history : List Record) (drawn : ℕ)
+    (gates : List (GateView L)) (clocks : List (Option (List ℕ))) → IsOpening state → start ≡ state →
+    IsRun view state history drawn gates clocks → IsHidingRun view start history drawn gates clocks
+hiding_run view start state history drawn gates clocks opening same run =
+    subst (λ (from : State). IsHidingRun view from history drawn gates clocks) (sym same) (record {
+      run = run;
+      hides = opened_hides state opening history;
+    })

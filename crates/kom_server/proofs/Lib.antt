@@ -14,3 +14,10 @@ pub mod ServedLinks
 pub mod WholeRuns
 pub mod Hiding
 pub mod WorkerRuns
+pub mod Refusing
+pub mod Stopping
+pub mod StoreRuns
+pub mod StatusCases
+pub mod Spelling
+pub mod Carried
+pub mod Sending

@@ -1,7 +1,7 @@
 -- Which sessions the records of a pass leave open.
 use Rattle.std.proofs.Common.{◌≡◌, ◌≢◌, ℕ, ◌⊎◌, inl, inr, Bool, true, false, not, ◌||◌, ◌&&◌, eqb, ◌==◌, List, [], ◌∷◌, ◌++◌, refl, sym, ap, subst, ◌∙◌}
 use Rattle.std.specs.List.{filter, list_any, AllByRecursion}
-use Rattle.std.proofs.lemmas.Bool.{cases_Bool, ne_eqb, eqb-true}
+use Rattle.std.proofs.lemmas.Bool.{cases_Bool, ne_eqb}
 use Rattle.std.proofs.lemmas.List.Folds.{list_any-append}
 use Rattle.kom_types.specs.declared.acts.Act.TheVariants as act
 use Rattle.kom_types.specs.declared.acts.Record.{Record}

@@ -19,6 +19,12 @@ over_of start history (gate ∷ gates) all none = elim all.0 [
   | inr (inr stopped) ↦ inr stopped
 ]
 
+-- what all have by what is seen of them is had by all that is seen
+pub all_viewed : {X Y : Type 0} (view : X → Y) (P : Y → Type 0) (items : List X) →
+    AllByRecursion (λ x. P (view x)) items → AllByRecursion P (map view items)
+all_viewed view P [] all = tt
+all_viewed view P (x ∷ items) all = (all.0, all_viewed view P items all.1)
+
 -- ---- which gates failed
 
 failed_append : {L : Type 0} (gates more : List (GateView L)) → HasFailed (gates ++ more) →

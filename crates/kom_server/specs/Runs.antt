@@ -1,28 +1,30 @@
 -- What a run leaves that serves gates, one for each of its passes.
-use Rattle.std.specs.Prelude.{◌≡◌, ◌≢◌, ℕ, ◌+◌, ◌^◌, ◌<◌, ◌==◌, ◌⊎◌, ◌&&◌, nat_eq, nat_lt, Bool}
+use Rattle.std.specs.Prelude.{◌≡◌, ◌≢◌, ℕ, ◌+◌, ◌^◌, ◌<◌, ◌≤◌, ◌==◌, ◌⊎◌, ◌&&◌, nat_eq, nat_lt, Bool}
 use Rattle.std.specs.Prelude.{true, false, not, IsTrue, List, [], ◌∷◌, length, map, filter, flat_map}
-use Rattle.std.specs.Prelude.{codes, Option, ◌++◌, Some, None, IfSome}
+use Rattle.std.specs.Prelude.{codes, Option, ◌++◌, Some, None, IfSome, zero, suc}
 use Rattle.std.specs.List.{list_any, AllByRecursion, IsDistinct}
 use Rattle.kom_types.specs.declared.acts.Act.{Act}
 use Rattle.kom_types.specs.declared.acts.Act.TheVariants as act
 use Rattle.kom_types.specs.declared.acts.Record.{Record}
 use Rattle.kom_types.specs.declared.items.Item.{Item}
 use Rattle.kom_types.specs.Reading.{fault_of}
+use Rattle.kom_commands.specs.declared.numbers.AtPort.{AtPort}
 use Rattle.kom_links.specs.declared.world_counts.WorldCounts.{WorldCounts}
-use Rattle.kom_links.specs.WorldCounts.{with_gate, with_clock}
+use Rattle.kom_links.specs.WorldCounts.{with_port, with_gate, with_clock}
 use Rattle.kom_links.specs.declared.served.Served.{Served}
 use Rattle.kom_links.specs.declared.served.SessionEnd.{SessionEnd}
 use Rattle.kom_links.specs.declared.served.SessionEnd.TheVariants as end
-use Rattle.kom_links.specs.Doors.{GateView, SinkView}
-use Rattle.kom_links.specs.Outside.{LinkView}
+use Rattle.kom_links.specs.Doors.{GateView, GivesFirst}
+use Rattle.kom_links.specs.Outside.{LinkView, IsNothing}
 use Rattle.kom_links.specs.Records.{has_connect}
-use Rattle.kom_links.specs.Talk.{IsTalk, IsPrefix, IsChosen}
+use Rattle.kom_links.specs.Talk.{IsTalk, IsChosen}
 use Rattle.kom_model.specs.Initial.{initial}
 use Rattle.kom_model.specs.State.{State, opening}
 use Rattle.kom_model.specs.Legal.{IsLegal, AreByOwners}
 use Rattle.kom_model.specs.Out.{out_of, given_along}
 use Rattle.kom_model.specs.Laws.{all_given, IsPrefix as IsItemPrefix}
 use Rattle.kom_session.specs.Ends.{Tells}
+use Rattle.noninterference.specs.Hiding.{IsHiding}
 use Rattle.hall_desk.specs.Passes.{of_pass}
 use Rattle.hall_desk.specs.Desks.{WasOverrun, WasDropped, WasStopped, WasFull}
 
@@ -30,20 +32,11 @@ use Rattle.hall_desk.specs.Desks.{WasOverrun, WasDropped, WasStopped, WasFull}
 abbrev pub new_server : ℕ → State
 new_server moment = opening (initial [] moment)
 
--- the words of a command line that are no command
-abbrev pub IsRefused : List (List ℕ) → Type 0
-IsRefused words = words ≢ codes "once" ∷ []
-
 -- the usage line
 abbrev pub usage : List ℕ
 usage =
     codes "usage: komd once [STORE] | serve STORE PORT WORKERS | init STORE PASSWORD "
     ++ codes "| check STORE | load N\n"
-
--- what the sink has of a command line that was refused: the usage line, or where the sink failed a
--- prefix of it
-abbrev pub HasUsage : SinkView → Type 0
-HasUsage sink = IfSome sink.put (λ bytes. IsPrefix bytes usage × (sink.faults ≡ 0 → bytes ≡ usage))
 
 -- what the drains of a session give along a history that begins in this state; of no session,
 -- nothing
@@ -175,12 +168,25 @@ pub record IsRun {L : Type 0} (view : L → LinkView) (start : State) (history :
   pub workers : AreWorkers view start history drawn 0 gates clocks
   pub distinct : IsDistinct nat_eq (flat_map told_sessions gates)
 
+-- such a run, of which what the rights hide from a group of persons changes nothing that its sessions
+-- are sent
+pub record IsHidingRun {L : Type 0} (view : L → LinkView) (start : State) (history : List Record)
+    (drawn : ℕ) (gates : List (GateView L)) (clocks : List (Option (List ℕ))) : Type 0 where
+  pub run : IsRun view start history drawn gates clocks
+  pub hides : IsHiding start history
+
 -- The moment is the first reading of the first of these clocks, where that tells its readings.
 abbrev pub IsFirstReading : ℕ → List (Option (List ℕ)) → Type 0
 IsFirstReading moment [] = ⊥
 IsFirstReading moment (None ∷ clocks) = Unit {0}
 IsFirstReading moment (Some [] ∷ clocks) = ⊥
 IsFirstReading moment (Some (reading ∷ readings) ∷ clocks) = moment ≡ reading
+
+-- A clock that had given no moment gave this one, which is the one that the world tells, where both
+-- are told.
+abbrev pub IsFirstMoment : {C : Type 0} → (C → Option (List ℕ)) → Option ℕ → ℕ → Type 0
+IsFirstMoment {C} gave told moment =
+    (clock : C) × IsNothing (gave clock) × GivesFirst told (gave clock) moment
 
 -- a gate failed or has ended, or the server was stopped in this history
 abbrev pub IsDone : {L : Type 0} → State → List Record → GateView L → Type 0
@@ -197,10 +203,49 @@ abbrev pub HasFailed : {L : Type 0} → List (GateView L) → Type 0
 HasFailed [] = ⊥
 HasFailed (gate ∷ gates) = (gate.faults ≢ 0) ⊎ HasFailed gates
 
--- What a run that serves asks its world for, beside a sink: a clock, and then its gate. What it was
--- given is left to be closed (`true`), or the clock, the gate or memory for them or for the rows of
--- a new server was refused.
+-- What serving the one gate asks its world for. A gate that it was given is left to be closed
+-- (`true`), or the gate or memory for it was refused.
+abbrev pub AsksGate : Bool → WorldCounts → WorldCounts → Type 0
+AsksGate true old new = new ≡ with_gate true old
+AsksGate false old new = (new ≡ old) ⊎ (new ≡ with_gate false old)
+
+-- What a run that serves asks its world for, beside a sink and a disk: a clock, and then its gate.
+-- What it was given is left to be closed (`true`), or the clock, the gate or memory for them or for
+-- the rows of the server was refused.
 abbrev pub Opens : Bool → WorldCounts → WorldCounts → Type 0
 Opens true old new = new ≡ with_gate true (with_clock old)
 Opens false old new =
     (new ≡ old) ⊎ ((new ≡ with_clock old) ⊎ (new ≡ with_gate false (with_clock old)))
+
+-- so many times for a clock
+abbrev pub with_clocks : ℕ → WorldCounts → WorldCounts
+with_clocks zero counts = counts
+with_clocks (suc number) counts = with_clock (with_clocks number counts)
+
+-- What serving a port by so many workers asks its world for: so many clocks, and then as many gates.
+-- What it was given is left to be closed (`true`), or a clock, the gates or memory for them was
+-- refused.
+abbrev pub AsksPort : ℕ → Bool → WorldCounts → WorldCounts → Type 0
+AsksPort workers true old new = new ≡ with_port true (with_clocks workers old)
+AsksPort workers false old new =
+    ((asked : ℕ) × (asked ≤ workers) × (new ≡ with_clocks asked old))
+    ⊎ (new ≡ with_port false (with_clocks workers old))
+
+-- What serving a store asks its world for, over standard input and output or at a port; how many
+-- gates it serves; and when it is over: over standard input and output the gate has ended, at a port
+-- each gate has, or the server was stopped.
+abbrev pub AsksPlace : Option AtPort → Bool → WorldCounts → WorldCounts → Type 0
+AsksPlace None serves old new = Opens serves old new
+AsksPlace (Some at) serves old new = AsksPort at.workers serves old new
+
+abbrev pub gates_at : Option AtPort → ℕ
+gates_at None = 1
+gates_at (Some at) = at.workers
+
+abbrev pub IsOverAt : {L : Type 0} → Option AtPort → State → List Record → List (GateView L) → Type 0
+IsOverAt None start history gates = AllByRecursion (λ gate. gate.ended ≡ true) gates
+IsOverAt (Some at) start history gates = IsOver start history gates
+
+-- one to 64 workers
+abbrev pub IsWithin : Option AtPort → Type 0
+IsWithin port = IfSome port (λ at. (0 < at.workers) × (at.workers ≤ 64))

@@ -16,8 +16,8 @@ use std::alloc::Global;
 use std::sync::Wait;
 
 /// Serves the sessions at a gate that has given no link yet, by the first of the two passes of a new
-/// hall, until the gate ends or fails, and closes the hall. Returns whether the gate failed, and a
-/// pass that has seen the whole history.
+/// hall, until the gate ends or fails, and closes the hall. Returns whether the gate failed, the
+/// server, and a pass that has seen the whole history.
 pub(crate) fn serve_alone<R: Wait, B: Acts + Drop, G: Gate, C: Clock>(
     rt: &R,
     alloc: Global,
@@ -25,15 +25,16 @@ pub(crate) fn serve_alone<R: Wait, B: Acts + Drop, G: Gate, C: Clock>(
     mut passes: Vec<Pass<B>>,
     gate: &mut G,
     clock: &mut C,
-) -> (bool, Pass<B>)
+) -> (bool, B, Pass<B>)
     requires two { hall.passes ≡ 2 }
     requires new { AreNewPasses hall.table 2 passes.items }
     requires opening { IsOpening (B.server hall.opening) }
     requires fresh { IsNewGate (G.view gate.old) }
-    ensures run { IsRun G.Link.view (B.server hall.opening) (map B.made result.1.seen)
-        result.1.drawn (G.view gate.new ∷ []) (C.gave clock.new ∷ []) }
+    ensures run { IsRun G.Link.view (B.server hall.opening) (map B.made result.2.seen)
+        result.2.drawn (G.view gate.new ∷ []) (C.gave clock.new ∷ []) }
+    ensures led { B.led hall.opening result.2.seen result.1 }
     ensures first { KeepsFirst (C.gave clock.old) (C.gave clock.new) }
-    ensures free { is_served result.1.turn ≡ false }
+    ensures free { is_served result.2.turn ≡ false }
     ensures failed { IsTrue result.0 ↔ ((G.view gate.new).faults ≢ 0) }
     ensures ended { result.0 ≡ false → (G.view gate.new).ended ≡ true }
 {
@@ -43,8 +44,8 @@ pub(crate) fn serve_alone<R: Wait, B: Acts + Drop, G: Gate, C: Clock>(
     let failed = serve_new(rt, alloc, &mut desk, gate, clock);
     passes.push_reserved(desk.into_pass());
     passes.push_reserved(own);
-    let (_server, pass) = hall.close(passes);
-    (failed, pass)
+    let (server, pass) = hall.close(passes);
+    (failed, server, pass)
 }
 
 /// Serves the sessions at a gate that has given no link yet, by a pass that has made no act, until

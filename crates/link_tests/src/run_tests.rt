@@ -343,7 +343,7 @@ fn other_words_are_refused(rt: HostRuntime) -> Result<(), Fail> {
             ..refused
         },
         Row {
-            words: &["once", "once"],
+            words: &["once", "more", "words"],
             ..refused
         },
         Row {
