@@ -93,6 +93,8 @@ def try_first_day(tried):
     tried.program = real
     tried.same("the first day", (0, "store made\nperson 6 is the second administrator\n"), (status, said))
     tried.same("words that are no password", {"init", "once", str(store), ""}, set(words.read_text().splitlines()))
+    lost = f"A1Ha\n1 62 6 {string(SECOND)} 0\n2 42 255\n3 8 5 0H {string(FIRST[::-1])}\n4 8 5 0H {string(FIRST)}\n"
+    tried.same("a password that the other sets", 4, tried.run(tried.program, "once", store, given=lost.encode())[1].count("="))
     lines = "A1Ha\n1 62 5 0H 0\n"
     for reference, (person, password) in enumerate([(5, FIRST), (6, SECOND)], 2):
         lines += f"{reference} 62 {person} {string(password)} 0\n{reference} 42 255\n{reference} 43\n"
@@ -270,9 +272,13 @@ def try_probe(tried):
         other = Session(server.port, "other")
         status, said = tried.run(*probe)
         tried.same("a probe where all workers have sessions", (2, "KOMD CRITICAL"), (status, said[:13]))
-        one.socket.close()
-        other.socket.close()
         tried.same("what probes leave", 327, store.stat().st_size)
+        idle = one.ask("56")
+        other.ask("62 5 0H 0")
+        other.ask("42 255")
+        other.ask(f"55 {idle}")
+        one.ends()
+        tried.same("a probe after an idle session was ended", 0, tried.run(*probe)[0])
     finally:
         end(server)
     tried.same("a probe where nobody listens", 2, tried.run(*probe)[0])

@@ -10,6 +10,7 @@ import pathlib
 import subprocess
 import sys
 import tempfile
+import time
 
 from serve_sessions import Server, Session, string
 
@@ -61,6 +62,11 @@ def conferences(count):
 
 def texts(count, body=0):
     return [text(1 + place, body) for place in range(count)]
+
+
+def recipients(count):
+    """A second one of each text."""
+    return texts(100000) + [b"\x0d" + numbers(1 + place, 3, 0, 1 + place, 0) + MOMENT for place in range(count)]
 
 
 def comments(count):
@@ -128,6 +134,7 @@ def tell_memory(club, alone):
     print(f"memory of a new server with one worker and its session: {alone}")
     for what, made, less, more in [
         ("text of no bytes with one recipient", texts, 100000, 200000),
+        ("recipient more", recipients, 0, 100000),
         ("text of 1000 bytes with one recipient", lambda count: texts(count, 1000), 50000, 100000),
         ("link of a comment", lambda count: comments(count) if count else texts(200000), 0, 200000),
         ("person with a letterbox", persons, 30000, 60000),
@@ -151,7 +158,7 @@ def tell_disk(club):
         session.ask("100 6 5 100 0 00000000")
         hundred = string("x" * 100)
         for what, call in [
-            ("login of a user of 5 bytes, beside the seconds of the last one", "62 5 0H 0"),
+            ("login of a user of 5 bytes", "62 5 0H 0"),
             ("person with a name and a password of 10 bytes", "89 10HPerson one 10H0123456789 00000000 0 { }"),
             ("conference with a name of 10 bytes", "88 10HConference 00000000 0 { }"),
             ("membership", "100 8 5 100 0 00000000"),
@@ -168,6 +175,11 @@ def tell_disk(club):
             before = club.store.stat().st_size
             session.ask(call)
             print(f"disk for each {what}: {club.store.stat().st_size - before}")
+        session.ask("62 5 0H 0")
+        before = club.store.stat().st_size
+        time.sleep(1.5)
+        session.ask("1")
+        print(f"disk for each logout after a second or more: {club.store.stat().st_size - before}")
     finally:
         end(server)
 
