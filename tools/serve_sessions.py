@@ -1,294 +1,463 @@
 #!/usr/bin/env python3
-"""Drives the program `komd` with its word `serve` over loopback, by many connections at a time:
-serve_sessions.py [PROGRAM [CONNECTIONS [SECONDS]]]
+"""Drives the built program `komd` with its word `serve` over loopback: serve_sessions.py [PROGRAM [CONNECTIONS]]
 
-It makes a store in a folder of its own, has it served by as many workers as there are connections (64 if they are not named), and
-then, from a thread for each connection:
-1. makes a person, logs in, joins a conference, writes a text, reads it, marks it as read, adds an aux-item to it, sends a message to
-   the next person, awaits the one that it is sent itself, and disconnects;
-2. after all have gone, stops the server by call 44 while half of the connections are open and idle, and wants it to end with status
-   0 within a second;
-3. serves the store again, has all connections write texts for some seconds (2 if they are not named), kills the server with signal
-   9, serves the store once more, and wants each text whose number was answered to be there with its body.
-Last it looks at what an idle server takes: with all connections open and idle for five seconds, and how long messages to idle
-sessions take. It prints a line for each part, and ends with 1 where one of them fails. PROGRAM is crates/komd/out/komd, unless it is
-named.
+In a folder of its own it makes stores, serves them, and looks at
+1. words that are refused, a port that is taken, a store that is served already, and both kinds of addresses;
+2. two workers that serve side by side while each waits for the other's client, and a third client that waits for one of them;
+3. a session that is sent its messages while it makes no call;
+4. with three workers, a session that takes nothing while texts are written to a conference of its person: with 4,000 messages
+   waiting it goes on, with 4,161 more than its connection takes it has ended;
+5. peers that reset, end what they send, send a byte a second, send nothing, or never read, beside sessions that go on meanwhile;
+6. 64 connections, or as many as are named, a worker for each: each makes a person, logs in, joins a conference, writes a text and is
+   told of those of all others, reads, marks it as read, adds an aux-item, sends a message, and disconnects itself, or is disconnected;
+7. call 44 while connections are idle: `serve` ends with status 0 within a second;
+8. signal 9 while all connections write texts: each that was answered is there after the next start.
+
+It prints a line for each part, takes half a minute, and ends with 1 at the first thing that is otherwise, or after a minute, else with
+0. It ends each server that it starts. PROGRAM is crates/komd/out/komd, unless it is named.
 """
-import os
 import pathlib
+import re
 import signal
 import socket
-import statistics
+import struct
 import subprocess
 import sys
 import tempfile
 import threading
 import time
 
-ROOT = pathlib.Path(__file__).resolve().parent.parent
-ADMINISTRATOR = 5
-PATIENCE = 60
+from served import PATIENCE, TIME, Server, Session, Wrong
+from served import check_store, folder_in_memory, limit_seconds, make_store, program_of, side_by_side, stop, string
+
+LIMIT_SECONDS = 60
+USAGE = b"usage: komd once [STORE] | serve STORE PORT WORKERS | init STORE PASSWORD | check STORE | load N\n"
+MOST_WAITING = 4_096
+FEW_WAITING = 4_000
+MOST_DRAINED = 64
 STOP_SECONDS = 1.0
+# What a connection of the system may hold of what was written to it is less than this many bytes.
+HELD = 12_000_000
+LONGEST_MESSAGE = 10_000
+# A message is seen, and a call answered, in far less; the machine may be busy.
+SOON = 5.0
 
 
-class Wrong(Exception):
-    """An answer that is not the one that is wanted."""
+def wanted(what, told, want):
+    """Fails where what is told is not what is wanted."""
+    if told != want:
+        raise Wrong(f"{what} is {told!r:.300}, not {want!r:.300}")
 
 
-def string(text):
-    """A Hollerith string."""
-    return f"{len(text)}H{text}"
+def words(program, folder):
+    """Part 1: the words that are refused."""
+    store = str(folder / "s")
+    for line in ([], ["serve", store, "0", "4"], ["serve", store, "4894", "65"], ["serve", store, "65536", "4"],
+                 ["serve", store, "4894", "0"], ["serve", store, "4894"], ["serve", "", "4894", "4"],
+                 ["serve", store, "0004894", "4"], ["serve", store, "4894", "4", "4"], ["serve", store, "+4894", "4"]):
+        done = subprocess.run([program, *line], capture_output=True, timeout=PATIENCE, check=False)
+        wanted(f"komd {' '.join(line)}", (done.returncode, done.stdout, done.stderr), (2, USAGE, b""))
+    if pathlib.Path(store).exists():
+        raise Wrong("refused words leave a file")
+    done = subprocess.run([program, "serve", str(folder / "none" / "s"), "4894", "1"], capture_output=True, check=False)
+    wanted("the status where a store's folder is missing", (done.returncode, done.stdout, done.stderr), (3, b"", b""))
 
 
-class Session:
-    """A connection whose greeting was answered. Its texts have no line feeds, so a line ends at each."""
-
-    def __init__(self, port, user):
-        self.socket = socket.create_connection(("127.0.0.1", port), PATIENCE)
-        self.socket.setsockopt(socket.IPPROTO_TCP, socket.TCP_NODELAY, 1)
-        self.file = self.socket.makefile("rb")
-        self.reference = 0
-        self.messages = []
-        self.socket.sendall(f"A{string(user)}\n".encode())
-        if self.line() != "LysKOM":
-            raise Wrong("the greeting")
-
-    def line(self):
-        """The next line, or None at the end of the connection."""
-        line = self.file.readline()
-        return line[:-1].decode("latin-1") if line.endswith(b"\n") else None
-
-    def send(self, call):
-        """Sends a call, and returns its reference."""
-        self.reference += 1
-        self.socket.sendall(f"{self.reference} {call}\n".encode("latin-1"))
-        return self.reference
-
-    def reply(self, reference):
-        """What follows the reference of a good reply; messages that come before it are kept."""
-        while True:
-            line = self.line()
-            if line is None:
-                raise Wrong("the connection ended")
-            if line.startswith(":"):
-                self.messages.append(line)
-            elif line == f"={reference}" or line.startswith(f"={reference} "):
-                return line[len(f"={reference}") + 1 :]
-            else:
-                raise Wrong(f"{line!r} in place of a reply to {reference}")
-
-    def ask(self, call):
-        return self.reply(self.send(call))
-
-    def message(self):
-        """The next message."""
-        if not self.messages:
-            line = self.line()
-            if line is None or not line.startswith(":"):
-                raise Wrong(f"{line!r} in place of a message")
-            self.messages.append(line)
-        return self.messages.pop(0)
-
-    def ends(self):
-        """Waits for the end of the connection."""
-        while self.line() is not None:
-            pass
-        self.socket.close()
+def ports(program, folder):
+    """Part 1: a port that is taken, a store that is in use, and addresses."""
+    first, other = make_store(program, folder / "first"), make_store(program, folder / "other")
+    server = Server(program, first, 4)
+    try:
+        done = subprocess.run([program, "serve", other, str(server.port), "4"], capture_output=True, timeout=PATIENCE, check=False)
+        wanted("the status at a port that is taken", (done.returncode, done.stdout, done.stderr), (5, b"", b""))
+        wanted("the check of the store after that", check_store(program, other)[0], 0)
+        done = subprocess.run([program, "serve", first, "19999", "4"], capture_output=True, timeout=PATIENCE, check=False)
+        wanted("the status over a store that is served", (done.returncode, done.stdout, done.stderr), (3, b"", b""))
+        wanted("the check of a store that is served", check_store(program, first)[0], 3)
+        addresses = ["127.0.0.1"] + (["::1"] if has_ipv6() else [])
+        for address in addresses:
+            session = Session(server.port, "here", address)
+            number = session.ask("56")
+            told = session.ask(f"84 {number}")
+            if not re.fullmatch(f"4Hhere {re.escape(string(address))} 0H {TIME}", told):
+                raise Wrong(f"a session from {address} is told as {told!r}")
+            wanted("what comes after the end", session.end(), [])
+        wanted("what comes after call 44", stop(server).rest(), [])
+        wanted("the status after call 44", server.wait(), 0)
+        wanted("the check of the store after that", check_store(program, first)[0], 0)
+    finally:
+        server.kill()
+    return addresses
 
 
-class Server:
-    """A served store."""
-
-    def __init__(self, program, store, workers):
-        with socket.socket() as probe:
-            probe.bind(("127.0.0.1", 0))
-            self.port = probe.getsockname()[1]
-        self.process = subprocess.Popen([program, "serve", store, str(self.port), str(workers)], stdout=subprocess.PIPE)
-        for _ in range(200):
-            try:
-                socket.create_connection(("127.0.0.1", self.port), 1).close()
-                return
-            except OSError:
-                if self.process.poll() is not None:
-                    raise Wrong(f"the server ended with status {self.process.returncode}") from None
-                time.sleep(0.05)
-        raise Wrong("the server does not listen")
-
-    def processor_seconds(self):
-        """How much processor time the server has used."""
-        fields = pathlib.Path(f"/proc/{self.process.pid}/stat").read_text(encoding="ascii").rsplit(") ", 1)[1].split()
-        return (int(fields[11]) + int(fields[12])) / os.sysconf("SC_CLK_TCK")
-
-    def status(self, seconds):
-        return self.process.wait(seconds)
+def has_ipv6():
+    """Whether the machine has the loopback address of IPv6."""
+    try:
+        with socket.socket(socket.AF_INET6, socket.SOCK_STREAM) as probe:
+            probe.bind(("::1", 0))
+        return True
+    except OSError:
+        return False
 
 
-def side_by_side(count, work):
-    """Has each of so many threads do its work, by its number, and raises what one of them raised."""
-    faults = []
-
-    def run(number):
+def beside(program, folder):
+    """Part 2: two workers, each of which waits for the other's client."""
+    server = Server(program, make_store(program, folder / "beside"), 2)
+    try:
+        one = Session(server.port, "a")
+        wanted("the first session", one.ask("56"), "1")
+        other = Session(server.port, "b")
+        wanted("the second session", other.ask("56"), "2")
+        third = Session(server.port, None)
+        third.write("A1Hc\n1 56\n")
+        wanted("a later call of the first session", one.ask("56"), "1")
+        third.socket.settimeout(0.4)
         try:
-            work(number)
-        except (Wrong, OSError) as fault:
-            faults.append((number, fault))
-
-    threads = [threading.Thread(target=run, args=(number,)) for number in range(count)]
-    for thread in threads:
-        thread.start()
-    for thread in threads:
-        thread.join()
-    if faults:
-        raise Wrong(f"{len(faults)} of {count} connections failed, first {faults[0]!r}")
-
-
-def administrator(port):
-    session = Session(port, "administrator")
-    session.ask(f"62 {ADMINISTRATOR} 0H 0")
-    return session
+            raise Wrong(f"a third client has {third.socket.recv(100)!r} from two workers that are busy")
+        except TimeoutError:
+            third.socket.settimeout(PATIENCE)
+        wanted("what follows the end of the first session", one.end(), [])
+        wanted("what the third client reads then", (third.line(), third.line()), ("LysKOM", "=1 3"))
+        wanted("what follows the end of the others", (other.end(), third.end()), ([], []))
+        stop(server).rest()
+        wanted("the status", server.wait(), 0)
+    finally:
+        server.kill()
 
 
-def talk_all(port, count):
-    """Part 1. The persons' numbers are returned."""
-    first = administrator(port)
+def idle(program, folder):
+    """Part 3: a session that makes no call is sent its messages."""
+    server = Server(program, make_store(program, folder / "idle"), 2)
+    try:
+        listener, sender = Session(server.port, None), Session(server.port, None)
+        listener.write("A1Hb\n1 62 5 0H 0\n2 80 1 { 12 }\n")
+        wanted("what the listener reads", [listener.line() for _ in range(3)], ["LysKOM", "=1", "=2"])
+        sender.write("A1Ha\n1 62 5 0H 0\n")
+        wanted("what the sender reads", [sender.line() for _ in range(2)], ["LysKOM", "=1"])
+        start = time.monotonic()
+        sender.write("2 53 0 2Hyo\n")
+        wanted("what the idle listener reads", listener.line(), ":3 12 0 5 2Hyo")
+        took = time.monotonic() - start
+        wanted("what the sender reads then", sender.line(), "=2")
+        sender.write("3 56\n")
+        # (the first session was that of nobody: who looked whether the server listens sent no greeting)
+        wanted("the sender's last reply", sender.line(), "=3 2")
+        wanted("what follows the ends", (listener.end(), sender.end()), ([], []))
+        if took > SOON:
+            raise Wrong(f"a message to an idle session takes {took:.2f} s")
+        stop(server).rest()
+        wanted("the status", server.wait(), 0)
+    finally:
+        server.kill()
+
+
+def overrun(program, folder):
+    """Part 4: a session that takes nothing, with three workers."""
+    server = Server(program, make_store(program, folder / "overrun"), 3)
+    try:
+        writer = Session(server.port, "writer").login()
+        made = writer.ask_all(["88 4HOpen 0000 0 { }", "89 2HBo 2Hbo 00000000 0 { }", "89 2HCy 2Hcy 00000000 0 { }"])
+        wanted("the numbers that are made", made, ["6", "7", "8"])
+        third = Session(server.port, "third").login(8, "cy")
+        third.ask("100 6 8 100 0 00000000")
+        third_number = third.ask("56")
+        fill = HELD // LONGEST_MESSAGE
+        for texts in (FEW_WAITING - fill, MOST_WAITING + MOST_DRAINED + 1):
+            silent = Session(server.port, "silent", receive=4_096).login(7, "bo")
+            silent.ask("100 6 7 100 0 00000000")
+            silent.ask("80 2 { 12 15 }")
+            number = silent.ask("56")
+            writer.ask_all([f"53 7 {string(f'{place:05} ' + 'x' * (LONGEST_MESSAGE - 6))}" for place in range(fill)])
+            # (its worker waits for the connection, which is full, with the items of one drain)
+            first = int(writer.ask("115"))
+            told = writer.ask_all(["86 1Ha 1 { 0 6 } 0 { }"] * texts)
+            wanted("the numbers of the texts", told, [str(first + place) for place in range(texts)])
+            read = sum(1 for _ in until_end_or(silent, fill + texts, first, fill))
+            if texts > MOST_WAITING:
+                if not MOST_DRAINED <= read <= fill:
+                    raise Wrong(f"a session with {texts} texts more than it takes was sent {read} messages of {fill + texts}")
+                ended = read
+                wanted("call 84 of an overrun session that has ended", third.try_to(f"84 {number}"), f"%42 {number}")
+                silent.close()
+            else:
+                wanted("the messages that wait for a session that reads late", read, fill + texts)
+                wanted("its next call", silent.ask("56"), number)
+                wanted("what follows its end", silent.end(), [])
+        wanted("the third session's call", third.ask("56"), third_number)
+        third.end()
+        writer.end()
+        stop(server).rest()
+        wanted("the status", server.wait(), 0)
+        return FEW_WAITING, ended, fill + texts
+    finally:
+        server.kill()
+
+
+def until_end_or(session, most, first, fill):
+    """The messages of a session up to the end of its connection, so many at most: each is the next one that was sent."""
+    for place in range(most):
+        line = session.line()
+        if line is None:
+            return
+        want = f":3 12 7 5 {LONGEST_MESSAGE}H{place:05} " if place < fill else f":2 15 {first + place - fill} "
+        if not line.startswith(want):
+            raise Wrong(f"message {place} begins {line[:40]!r}, not {want!r}")
+        yield line
+
+
+def peers(program, folder):
+    """Part 5: peers that do not behave, and sessions beside them."""
+    good, bad = 8, 6
+    server = Server(program, make_store(program, folder / "peers"), good + 4 * bad + 2)
+    try:
+        before = server.resident()
+        slow = Session(server.port, None)
+        slow.write("A1Hs\n")
+        wanted("the slow peer's greeting", slow.line(), "LysKOM")
+        slower = threading.Thread(target=lambda: [slow.write(byte) or time.sleep(1) for byte in "1 56\n"], daemon=True)
+        slower.start()
+        silent = Session(server.port, None)
+        unread = []
+        for number in range(bad):
+            reset = Session(server.port, f"reset{number}").login()
+            reset.write("2 56\n3 86 100Hhalf of it")
+            cut_off(reset)
+            unread.append(Session(server.port, f"unread{number}", receive=4_096))
+            flood(unread[-1])
+            again = Session(server.port, f"flood{number}", receive=4_096)
+            flood(again)
+            cut_off(again)
+            halved = Session(server.port, f"halved{number}")
+            halved.write("".join(f"{place} 56\n" for place in range(1, 501)) + "501 5")
+            halved.socket.shutdown(socket.SHUT_WR)
+            lines = halved.rest()
+            if len(lines) != 500 or any(line.split()[0] != f"={place}" for place, line in enumerate(lines, 1)):
+                raise Wrong(f"a peer that ended what it sends has {len(lines)} replies, last {lines[-1:]!r}")
+
+        def work(number):
+            session = Session(server.port, f"good{number}").login()
+            for place in range(100):
+                start = time.monotonic()
+                body = f"{number} {place}"
+                text = session.ask(f"86 {string(body)} 0 {{ }} 0 {{ }}")
+                wanted("a text beside such peers", session.ask(f"25 {text} 0 99"), string(body))
+                if time.monotonic() - start > SOON:
+                    raise Wrong(f"two calls beside such peers take {time.monotonic() - start:.1f} s")
+            wanted("what follows the end", session.end(), [])
+
+        side_by_side(good, work)
+        slower.join()
+        wanted("the slow peer's reply", re.sub(" .*", "", slow.line() or ""), "=1")
+        grown = server.resident() - before
+        if grown > 16_384:
+            raise Wrong(f"the server has {grown} KiB more resident with such peers")
+        for peer in [*unread, slow, silent]:
+            cut_off(peer)
+        seen = Session(server.port, "looker")
+        end = time.monotonic() + SOON
+        while (left := seen.ask("83 1 1 0").split(" ", 1)[0]) != "1":
+            if time.monotonic() > end:
+                raise Wrong(f"{left} sessions are left of peers that have gone")
+            time.sleep(0.05)
+        seen.end()
+        stop(server).rest()
+        wanted("the status", server.wait(), 0)
+        return 3 * bad + bad + 2, good, grown
+    finally:
+        server.kill()
+
+
+def cut_off(session):
+    """Closes a connection by a reset."""
+    session.socket.setsockopt(socket.SOL_SOCKET, socket.SO_LINGER, struct.pack("ii", 1, 0))
+    session.close()
+
+
+def flood(session):
+    """Sends calls with long replies until the server takes no more."""
+    session.socket.settimeout(0.2)
+    calls = "1 85\n" * 10_000
+    try:
+        for _ in range(200):
+            session.write(calls)
+    except TimeoutError:
+        return
+    raise Wrong("a peer that never reads is read without an end")
+
+
+def talk(server, count):
+    """Part 6: each of so many connections does what a person does."""
+    first = Session(server.port, "first").login()
     conference = int(first.ask(f"88 {string('Open')} 0000 0 {{ }}"))
-    first.ask("55 0")
-    first.ends()
-    persons = [0] * count
-    made, joined, sent = (threading.Barrier(count, timeout=PATIENCE) for _ in range(3))
+    wanted("what follows call 55", (first.ask("55 0"), first.rest()), ("", []))
+    persons, numbers = [0] * count, [0] * count
+    made, written, ended = (threading.Barrier(count, timeout=PATIENCE) for _ in range(3))
 
-    def talk(number):
-        session = Session(port, f"user{number}")
-        person = int(session.ask(f"89 {string(f'Person {number}')} {string('secret')} 00000000 0 {{ }}"))
-        persons[number] = person
-        session.ask(f"62 {person} {string('secret')} 0")
-        session.ask("80 1 { 12 }")
+    def one(number):
+        session = Session(server.port, f"user{number}")
+        person = persons[number] = int(session.ask(f"89 {string(f'Person {number}')} {string('secret')} 00000000 0 {{ }}"))
+        session.login(person, "secret")
+        numbers[number] = int(session.ask("56"))
         session.ask(f"100 {conference} {person} 100 0 00000000")
+        session.ask("80 2 { 12 15 }")
         made.wait()
-        body = f"text of {number}"
+        body = f"text\nof {number}"
         text = int(session.ask(f"86 {string(body)} 1 {{ 0 {conference} }} 0 {{ }}"))
-        if session.ask(f"25 {text} 0 4294967295") != string(body):
-            raise Wrong("a text that is read otherwise")
+        wanted("a text", session.ask(f"25 {text} 0 4294967295"), string(body))
         stat = session.ask(f"90 {text}")
-        local = int(stat.split(f"{{ 0 {conference} 6 ")[1].split()[0])
-        session.ask(f"27 {conference} 1 {{ {local} }}")
+        found = re.fullmatch(rf"{TIME} {person} 1 {len(body)} 0 2 {{ 0 {conference} 6 (\d+) }} 0 \*", stat)
+        if not found:
+            raise Wrong(f"a text's Text-Stat is {stat!r}")
+        session.ask(f"27 {conference} 1 {{ {found[1]} }}")
+        read = session.ask(f"107 {person} {conference} 1 0")
+        if not re.search(rf" {conference} 100 1 {{ {found[1]} {found[1]} }} ", read):
+            raise Wrong(f"what is read is {read!r}, not {found[1]} alone")
         session.ask(f"92 {text} 0 {{ }} 1 {{ 3 00000000 0 {string('seen')} }}")
-        joined.wait()
+        stat = session.ask(f"90 {text}")
+        if not re.search(rf" 1 {{ 1 3 {person} {TIME} 00000000 0 4Hseen }}$", stat):
+            raise Wrong(f"with an aux-item a text's Text-Stat is {stat!r}")
+        told = [int(session.message().split(" ")[2]) for _ in range(count)]
+        if told != sorted(set(told)):
+            raise Wrong(f"the texts that are told do not rise: {told}")
+        written.wait()
         session.ask(f"53 {persons[(number + 1) % count]} {string(f'from {number}')}")
-        if not session.message().endswith(string(f"from {(number - 1) % count}")):
-            raise Wrong("another's message")
-        sent.wait()
-        session.ask("55 0")
-        session.ends()
+        before = (number - 1) % count
+        wanted("a message", session.message(), f":3 12 {person} {persons[before]} {string(f'from {before}')}")
+        ended.wait()
+        if number % 2:
+            session.ask("55 0")
+        elif number == 0:
+            strong = Session(server.port, "strong").login()
+            strong.ask("42 255")
+            for other in range(0, count, 2):
+                strong.ask(f"55 {numbers[other]}")
+            strong.end()
+        wanted("what follows the end", session.rest(), [])
 
-    side_by_side(count, talk)
-    return persons
+    side_by_side(count, one)
 
 
-def stop(server, idle):
-    """Stops the server, with so many idle connections; how long that took."""
-    others = [Session(server.port, f"idle{number}") for number in range(idle)]
-    session = administrator(server.port)
+def stop_idle(server, count):
+    """Part 7: call 44 while connections are idle; how long the server takes to end."""
+    logged_in = [Session(server.port, f"idle{number}").login() for number in range(count - 12)]
+    half = [Session(server.port, f"half{number}") for number in range(4)]
+    for session in half:
+        session.write("1 86 10Hhalf")
+    nobody = [Session(server.port, None) for _ in range(4)]
+    greeting = [Session(server.port, None) for _ in range(2)]
+    for session in greeting:
+        session.write("A10Hhalf")
+    session = Session(server.port, "stopper").login()
     session.ask("42 255")
+    time.sleep(0.2)
     start = time.monotonic()
-    session.ask("44 0")
-    for other in [*others, session]:
-        other.ends()
-    status = server.status(PATIENCE)
+    wanted("what call 44 is answered", session.try_to("44 0"), "=")
+    for other in [*logged_in, *half, *nobody, *greeting, session]:
+        wanted("what an idle connection reads", other.rest(), [])
+    status = server.wait()
     took = time.monotonic() - start
-    if status != 0:
-        raise Wrong(f"status {status} after call 44")
+    wanted("the status after call 44", status, 0)
     if took > STOP_SECONDS:
         raise Wrong(f"{took:.2f} s until the server ended")
     return took
 
 
-def write_until_killed(server, count, seconds):
-    """Part 3's texts: the number and the body of each that was answered."""
-    answered, lock = {}, threading.Lock()
+def kill(program, store, count, seconds):
+    """Part 8: signal 9 while so many connections write texts; how many were answered, and how many were made beside them."""
+    server = Server(program, store, count)
+    answered, sent = {}, set()
 
     def write(number):
-        session = administrator(server.port)
+        session = Session(server.port, f"writer{number}").login()
         for place in range(1_000_000):
-            body = f"{number} writes {place}"
+            body = f"{number} writes\n{place}"
+            sent.add(body)
             try:
-                text = int(session.ask(f"86 {string(body)} 0 {{ }} 0 {{ }}"))
+                answered[int(session.ask(f"86 {string(body)} 0 {{ }} 0 {{ }}"))] = body
             except (Wrong, OSError):
+                if not killed.is_set():
+                    raise
                 return
-            with lock:
-                answered[text] = body
 
-    killer = threading.Timer(seconds, lambda: server.process.send_signal(signal.SIGKILL))
-    killer.start()
-    side_by_side(count, write)
-    killer.join()
-    server.status(PATIENCE)
-    return answered
+    killed = threading.Event()
 
+    def end():
+        killed.set()
+        server.process.send_signal(signal.SIGKILL)
 
-def find_all(port, answered):
-    session = administrator(port)
-    for text, body in answered.items():
-        if session.ask(f"25 {text} 0 4294967295") != string(body):
-            raise Wrong(f"text {text} is not as it was answered")
-
-
-def idle_cost(server, count):
-    """The part of a processor that an idle server takes with so many idle sessions."""
-    sessions = [Session(server.port, f"idle{number}") for number in range(count)]
-    time.sleep(1)
-    before, start = server.processor_seconds(), time.monotonic()
-    time.sleep(5)
-    part = (server.processor_seconds() - before) / (time.monotonic() - start)
-    for session in sessions:
-        session.socket.close()
-    return part
-
-
-def message_times(port, count):
-    """How long so many messages to an idle session take, in seconds."""
-    times = []
-    one, other = administrator(port), administrator(port)
-    other.ask("80 1 { 12 }")
-    for number in range(count):
-        time.sleep(0.01 * (number % 7))
-        start = time.monotonic()
-        one.send(f"53 {ADMINISTRATOR} {string(str(number))}")
-        other.message()
-        times.append(time.monotonic() - start)
-    return sorted(times)
+    try:
+        looker = Session(server.port)
+        first = int(looker.ask("115"))
+        looker.end()
+        threading.Timer(seconds, end).start()
+        side_by_side(count, write)
+        wanted("the status after signal 9", server.wait(), -signal.SIGKILL)
+    finally:
+        server.kill()
+    server = Server(program, store, count)
+    try:
+        session = Session(server.port, "reader").login()
+        last = int(session.ask("115"))
+        bodies = dict(zip(range(first, last), session.ask_all([f"25 {text} 0 4294967295" for text in range(first, last)])))
+        lost = [text for text, body in answered.items() if bodies.get(text) != string(body)]
+        if lost:
+            raise Wrong(f"{len(lost)} of {len(answered)} answered texts are lost, first {min(lost)}, last {max(lost)}")
+        more = [text for text in bodies if text not in answered]
+        if len(more) > count or any(bodies[text].split("H", 1)[1] not in sent for text in more):
+            raise Wrong(f"{len(more)} texts that were not answered are there, of {count} connections")
+        session.end()
+        stop(server).rest()
+        wanted("the status", server.wait(), 0)
+    finally:
+        server.kill()
+    if len(answered) < count:
+        raise Wrong(f"only {len(answered)} texts were answered before the server was killed")
+    status, told = check_store(program, store)
+    wanted("the check of the store", (status, told.get("texts")), (0, last - 1))
+    return len(answered), len(more)
 
 
-def main():
-    program = str(pathlib.Path(sys.argv[1] if len(sys.argv) > 1 else ROOT / "crates/komd/out/komd").resolve())
-    count = int(sys.argv[2]) if len(sys.argv) > 2 else 64
-    seconds = float(sys.argv[3]) if len(sys.argv) > 3 else 2.0
-    with tempfile.TemporaryDirectory() as folder:
-        store = str(pathlib.Path(folder) / "store")
-        if subprocess.run([program, "init", store, ""], stdout=subprocess.PIPE, check=False).returncode != 0:
-            raise Wrong("the store is not made")
+def main(arguments):
+    program = program_of(arguments)
+    count = int(arguments[1]) if len(arguments) > 1 else 64
+    begun = time.monotonic()
+
+    def tell(line):
+        print(f"{time.monotonic() - begun:5.1f} s: {line}", flush=True)
+
+    limit_seconds(LIMIT_SECONDS)
+    # What is killed lies on a disk, the rest in memory, if the system has such a folder: there a flush waits for nothing.
+    with tempfile.TemporaryDirectory() as disk, tempfile.TemporaryDirectory(dir=folder_in_memory()) as memory:
+        folder = pathlib.Path(memory)
+        words(program, folder)
+        addresses = ports(program, folder)
+        tell(f"words are refused, a port is taken, a store is in use, sessions come from {' and '.join(addresses)}")
+        beside(program, folder)
+        tell("two workers serve side by side")
+        idle(program, folder)
+        tell("an idle session is sent its message")
+        waiting, read, sent = overrun(program, folder)
+        tell(f"with {waiting} messages a session that reads late goes on, and after {read} of {sent} an overrun one ended")
+        bad, good, grown = peers(program, folder)
+        tell(f"{bad} bad peers beside {good} sessions end alone, and the server has {grown} KiB more resident")
+        store = make_store(program, folder / "store")
         server = Server(program, store, count)
         try:
-            talk_all(server.port, count)
-            print(f"{count} connections talked side by side")
-            print(f"the server ended {stop(server, count // 2):.2f} s after call 44")
-            server = Server(program, store, count)
-            answered = write_until_killed(server, count, seconds)
-            server = Server(program, store, count)
-            find_all(server.port, answered)
-            print(f"{len(answered)} texts were answered before the server was killed, and all are there")
-            print(f"an idle server takes {idle_cost(server, count - 1):.2%} of a processor")
-            times = message_times(server.port, 1000)
-            print(f"messages to an idle session: median {statistics.median(times):.3f} s, 99 of 100 {times[len(times) * 99 // 100]:.3f} s")
-            stop(server, 0)
+            talk(server, count)
+            tell(f"{count} connections talked side by side")
+            took = stop_idle(server, count)
+            tell(f"the server ended {took:.2f} s after call 44, with {count} connections")
         finally:
-            if server.process.poll() is None:
-                server.process.kill()
+            server.kill()
+        store = make_store(program, pathlib.Path(disk) / "store")
+        answered, more = kill(program, store, count, 2.0)
+        tell(f"{answered} texts were answered before signal 9 and are there, and {more} that were not")
+    return 0
 
 
 if __name__ == "__main__":
     try:
-        main()
+        sys.exit(main(sys.argv[1:]))
     except Wrong as fault:
         print(fault)
         sys.exit(1)
