@@ -458,6 +458,6 @@ def main(arguments):
 if __name__ == "__main__":
     try:
         sys.exit(main(sys.argv[1:]))
-    except Wrong as fault:
-        print(fault)
+    except (Wrong, OSError) as fault:
+        print(fault if isinstance(fault, Wrong) else repr(fault))
         sys.exit(1)

@@ -223,9 +223,9 @@ class Session:
         self.socket.close()
 
 
-def stop(server):
+def stop(server, password=""):
     """Stops a server by call 44, and returns its session."""
-    session = Session(server.port, "stopper").login()
+    session = Session(server.port, "stopper").login(ADMINISTRATOR, password)
     session.ask("42 255")
     session.ask("44 0")
     return session
