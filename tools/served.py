@@ -1,4 +1,5 @@
 """What the scripts that drive `komd serve` over loopback have in common: a store that is served, and sessions at its port."""
+import errno
 import os
 import pathlib
 import random
@@ -62,12 +63,26 @@ def check_store(program, path):
     return done.returncode, {words[0]: int(words[1]) for words in lines}
 
 
+def is_free(port):
+    """Whether nobody listens at a port of any address."""
+    for family, address in ((socket.AF_INET, "0.0.0.0"), (socket.AF_INET6, "::")):
+        try:
+            with socket.socket(family, socket.SOCK_STREAM) as probe:
+                probe.bind((address, port))
+        except OSError as error:
+            if error.errno == errno.EADDRINUSE:
+                return False
+    return True
+
+
 class Server:
     """A store that is served by so many workers."""
 
     def __init__(self, program, store, workers):
         # Below the ports that systems give to connections.
         for port in random.sample(range(20_000, 30_000), 5):
+            if not is_free(port):
+                continue
             self.port = port
             self.process = subprocess.Popen(
                 [program, "serve", store, str(port), str(workers)], stdout=subprocess.PIPE, stderr=subprocess.STDOUT
