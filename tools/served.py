@@ -76,16 +76,19 @@ def is_free(port):
 
 
 class Server:
-    """A store that is served by so many workers."""
+    """A store that is served by so many workers, with more in the environment than this process has, if it is given."""
 
-    def __init__(self, program, store, workers):
+    def __init__(self, program, store, workers, environment=()):
         # Below the ports that systems give to connections.
         for port in random.sample(range(20_000, 30_000), 5):
             if not is_free(port):
                 continue
             self.port = port
             self.process = subprocess.Popen(
-                [program, "serve", store, str(port), str(workers)], stdout=subprocess.PIPE, stderr=subprocess.STDOUT
+                [program, "serve", store, str(port), str(workers)],
+                stdout=subprocess.PIPE,
+                stderr=subprocess.STDOUT,
+                env={**os.environ, **dict(environment)},
             )
             if self.is_reached():
                 return
