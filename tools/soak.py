@@ -17,8 +17,8 @@ fault; a silent one half a minute after it came; one that never reads a minute a
 the others not before they want to.
 
 It prints a line for each start with what the server had resident before, after some seconds in which no hostile stream began, and counts
-at the end. It ends with 1 if something was otherwise or if the last resident memory is above the second one by a half and 8 MiB, else
-with 0; its server is ended either way. SEED
+at the end. It ends with 1 if something was otherwise, or if what is resident has grown by more than 200 bytes for each change and 8 MiB
+since the second start, as a row that goes leaves its slot empty; else with 0. Its server is ended either way. SEED
 (1) chooses the calls; how threads take turns chooses too. The store lies in FOLDER, or in a folder of its own for a while. PROGRAM is
 crates/komd/out/komd, unless it is named.
 """
@@ -47,6 +47,8 @@ SILENCE_SECONDS, STALL_SECONDS = 30, 60
 LATE_SECONDS = 15
 # For so long no hostile stream begins before a kill, since a long line takes memory while it is there.
 CALM_SECONDS = 5
+# By how much the resident memory may grow: in all, and in bytes for each change.
+MOST_GROWN_KIB, MOST_GROWN = 8_192, 200
 # So that the C library keeps no large blocks for later, in each thread by itself: what it keeps is not what the program has.
 MEMORY = {"MALLOC_MMAP_THRESHOLD_": "131072", "MALLOC_TRIM_THRESHOLD_": "131072"}
 # Numbers up to this one belong to nobody, so that lines of calls that name small numbers find something.
@@ -393,8 +395,8 @@ def soak_for(soak, seconds):
             (calm if soak.is_calm else told).append(soak.server.resident())
         if soak.faults:
             break
-        residents.append(min(calm))
-        print(f"{residents[-1]} KiB are resident without hostile clients, at most {max(told)} with them, after {soak.counts['calls']} calls "
+        residents.append((min(calm), soak.counts["changes"]))
+        print(f"{residents[-1][0]} KiB are resident without hostile clients, at most {max(told)} with them, after {soak.counts['calls']} calls "
               f"and {soak.counts['changes']} changes", flush=True)
         soak.is_calm = False
         if not last:
@@ -472,9 +474,9 @@ def main(words):
                 soak.server.kill()
     for name, count in sorted(soak.counts.items()):
         print(f"{name}: {count}")
-    is_level = len(residents) > 1 and residents[-1] <= residents[1] * 3 // 2 + 8_192
-    print(f"{len(soak.faults)} faults; resident memory is {'level' if is_level else 'not level'}")
-    return 0 if is_level and not soak.faults else 1
+    grown, changes = (last - first for first, last in zip(residents[min(1, len(residents) - 1)], residents[-1])) if residents else (0, 0)
+    print(f"{len(soak.faults)} faults; resident memory has grown by {grown} KiB with {changes} changes")
+    return 1 if soak.faults or grown > MOST_GROWN_KIB + changes * MOST_GROWN // 1_024 else 0
 
 
 if __name__ == "__main__":
