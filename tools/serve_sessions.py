@@ -8,16 +8,18 @@ In a folder of its own it makes stores, serves them, and looks at
 4. with three workers, a session that takes nothing while texts are written to a conference of its person: with 4,000 messages
    waiting it goes on, with 4,161 more than its connection takes it has ended;
 5. peers that reset, end what they send, send a byte a second, send nothing, or never read, beside sessions that go on meanwhile;
-6. 64 connections, or as many as are named, a worker for each: each makes a person, logs in, joins a conference, writes a text and is
-   told of those of all others, reads, marks it as read, adds an aux-item, sends a message, and disconnects itself, or is disconnected;
+6. 64 connections, or as many as are named, a worker for each: each makes a person, logs in, joins a conference, writes a text and
+   is told of those of all others, reads, marks it as read, adds an aux-item, sends a message, and disconnects itself, or is
+   disconnected;
 7. call 44 while connections are idle: `serve` ends with status 0 within a second;
 8. signal 9 while all connections write texts: each that was answered is there after the next start.
 
-It prints a line for each part, takes half a minute, and ends with 1 at the first thing that is otherwise, or after a minute, else with
-0. It ends each server that it starts. PROGRAM is crates/komd/out/komd, unless it is named.
+It prints a line for each part, takes half a minute, and ends with 1 at the first thing that is otherwise, or after a minute, else
+with 0. It ends each server that it starts. PROGRAM is crates/komd/out/komd, unless it is named.
 """
 import pathlib
 import re
+import select
 import signal
 import socket
 import struct
@@ -168,13 +170,15 @@ def overrun(program, folder):
             silent.ask("80 2 { 12 15 }")
             number = silent.ask("56")
             writer.ask_all([f"53 7 {string(f'{place:05} ' + 'x' * (LONGEST_MESSAGE - 6))}" for place in range(fill)])
-            # (its worker waits for the connection, which is full, with the items of one drain)
+            # (its worker has begun to send; the texts do not reach it, since the connection is full before all messages are sent)
+            if not select.select([silent.socket], [], [], PATIENCE)[0]:
+                raise Wrong("a session is sent none of its messages")
             first = int(writer.ask("115"))
             told = writer.ask_all(["86 1Ha 1 { 0 6 } 0 { }"] * texts)
             wanted("the numbers of the texts", told, [str(first + place) for place in range(texts)])
             read = sum(1 for _ in until_end_or(silent, fill + texts, first, fill))
             if texts > MOST_WAITING:
-                if not MOST_DRAINED <= read <= fill:
+                if not 1 <= read <= fill:
                     raise Wrong(f"a session with {texts} texts more than it takes was sent {read} messages of {fill + texts}")
                 ended = read
                 wanted("call 84 of an overrun session that has ended", third.try_to(f"84 {number}"), f"%42 {number}")
