@@ -1,12 +1,13 @@
-// Answers each line of its clients at a port of loopback with a fixed reply, by epoll in one thread, as a measure of what sockets allow:
+// Answers each line of its clients at a port of loopback with a fixed reply, by epoll in one thread, as a measure of what sockets
+// allow:
 //
 //     fixed_replies PORT SECONDS STORE NUMBER REPLY [NUMBER REPLY ..]
 //
-// The greeting is answered LysKOM, and a line = with its reference and then the reply of its call's number; a line of another number has
-// an empty reply. What was read at once is answered at once. Where STORE is no empty word it is a file that is made: the lines of calls
-// whose replies are given with a + before them are stored before they are answered, those that were read at once together: their bytes
-// are written at its end and synced, and then a byte before them, which is synced too. No string of a line may have a line feed. It ends
-// after so many seconds.
+// The greeting is answered LysKOM, and a line = with its reference and then the reply of its call's number; a line of another
+// number has an empty reply. What was read at once is answered at once. Where STORE is no empty word it is a file that is made:
+// the lines of calls whose replies are given with a + before them are stored before they are answered, those that were read at
+// once together: their bytes are written at its end and synced, and then a byte before them, which is synced too. No string of a
+// line may have a line feed. It ends after so many seconds.
 #define _GNU_SOURCE
 #include <arpa/inet.h>
 #include <errno.h>
@@ -72,8 +73,8 @@ static int answer(struct client *c, const char *line, size_t length) {
 }
 
 static void keep(const char *bytes, size_t length) {
-    if (pwrite(store, bytes, length, store_end + 1) != (ssize_t)length || fdatasync(store) != 0 || pwrite(store, "\1", 1, store_end) != 1
-        || fdatasync(store) != 0)
+    if (pwrite(store, bytes, length, store_end + 1) != (ssize_t)length || fdatasync(store) != 0
+        || pwrite(store, "\1", 1, store_end) != 1 || fdatasync(store) != 0)
         fail("the store");
     store_end += (off_t)length + 1;
 }

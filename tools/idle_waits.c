@@ -2,8 +2,8 @@
 //
 //     idle_waits THREADS MILLISECONDS SECONDS
 //
-// Each thread has a socket on which nothing comes: it reads, polls for so many milliseconds, and reads again. After a second it measures
-// its processor time for so many seconds.
+// Each thread has a socket on which nothing comes: it reads, polls for so many milliseconds, and reads again. After a second it
+// measures its processor time for so many seconds.
 #define _GNU_SOURCE
 #include <pthread.h>
 #include <stdio.h>
@@ -19,7 +19,8 @@ static void *wait_on(void *number) {
     int pair[2], poll = epoll_create1(0);
     char input[64];
     struct epoll_event event = {.events = EPOLLIN | EPOLLOUT | EPOLLET};
-    if (poll < 0 || socketpair(AF_UNIX, SOCK_STREAM | SOCK_NONBLOCK, 0, pair) != 0 || epoll_ctl(poll, EPOLL_CTL_ADD, pair[0], &event) != 0)
+    if (poll < 0 || socketpair(AF_UNIX, SOCK_STREAM | SOCK_NONBLOCK, 0, pair) != 0
+        || epoll_ctl(poll, EPOLL_CTL_ADD, pair[0], &event) != 0)
         exit(1);
     // So that threads wake at all moments of the pause.
     usleep((useconds_t)(*(int *)number * 7919 % pause_milliseconds) * 1000);

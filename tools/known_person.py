@@ -1,8 +1,9 @@
 """What is known of a person who makes random calls on what is its own: the calls with what each changes, and what the server is to
 tell of it all. soak.py uses it.
 
-A change is a line and what becomes of what is known once the line is answered. All that a person owns is read-protected, and what others
-do is kept from it, so what the server tells is known exactly, but for moments and for counts of logins and of fetched texts."""
+A change is a line and what becomes of what is known once the line is answered. All that a person owns is read-protected, and what
+others do is kept from it, so what the server tells is known exactly, but for moments and for counts of logins and of fetched
+texts."""
 import re
 
 from served import Wrong, string
@@ -104,13 +105,14 @@ class Known:
             len(self.marks), len(self.members))}
         told["created"] = dict(self.created)
         told["marks"] = dict(self.marks)
-        told["members"] = [(conf, priority, ranges_of(self.read[conf]) if conf in self.read else None) for conf, priority in self.members]
+        told["members"] = [(conf, priority, ranges_of(self.read[conf]) if conf in self.read else None)
+                           for conf, priority in self.members]
         for number, conf in self.conferences.items():
             local = self.map_of(number)
             first = min(local, default=conf["next"])
             told["conference", number] = (
-                conf["name"], conf["kind"], self.person, conf["presentation"], self.person, conf["motd"], conf["nice"], conf["keep"],
-                sum(1 for member, _ in self.members if member == number), first, conf["next"] - first, conf["expire"],
+                conf["name"], conf["kind"], self.person, conf["presentation"], self.person, conf["motd"], conf["nice"],
+                conf["keep"], sum(1 for member, _ in self.members if member == number), first, conf["next"] - first, conf["expire"],
                 [(aux, tag, self.person, content) for aux, (tag, content) in conf["aux"].items()])
             told["map", number] = local
         for number, text in self.texts.items():
@@ -133,7 +135,8 @@ def plain_copy(value):
 
 def conference(name, kind):
     """A conference that was made now."""
-    return {"name": name, "kind": kind, "presentation": 0, "motd": 0, "nice": 77, "keep": 77, "expire": 0, "next": 1, "aux": {}, "drawn": 1}
+    return {"name": name, "kind": kind, "presentation": 0, "motd": 0, "nice": 77, "keep": 77, "expire": 0, "next": 1,
+            "aux": {}, "drawn": 1}
 
 
 def ranges_of(numbers):

@@ -2,11 +2,12 @@
 //
 //     load_generator PORT THREADS CONNECTIONS IN-FLIGHT SECONDS WEIGHT CALL [WEIGHT CALL ..]
 //
-// Each connection greets, logs in as person 5 with the empty password, and keeps so many calls under way, chosen by their weights. In a
-// call ~N~ stands for a random number from 1 to N. The connections are shared out among the threads, each of which waits by epoll.
-// After a fifth of the seconds in which nothing is counted it counts replies for the seconds, and prints one line: the calls a second,
-// the median and the 99th of 100 of the times from a call to its reply in microseconds, and which part of the threads' time was
-// processor time. A reply that is a refusal, or a connection that ends, ends it with status 1. No string in a reply may have a line feed.
+// Each connection greets, logs in as person 5 with the empty password, and keeps so many calls under way, chosen by their
+// weights. In a call ~N~ stands for a random number from 1 to N. The connections are shared out among the threads, each of which
+// waits by epoll. After a fifth of the seconds in which nothing is counted it counts replies for the seconds, and prints one
+// line: the calls a second, the median and the 99th of 100 of the times from a call to its reply in microseconds, and which part
+// of the threads' time was processor time. A reply that is a refusal, or a connection that ends, ends it with status 1. No string
+// in a reply may have a line feed.
 #define _GNU_SOURCE
 #include <arpa/inet.h>
 #include <errno.h>
@@ -242,8 +243,8 @@ int main(int count, char **words) {
     connections = atoi(words[3]);
     in_flight = atoi(words[4]);
     seconds = atof(words[5]);
-    if (port < 1 || threads < 1 || threads > 64 || connections < threads || in_flight < 1 || in_flight > MOST_IN_FLIGHT || seconds <= 0
-        || seconds > 60)
+    if (port < 1 || threads < 1 || threads > 64 || connections < threads || in_flight < 1 || in_flight > MOST_IN_FLIGHT
+        || seconds <= 0 || seconds > 60)
         fail("a number is out of range");
     for (int i = 6; i < count; i += 2) {
         calls[call_count].weight = atoi(words[i]);

@@ -2,16 +2,16 @@
 """Measures the built program `komd` with its word `serve` over loopback: measure_serve.py [PROGRAM [PART..]]
 
 Each part makes a store in memory and has it served by 64 workers:
-- memory: what the server has resident after ten thousand calls of four connections that send what they can, and after ten million;
-  of a hundred calls three are stored;
-- idle: which part of a core the server takes in 20 seconds, by clock ticks, while 64 connections at which somebody is logged in are
-  idle, and what it takes without them; and what C (idle_waits.c) takes meanwhile of which 64 threads wait in the same way;
+- memory: what the server has resident after ten thousand calls of four connections that send what they can, and after ten
+  million; of a hundred calls eighteen are stored;
+- idle: which part of a core the server takes in 20 seconds, by clock ticks, while 64 connections at which somebody is logged in
+  are idle, and what it takes without them; and what C (idle_waits.c) takes meanwhile of which 64 threads wait in the same way;
 - messages: how long 1,000 messages take to a session that is idle, of 64; the median, and what 99 of 100 do not exceed.
 
-It prints a line for each, with the machine's load before and after: another load than its own makes the figures greater. All parts
-are measured unless some are named. Memory takes one to five minutes, the others three together. It ends with 1 where the
-memory has grown by more than 256 KiB, the idle server takes more than 1 % of a core, or the median is above 60 ms or the 99th of 100
-above 100 ms, else with 0. It ends each server that it starts, and needs a C compiler.
+It prints a line for each, with the machine's load before and after: another load than its own makes the figures greater. All
+parts are measured unless some are named. Memory takes one to five minutes, the others three together. It ends with 1 where the
+memory has grown by more than 256 KiB, the idle server takes more than 1 % of a core, or the median is above 60 ms or the 99th of
+100 above 100 ms, else with 0. It ends each server that it starts, and needs a C compiler.
 """
 import os
 import pathlib
@@ -35,10 +35,11 @@ MOST_IDLE = 0.01
 MESSAGES = 1_000
 MOST_MEDIAN, MOST_99 = 0.060, 0.100
 LIMIT_SECONDS = 1_800
-# A hundred calls, of which three are stored; {0} is the number of the connection. None makes a row: a row that goes leaves its slot.
+# A hundred calls, of which three are stored beside those that fetch a text; {0} is the number of the connection. None makes a row,
+# since a row that goes leaves its slot empty.
 HUNDRED = (
-    ["56"] * 43 + ["35"] * 10 + ["25 1 0 99"] * 15 + ["90 1"] * 10 + ["103 6 1 10"] * 5 + ["76 2Hne 1 1"] * 5 + ["91 6", "49 5", "83 1 1 0"]
-    + ["53 5 2Hyo", "82", "25 99 0 1", "200"] + ["27 6 1 {{ {0} }}", "22 6 {0}", "57 5 {0}", "81", "94"]
+    ["56"] * 43 + ["35"] * 10 + ["25 1 0 99"] * 15 + ["90 1"] * 10 + ["103 6 1 10"] * 5 + ["76 2Hne 1 1"] * 5
+    + ["91 6", "49 5", "83 1 1 0", "53 5 2Hyo", "82", "25 99 0 1", "200", "27 6 1 {{ {0} }}", "22 6 {0}", "57 5 {0}", "81", "94"]
 )
 
 
@@ -154,7 +155,8 @@ def messages(program, folder):
             sender.reply(reference)
         times.sort()
         median, late = statistics.median(times), times[MESSAGES * 99 // 100 - 1]
-        print(f"of {MESSAGES} messages to an idle session the median takes {median * 1e3:.0f} ms, 99 of 100 at most {late * 1e3:.0f} ms")
+        print(f"of {MESSAGES} messages to an idle session the median takes {median * 1e3:.0f} ms, 99 of 100 at most "
+              f"{late * 1e3:.0f} ms")
         for session in [*others, sender, listener]:
             session.close()
         end(server)

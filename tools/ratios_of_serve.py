@@ -2,20 +2,20 @@
 """Compares what the built program `komd` answers in a second, served by 64 workers, with a small C server at the same load:
 ratios_of_serve.py [PROGRAM [SECONDS [FOLDER [NAME..]]]]
 
-The C server (fixed_replies.c) answers each line with the reply that `komd` gave to such a line once. The load (load_generator.c) comes
-over loopback from so many connections with so many calls under way at each: 1 and 1, 16 and 1, 64 and 16. The calls: who-am-i,
-get-time, get-text, get-text-stat, local-to-global of 100 texts, create-text, and nine get-text to one create-text; of 1,000 texts of 500
-bytes. Both servers take turns, three times for each row, SECONDS (1) each time; the medians of the three are compared. Calls that `komd`
-stores before it answers them, get-text among them since it counts what was fetched, are compared once more with the C server where
-that makes the same two writes and two syncs, in the same folder.
+The C server (fixed_replies.c) answers each line with the reply that `komd` gave to such a line once. The load (load_generator.c)
+comes over loopback from so many connections with so many calls under way at each: 1 and 1, 16 and 1, 64 and 16. The calls:
+who-am-i, get-time, get-text, get-text-stat, local-to-global of 100 texts, create-text, and nine get-text to one create-text; of
+1,000 texts of 500 bytes. Both servers take turns, three times for each row, SECONDS (1) each time; the medians of the three are
+compared. Calls that `komd` stores before it answers them, get-text among them since it counts what was fetched, are compared once
+more with the C server where that makes the same two writes and two syncs, in the same folder.
 
-It prints a row for each: the calls a second by the C server's, the median and the 99th of 100 of the times by the C server's, and which
-part of a core each of the generator's threads took beside `komd` and beside the C server: near 1 it is the limit, and the ratio is nearer
-to 1 than it should be. Last it compares `komd` at 64 and 16 with itself at 1 and 1. It takes six minutes, and says nothing unless the
-machine does nothing else. Stores lie in FOLDER, or in a folder of its own for a while; a folder
-in memory syncs nothing. With names of calls only these are compared. It needs a C compiler. The servers end with it. PROGRAM is
-crates/komd/out/komd, unless it is named; with several programs, a comma between two, each has its rows, of the same minutes, so that one
-with another constant can be chosen.
+It prints a row for each: the calls a second by the C server's, the median and the 99th of 100 of the times by the C server's, and
+which part of a core each of the generator's threads took beside `komd` and beside the C server: near 1 it is the limit, and the
+ratio is nearer to 1 than it should be. Last it compares `komd` at 64 and 16 with itself at 1 and 1. It takes six minutes, and
+says nothing unless the machine does nothing else. Stores lie in FOLDER, or in a folder of its own for a while; a folder in memory
+syncs nothing. With names of calls only these are compared. It needs a C compiler. The servers end with it. PROGRAM is
+crates/komd/out/komd, unless it is named; with several programs, a comma between two, each has its rows, of the same minutes, so
+that one with another constant can be chosen.
 """
 import pathlib
 import statistics
@@ -116,8 +116,8 @@ def row(name, shape, against, ours, theirs):
     calls, median, late, busy = ours
     if calls == 0 or 0 in theirs[:3]:
         raise Wrong(f"{name}: nothing is answered")
-    print(f"| {name} | {shape[0]} x {shape[1]} | {against} | {calls / theirs[0]:.2f} | {median / theirs[1]:.1f} | {late / theirs[2]:.1f} "
-          f"| {busy:.2f}, {theirs[3]:.2f} |", flush=True)
+    print(f"| {name} | {shape[0]} x {shape[1]} | {against} | {calls / theirs[0]:.2f} | {median / theirs[1]:.1f} "
+          f"| {late / theirs[2]:.1f} | {busy:.2f}, {theirs[3]:.2f} |", flush=True)
 
 
 def main(words):
@@ -135,7 +135,7 @@ def main(words):
             port = servers[-1].port
             others.append(Fixed(fixed, port + 1, replies))
             others.append(Fixed(fixed, port + 2, replies, str(folder / "other")))
-            print("| calls | connections x calls under way | against C that | calls a second | median | 99 of 100 | generator busy |")
+            print("| calls | connections x under way | against C that | calls a second | median | 99 of 100 | generator busy |")
             print("|---|---|---|---|---|---|---|")
             rises = compare_all(generator, servers, others, seconds, names)
             print(f"calls a second at {SHAPES[-1][0]} x {SHAPES[-1][1]} by those at 1 x 1: {', '.join(rises)}")
@@ -156,13 +156,14 @@ def compare_all(generator, servers, others, seconds, names):
         calls, is_stored = LOADS[load]
         begun = []
         for shape in SHAPES:
-            *ours, answers, stores = compare(generator, [*servers, *others[: 1 + is_stored]], shape, seconds, calls) + [None] * (not is_stored)
+            told = compare(generator, [*servers, *others[: 1 + is_stored]], shape, seconds, calls)
+            ours, (answers, *stores) = told[: len(servers)], told[len(servers) :]
             begun = begun or ours
             called = [load if len(servers) == 1 else f"{load}, {pathlib.Path(server.process.args[0]).name}" for server in servers]
             for one, told in zip(called, ours):
                 row(one, shape, "answers", told, answers)
                 if is_stored:
-                    row(one, shape, "stores and answers", told, stores)
+                    row(one, shape, "stores and answers", told, stores[0])
         rises += [f"{one}: {last[0] / first[0]:.2f}" for one, first, last in zip(called, begun, ours)]
     return rises
 

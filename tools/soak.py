@@ -8,19 +8,19 @@ Beside two connections of its own it has
 - 4 slow clients, which send a byte at a time;
 - 6 dead ones: two send nothing, two never read, two leave a line half sent.
 
-After each tenth of the time (600 seconds, unless SECONDS are named) the server is killed by signal 9 and started again, but for the
-last two tenths, after which it is stopped by call 44 while a client is there that does not read, which takes a minute more. At each
-start, and after the last one, each person compares all that the server tells of what it owns (texts with their links, recipients and
-aux-items, conferences, memberships with what was read, marks, mappings) with what it was answered: a call that was under way may be
-made or not, and nothing else may differ. Each session has to end as it should: a hostile one with what it sent, or with the line of a
-fault; a silent one half a minute after it came; one that never reads a minute after its connection was full, if it is given the time;
-the others not before they want to.
+After each tenth of the time (600 seconds, unless SECONDS are named) the server is killed by signal 9 and started again, but for
+the last two tenths, after which it is stopped by call 44 while a client is there that does not read, which takes a minute more.
+At each start, and after the last one, each person compares all that the server tells of what it owns (texts with their links,
+recipients and aux-items, conferences, memberships with what was read, marks, mappings) with what it was answered: a call that was
+under way may be made or not, and nothing else may differ. Each session has to end as it should: a hostile one with what it sent,
+or with the line of a fault; a silent one half a minute after it came; one that never reads a minute after its connection was
+full, if it is given the time; the others not before they want to.
 
-It prints a line for each start with what the server had resident before, after some seconds in which no hostile stream began, and counts
-at the end. It ends with 1 if something was otherwise, or if what is resident has grown by more than 200 bytes for each change and 8 MiB
-since the second start, as a row that goes leaves its slot empty; else with 0. Its server is ended either way. SEED
-(1) chooses the calls; how threads take turns chooses too. The store lies in FOLDER, or in a folder of its own for a while. PROGRAM is
-crates/komd/out/komd, unless it is named.
+It prints a line for each start with what the server had resident before, after some seconds in which no hostile stream began, and
+counts at the end. It ends with 1 if something was otherwise, or if what is resident has grown by more than 200 bytes for each
+change and 8 MiB since the second start, as a row that goes leaves its slot empty; else with 0. Its server is ended either way.
+SEED (1) chooses the calls; how threads take turns chooses too. The store lies in FOLDER, or in a folder of its own for a while.
+PROGRAM is crates/komd/out/komd, unless it is named.
 """
 import collections
 import pathlib
@@ -144,7 +144,8 @@ class Person:
                 new = [key[1] for key in told if key not in before and key[0] in ("text", "conference")]
                 pending(after, str(new[0]) if new else None)
             if told != after.expected():
-                raise Wrong(f"{known.name} finds what was not answered: {difference(told, before)}; a change under way: {pending is not None}")
+                was = "with" if pending is not None else "without"
+                raise Wrong(f"{known.name} finds, {was} a change under way, what was not answered: {difference(told, before)}")
             self.known = after
             self.soak.counts["changes under way that were made"] += 1
         elif pending is not None:
@@ -396,8 +397,8 @@ def soak_for(soak, seconds):
         if soak.faults:
             break
         residents.append((min(calm), soak.counts["changes"]))
-        print(f"{residents[-1][0]} KiB are resident without hostile clients, at most {max(told)} with them, after {soak.counts['calls']} calls "
-              f"and {soak.counts['changes']} changes", flush=True)
+        print(f"{residents[-1][0]} KiB are resident without hostile clients, at most {max(told)} with them, after "
+              f"{soak.counts['calls']} calls and {soak.counts['changes']} changes", flush=True)
         soak.is_calm = False
         if not last:
             soak.kill()
@@ -474,7 +475,8 @@ def main(words):
                 soak.server.kill()
     for name, count in sorted(soak.counts.items()):
         print(f"{name}: {count}")
-    grown, changes = (last - first for first, last in zip(residents[min(1, len(residents) - 1)], residents[-1])) if residents else (0, 0)
+    second, last = residents[min(1, len(residents) - 1)] if residents else (0, 0), residents[-1] if residents else (0, 0)
+    grown, changes = last[0] - second[0], last[1] - second[1]
     print(f"{len(soak.faults)} faults; resident memory has grown by {grown} KiB with {changes} changes")
     return 1 if soak.faults or grown > MOST_GROWN_KIB + changes * MOST_GROWN // 1_024 else 0
 
