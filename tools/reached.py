@@ -3,7 +3,8 @@
 
 Such a function is public or a method of a trait, of a crate that neither measures nor holds tests alone, and its result may be an
 error that says that memory ran out. Each must be reached by a stream of tests/streams, all of which tools/streams.py compares and of
-which none is answered that memory ran out, or stand in tools/reached_by_tests.txt beside the test that calls it. It prints a line
+which none is answered that memory ran out, or by a run like those that tools/stores.py and tools/runs_of_komd.sh compare (a store is
+made, served and checked, a server is loaded), or stand in tools/reached_by_tests.txt beside the test that calls it. It prints a line
 for each that does neither, for each line of that file whose function or test there is not, and a count, and ends with 1 if it
 printed any line but the count, else with 0.
 
@@ -284,14 +285,14 @@ def running(room):
     return None
 
 
-def trace(program, places, streams):
-    """In gdb: runs streams until each name was reached. Prints the names that were, as one line of JSON."""
+def trace(program, places, runs):
+    """In gdb: makes runs, each with words and a file for its input, until each name was reached. Prints the names that were, as one line of JSON."""
     for setting in SETTINGS:
         gdb.execute(f"set {setting}", to_string=True)
     gdb.execute(f"file {program}", to_string=True)
     left, reached, base, breakpoints = dict(places), set(), None, {}
-    for stream in streams:
-        gdb.execute(f"starti once < '{stream}' > /dev/null 2> /dev/null", to_string=True)
+    for said, stream in runs:
+        gdb.execute(f"starti {said} < '{stream}' > /dev/null 2> /dev/null", to_string=True)
         told = gdb.execute("info proc mappings", to_string=True)
         now = int(re.search(r"0x([0-9a-f]+)\s[^\n]*" + re.escape(os.path.basename(program)), told)[1], 16)
         if now != base:
@@ -318,11 +319,14 @@ def trace(program, places, streams):
     print("reached " + json.dumps(sorted(reached)), flush=True)
 
 
-def reached_in(program, names):
-    """Which of these names the streams reach, the streams with most to do first."""
+def reached_in(program, names, room):
+    """Which of these names the streams and the other runs reach, the streams with most to do first."""
     streams = sorted(STREAMS.glob("*/*.in"), key=lambda stream: -stream.stat().st_size)
     places = addresses(program, names)
-    given = json.dumps([str(program), {str(place): name for place, name in places.items()}, [str(s) for s in streams]])
+    store = f"'{room}/store'"
+    runs = [("once", str(stream)) for stream in streams]
+    runs += [(f"init {store} ''", os.devnull), (f"once {store}", str(streams[0])), (f"check {store}", os.devnull), ("load 8", os.devnull)]
+    given = json.dumps([str(program), {str(place): name for place, name in places.items()}, runs])
     with tempfile.NamedTemporaryFile("w", suffix=".json") as file:
         file.write(given)
         file.flush()
@@ -358,11 +362,11 @@ def main(words):
             return 1
         if words[:1] == ["--keep"]:
             shutil.copy(program, words[1])
-        reached = reached_in(program, needed)
-    faults += [f"{name}: no stream reaches it, and {LIST.name} names no test" for name in sorted(needed - reached)]
+        reached = reached_in(program, needed, room)
+    faults += [f"{name}: no stream or run reaches it, and {LIST.name} names no test" for name in sorted(needed - reached)]
     for fault in faults:
         print(fault)
-    print(f"{len(names)} functions: {len(reached)} are reached by streams, {len(by_tests)} are called by tests")
+    print(f"{len(names)} functions: {len(reached)} are reached by streams and runs, {len(by_tests)} are called by tests")
     return 1 if faults else 0
 
 

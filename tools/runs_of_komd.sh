@@ -37,9 +37,19 @@ expect 'no word' 2 "$usage" "$komd"
 expect 'an unknown word' 2 "$usage" "$komd" twice
 expect 'a word too many' 2 "$usage" "$komd" once more words
 expect 'an empty word' 2 "$usage" "$komd" ''
-expect 'a command that is not built yet' 2 "$usage" "$komd" serve 127.0.0.1:4894 store
+expect 'a place that is no port' 2 "$usage" "$komd" serve store 127.0.0.1:4894 1
 expect 'a word that is no text' 2 "$usage" "$komd" $'once\xff'
 expect 'a last word that is no text' 2 "$usage" "$komd" once $'\xff'
+
+# A server is loaded with calls. The 2,000th one that makes the person a member and each later one is refused, and so is the call
+# after it, about what that member has read.
+: >"$work/in"
+expect 'no call' 0 $'calls 0\nok 0\nrefused 0\nconferences 5\ntexts 0' "$komd" load 0
+expect 'eight calls' 0 $'calls 8\nok 8\nrefused 0\nconferences 7\ntexts 2' "$komd" load 8
+expect 'the most calls' 0 $'calls 100000\nok 53998\nrefused 46002\nconferences 25005\ntexts 25000' "$komd" load 100000
+expect 'a call too many' 2 "$usage" "$komd" load 100001
+expect 'calls that are no number' 2 "$usage" "$komd" load 8x
+expect 'calls without a number' 2 "$usage" "$komd" load ''
 
 # 65,535 is the last number that a conference gets
 {

@@ -16,6 +16,3 @@ pub use rows::worked_runs;
 pub use runs::Run;
 pub use summaries::Summary;
 pub use telling::tell_load;
-
-#[cfg(test)]
-mod tests;
