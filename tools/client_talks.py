@@ -19,7 +19,7 @@ import tempfile
 import threading
 import time
 
-from serve_sessions import ROOT, Server, Session, Wrong
+from served import ROOT, Server, Session, Wrong
 
 PATIENCE = 30
 LONG = b"a" * 65000
@@ -134,8 +134,8 @@ def ends(komd, komc):
             administrator = Session(server.port, "administrator")
             for call in ["62 5 6Hsecret 0", "42 255", "44 0"]:
                 administrator.ask(call)
-            administrator.ends()
-            want("the server", server.status(PATIENCE), 0)
+            administrator.rest()
+            want("the server", server.wait(PATIENCE), 0)
             for talk in talks:
                 want("a key after call 44", talk.ends(b"list\n"), (1, b""))
             want("no key after call 44", quiet.ends(), (0, b""))

@@ -21,7 +21,7 @@ import sys
 import tempfile
 import time
 
-from serve_sessions import ROOT, Server, Session, Wrong, string
+from served import ROOT, Server, Session, Wrong, string
 
 PATIENCE = 20
 WHOLE_PATIENCE = 300
@@ -151,7 +151,7 @@ def use_kom(komd, komc, under_rlwrap):
                 screen.wants("\n".join(map(re.escape, lines[-2:])) + "$")
             other.ask("42 255")
             other.ask("44 0")
-            other.ends()
+            other.rest()
             screen.types("list")
             screen.wants("kom: the talk has ended\nIt ended with 1[.]")
             screen.types("the echo is on again")

@@ -23,7 +23,8 @@ import threading
 import time
 
 import rescue
-from serve_sessions import PATIENCE, Server, Session, Wrong, find_all, string
+from serve_sessions import has_ipv6
+from served import PATIENCE, Server, Session, Wrong, string
 
 ROOT = pathlib.Path(__file__).resolve().parent.parent
 CONTRIB = ROOT / "contrib"
@@ -68,11 +69,13 @@ class Tried:
         return store
 
 
-def end(server):
-    """Ends a server, if it has not ended."""
-    if server.process.poll() is None:
-        server.process.kill()
-    server.process.wait()
+def find_all(port, answered):
+    """Finds these texts, by their numbers, with the bodies that they were written with."""
+    session = login(port, 5, "")
+    for text, body in answered.items():
+        if session.ask(f"25 {text} 0 4294967295") != string(body):
+            raise Wrong(f"text {text} is not {body!r}")
+    session.end()
 
 
 def login(port, person, password):
@@ -124,7 +127,7 @@ def try_statuses(tried):
         tried.same("a backup put over it", 3, tried.run(CONTRIB / "komd-backup", "restore", store, store)[0])
         tried.same("a rescue in it", 3, tried.run(RESCUE, store, 5, given=b"new password\n")[0])
     finally:
-        end(server)
+        server.kill()
     length = store.stat().st_size
     limited = tried.run(
         komd, "once", store, given=b"A1Ha\n1 62 5 0H 0\n2 86 2000H" + bytes(2000) + b" 0 { } 0 { }\n",
@@ -165,7 +168,7 @@ def try_backup(tried):
         gone.set()
         for writer in writers:
             writer.join()
-        end(server)
+        server.kill()
     kept = sorted(copies.iterdir())
     tried.same("the copies that are kept", 3, len(kept))
     tried.same("who may read them", {0o600}, {copy.stat().st_mode & 0o777 for copy in kept})
@@ -179,7 +182,7 @@ def try_backup(tried):
         find_all(server.port, last)
         tried.same("texts that were answered before the last copy", True, 0 < len(last) <= counts[3])
     finally:
-        end(server)
+        server.kill()
     counts = tried.counts(store)
     broken = tried.folder / "broken"
     broken.write_bytes(store.read_bytes()[:-2])
@@ -266,7 +269,8 @@ def try_probe(tried):
     probe = [CONTRIB / "komd-probe", "127.0.0.1", server.port, 2]
     try:
         tried.same("a probe", 0, tried.run(*probe)[0])
-        tried.same("a probe by IPv6", 0, tried.run(probe[0], "::1", *probe[2:])[0])
+        if has_ipv6():
+            tried.same("a probe by IPv6", 0, tried.run(probe[0], "::1", *probe[2:])[0])
         one = Session(server.port, "one")
         tried.same("a probe where sessions are many", 1, tried.run(*probe, 2)[0])
         other = Session(server.port, "other")
@@ -277,10 +281,10 @@ def try_probe(tried):
         other.ask("62 5 0H 0")
         other.ask("42 255")
         other.ask(f"55 {idle}")
-        one.ends()
+        one.rest()
         tried.same("a probe after an idle session was ended", 0, tried.run(*probe)[0])
     finally:
-        end(server)
+        server.kill()
     tried.same("a probe where nobody listens", 2, tried.run(*probe)[0])
     tried.same("a probe with other words", 3, tried.run(probe[0], "a", "b")[0])
 
@@ -294,7 +298,7 @@ def try_stops(tried):
         session = login(server.port, 5, "")
         answered[int(session.ask(f"86 {string(number.name)} 0 {{ }} 0 {{ }}"))] = number.name
         server.process.send_signal(number)
-        tried.same(f"the status after {number.name}", -number, server.status(PATIENCE))
+        tried.same(f"the status after {number.name}", -number, server.wait())
     server = Server(tried.program, store, 2)
     try:
         find_all(server.port, answered)
@@ -306,10 +310,10 @@ def try_stops(tried):
         session.ask("53 0 3Hend")
         session.ask("44 0")
         tried.same("a message before the end", True, waits.message().endswith("3Hend"))
-        waits.ends()
-        tried.same("the status after call 44", 0, server.status(PATIENCE))
+        waits.rest()
+        tried.same("the status after call 44", 0, server.wait())
     finally:
-        end(server)
+        server.kill()
 
 
 def main(words):

@@ -12,7 +12,7 @@ import sys
 import tempfile
 import time
 
-from serve_sessions import Server, Session, string
+from served import Server, Session, string
 
 ROOT = pathlib.Path(__file__).resolve().parent.parent
 PERSON_BITS, LETTERBOX, OPEN = b"\x1c\x00", 0x98, 0x08
