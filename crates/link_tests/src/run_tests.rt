@@ -1,8 +1,9 @@
 //! Runs of the top call in a world in memory, each with its clients one after the other.
 use kom_links::{Served, SessionEnd};
-use kom_server::{Closing, Outcome, run};
+use kom_server::{Outcome, run};
 use kom_types::{Moment, Words};
-use memory_links::{Client, GatePlan, LinkPlan, MemoryLink, MemoryWorld, Script};
+use memory_links::{Client, GatePlan, LinkPlan, MemoryClock, MemoryGate, MemoryLink, MemoryWorld};
+use memory_links::Script;
 use std::alloc::Global;
 use std::collections::VecDeque;
 use std::process::Abort;
@@ -142,18 +143,18 @@ fn check_outcome(rt: &impl Abort, outcome: &Outcome<MemoryWorld>, row: &Row) {
     assert_eq!(rt; outcome.status, row.status);
     assert_eq!(rt; outcome.sink.output(), row.report);
     match &outcome.end {
-        Some(closing) => check_closing(rt, closing, row),
+        Some(closing) => check_left(rt, closing.gates.as_slice(), closing.clocks.as_slice(), row),
         None => assert!(rt; row.left.is_empty()),
     }
 }
 
-fn check_closing(rt: &impl Abort, closing: &Closing<MemoryWorld>, row: &Row) {
+fn check_left(rt: &impl Abort, gates: &[MemoryGate], clocks: &[MemoryClock], row: &Row) {
     if let Some(readings) = row.readings {
-        for clock in &closing.clocks {
+        for clock in clocks {
             assert_eq!(rt; clock.made(), readings);
         }
     }
-    for gate in &closing.gates {
+    for gate in gates {
         check_returned(rt, gate.returned(), row.left);
     }
 }
