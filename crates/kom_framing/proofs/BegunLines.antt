@@ -10,12 +10,11 @@ use Rattle.kom_types.specs.declared.side.Side.{Side}
 use Rattle.kom_types.specs.Token.{Token}
 use Rattle.kom_types.specs.Grammar.{Form, Prefix, Whole, line_form}
 use Rattle.kom_types.specs.Stream.{Malformed, longest_line, longest_stream, with_line, stopped_in, lines_from}
-use Rattle.kom_framing.specs.declared.lexer.Span.{Span}
 use Rattle.kom_framing.specs.declared.lexer.Lexer.{Lexer}
 use Rattle.kom_framing.specs.declared.lexer.Step.{Step}
 use Rattle.kom_framing.specs.declared.lexer.Step.TheVariants as step
 use Rattle.kom_framing.specs.declared.fault.Fault.TheVariants as found
-use Rattle.kom_framing.specs.Spans.{tokens_of, AreWithin}
+use Rattle.kom_framing.specs.Spans.{tokens_of, AreTokens}
 use Rattle.kom_framing.specs.Lexing.{Between, LexerState, Going, Ended, Stuck, next, onward, walk}
 use Rattle.kom_framing.specs.Scanning.{mode_of, IsLexer, tokens_ended, LeadsOn, EndsLine, Does, IsBegun}
 use Rattle.kom_framing.specs.declared.fault.Fault.{Fault as CodeFault}
@@ -24,7 +23,7 @@ use Rattle.kom_framing.specs.BegunLines.{IsGoing, Extends, EndsIn, IsUnfitAt, Fa
 use Rattle.kom_framing.specs.BegunLines.{ScansTo}
 use Rattle.kom_framing.proofs.Lexing.{form_of, line_form-walk, onward-stuck}
 use Rattle.kom_framing.proofs.Streams.{Fits, line_goes_on, line_ends, line_unfit, line_late, line_too_long}
-use Rattle.kom_framing.proofs.Spans.{are_within_more, are_within-append, tokens_stay, tokens_of-append}
+use Rattle.kom_framing.proofs.Spans.{are_tokens_more, are_tokens-append, tokens_stay, tokens_of-append}
 
 going_prefix : (state : LexerState) → IsGoing state → form_of state ≡ Prefix
 going_prefix (Going tokens mode) going = refl
@@ -37,8 +36,8 @@ pub split_at : (bytes : List ℕ) (at : ℕ) → at < length bytes
 split_at bytes at within =
     sym (take-append-drop at bytes) ∙ ap (λ (t : List ℕ). take at bytes ++ t) (drop_more bytes at 0 within)
 
--- more spans after those that were added
-pub extends_more : (old new more : List Span) → Extends old new → Extends old (new ++ more)
+-- more starts after those that were added
+pub extends_more : (old new more : List ℕ) → Extends old new → Extends old (new ++ more)
 extends_more old new more extends =
     let enough : length old ≤ length new = omega (arith, ap length extends, length-take (length old) new) in
     take-append-le (length old) new more enough ∙ extends
@@ -82,7 +81,8 @@ module _ (side : Side) where
   goes_on_before (Ended tokens) (byte ∷ bytes) going = subst IsGoing (ended_stuck tokens byte bytes) going
   goes_on_before Stuck bytes going = subst IsGoing (onward-stuck side bytes) going
 
-  pub ends_from : (state : LexerState) (byte : ℕ) (tokens : List Token) → next side state byte ≡ Ended tokens → IsGoing state
+  pub ends_from : (state : LexerState) (byte : ℕ) (tokens : List Token) → next side state byte ≡ Ended tokens
+      → IsGoing state
   ends_from (Going more mode) byte tokens e = tt
   ends_from (Ended more) byte tokens e = absurd cc
   ends_from Stuck byte tokens e = absurd cc
@@ -176,55 +176,50 @@ module _ (side : Side) where
   -- ---- what the lexer keeps
 
   -- the start of a window
-  pub begun_start : (text : List ℕ) (window : List ℕ) (spans : List Span) (lexer : Lexer)
-      → IsBegun side text spans lexer
-      → IsBegun side (text ++ take 0 window) spans lexer
-  begun_start text window spans lexer begun =
-      subst (λ (t : List ℕ). IsBegun side t spans lexer) (sym (append-nil text)) begun
+  pub begun_start : (text : List ℕ) (window : List ℕ) (starts : List ℕ) (lexer : Lexer)
+      → IsBegun side text starts lexer
+      → IsBegun side (text ++ take 0 window) starts lexer
+  begun_start text window starts lexer begun =
+      subst (λ (t : List ℕ). IsBegun side t starts lexer) (sym (append-nil text)) begun
 
-  leads : (bytes more : List ℕ) (spans : List Span) (lexer after : Lexer) (ended : Option Span)
-      → IsBegun side bytes spans lexer
+  leads : (bytes more : List ℕ) (starts : List ℕ) (lexer after : Lexer) (ended : Option ℕ)
+      → IsBegun side bytes starts lexer
       → ((tokens : List Token)
       → onward side (Going tokens (mode_of lexer bytes)) more
       ≡ Going (tokens ++ tokens_ended (bytes ++ more) ended) (mode_of after (bytes ++ more)))
-      → IsLexer after (bytes ++ more) → AreWithin (length (bytes ++ more)) (option_to_list ended)
-      → IsBegun side (bytes ++ more) (spans ++ option_to_list ended) after
-  leads bytes more spans lexer after ended begun goes sound within = record {
-    walked = walk-append bytes more ∙ ap (λ (s : LexerState). onward side s more) begun.walked ∙ goes (tokens_of bytes spans)
+      → IsLexer after (bytes ++ more) → AreTokens (bytes ++ more) (option_to_list ended)
+      → IsBegun side (bytes ++ more) (starts ++ option_to_list ended) after
+  leads bytes more starts lexer after ended begun goes sound whole = record {
+    walked = walk-append bytes more ∙ ap (λ (s : LexerState). onward side s more) begun.walked
+        ∙ goes (tokens_of bytes starts)
         ∙ ap (λ (t : List Token). Going (t ++ tokens_ended (bytes ++ more) ended) (mode_of after (bytes ++ more)))
-        (sym (tokens_stay bytes more spans begun.within))
+        (sym (tokens_stay bytes more starts begun.whole))
         ∙ ap (λ (t : List Token). Going t (mode_of after (bytes ++ more)))
-        (sym (tokens_of-append (bytes ++ more) spans (option_to_list ended)));
-    within = are_within-append (length (bytes ++ more)) spans (option_to_list ended)
-        (are_within_more (length bytes) (length (bytes ++ more)) spans (omega (arith, length-append bytes more))
-        begun.within)
-        within;
+        (sym (tokens_of-append (bytes ++ more) starts (option_to_list ended)));
+    whole = are_tokens-append (bytes ++ more) starts (option_to_list ended)
+        (are_tokens_more bytes more starts begun.whole) whole;
     sound = sound;
   }
 
   -- a step further through a window
-  pub begun_further : (text window : List ℕ) (at count : ℕ) (spans : List Span) (lexer after : Lexer)
-      (ended : Option Span)
-      → IsBegun side (text ++ take at window) spans lexer
+  pub begun_further : (text window : List ℕ) (at count : ℕ) (starts : List ℕ) (lexer after : Lexer)
+      (ended : Option ℕ)
+      → IsBegun side (text ++ take at window) starts lexer
       → LeadsOn side count ended after lexer (text ++ take at window) (drop at window)
-      → IsBegun side (text ++ take (at + count) window) (spans ++ option_to_list ended) after
-  begun_further text window at count spans lexer after ended begun goes =
+      → IsBegun side (text ++ take (at + count) window) (starts ++ option_to_list ended) after
+  begun_further text window at count starts lexer after ended begun goes =
       let bytes : List ℕ = text ++ take at window in
       let more : List ℕ = take count (drop at window) in
       let regrouped : bytes ++ more ≡ text ++ take (at + count) window =
       append_assoc text (take at window) more ∙ ap (λ (t : List ℕ). text ++ t) (sym (take-add at count window)) in
-      let whole : length (bytes ++ more) ≡ length bytes + count =
-      length-append bytes more
-      ∙ ap (λ (n : ℕ). length bytes + n) (length-take-le count (drop at window) goes.within) in
-      subst (λ (t : List ℕ). IsBegun side t (spans ++ option_to_list ended) after) regrouped
-      (leads bytes more spans lexer after ended begun goes.onward_is goes.sound
-      (subst (λ (n : ℕ). AreWithin n (option_to_list ended)) (sym whole) goes.spans))
+      subst (λ (t : List ℕ). IsBegun side t (starts ++ option_to_list ended) after) regrouped
+      (leads bytes more starts lexer after ended begun goes.onward_is goes.sound goes.whole)
 
-  pub ends_in : (text window : List ℕ) (at : ℕ) (spans : List Span) (lexer : Lexer) (ended : Option Span)
-      → at < length window → IsBegun side (text ++ take at window) spans lexer
+  pub ends_in : (text window : List ℕ) (at : ℕ) (starts : List ℕ) (lexer : Lexer) (ended : Option ℕ)
+      → at < length window → IsBegun side (text ++ take at window) starts lexer
       → EndsLine side ended lexer (text ++ take at window) (drop at window)
-      → EndsIn side text window (spans ++ option_to_list ended) (at + 1)
-  ends_in text window at spans lexer ended inside begun ends =
+      → EndsIn side text window (starts ++ option_to_list ended) (at + 1)
+  ends_in text window at starts lexer ended inside begun ends =
       let bytes : List ℕ = text ++ take at window in
       let more : List ℕ = take 1 (drop at window) in
       let regrouped : bytes ++ more ≡ text ++ take (at + 1) window =
@@ -232,77 +227,77 @@ module _ (side : Side) where
       let bytes_length : length bytes ≡ length text + at =
       length-append text (take at window)
       ∙ ap (λ (n : ℕ). length text + n) (length-take-le at window (omega arith)) in
-      let grown : walk side (bytes ++ more) ≡ Ended (tokens_of (bytes ++ more) (spans ++ option_to_list ended)) =
+      let grown : walk side (bytes ++ more) ≡ Ended (tokens_of (bytes ++ more) (starts ++ option_to_list ended)) =
       walk-append bytes more ∙ ap (λ (s : LexerState). onward side s more) begun.walked
-      ∙ ends.onward_is (tokens_of bytes spans)
+      ∙ ends.onward_is (tokens_of bytes starts)
       ∙ ap (λ (t : List Token). Ended (t ++ tokens_ended (bytes ++ more) ended))
-      (sym (tokens_stay bytes more spans begun.within))
-      ∙ ap Ended (sym (tokens_of-append (bytes ++ more) spans (option_to_list ended))) in
+      (sym (tokens_stay bytes more starts begun.whole))
+      ∙ ap Ended (sym (tokens_of-append (bytes ++ more) starts (option_to_list ended))) in
       record {
         some = omega arith;
         within = omega arith;
         ended = subst
-            (λ (t : List ℕ). walk side t ≡ Ended (tokens_of t (spans ++ option_to_list ended))) regrouped grown;
-        spans_within = are_within-append (length text + (at + 1)) spans (option_to_list ended)
-            (are_within_more (length bytes) (length text + (at + 1)) spans (omega arith) begun.within)
-            (are_within_more (length bytes + 1) (length text + (at + 1)) (option_to_list ended)
-            (omega arith) ends.spans);
+            (λ (t : List ℕ). walk side t ≡ Ended (tokens_of t (starts ++ option_to_list ended))) regrouped grown;
+        whole = subst (λ (t : List ℕ). AreTokens t (starts ++ option_to_list ended)) regrouped
+            (are_tokens-append (bytes ++ more) starts (option_to_list ended)
+            (are_tokens_more bytes more starts begun.whole) ends.whole);
       }
 
-  pub begun_goes : (bytes : List ℕ) (spans : List Span) (lexer : Lexer) → IsBegun side bytes spans lexer
+  pub begun_goes : (bytes : List ℕ) (starts : List ℕ) (lexer : Lexer) → IsBegun side bytes starts lexer
       → IsGoing (walk side bytes)
-  begun_goes bytes spans lexer begun = subst IsGoing (sym begun.walked) tt
+  begun_goes bytes starts lexer begun = subst IsGoing (sym begun.walked) tt
 
-  pub unfit_in : (text window : List ℕ) (at : ℕ) (spans : List Span) (lexer : Lexer) → at < length window
-      → IsBegun side (text ++ take at window) spans lexer
+  pub unfit_in : (text window : List ℕ) (at : ℕ) (starts : List ℕ) (lexer : Lexer) → at < length window
+      → IsBegun side (text ++ take at window) starts lexer
       → Does side step.Unfit lexer (text ++ take at window) (drop at window)
       → IsUnfitAt side text window at
-  unfit_in text window at spans lexer inside begun stuck =
+  unfit_in text window at starts lexer inside begun stuck =
       let bytes : List ℕ = text ++ take at window in
       let more : List ℕ = take 1 (drop at window) in
       let regrouped : bytes ++ more ≡ text ++ take (at + 1) window =
       append_assoc text (take at window) more ∙ ap (λ (t : List ℕ). text ++ t) (sym (take-add at 1 window)) in
       record {
         within = inside;
-        going = begun_goes bytes spans lexer begun;
+        going = begun_goes bytes starts lexer begun;
         stuck = sym (ap (walk side) regrouped) ∙ walk-append bytes more
             ∙ ap (λ (s : LexerState). onward side s more) begun.walked
-            ∙ stuck (tokens_of bytes spans);
+            ∙ stuck (tokens_of bytes starts);
       }
 
   -- ---- the byte after a window that is full
 
-  next_fits : (s : Step) (text rest : List ℕ) (byte : ℕ) (spans : List Span) (lexer : Lexer) → (s ≡ step.Unfit → ⊥)
-      → IsBegun side text spans lexer → Does side s lexer (text ++ take 0 (byte ∷ rest)) (byte ∷ rest)
+  next_fits : (s : Step) (text rest : List ℕ) (byte : ℕ) (starts : List ℕ) (lexer : Lexer) → (s ≡ step.Unfit → ⊥)
+      → IsBegun side text starts lexer → Does side s lexer (text ++ take 0 (byte ∷ rest)) (byte ∷ rest)
       → Fits (line_form side (text ++ byte ∷ []))
-  next_fits (step.Goes count ended after) text rest byte spans lexer fit begun goes =
+  next_fits (step.Goes count ended after) text rest byte starts lexer fit begun goes =
       let more : ℕ = count - 1 in
       let some = goes.some in
       let all : 0 + count ≡ suc more = omega arith in
       let further =
-      begun_further text (byte ∷ rest) 0 count spans lexer after ended
-      (begun_start text (byte ∷ rest) spans lexer begun) goes in
+      begun_further text (byte ∷ rest) 0 count starts lexer after ended
+      (begun_start text (byte ∷ rest) starts lexer begun) goes in
       let going : IsGoing (walk side (text ++ take (suc more) (byte ∷ rest))) =
       subst (λ (n : ℕ). IsGoing (walk side (text ++ take n (byte ∷ rest)))) all (begun_goes _ _ _ further) in
       fits_by (line_form side (text ++ byte ∷ [])) Prefix
       (form_goes_on (text ++ byte ∷ []) (going_first text byte (take more rest) going)) tt
-  next_fits (step.Ends ended) text rest byte spans lexer fit begun ends =
+  next_fits (step.Ends ended) text rest byte starts lexer fit begun ends =
       let whole =
-      ends_in text (byte ∷ rest) 0 spans lexer ended (omega arith)
-      (begun_start text (byte ∷ rest) spans lexer begun) ends in
+      ends_in text (byte ∷ rest) 0 starts lexer ended (omega arith)
+      (begun_start text (byte ∷ rest) starts lexer begun) ends in
       fits_by (line_form side (text ++ byte ∷ []))
-      (Whole (tokens_of (text ++ byte ∷ []) (spans ++ option_to_list ended)))
-      (form_is (text ++ byte ∷ []) (Ended (tokens_of (text ++ byte ∷ []) (spans ++ option_to_list ended))) whole.ended)
+      (Whole (tokens_of (text ++ byte ∷ []) (starts ++ option_to_list ended)))
+      (form_is (text ++ byte ∷ []) (Ended (tokens_of (text ++ byte ∷ []) (starts ++ option_to_list ended))) whole.ended)
       tt
-  next_fits step.Unfit text rest byte spans lexer fit begun stuck = absurd (fit refl)
+  next_fits step.Unfit text rest byte starts lexer fit begun stuck = absurd (fit refl)
 
-  pub fault_unfit : (place : ℕ) (text rest : List ℕ) (spans : List Span) (lexer : Lexer) → 0 < length rest
-      → IsBegun side text spans lexer → Does side step.Unfit lexer (text ++ take 0 (take 1 rest)) (drop 0 (take 1 rest))
+  pub fault_unfit : (place : ℕ) (text rest : List ℕ) (starts : List ℕ) (lexer : Lexer) → 0 < length rest
+      → IsBegun side text starts lexer
+      → Does side step.Unfit lexer (text ++ take 0 (take 1 rest)) (drop 0 (take 1 rest))
       → FailsAt side place text rest (found.Malformed place)
-  fault_unfit place text [] spans lexer some begun stuck = absurd (omega arith)
-  fault_unfit place text (byte ∷ rest) spans lexer some begun stuck =
+  fault_unfit place text [] starts lexer some begun stuck = absurd (omega arith)
+  fault_unfit place text (byte ∷ rest) starts lexer some begun stuck =
       let unfit =
-      unfit_in text (byte ∷ []) 0 spans lexer (omega arith) (begun_start text (byte ∷ []) spans lexer begun) stuck in
+      unfit_in text (byte ∷ []) 0 starts lexer (omega arith) (begun_start text (byte ∷ []) starts lexer begun) stuck in
       record {
         rest = text;
         split =
@@ -315,23 +310,23 @@ module _ (side : Side) where
   fault_late place text (byte ∷ rest) some late =
       record { rest = text; split = line_late side place text byte rest late }
 
-  pub fault_long : (s : Step) (place : ℕ) (text rest : List ℕ) (spans : List Span) (lexer : Lexer) → 0 < length rest
-      → (s ≡ step.Unfit → ⊥) → IsBegun side text spans lexer
+  pub fault_long : (s : Step) (place : ℕ) (text rest : List ℕ) (starts : List ℕ) (lexer : Lexer) → 0 < length rest
+      → (s ≡ step.Unfit → ⊥) → IsBegun side text starts lexer
       → Does side s lexer (text ++ take 0 (take 1 rest)) (drop 0 (take 1 rest))
       → place < longest_stream → longest_line ≤ length text
       → FailsAt side place text rest (found.LineTooLong place)
-  fault_long s place text [] spans lexer some fit begun does early long = absurd (omega arith)
-  fault_long s place text (byte ∷ rest) spans lexer some fit begun does early long =
+  fault_long s place text [] starts lexer some fit begun does early long = absurd (omega arith)
+  fault_long s place text (byte ∷ rest) starts lexer some fit begun does early long =
       record {
         rest = text;
         split = line_too_long side place text byte rest early (omega (arith, length-append text (byte ∷ [])))
-            (next_fits s text [] byte spans lexer fit begun does);
+            (next_fits s text [] byte starts lexer fit begun does);
       }
 
   -- ---- a piece, of which a window was read
 
   line_goes : (line : BegunLine) → IsLine side line → IsGoing (walk side line.text.items)
-  line_goes line kept = begun_goes line.text.items line.spans.items line.lexer kept.begun
+  line_goes line kept = begun_goes line.text.items line.starts.items line.lexer kept.begun
 
   pub scans_on : (place : ℕ) (old new : BegunLine) (window piece : List ℕ) → IsWindow window piece
       → length window ≡ length piece → place + length window ≤ longest_stream → Grows old new window × IsLine side new
@@ -374,15 +369,15 @@ module _ (side : Side) where
 
   pub scans_to : (count place : ℕ) (old new : BegunLine) (window piece : List ℕ) → IsWindow window piece
       → place + length window ≤ longest_stream → length old.text.items + length window ≤ longest_line
-      → Grows old new (take count window) × EndsIn side old.text.items window new.spans.items count
+      → Grows old new (take count window) × EndsIn side old.text.items window new.starts.items count
       → ScansTo side count place old piece new
   scans_to count place old new window piece w early short taken =
       let within = taken.1.within in
       let prefix : take count window ≡ take count piece = window_prefix window piece count w within in
       let grows : Grows old new (take count piece) = subst (Grows old new) prefix taken.0 in
       let ended : walk side (old.text.items ++ take count piece)
-      ≡ Ended (tokens_of (old.text.items ++ take count piece) new.spans.items) =
-      subst (λ (t : List ℕ). walk side (old.text.items ++ t) ≡ Ended (tokens_of (old.text.items ++ t) new.spans.items))
+      ≡ Ended (tokens_of (old.text.items ++ take count piece) new.starts.items) =
+      subst (λ (t : List ℕ). walk side (old.text.items ++ t) ≡ Ended (tokens_of (old.text.items ++ t) new.starts.items))
       prefix taken.1.ended in
       let inside : count ≤ length piece = omega (arith, w.within) in
       record {
@@ -390,14 +385,12 @@ module _ (side : Side) where
         some = taken.1.some;
         within = inside;
         early = omega arith;
-        spans_within = subst (λ (n : ℕ). AreWithin n new.spans.items)
-            (ap (λ (n : ℕ). length old.text.items + n) (sym (length-take-le count piece inside))
-            ∙ sym (length-append old.text.items (take count piece)) ∙ sym (ap length grows.text))
-            taken.1.spans_within;
+        whole = subst (λ (t : List ℕ). AreTokens t new.starts.items)
+            (ap (λ (t : List ℕ). old.text.items ++ t) prefix ∙ sym grows.text) taken.1.whole;
         split =
-            lines_end place old.text.items piece count (tokens_of (old.text.items ++ take count piece) new.spans.items)
+            lines_end place old.text.items piece count (tokens_of (old.text.items ++ take count piece) new.starts.items)
             taken.1.some inside ended (omega arith) (omega arith)
-            ∙ ap (λ (t : List ℕ). with_line (tokens_of t new.spans.items) (place + count - 1)
+            ∙ ap (λ (t : List ℕ). with_line (tokens_of t new.starts.items) (place + count - 1)
             (lines_from side (place + count) [] (drop count piece))) (sym grows.text);
       }
 
@@ -419,8 +412,8 @@ module _ (side : Side) where
 
   pub same_line : (old new : BegunLine) → IsSame old new → IsLine side old → IsLine side new
   same_line old new same line = record {
-    begun = subst (λ (t : List ℕ). IsBegun side t new.spans.items new.lexer) (sym same.text)
-        (subst (λ (s : List Span). IsBegun side old.text.items s new.lexer) (sym same.spans)
-        (subst (λ (l : Lexer). IsBegun side old.text.items old.spans.items l) (sym same.lexer) line.begun));
+    begun = subst (λ (t : List ℕ). IsBegun side t new.starts.items new.lexer) (sym same.text)
+        (subst (λ (s : List ℕ). IsBegun side old.text.items s new.lexer) (sym same.starts)
+        (subst (λ (l : Lexer). IsBegun side old.text.items old.starts.items l) (sym same.lexer) line.begun));
     short = omega (arith, line.short, ap length same.text);
   }

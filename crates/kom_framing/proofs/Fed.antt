@@ -178,10 +178,10 @@ module _ (side : Side) where
       → ScansTo side count place old piece new → AreLines side lines (place + count) (drop count piece)
       → advancing.GoesPast side units (begun_unit.Line old) (begun_unit.Line new) place piece count lines
   line_goes_past units place count old new piece lines scanned tail =
-      let tokens : List Token = tokens_of new.text.items new.spans.items in
+      let tokens : List Token = tokens_of new.text.items new.starts.items in
       let rest : Split = lines_from side (place + count) [] (drop count piece) in
       record {
-        can_end = scanned.spans_within;
+        can_end = scanned.whole;
         line = tail.line;
         some = scanned.some;
         within = scanned.early;

@@ -2,7 +2,7 @@
 use Rattle.std.proofs.Common.{◌≡◌, ℕ, zero, suc, ◌+◌, ◌<◌, ◌≤◌, Bool, true, false, ◌&&◌, eqb, leb, List, [], ◌∷◌, ◌++◌}
 use Rattle.std.proofs.Common.{length, take, drop, refl, sym, ap, subst, ◌∙◌, inl, inr, arith, append_assoc}
 use Rattle.std.specs.List.{take_while}
-use Rattle.std.proofs.lemmas.Bool.{cases_Bool, cases_lt, both_ways, and_right, and_left, and_from, eqb-true, le-leb}
+use Rattle.std.proofs.lemmas.Bool.{cases_Bool, cases_lt, both_ways, and_right, and_from, eqb-true, le-leb}
 use Rattle.std.proofs.lemmas.Bool.{lt-leb, lt-ltb, le-ltb}
 use Rattle.std.proofs.lemmas.Bool.Decides.{nat_tests}
 use Rattle.std.proofs.lemmas.List.{append-nil, length-append, length-drop}
@@ -17,16 +17,14 @@ use Rattle.kom_types.specs.Grammar.{signed_run_at, signed_at}
 use Rattle.kom_types.specs.Grammar.{may_follow, ended, with_token, tokens_at, line_form}
 use Rattle.kom_framing.specs.Lexing.{Mode, Between, Run, Past, AfterSign, Move, Goes, Ends, Unfits, string_from, move}
 use Rattle.kom_framing.specs.Lexing.{move_past, move_to_sign, move_past_sign, move_after_sign}
-use Rattle.kom_framing.specs.Lexing.{move_between, move_in_run, LexerState, Going, Ended, Stuck, reached, next, onward, walk}
+use Rattle.kom_framing.specs.Lexing.{move_between, move_in_run, LexerState, Going, Ended, Stuck, reached, next, onward}
+use Rattle.kom_framing.specs.Lexing.{walk}
 use Rattle.kom_framing.proofs.Looks.{look, blank, feed, digit, hollerith, open_brace, close_brace, star, sign_byte}
 use Rattle.kom_framing.proofs.Looks.{other}
 use Rattle.kom_framing.proofs.Looks.{follows}
-use Rattle.kom_framing.proofs.Lists.{take_while-yes, take_while-no, drop_while-yes, drop_while-no, HeadFails}
-use Rattle.kom_framing.proofs.Lists.{head_fails, length-drop_while}
-
--- what the definitions choose by a test
-abbrev choice : {X : Type 0} → Bool → X → X → X
-choice b x y = elim b [ true ↦ x | false ↦ y ]
+use Rattle.kom_framing.proofs.Lists.{drop_while-yes, drop_while-no, HeadFails, head_fails, length-drop_while}
+use Rattle.kom_framing.proofs.Runs.{choice, run_prefix, run_cut, run_string, run_long, run_from, run_from-ended}
+use Rattle.kom_framing.proofs.Runs.{run_from-digit}
 
 -- what a state says of the bytes that led to it
 abbrev pub form_of : LexerState → Form (List Token)
@@ -221,48 +219,6 @@ module _ (side : Side) where
 
   -- ---- a run of digits
 
-  run_prefix : (digits : List ℕ) → length digits ≤ 16 → run_at digits [] ≡ Prefix
-  run_prefix digits short = rw (le-leb (length digits) 16 short, run_at) refl
-
-  run_cut : (digits : List ℕ) (byte : ℕ) (bytes : List ℕ) → eqb byte 72 ≡ false → length digits ≤ 16
-      → run_at digits (byte ∷ bytes) ≡ Whole (record { token = Digits digits; tail = byte ∷ bytes })
-  run_cut digits byte bytes e short = rw (e, le-leb (length digits) 16 short, run_at) refl
-
-  run_string : (digits : List ℕ) (byte : ℕ) (bytes : List ℕ) → eqb byte 72 ≡ true
-      → run_at digits (byte ∷ bytes) ≡ choice (is_integer digits) (string_at (number_of digits) bytes) Unfit
-  run_string digits byte bytes e = rw (e, run_at) refl
-
-  long_is_no_integer : (digits : List ℕ) → 16 < length digits → is_integer digits ≡ false
-  long_is_no_integer digits long = and_left _ _ (lt-leb (length digits) 10 (omega arith))
-
-  run_long : (digits rest : List ℕ) → 16 < length digits → run_at digits rest ≡ Unfit
-  run_long digits [] long = rw (lt-leb (length digits) 16 long, run_at) refl
-  run_long digits (byte ∷ rest) long = elim (cases_Bool (eqb byte 72)) [
-    | inl h ↦ run_string digits byte rest h
-        ∙ ap (λ (b : Bool). choice b (string_at (number_of digits) rest) Unfit) (long_is_no_integer digits long)
-    | inr h ↦ rw (h, lt-leb (length digits) 16 long, run_at) refl
-  ]
-
-  -- a run with what is after it, in a line that has these digits of it already, as a rule reads it
-  abbrev run_from : (List ℕ → List ℕ → Form Cut) → List ℕ → List ℕ → Form Cut
-  run_from rule digits bytes = rule (digits ++ take_while is_digit bytes) (drop_while is_digit bytes)
-
-  run_from-ended : (rule : List ℕ → List ℕ → Form Cut) (digits : List ℕ) (byte : ℕ) (bytes : List ℕ)
-      → is_digit byte ≡ false → run_from rule digits (byte ∷ bytes) ≡ rule digits (byte ∷ bytes)
-  run_from-ended rule digits byte bytes e =
-      ap (λ (t : List ℕ). rule (digits ++ t) (drop_while is_digit (byte ∷ bytes))) (take_while-no is_digit byte bytes e)
-      ∙ ap (λ (d : List ℕ). rule d (drop_while is_digit (byte ∷ bytes))) (append-nil digits)
-      ∙ ap (rule digits) (drop_while-no is_digit byte bytes e)
-
-  run_from-digit : (rule : List ℕ → List ℕ → Form Cut) (digits : List ℕ) (byte : ℕ) (bytes : List ℕ)
-      → is_digit byte ≡ true → run_from rule digits (byte ∷ bytes) ≡ run_from rule (digits ++ byte ∷ []) bytes
-  run_from-digit rule digits byte bytes e =
-      ap (λ (t : List ℕ). rule (digits ++ t) (drop_while is_digit (byte ∷ bytes)))
-      (take_while-yes is_digit byte bytes e)
-      ∙ ap (λ (d : List ℕ). rule d (drop_while is_digit (byte ∷ bytes)))
-      (sym (append_assoc digits (byte ∷ []) (take_while is_digit bytes)))
-      ∙ ap (rule ((digits ++ byte ∷ []) ++ take_while is_digit bytes)) (drop_while-yes is_digit byte bytes e)
-
   run_ends : (digits : List ℕ) (byte : ℕ) (bytes : List ℕ) (sort : ByteKind) → kind_of byte ≡ sort
       → reached [] (move_in_run digits byte sort) ≡ reached (Digits digits ∷ []) (move_past [] sort)
       → eqb byte 72 ≡ false
@@ -438,7 +394,7 @@ module _ (side : Side) where
 
   -- ---- a line
 
-  abbrev token_of_kind : ℕ → List ℕ → ByteKind → Form Cut
+  abbrev pub token_of_kind : ℕ → List ℕ → ByteKind → Form Cut
   token_of_kind byte bytes kind.Digit = run_at (byte ∷ take_while is_digit bytes) (drop_while is_digit bytes)
   token_of_kind byte bytes kind.Open = Whole (record { token = Open; tail = bytes })
   token_of_kind byte bytes kind.Close = Whole (record { token = Close; tail = bytes })
@@ -449,7 +405,7 @@ module _ (side : Side) where
   token_of_kind byte bytes kind.Hollerith = Unfit
   token_of_kind byte bytes kind.Other = Unfit
 
-  token_kind : (byte : ℕ) (bytes : List ℕ) (sort : ByteKind) → kind_of byte ≡ sort
+  pub token_kind : (byte : ℕ) (bytes : List ℕ) (sort : ByteKind) → kind_of byte ≡ sort
       → token_at side byte bytes ≡ token_of_kind byte bytes sort
   token_kind byte bytes sort e = ap (token_of_kind byte bytes) e
 

@@ -1,10 +1,12 @@
 pub mod Looks
 pub mod Lists
+pub mod Runs
 pub mod Lexing
 pub mod Hearing
 pub mod Streams
 pub mod Steps
 pub mod Spans
+pub mod Tokens
 pub mod BegunLines
 pub mod WholeLines
 pub mod BegunGreetings

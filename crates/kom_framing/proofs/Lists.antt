@@ -1,5 +1,6 @@
 -- Prefixes of lists that pass a test, and what is after them.
-use Rattle.std.proofs.Common.{◌≡◌, ℕ, suc, ◌+◌, ◌≤◌, Bool, true, false, List, [], ◌∷◌, length, refl, inl, inr, arith}
+use Rattle.std.proofs.Common.{◌≡◌, ℕ, suc, ◌+◌, ◌≤◌, Bool, true, false, List, [], ◌∷◌, ◌++◌, length, refl, ap}
+use Rattle.std.proofs.Common.{inl, inr, arith}
 use Rattle.std.specs.List.{take_while, prefix_len}
 use Rattle.std.proofs.lemmas.Bool.{cases_Bool}
 use Rattle.kom_types.specs.Grammar.{drop_while}
@@ -39,4 +40,13 @@ length-drop_while test [] = omega arith
 length-drop_while test (byte ∷ bytes) = elim (cases_Bool (test byte)) [
   | inl found ↦ rw (drop_while-yes test byte bytes found) (omega (arith, length-drop_while test bytes))
   | inr none ↦ rw (drop_while-no test byte bytes none) (omega arith)
+]
+
+-- a list is the prefix that passes, and what is after it
+pub parted : (test : ℕ → Bool) (bytes : List ℕ) → take_while test bytes ++ drop_while test bytes ≡ bytes
+parted test [] = refl
+parted test (byte ∷ bytes) = elim (cases_Bool (test byte)) [
+  | inl found ↦ rw (take_while-yes test byte bytes found, drop_while-yes test byte bytes found)
+      (ap (λ (t : List ℕ). byte ∷ t) (parted test bytes))
+  | inr none ↦ rw (take_while-no test byte bytes none, drop_while-no test byte bytes none) refl
 ]

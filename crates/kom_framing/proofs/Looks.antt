@@ -1,6 +1,6 @@
 -- Each byte is of one kind, which decides the tests on it.
 use Rattle.std.proofs.Common.{◌≡◌, ℕ, Bool, true, false, List, ◌∷◌, eqb, ◌||◌, refl, ap, ◌∙◌, inl, inr, arith}
-use Rattle.std.proofs.lemmas.Bool.{cases_Bool}
+use Rattle.std.proofs.lemmas.Bool.{cases_Bool, both_ways, eqb-true}
 use Rattle.std.proofs.lemmas.Bool.Decides.{nat_tests}
 use Rattle.kom_types.specs.declared.byte_kind.ByteKind.{ByteKind}
 use Rattle.kom_types.specs.declared.byte_kind.ByteKind.TheVariants as kind
@@ -100,6 +100,72 @@ look byte = elim (cases_Bool (is_blank byte)) [
       | inr d ↦ look_on byte b f d
     ]
   ]
+]
+
+-- what the kind of a byte says of the tests on it
+pub digit_is : (byte : ℕ) → kind_of byte ≡ kind.Digit → is_digit byte ≡ true
+digit_is byte e = elim (look byte) [
+  | blank l ↦ let k = l.kind_is in absurd cc
+  | feed l ↦ let k = l.kind_is in absurd cc
+  | digit l ↦ l.digit_is
+  | hollerith l ↦ let k = l.kind_is in absurd cc
+  | open_brace l ↦ let k = l.kind_is in absurd cc
+  | close_brace l ↦ let k = l.kind_is in absurd cc
+  | star l ↦ let k = l.kind_is in absurd cc
+  | sign_byte l ↦ let k = l.kind_is in absurd cc
+  | other l ↦ let k = l.kind_is in absurd cc
+]
+
+pub hollerith_is : (byte : ℕ) → kind_of byte ≡ kind.Hollerith → byte ≡ 72
+hollerith_is byte e = elim (look byte) [
+  | blank l ↦ let k = l.kind_is in absurd cc
+  | feed l ↦ let k = l.kind_is in absurd cc
+  | digit l ↦ let k = l.kind_is in absurd cc
+  | hollerith l ↦ eqb-true byte 72 l.hollerith_is
+  | open_brace l ↦ let k = l.kind_is in absurd cc
+  | close_brace l ↦ let k = l.kind_is in absurd cc
+  | star l ↦ let k = l.kind_is in absurd cc
+  | sign_byte l ↦ let k = l.kind_is in absurd cc
+  | other l ↦ let k = l.kind_is in absurd cc
+]
+
+pub no_digit : (byte : ℕ) → (kind_of byte ≡ kind.Digit → ⊥) → is_digit byte ≡ false
+no_digit byte apart = elim (look byte) [
+  | blank l ↦ l.digit_is
+  | feed l ↦ l.digit_is
+  | digit l ↦ absurd (apart l.kind_is)
+  | hollerith l ↦ l.digit_is
+  | open_brace l ↦ l.digit_is
+  | close_brace l ↦ l.digit_is
+  | star l ↦ l.digit_is
+  | sign_byte l ↦ l.digit_is
+  | other l ↦ l.digit_is
+]
+
+pub no_hollerith : (byte : ℕ) → (kind_of byte ≡ kind.Hollerith → ⊥) → eqb byte 72 ≡ false
+no_hollerith byte apart = elim (look byte) [
+  | blank l ↦ l.hollerith_is
+  | feed l ↦ l.hollerith_is
+  | digit l ↦ l.hollerith_is
+  | hollerith l ↦ absurd (apart l.kind_is)
+  | open_brace l ↦ l.hollerith_is
+  | close_brace l ↦ l.hollerith_is
+  | star l ↦ l.hollerith_is
+  | sign_byte l ↦ l.hollerith_is
+  | other l ↦ l.hollerith_is
+]
+
+pub digit_kind : (byte : ℕ) → is_digit byte ≡ true → kind_of byte ≡ kind.Digit
+digit_kind byte e = elim (look byte) [
+  | blank l ↦ absurd (both_ways _ l.digit_is e)
+  | feed l ↦ absurd (both_ways _ l.digit_is e)
+  | digit l ↦ l.kind_is
+  | hollerith l ↦ absurd (both_ways _ l.digit_is e)
+  | open_brace l ↦ absurd (both_ways _ l.digit_is e)
+  | close_brace l ↦ absurd (both_ways _ l.digit_is e)
+  | star l ↦ absurd (both_ways _ l.digit_is e)
+  | sign_byte l ↦ absurd (both_ways _ l.digit_is e)
+  | other l ↦ absurd (both_ways _ l.digit_is e)
 ]
 
 -- whether a byte may follow a token

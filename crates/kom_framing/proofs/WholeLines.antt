@@ -47,12 +47,12 @@ module _ (side : Side) where
   -- a line has ended
   pub continues_line : (place at count : ℕ) (piece : List ℕ) (units ended : List StreamUnit) (old new : BegunLine)
       → old.text.items ≡ [] → ScansTo side count (place + at) old (drop at piece) new
-      → ended ≡ units_at (tokens_of new.text.items new.spans.items) (place + (at + count) - 1)
+      → ended ≡ units_at (tokens_of new.text.items new.starts.items) (place + (at + count) - 1)
       → Continues units (lines_from side (place + at) [] (drop at piece)) (lines_from side place [] piece)
       → Continues (units ++ ended) (lines_from side (place + (at + count)) [] (drop (at + count) piece))
       (lines_from side place [] piece)
   continues_line place at count piece units ended old new fresh scanned told so_far =
-      let tokens : List Token = tokens_of new.text.items new.spans.items in
+      let tokens : List Token = tokens_of new.text.items new.starts.items in
       let here : place + at + count ≡ place + (at + count) = omega arith in
       let split : lines_from side (place + at) [] (drop at piece)
       ≡ with_line tokens (place + (at + count) - 1)

@@ -15,7 +15,7 @@ use Rattle.kom_framing.specs.declared.begun.Advanced.{Advanced}
 use Rattle.kom_framing.specs.declared.begun.Advanced.TheVariants as advanced
 use Rattle.kom_framing.specs.declared.units.Unit.{Unit as StreamUnit}
 use Rattle.kom_framing.specs.declared.units.Unit.TheVariants as unit
-use Rattle.kom_framing.specs.Spans.{tokens_of, AreWithin}
+use Rattle.kom_framing.specs.Spans.{tokens_of, AreTokens}
 use Rattle.kom_framing.specs.Splitting.{Begun, Greeting, InLine, units_of, begun_of}
 use Rattle.kom_framing.specs.BegunLines.{fault_seen, IsLine, Extends, Scans, units_at}
 use Rattle.kom_framing.specs.BegunGreetings.{IsBegunGreeting, Lengthens, ScansGreeting}
@@ -34,16 +34,16 @@ IsBegunUnit side (begun_unit.Line line) = IsLine side line
 abbrev pub IsMark : Mark → BegunUnit → Type 0
 IsMark (mark.Greeting phase name) (begun_unit.Greeting greeting) =
     (phase ≡ greeting.phase) × (name ≡ length greeting.name.items)
-IsMark (mark.Line lexer text spans) (begun_unit.Line line) =
-    (lexer ≡ line.lexer) × (text ≡ length line.text.items) × (spans ≡ length line.spans.items)
+IsMark (mark.Line lexer text starts) (begun_unit.Line line) =
+    (lexer ≡ line.lexer) × (text ≡ length line.text.items) × (starts ≡ length line.starts.items)
 IsMark (mark.Greeting phase name) (begun_unit.Line line) = ⊥
-IsMark (mark.Line lexer text spans) (begun_unit.Greeting greeting) = ⊥
+IsMark (mark.Line lexer text starts) (begun_unit.Greeting greeting) = ⊥
 
 -- what the old unit has is a prefix of what the new one has
 abbrev pub Keeps : BegunUnit → BegunUnit → Type 0
 Keeps (begun_unit.Greeting old) (begun_unit.Greeting new) = Lengthens old.name.items new.name.items
 Keeps (begun_unit.Line old) (begun_unit.Line new) =
-    Lengthens old.text.items new.text.items × Extends old.spans.items new.spans.items
+    Lengthens old.text.items new.text.items × Extends old.starts.items new.starts.items
 Keeps (begun_unit.Greeting old) (begun_unit.Line new) = ⊥
 Keeps (begun_unit.Line old) (begun_unit.Greeting new) = ⊥
 
@@ -59,11 +59,11 @@ ScansUnit side answer place (begun_unit.Line old) piece (begun_unit.Greeting new
 -- the units that one becomes which ends at this place
 abbrev pub units_ended : BegunUnit → ℕ → List StreamUnit
 units_ended (begun_unit.Greeting greeting) end = unit.Hello greeting.name.items ∷ []
-units_ended (begun_unit.Line line) end = units_at (tokens_of line.text.items line.spans.items) end
+units_ended (begun_unit.Line line) end = units_at (tokens_of line.text.items line.starts.items) end
 
 abbrev pub CanEnd : BegunUnit → Type 0
 CanEnd (begun_unit.Greeting greeting) = Unit {0}
-CanEnd (begun_unit.Line line) = AreWithin (length line.text.items) line.spans.items
+CanEnd (begun_unit.Line line) = AreTokens line.text.items line.starts.items
 
 -- These bytes were fed and these units taken, and there is no fault: the units taken and these are
 -- the stream's, this is the unit that has begun, and this the place of the next byte.

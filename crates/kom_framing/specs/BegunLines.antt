@@ -7,7 +7,6 @@ use Rattle.kom_types.specs.Token.{Token}
 use Rattle.kom_types.specs.Stream as stream
 use Rattle.kom_framing.specs.declared.fault.Fault.{Fault}
 use Rattle.kom_framing.specs.declared.fault.Fault.TheVariants as fault
-use Rattle.kom_framing.specs.declared.lexer.Span.{Span}
 use Rattle.kom_framing.specs.declared.lines.BegunLine.{BegunLine}
 use Rattle.kom_framing.specs.declared.lines.Reading.{Reading}
 use Rattle.kom_framing.specs.declared.lines.Reading.TheVariants as reading
@@ -15,7 +14,7 @@ use Rattle.kom_framing.specs.declared.lines.Scan.{Scan}
 use Rattle.kom_framing.specs.declared.lines.Scan.TheVariants as scan
 use Rattle.kom_framing.specs.declared.units.Unit.{Unit as StreamUnit}
 use Rattle.kom_framing.specs.declared.units.Unit.TheVariants as unit
-use Rattle.kom_framing.specs.Spans.{tokens_of, AreWithin}
+use Rattle.kom_framing.specs.Spans.{tokens_of, AreTokens}
 use Rattle.kom_framing.specs.Lexing.{LexerState, Going, Ended, Stuck, walk}
 use Rattle.kom_framing.specs.Scanning.{IsBegun}
 
@@ -25,7 +24,7 @@ fault_seen (fault.LineTooLong place) = stream.LineTooLong place
 
 -- what is kept is that of a line that goes on
 pub record IsLine (side : Side) (line : BegunLine) : Type 0 where
-  pub begun : IsBegun side line.text.items line.spans.items line.lexer
+  pub begun : IsBegun side line.text.items line.starts.items line.lexer
   pub short : length line.text.items ≤ stream.longest_line
 
 abbrev pub IsGoing : LexerState → Type 0
@@ -33,18 +32,18 @@ IsGoing (Going tokens mode) = Unit {0}
 IsGoing (Ended tokens) = ⊥
 IsGoing Stuck = ⊥
 
--- spans were added after the old ones, and none was changed
-abbrev pub Extends : List Span → List Span → Type 0
+-- places were added after the old ones, and none was changed
+abbrev pub Extends : List ℕ → List ℕ → Type 0
 Extends old new = take (length old) new ≡ old
 
 -- the line ends with the last of so many bytes of a window
-pub record EndsIn (side : Side) (text window : List ℕ) (spans : List Span)
+pub record EndsIn (side : Side) (text window : List ℕ) (starts : List ℕ)
     (count : ℕ) : Type 0 where
   pub some : 1 ≤ count
   pub within : count ≤ length window
   pub ended : walk side (text ++ take count window)
-      ≡ Ended (tokens_of (text ++ take count window) spans)
-  pub spans_within : AreWithin (length text + count) spans
+      ≡ Ended (tokens_of (text ++ take count window) starts)
+  pub whole : AreTokens (text ++ take count window) starts
 
 -- the byte of a window at this index is the first that fits nowhere
 pub record IsUnfitAt (side : Side) (text window : List ℕ) (at : ℕ) : Type 0 where
@@ -53,35 +52,35 @@ pub record IsUnfitAt (side : Side) (text window : List ℕ) (at : ℕ) : Type 0 
   pub stuck : walk side (text ++ take (at + 1) window) ≡ Stuck
 
 -- how a window was read after these bytes of the line
-abbrev pub Reads : Side → Result Reading Memory → List ℕ → List ℕ → List Span → Type 0
-Reads side (Ok (reading.Goes after)) text window spans = IsBegun side (text ++ window) spans after
-Reads side (Ok (reading.Ends count)) text window spans = EndsIn side text window spans count
-Reads side (Ok (reading.Unfit at)) text window spans = IsUnfitAt side text window at
-Reads side (Err memory) text window spans = Unit {0}
+abbrev pub Reads : Side → Result Reading Memory → List ℕ → List ℕ → List ℕ → Type 0
+Reads side (Ok (reading.Goes after)) text window starts = IsBegun side (text ++ window) starts after
+Reads side (Ok (reading.Ends count)) text window starts = EndsIn side text window starts count
+Reads side (Ok (reading.Unfit at)) text window starts = IsUnfitAt side text window at
+Reads side (Err memory) text window starts = Unit {0}
 
 -- the line is as it was
 pub record IsSame (old new : BegunLine) : Type 0 where
   pub text : new.text.items ≡ old.text.items
-  pub spans : new.spans.items ≡ old.spans.items
+  pub starts : new.starts.items ≡ old.starts.items
   pub lexer : new.lexer ≡ old.lexer
 
 -- the line has these bytes more
 pub record Grows (old new : BegunLine) (bytes : List ℕ) : Type 0 where
   pub text : new.text.items ≡ old.text.items ++ bytes
-  pub extends : Extends old.spans.items new.spans.items
+  pub extends : Extends old.starts.items new.starts.items
 
--- the line is as it was, but for spans that were added
+-- the line is as it was, but for places of tokens that were added
 pub record Adds (old new : BegunLine) : Type 0 where
   pub text : new.text.items ≡ old.text.items
-  pub extends : Extends old.spans.items new.spans.items
+  pub extends : Extends old.starts.items new.starts.items
   pub lexer : new.lexer ≡ old.lexer
 
--- how a window was taken, where an error may leave spans that were added
+-- how a window was taken, where an error may leave places that were added
 abbrev pub Tries : Side → Result Reading Memory → BegunLine → List ℕ → BegunLine → Type 0
 Tries side (Ok (reading.Goes after)) old window new =
-    Grows old new window × IsBegun side new.text.items new.spans.items new.lexer
+    Grows old new window × IsBegun side new.text.items new.starts.items new.lexer
 Tries side (Ok (reading.Ends count)) old window new =
-    Grows old new (take count window) × EndsIn side old.text.items window new.spans.items count
+    Grows old new (take count window) × EndsIn side old.text.items window new.starts.items count
 Tries side (Ok (reading.Unfit at)) old window new =
     Adds old new × IsUnfitAt side old.text.items window at
 Tries side (Err memory) old window new = Adds old new
@@ -90,7 +89,7 @@ Tries side (Err memory) old window new = Adds old new
 abbrev pub Takes : Side → Result Reading Memory → BegunLine → List ℕ → BegunLine → Type 0
 Takes side (Ok (reading.Goes after)) old window new = Grows old new window × IsLine side new
 Takes side (Ok (reading.Ends count)) old window new =
-    Grows old new (take count window) × EndsIn side old.text.items window new.spans.items count
+    Grows old new (take count window) × EndsIn side old.text.items window new.starts.items count
 Takes side (Ok (reading.Unfit at)) old window new =
     IsSame old new × IsUnfitAt side old.text.items window at
 Takes side (Err memory) old window new = IsSame old new
@@ -117,9 +116,9 @@ pub record ScansTo (side : Side) (count place : ℕ) (old : BegunLine) (piece : 
   pub some : 1 ≤ count
   pub within : count ≤ length piece
   pub early : place + count ≤ stream.longest_stream
-  pub spans_within : AreWithin (length new.text.items) new.spans.items
+  pub whole : AreTokens new.text.items new.starts.items
   pub split : stream.lines_from side place old.text.items piece
-      ≡ stream.with_line (tokens_of new.text.items new.spans.items) (place + count - 1)
+      ≡ stream.with_line (tokens_of new.text.items new.starts.items) (place + count - 1)
       (stream.lines_from side (place + count) [] (drop count piece))
 
 -- how a line went through a piece of the stream that begins at this place

@@ -1,10 +1,10 @@
--- Tokens as spans of their line's bytes.
-use Rattle.std.specs.Prelude.{ℕ, ◌+◌, ◌≤◌, ◌<◌, List, [], ◌∷◌, get_or, map, slice_range}
+-- The tokens of a line, by the places of its bytes at which they begin.
+use Rattle.std.specs.Prelude.{◌≡◌, ℕ, List, [], ◌∷◌, drop, map}
+use Rattle.kom_types.specs.declared.side.Side.TheVariants as side
 use Rattle.kom_types.specs.Token.{Token, Digits, Text, Open, Close, Star, Signed}
+use Rattle.kom_types.specs.Grammar.{Form, Prefix, Whole, Unfit, Cut, token_at}
 use Rattle.kom_framing.specs.declared.token.Token.{Token as SeenToken}
 use Rattle.kom_framing.specs.declared.token.Token.TheVariants as seen
-use Rattle.kom_framing.specs.declared.lexer.Span.{Span}
-use Rattle.kom_framing.specs.declared.lexer.Span.TheVariants as span
 
 -- the token that a caller sees
 abbrev pub token_seen : SeenToken → Token
@@ -15,28 +15,30 @@ token_seen seen.Close = Close
 token_seen seen.Star = Star
 token_seen (seen.Signed sign digits) = Signed sign digits.now
 
--- the token at a span of these bytes
-abbrev pub token_of : List ℕ → Span → Token
-token_of bytes (span.Digits start end) = Digits (slice_range bytes start end)
-token_of bytes (span.Text start end) = Text (slice_range bytes start end)
-token_of bytes span.Open = Open
-token_of bytes span.Close = Close
-token_of bytes span.Star = Star
-token_of bytes (span.Signed start end) =
-    Signed (get_or bytes start 0) (slice_range bytes (start + 1) end)
+-- The token with which these bytes begin, and the bytes after it. A sign is read as a server's: a
+-- client's line that has one is at fault before it has the token.
+abbrev pub cut_of : List ℕ → Form Cut
+cut_of [] = Prefix
+cut_of (byte ∷ tail) = token_at side.Server byte tail
 
-abbrev pub tokens_of : List ℕ → List Span → List Token
-tokens_of bytes spans = map (token_of bytes) spans
+-- the bytes from this place on begin with a token that is whole
+pub record IsToken (bytes : List ℕ) (start : ℕ) : Type 0 where
+  pub cut : Cut
+  pub whole : cut_of (drop start bytes) ≡ Whole cut
 
--- the span lies within so many bytes
-abbrev pub IsWithin : ℕ → Span → Type 0
-IsWithin count (span.Digits start end) = (start ≤ end) × (end ≤ count)
-IsWithin count (span.Text start end) = (start ≤ end) × (end ≤ count)
-IsWithin count span.Open = Unit {0}
-IsWithin count span.Close = Unit {0}
-IsWithin count span.Star = Unit {0}
-IsWithin count (span.Signed start end) = (start < end) × (end ≤ count)
+abbrev pub AreTokens : List ℕ → List ℕ → Type 0
+AreTokens bytes [] = Unit {0}
+AreTokens bytes (start ∷ starts) = IsToken bytes start × AreTokens bytes starts
 
-abbrev pub AreWithin : ℕ → List Span → Type 0
-AreWithin count [] = Unit {0}
-AreWithin count (span ∷ spans) = IsWithin count span × AreWithin count spans
+-- a token that was cut, and a star if none was
+abbrev pub token_cut : Form Cut → Token
+token_cut Prefix = Star
+token_cut (Whole cut) = cut.token
+token_cut Unfit = Star
+
+-- the token that begins at this place of these bytes
+abbrev pub token_of : List ℕ → ℕ → Token
+token_of bytes start = token_cut (cut_of (drop start bytes))
+
+abbrev pub tokens_of : List ℕ → List ℕ → List Token
+tokens_of bytes starts = map (token_of bytes) starts

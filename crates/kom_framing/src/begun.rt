@@ -34,7 +34,7 @@ pub enum Mark {
     Line {
         lexer: Lexer,
         text: usize,
-        spans: usize,
+        starts: usize,
     },
 }
 
@@ -152,7 +152,7 @@ impl BegunUnit {
             BegunUnit::Line(line) => Mark::Line {
                 lexer: line.lexer,
                 text: line.text.len(),
-                spans: line.spans.len(),
+                starts: line.starts.len(),
             },
         }
     }
@@ -180,10 +180,14 @@ impl BegunUnit {
                     greeting.phase = phase;
                 }
             }
-            Mark::Line { lexer, text, spans } => {
+            Mark::Line {
+                lexer,
+                text,
+                starts,
+            } => {
                 if let BegunUnit::Line(line) = self {
                     line.text.truncate(text);
-                    line.spans.truncate(spans);
+                    line.starts.truncate(starts);
                     line.lexer = lexer;
                 }
             }

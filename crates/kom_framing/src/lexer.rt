@@ -1,27 +1,10 @@
 ghost use Rattle.std.specs.Prelude.{◌≡◌, ℕ, ◌+◌, ◌-◌, ◌^◌, ◌<◌, ◌≤◌, List, ◌++◌, length, take};
 ghost use Rattle.std.specs.Prelude.{drop};
 ghost use Rattle.kom_types.specs.ByteKind.{kind_of};
-ghost use Rattle.kom_framing.specs.Scanning.{IsLexer, IsRun, IsAfterSign, IsMove, Does, step_by};
+ghost use Rattle.kom_framing.specs.Scanning.{IsLexer, IsRun, IsInside, IsAfterSign, IsMove, Does};
+ghost use Rattle.kom_framing.specs.Scanning.{step_by};
 
 use kom_types::{ByteKind, Side, kind_of_byte};
-
-/// A token, by the bytes of its line that it has: the first, and the first after it.
-#[derive(Clone, Copy, Debug)]
-pub enum Span {
-    Digits(u32, u32),
-    Text(u32, u32),
-    Open,
-    Close,
-    Star,
-    /// From the sign on.
-    Signed(u32, u32),
-}
-
-impl Default for Span {
-    fn default() -> Span {
-        Span::Open
-    }
-}
 
 /// How far a line has come.
 #[derive(Clone, Copy, Debug)]
@@ -30,7 +13,7 @@ pub enum Lexer {
     Between,
     /// In a run of digits from `start` on that spells `number` so far.
     Run { start: usize, number: u64 },
-    /// In a string from `start` on that lacks so many bytes.
+    /// In a string, whose length begins at `start`, that lacks so many bytes.
     Inside { start: usize, lacking: usize },
     /// Directly after a token.
     Past,
@@ -41,10 +24,10 @@ pub enum Lexer {
 /// What the next bytes are to a line.
 #[derive(Clone, Copy, Debug)]
 pub enum Step {
-    /// So many bytes were taken, and with them perhaps a token ended.
-    Goes(usize, Option<Span>, Lexer),
-    /// The line ends with the next byte, and perhaps a token before it.
-    Ends(Option<Span>),
+    /// So many bytes were taken, and with them perhaps a token ended, which began at that place.
+    Goes(usize, Option<u32>, Lexer),
+    /// The line ends with the next byte, and perhaps a token before it, which began at that place.
+    Ends(Option<u32>),
     /// The next byte fits nowhere.
     Unfit,
 }
@@ -63,23 +46,21 @@ impl Lexer {
         match self {
             Lexer::Between => step_between(side, place, window[at]),
             Lexer::Run { start, number } => step_in_run(start, number, place, window[at]),
-            Lexer::Inside { start, lacking } => {
-                step_inside(start, lacking, place, window.len() - at)
-            }
+            Lexer::Inside { start, lacking } => step_inside(start, lacking, window.len() - at),
             Lexer::Past => step_after(None, window[at]),
             Lexer::AfterSign { start } => step_after_sign(start, place, window[at]),
         }
     }
 }
 
-// A byte after a token, or after the digits that it ends.
+// A byte after a token, or after the digits that it ends, which began at `start`.
 #[inline(always)]
-fn step_after(span: Option<Span>, byte: u8) -> Step
-    ensures { result ≡ step_by span (kind_of byte) }
+fn step_after(start: Option<u32>, byte: u8) -> Step
+    ensures { result ≡ step_by start (kind_of byte) }
 {
     match kind_of_byte(byte) {
-        ByteKind::Blank => Step::Goes(1, span, Lexer::Between),
-        ByteKind::LineFeed => Step::Ends(span),
+        ByteKind::Blank => Step::Goes(1, start, Lexer::Between),
+        ByteKind::LineFeed => Step::Ends(start),
         _ => Step::Unfit,
     }
 }
@@ -87,6 +68,7 @@ fn step_after(span: Option<Span>, byte: u8) -> Step
 // A byte where a token may begin, after so many bytes.
 #[inline(always)]
 fn step_between(side: Side, place: usize, byte: u8) -> Step
+    requires room { place < 2 ^ 32 }
     ensures { (bytes : List ℕ) → length bytes ≡ place
         → IsMove side result Lexer.Between bytes byte }
 {
@@ -98,9 +80,9 @@ fn step_between(side: Side, place: usize, byte: u8) -> Step
             let start = place;
             Step::Goes(1, None, Lexer::Run { start, number })
         }
-        ByteKind::Open => Step::Goes(1, Some(Span::Open), Lexer::Past),
-        ByteKind::Close => Step::Goes(1, Some(Span::Close), Lexer::Past),
-        ByteKind::Star => Step::Goes(1, Some(Span::Star), Lexer::Past),
+        ByteKind::Open => Step::Goes(1, Some(place as u32), Lexer::Past),
+        ByteKind::Close => Step::Goes(1, Some(place as u32), Lexer::Past),
+        ByteKind::Star => Step::Goes(1, Some(place as u32), Lexer::Past),
         ByteKind::Sign => match side {
             Side::Client => Step::Unfit,
             Side::Server => {
@@ -133,12 +115,12 @@ fn step_in_run(start: usize, number: u64, place: usize, byte: u8) -> Step
         }
         ByteKind::Hollerith => {
             if place - start <= 10 && number < 4_294_967_296 {
-                step_into(place + 1, number as usize)
+                step_into(start, number as usize)
             } else {
                 Step::Unfit
             }
         }
-        _ => step_after(Some(Span::Digits(start as u32, place as u32)), byte),
+        _ => step_after(Some(start as u32), byte),
     }
 }
 
@@ -163,21 +145,21 @@ fn step_after_sign(start: usize, place: usize, byte: u8) -> Step
             if digits == 0 {
                 Step::Unfit
             } else {
-                step_after(Some(Span::Signed(start as u32, place as u32)), byte)
+                step_after(Some(start as u32), byte)
             }
         }
     }
 }
 
-// The `H` before a string of that many bytes.
+// The `H` before a string of that many bytes, whose length begins at `start`.
 #[inline(always)]
 fn step_into(start: usize, lacking: usize) -> Step
     requires room { start < 2 ^ 32 }
-    ensures none { lacking ≡ 0 → result ≡ Step.Goes 1 (Some (Span.Text start start)) Lexer.Past }
+    ensures none { lacking ≡ 0 → result ≡ Step.Goes 1 (Some start) Lexer.Past }
     ensures some { 0 < lacking → result ≡ Step.Goes 1 None (Lexer.Inside start lacking) }
 {
     if lacking == 0 {
-        Step::Goes(1, Some(Span::Text(start as u32, start as u32)), Lexer::Past)
+        Step::Goes(1, Some(start as u32), Lexer::Past)
     } else {
         Step::Goes(1, None, Lexer::Inside { start, lacking })
     }
@@ -185,20 +167,15 @@ fn step_into(start: usize, lacking: usize) -> Step
 
 // The bytes of a string, of which so many are left in the window.
 #[inline(always)]
-fn step_inside(start: usize, lacking: usize, place: usize, left: usize) -> Step
-    requires begun { start ≤ place }
+fn step_inside(start: usize, lacking: usize, left: usize) -> Step
+    requires room { start < 2 ^ 32 }
     requires lacks { 1 ≤ lacking }
     requires some { 1 ≤ left }
-    requires room { place + left < 2 ^ 32 }
-    ensures { (side : Side) (bytes tail : List ℕ) → length bytes ≡ place → length tail ≡ left
-        → Does side result (Lexer.Inside start lacking) bytes tail }
+    ensures { (side : Side) (bytes tail : List ℕ) → IsInside start lacking bytes
+        → length tail ≡ left → Does side result (Lexer.Inside start lacking) bytes tail }
 {
     if lacking <= left {
-        Step::Goes(
-            lacking,
-            Some(Span::Text(start as u32, (place + lacking) as u32)),
-            Lexer::Past,
-        )
+        Step::Goes(lacking, Some(start as u32), Lexer::Past)
     } else {
         let lacking = lacking - left;
         Step::Goes(left, None, Lexer::Inside { start, lacking })

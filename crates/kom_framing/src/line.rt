@@ -1,29 +1,31 @@
-ghost use Rattle.std.specs.Prelude.{◌≡◌, ◌<◌, ◌↔◌, [], length, IsTrue, Some, slice_get};
-ghost use Rattle.kom_framing.specs.Spans.{token_seen, token_of, tokens_of, IsWithin, AreWithin};
+ghost use Rattle.std.specs.Prelude.{◌≡◌, ◌+◌, ◌<◌, ◌≤◌, ◌↔◌, [], length, drop, take_while, IsTrue};
+ghost use Rattle.std.specs.Prelude.{Some, get_or, slice_get};
+ghost use Rattle.kom_types.specs.ByteKind.{is_digit, kind_of};
+ghost use Rattle.kom_types.specs.Token.{number_of};
+ghost use Rattle.kom_framing.specs.Spans.{token_seen, token_of, tokens_of, IsToken, AreTokens};
 
-use crate::lexer::Span;
-use crate::lines::{LineSpans, LineText};
+use crate::lines::{LineStarts, LineText};
 use crate::token::Token;
+use kom_types::{ByteKind, kind_of_byte};
 use std::marker::Model;
 
 /// A line of a stream that is not blank.
 #[derive(Debug, Drop)]
 pub struct Line {
     text: LineText,
-    spans: LineSpans,
+    starts: LineStarts,
     end: u64,
 }
 
 impl Model for Line {
     ghost use Rattle.kom_types.specs.Stream as stream;
-    ghost use Rattle.kom_framing.specs.Spans.{tokens_of, AreWithin};
-    ghost use Rattle.std.specs.Prelude.{length};
+    ghost use Rattle.kom_framing.specs.Spans.{tokens_of, AreTokens};
 
     ghost Value = { stream.Line };
 
-    ghost view = { λ l. record { tokens = tokens_of l.text.items l.spans.items; end = l.end } };
+    ghost view = { λ l. record { tokens = tokens_of l.text.items l.starts.items; end = l.end } };
 
-    ghost invariant = { λ l. AreWithin (length l.text.items) l.spans.items };
+    ghost invariant = { λ l. AreTokens l.text.items l.starts.items };
 }
 
 impl Line {
@@ -31,13 +33,13 @@ impl Line {
     pub fn len(&self) -> usize
         ensures { result ≡ length self.now.tokens }
     {
-        self.spans.len()
+        self.starts.len()
     }
 
     pub fn is_empty(&self) -> bool
         ensures { IsTrue result ↔ (self.now.tokens ≡ []) }
     {
-        self.spans.is_empty()
+        self.starts.is_empty()
     }
 
     /// The token at an index, counted from 0.
@@ -45,7 +47,7 @@ impl Line {
         requires { index < length self.now.tokens }
         ensures { slice_get self.now.tokens index ≡ Some (token_seen result) }
     {
-        token_in(self.text.as_slice(), self.spans.as_slice()[index])
+        token_at(self.text.as_slice(), self.starts.as_slice()[index] as usize)
     }
 
     /// The place of the line feed in the stream.
@@ -55,29 +57,67 @@ impl Line {
         self.end
     }
 
-    /// The line that has these bytes and these tokens in them.
-    pub(crate) fn of(text: LineText, spans: LineSpans, end: u64) -> Line
-        requires { AreWithin (length text.items) spans.items }
-        ensures { result ≡ record { tokens = tokens_of text.items spans.items; end = end } }
+    /// The line that has these bytes and the tokens that begin at these places of them.
+    pub(crate) fn of(text: LineText, starts: LineStarts, end: u64) -> Line
+        requires { AreTokens text.items starts.items }
+        ensures { result ≡ record { tokens = tokens_of text.items starts.items; end = end } }
     {
-        Line { text, spans, end }
+        Line { text, starts, end }
     }
 }
 
-// The token at a span of these bytes.
-fn token_in(text: &[u8], span: Span) -> Token<'_>
-    requires { IsWithin (length text.now) span }
-    ensures { token_seen result ≡ token_of text.now span }
+// The token that begins at a place of these bytes.
+fn token_at(text: &[u8], start: usize) -> Token<'_>
+    requires { IsToken text.now start }
+    ensures { token_seen result ≡ token_of text.now start }
 {
-    match span {
-        Span::Digits(start, end) => Token::Digits(&text[start as usize..end as usize]),
-        Span::Text(start, end) => Token::Text(&text[start as usize..end as usize]),
-        Span::Open => Token::Open,
-        Span::Close => Token::Close,
-        Span::Star => Token::Star,
-        Span::Signed(start, end) => Token::Signed(
-            text[start as usize],
-            &text[start as usize + 1..end as usize],
-        ),
+    match kind_of_byte(text[start]) {
+        ByteKind::Digit => run_at(text, start),
+        ByteKind::Open => Token::Open,
+        ByteKind::Close => Token::Close,
+        ByteKind::Sign => {
+            let end = end_of_digits(text, start + 1);
+            Token::Signed(text[start], &text[start + 1..end])
+        }
+        _ => Token::Star,
     }
+}
+
+// The token that begins with a digit at a place of these bytes.
+fn run_at(text: &[u8], start: usize) -> Token<'_>
+    requires token { IsToken text.now start }
+    requires digit { kind_of (get_or text.now start 0) ≡ ByteKind.Digit }
+    ensures { token_seen result ≡ token_of text.now start }
+{
+    let end = end_of_digits(text, start);
+    if text[end] == b'H' {
+        let count = number(&text[start..end]) as usize;
+        Token::Text(&text[end + 1..end + 1 + count])
+    } else {
+        Token::Digits(&text[start..end])
+    }
+}
+
+// The place after the digits that begin there.
+fn end_of_digits(text: &[u8], start: usize) -> usize
+    requires { start ≤ length text.now }
+    ensures { result ≡ start + length (take_while is_digit (drop start text.now)) }
+{
+    let mut end = start;
+    while end < text.len() && text[end].is_ascii_digit() {
+        end += 1;
+    }
+    end
+}
+
+// The number that a run of ten digits at most spells.
+fn number(digits: &[u8]) -> u64
+    requires { length digits.now ≤ 10 }
+    ensures { result ≡ number_of digits.now }
+{
+    let mut number = 0;
+    for digit in digits {
+        number = 10 * number + u64::from(digit.saturating_sub(b'0'));
+    }
+    number
 }

@@ -1,14 +1,14 @@
 ghost use Rattle.std.specs.Prelude.{◌≡◌, ◌≢◌, ◌+◌, ◌-◌, ◌<◌, ◌≤◌, [], ◌++◌, length, take, OnOk};
 ghost use Rattle.std.specs.Prelude.{OnErr, IfOk, option_to_list};
 ghost use Rattle.kom_types.specs.Stream as stream;
-ghost use Rattle.kom_framing.specs.Spans.{tokens_of, AreWithin};
+ghost use Rattle.kom_framing.specs.Spans.{tokens_of, AreTokens};
 ghost use Rattle.kom_framing.specs.Scanning.{IsBegun};
 ghost use Rattle.kom_framing.specs.BegunLines.{IsLine, Extends, Reads, Tries, Takes, FailsAt};
 ghost use Rattle.kom_framing.specs.BegunLines.{Scans, units_at};
 ghost use Rattle.kom_framing.specs.WholeLines.{AreLines};
 
 use crate::fault::Fault;
-use crate::lexer::{Lexer, Span, Step};
+use crate::lexer::{Lexer, Step};
 use crate::line::Line;
 use crate::units::Unit;
 use kom_types::limits::{LONGEST_LINE, LONGEST_STREAM};
@@ -21,14 +21,15 @@ use std::mem;
 /// The bytes of a line. Up to 24 take no memory of their own.
 pub type LineText = SmallVec<u8, 24>;
 
-/// The tokens of a line. Up to four take no memory of their own.
-pub type LineSpans = SmallVec<Span, 4>;
+/// The places of a line at which its tokens begin. Up to eight take no memory of their own.
+pub type LineStarts = SmallVec<u32, 8>;
 
-/// A line that has begun: its bytes so far, the tokens that are whole, and how far the last one is.
+/// A line that has begun: its bytes so far, where its whole tokens begin, and how far the last one
+/// is.
 #[derive(Debug, Drop)]
 pub struct BegunLine {
     pub text: LineText,
-    pub spans: LineSpans,
+    pub starts: LineStarts,
     pub lexer: Lexer,
 }
 
@@ -67,7 +68,7 @@ impl BegunLine {
     {
         BegunLine {
             text: SmallVec::new(alloc),
-            spans: SmallVec::new(alloc),
+            starts: SmallVec::new(alloc),
             lexer: Lexer::Between,
         }
     }
@@ -98,16 +99,16 @@ impl BegunLine {
         requires room { length self.old.text.items + length window.now ≤ stream.longest_line }
         ensures { Takes side result self.old window.now self.new }
     {
-        let known = self.spans.len();
+        let known = self.starts.len();
         match self.try_take(side, window) {
             Ok(Reading::Goes(lexer)) => Ok(Reading::Goes(lexer)),
             Ok(Reading::Ends(count)) => Ok(Reading::Ends(count)),
             Ok(Reading::Unfit(at)) => {
-                self.spans.truncate(known);
+                self.starts.truncate(known);
                 Ok(Reading::Unfit(at))
             }
             Err(Memory) => {
-                self.spans.truncate(known);
+                self.starts.truncate(known);
                 Err(Memory)
             }
         }
@@ -124,7 +125,7 @@ impl BegunLine {
             self.text.as_slice(),
             self.lexer,
             window,
-            &mut self.spans,
+            &mut self.starts,
         )? {
             Reading::Goes(lexer) => {
                 self.text.extend_from_slice(window)?;
@@ -156,14 +157,14 @@ impl BegunLine {
 
     /// The line, whose line feed is at that place, if it is not blank.
     pub fn into_unit(self, end: u64) -> Option<Unit>
-        requires { AreWithin (length self.text.items) self.spans.items }
+        requires { AreTokens self.text.items self.starts.items }
         ensures { option_to_list result
-            ≡ units_at (tokens_of self.text.items self.spans.items) end }
+            ≡ units_at (tokens_of self.text.items self.starts.items) end }
     {
-        if self.spans.is_empty() {
+        if self.starts.is_empty() {
             None
         } else {
-            Some(Unit::Line(Line::of(self.text, self.spans, end)))
+            Some(Unit::Line(Line::of(self.text, self.starts, end)))
         }
     }
 }
@@ -189,30 +190,30 @@ fn window_of(begun: usize, place: u64, piece: &[u8]) -> &[u8]
     }
 }
 
-// Reads the bytes of a window, and adds the tokens that end in it.
+// Reads the bytes of a window, and adds the places of the tokens that end in it.
 fn read_window(
     side: Side,
     text: &[u8],
     lexer: Lexer,
     window: &[u8],
-    spans: &mut LineSpans,
+    starts: &mut LineStarts,
 ) -> Result<Reading, Memory>
-    requires begun { IsBegun side text.now spans.old.items lexer }
+    requires begun { IsBegun side text.now starts.old.items lexer }
     requires room { length text.now + length window.now ≤ stream.longest_line }
-    ensures reads { Reads side result text.now window.now spans.new.items }
-    ensures extends { Extends spans.old.items spans.new.items }
+    ensures reads { Reads side result text.now window.now starts.new.items }
+    ensures extends { Extends starts.old.items starts.new.items }
 {
     let mut lexer = lexer;
     let mut at = 0;
     while at < window.len() {
         match lexer.step(side, text, window, at) {
-            Step::Goes(count, span, next) => {
-                keep(spans, span)?;
+            Step::Goes(count, start, next) => {
+                keep(starts, start)?;
                 lexer = next;
                 at += count;
             }
-            Step::Ends(span) => {
-                keep(spans, span)?;
+            Step::Ends(start) => {
+                keep(starts, start)?;
                 return Ok(Reading::Ends(at + 1));
             }
             Step::Unfit => return Ok(Reading::Unfit(at)),
@@ -221,16 +222,16 @@ fn read_window(
     Ok(Reading::Goes(lexer))
 }
 
-// Adds the token that has ended, if one has.
+// Adds the place of the token that has ended, if one has.
 #[inline(always)]
-fn keep(spans: &mut LineSpans, span: Option<Span>) -> Result<(), Memory>
-    ensures ok { OnOk result (spans.new.items ≡ spans.old.items ++ option_to_list span) }
-    ensures err { OnErr result (spans.new.items ≡ spans.old.items) }
+fn keep(starts: &mut LineStarts, start: Option<u32>) -> Result<(), Memory>
+    ensures ok { OnOk result (starts.new.items ≡ starts.old.items ++ option_to_list start) }
+    ensures err { OnErr result (starts.new.items ≡ starts.old.items) }
 {
-    match span {
+    match start {
         None => Ok(()),
-        Some(span) => {
-            spans.push(span)?;
+        Some(start) => {
+            starts.push(start)?;
             Ok(())
         }
     }

@@ -28,10 +28,10 @@ loop-at-preserved c =
     c.scan.new.self) (piece_left c.args.piece.now c.loop-at.at) (rw c.in-Ends.is at c.in_ok-scan.ensures) in
     let taken = c.replace-line.ensures in
     let ended : option_to_list c.into_unit.result
-    ≡ units_at (tokens_of c.scan.new.self.text.items c.scan.new.self.spans.items)
+    ≡ units_at (tokens_of c.scan.new.self.text.items c.scan.new.self.starts.items)
     (c.args.place + (c.loop-at.at + c.in-Ends.count) - 1) =
     c.into_unit.ensures
-    ∙ ap (λ (l : BegunLine). units_at (tokens_of l.text.items l.spans.items)
+    ∙ ap (λ (l : BegunLine). units_at (tokens_of l.text.items l.starts.items)
     (c.args.place + (c.loop-at.at + c.in-Ends.count) - 1)) taken.value in
     record {
       within = omega (arith, scanned.within, length-drop c.loop-at.at c.args.piece.now);

@@ -1,5 +1,4 @@
-use Rattle.std.proofs.Common.{◌++◌, ◌+◌, List, take, arith, sym, subst}
-use Rattle.kom_framing.specs.declared.lexer.Span.{Span}
+use Rattle.std.proofs.Common.{ℕ, ◌++◌, ◌+◌, List, take, arith, sym, subst}
 use Rattle.kom_framing.specs.Scanning.{IsBegun}
 use Rattle.kom_framing.specs.BegunLines.{Extends, EndsIn}
 use Rattle.kom_framing.proofs.BegunLines.{begun_further, ends_in, unfit_in, extends_more, seen_within}
@@ -13,26 +12,26 @@ loop-at-preserved c =
     record {
       within = seen_within c.args.window.now c.loop-at.at c.in-Goes.count (omega arith) goes.within;
       begun =
-          subst (λ (s : List Span). IsBegun c.args.side
+          subst (λ (s : List ℕ). IsBegun c.args.side
           (c.args.text.now ++ take (c.loop-at.at + c.in-Goes.count) c.args.window.now)
           s c.in-Goes.next) (sym kept)
           (begun_further c.args.side c.args.text.now c.args.window.now c.loop-at.at c.in-Goes.count
-          c.loop-at.spans.items
-          c.loop-at.lexer c.in-Goes.next c.in-Goes.span inv.begun goes);
-      extends = subst (Extends c.args.spans.now.items) (sym kept)
-          (extends_more c.args.spans.now.items c.loop-at.spans.items _ inv.extends);
+          c.loop-at.starts.items
+          c.loop-at.lexer c.in-Goes.next c.in-Goes.start inv.begun goes);
+      extends = subst (Extends c.args.starts.now.items) (sym kept)
+          (extends_more c.args.starts.now.items c.loop-at.starts.items _ inv.extends);
     }
 
 pub returns-in-Ends-clause-reads : goal.returns-in-Ends-clause-reads
 returns-in-Ends-clause-reads c =
-    subst (λ (s : List Span). EndsIn c.args.side c.args.text.now c.args.window.now s (c.loop-at.at + 1))
+    subst (λ (s : List ℕ). EndsIn c.args.side c.args.text.now c.args.window.now s (c.loop-at.at + 1))
     (sym c.in_ok-keep-in-Ends.ensures.ok)
-    (ends_in c.args.side c.args.text.now c.args.window.now c.loop-at.at c.loop-at.spans.items c.loop-at.lexer
-    c.in-Ends.span
+    (ends_in c.args.side c.args.text.now c.args.window.now c.loop-at.at c.loop-at.starts.items c.loop-at.lexer
+    c.in-Ends.start
     c.loop-at-test.true c.loop-at.invariant.begun c.in-Ends.ensures)
 
 pub returns-in-Unfit-clause-reads : goal.returns-in-Unfit-clause-reads
 returns-in-Unfit-clause-reads c =
-    unfit_in c.args.side c.args.text.now c.args.window.now c.loop-at.at c.loop-at.spans.items c.loop-at.lexer
+    unfit_in c.args.side c.args.text.now c.args.window.now c.loop-at.at c.loop-at.starts.items c.loop-at.lexer
     c.loop-at-test.true
     c.loop-at.invariant.begun c.in-Unfit.ensures

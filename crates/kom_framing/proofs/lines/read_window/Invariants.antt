@@ -7,8 +7,8 @@ use Rattle.kom_framing.proofs.lines.read_window.Given as goal
 abbrev pub invariant-loop-at : goal.invariant-loop-at
 invariant-loop-at l = record {
   within : l.at ≤ length l.window;
-  begun : IsBegun l.side (l.text ++ take l.at l.window) l.spans.items l.lexer;
-  extends : Extends l.fn.spans.items l.spans.items;
+  begun : IsBegun l.side (l.text ++ take l.at l.window) l.starts.items l.lexer;
+  extends : Extends l.fn.starts.items l.starts.items;
 }
 
 abbrev pub decreases-loop-at : goal.decreases-loop-at

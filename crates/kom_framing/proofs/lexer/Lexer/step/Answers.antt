@@ -1,9 +1,21 @@
-use Rattle.std.proofs.Common.{ℕ, List, ◌++◌, take, drop, sym, subst}
+use Rattle.std.proofs.Common.{ℕ, List, ◌++◌, take, drop, arith, sym, subst}
 use Rattle.kom_framing.specs.declared.lexer.Lexer.{Lexer}
 use Rattle.kom_framing.specs.declared.lexer.Lexer.TheVariants as lexer
 use Rattle.kom_framing.specs.Scanning.{Does, IsLexer}
-use Rattle.kom_framing.proofs.Steps.{does_window_move, length_seen}
+use Rattle.kom_framing.proofs.Steps.{does_window_move, length_seen, inside_within}
 use Rattle.kom_framing.proofs.lexer.Lexer.step.Goals as goal
+
+pub step_inside-requires-clause-room : goal.step_inside-requires-clause-room
+step_inside-requires-clause-room c =
+    let bytes : List ℕ = c.args.text.now ++ take c.args.at c.args.window.now in
+    let inside = subst (λ (l : Lexer). IsLexer l bytes) c.in-Inside.is c.requires.lexer in
+    omega (
+      arith,
+      inside_within c.in-Inside.start c.in-Inside.lacking bytes inside,
+      length_seen c.args.text.now c.args.window.now c.args.at c.requires.some,
+      c.requires.room,
+      c.requires.some,
+    )
 
 pub returns-in-Between : goal.returns-in-Between
 returns-in-Between c =
