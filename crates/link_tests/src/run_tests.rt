@@ -2,8 +2,9 @@
 use kom_links::{Served, SessionEnd};
 use kom_server::{Outcome, run};
 use kom_types::{Moment, Words};
-use memory_links::{Client, GatePlan, LinkPlan, MemoryClock, MemoryGate, MemoryLink, MemoryWorld};
-use memory_links::Script;
+use memory_links::{
+    Client, GatePlan, LinkPlan, MemoryClock, MemoryGate, MemoryLink, MemoryWorld, Script,
+};
 use std::alloc::Global;
 use std::collections::VecDeque;
 use std::process::Abort;
