@@ -1,0 +1,40 @@
+#!/usr/bin/env python3
+"""Counts the instructions of opening a store, and prints how often they are those that its rows take.
+
+usage: tools/instructions_of_opening.py [KOMD [TEXTS]]      (KOMD: the built program, crates/komd/out/komd if left out)
+
+A store gets 20,000 texts of 500 bytes, unless TEXTS says how many, and is checked. Counted by callgrind: all that opening does, and
+of it that rows are told whether an effect fits, make room for it, and take it. The program must have the names of its functions.
+"""
+import pathlib
+import re
+import subprocess
+import sys
+import tempfile
+
+from instructions_of_load import counted
+from instructions_of_memberships import ROOT, login
+
+ROWS = r":kom_state::stored_rows::StoredRows::(fits|reserve|apply_effect)\b"
+
+
+def main(words):
+    program = words[0] if words else str(ROOT / "crates" / "komd" / "out" / "komd")
+    texts = int(words[1]) if len(words) > 1 else 20_000
+    lines = [b"A4Hmany", login(5), *(b"%d 86 500H%s 0 { } 0 { }" % (number + 2, b"x" * 500) for number in range(texts))]
+    with tempfile.TemporaryDirectory() as room:
+        store = pathlib.Path(room) / "store"
+        subprocess.run([program, "init", store, ""], stdout=subprocess.DEVNULL, check=True)
+        subprocess.run([program, "once", store], input=b"\n".join(lines) + b"\n", stdout=subprocess.DEVNULL, check=True)
+        report, functions = counted(pathlib.Path(room) / "check", [program, "check", store], b"")
+    if b"texts %d\n" % texts not in report:
+        sys.exit(f"the store holds {report!r}")
+    opening = sum(one for one, name in functions if re.search(r":kom_journal::journal::Journal::open\b", name))
+    rows = [one for one, name in functions if re.search(ROWS, name)]
+    if not opening or len(rows) != 3:
+        sys.exit("the program has no functions of those names")
+    print(f"opening {texts} texts: {opening / texts:.0f} instructions for each, {opening / sum(rows):.2f} times those of the rows")
+
+
+if __name__ == "__main__":
+    main(sys.argv[1:])
