@@ -8,8 +8,6 @@ mod flags;
 mod marks;
 mod memory_clock;
 mod memory_desk;
-#[cfg(test)]
-mod memory_desk_tests;
 mod memory_gate;
 mod memory_link;
 mod memory_sink;
@@ -17,8 +15,6 @@ mod memory_world;
 mod planned_items;
 mod port_gates;
 mod read_log;
-#[cfg(test)]
-mod tests;
 
 pub use desk_plan::DeskPlan;
 pub use file_plan::FilePlan;

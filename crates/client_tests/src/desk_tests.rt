@@ -2,11 +2,12 @@
 ghost use Rattle.std.specs.Prelude.{ℕ, IfOk};
 ghost use Rattle.kom_links.specs.Records.{IsOpen};
 
-use crate::{DeskPlan, MemoryDesk};
 use arrayvec::ArrayVec;
 use kom_links::{Desk, DeskFault};
 use kom_types::{Call, Item, Moment, Reply, Why};
+use memory_links::{DeskPlan, MemoryDesk};
 use std::alloc::{AllocError, Global};
+use std::process::Abort;
 use std::test::Fail;
 
 const DROPPED: DeskFault = DeskFault::Gone(Why::Dropped);
@@ -25,13 +26,42 @@ enum Asked {
     Flush,
 }
 
-/// A row of the test: whether the second of two sessions asks, what it asks for, and a letter for
-/// each item that it is given, or the fault.
-#[derive(Clone, Copy)]
-struct AskedRow {
-    is_second: bool,
-    asked: Asked,
-    told: Result<&'static [u8], DeskFault>,
+/// Whether the second of two sessions asks, what it asks for, and a letter for each item that it is
+/// given, or the fault.
+type Row = (bool, Asked, Result<&'static [u8], DeskFault>);
+
+const ROWS: [Row; 10] = [
+    (false, Asked::Call(5), Ok(b"")),
+    (false, Asked::Call(6), Err(DROPPED)),
+    (true, Asked::Broken, Ok(b"")),
+    (false, Asked::Flush, Err(DeskFault::Memory)),
+    (false, Asked::Flush, Ok(b"")),
+    (false, Asked::Drain, Ok(b"")),
+    (false, Asked::Drain, Ok(b"H\x05")),
+    (false, Asked::Drain, Ok(b"\x06")),
+    (false, Asked::Drain, Ok(b"")),
+    (true, Asked::Drain, Ok(b"HF")),
+];
+
+/// A desk of pass 3 that refuses its acts so. The fifth is a flush, which may not be refused with
+/// Gone, and the tenth a drain that gives nothing.
+fn desk_of(alloc: Global) -> Result<MemoryDesk, Fail> {
+    let mut plan = DeskPlan::new(alloc);
+    plan.refusals = Vec::from_slice(
+        alloc,
+        &[
+            (1, STOPPED),
+            (2, DROPPED),
+            (5, DROPPED),
+            (7, DeskFault::Memory),
+            (14, LOCK_FULL),
+        ],
+    )?;
+    plan.idle_drains.push(9)?;
+    plan.most_drained = 2;
+    plan.stops = 2;
+    plan.lock_ends = 3;
+    Ok(MemoryDesk::new(alloc, 3, plan)?)
 }
 
 /// The letter of an item: the reference of a reply in the session of this number.
@@ -115,78 +145,64 @@ fn letters_of(
     }
 }
 
+/// Each row is told as it says.
+fn check_rows(
+    rt: &impl Abort,
+    alloc: Global,
+    desk: &mut MemoryDesk,
+    first: u32,
+    second: u32,
+) -> Result<(), Fail>
+    requires first { IsOpen first (⟦<MemoryDesk as Desk>⟧.view desk.old).mine }
+    requires second { IsOpen second (⟦<MemoryDesk as Desk>⟧.view desk.old).mine }
+    ensures { IsOpen first (⟦<MemoryDesk as Desk>⟧.view desk.new).mine }
+{
+    for (is_second, asked, told) in ROWS {
+        let session = if is_second { second } else { first };
+        match ask(alloc, desk, session, asked)? {
+            Ok(letters) => assert!(rt; told == Ok(letters.as_slice())),
+            Err(fault) => assert!(rt; told == Err(fault)),
+        }
+    }
+    Ok(())
+}
+
+/// The desk closes the session once the lock has a turn for that.
+fn check_close(rt: &impl Abort, desk: &mut MemoryDesk, session: u32)
+    requires { IsOpen session (⟦<MemoryDesk as Desk>⟧.view desk.old).mine }
+{
+    match desk.close(Moment::at_most(3), session) {
+        Ok(()) => assert!(rt; false, "closed"),
+        Err(fault) => {
+            assert_eq!(rt; fault, LOCK_FULL);
+            assert!(rt; desk.close(Moment::at_most(3), session).is_ok());
+        }
+    }
+}
+
+/// The faults and the records that the desk has in the end.
+fn check_left(rt: &impl Abort, desk: &mut MemoryDesk, first: u32, second: u32) {
+    assert!(rt; desk.stopped() == Ok(false));
+    assert!(rt; desk.stopped() == Ok(true));
+    assert!(rt; desk.stopped() == Err(LOCK_FULL));
+    for (session, fault) in [
+        (0, Some(STOPPED)),
+        (first, Some(DROPPED)),
+        (second, Some(DeskFault::Memory)),
+        (3, None),
+    ] {
+        assert_eq!(rt; desk.first_fault(session), fault);
+    }
+    let sessions = [1, 2, 1, 2, 0, 1, 1, 1, 1, 2, 1];
+    assert_eq!(rt; desk.records().len(), sessions.len());
+    for (record, session) in desk.records().iter().zip(sessions) {
+        assert_eq!(rt; (record.entry.pass, record.session), (3, session));
+    }
+}
+
 #[test]
 fn a_desk_keeps_to_its_plan(rt: HostRuntime) -> Result<(), Fail> {
-    let alloc = rt.alloc();
-    let mut plan = DeskPlan::new(alloc);
-    // The second may not be returned at its act.
-    plan.refusals = Vec::from_slice(
-        alloc,
-        &[
-            (1, STOPPED),
-            (2, DROPPED),
-            (5, DROPPED),
-            (7, DeskFault::Memory),
-            (14, LOCK_FULL),
-        ],
-    )?;
-    plan.idle_drains.push(9)?;
-    plan.most_drained = 2;
-    plan.stops = 2;
-    plan.lock_ends = 3;
-    let rows = [
-        AskedRow {
-            is_second: false,
-            asked: Asked::Call(5),
-            told: Ok(b""),
-        },
-        AskedRow {
-            is_second: false,
-            asked: Asked::Call(6),
-            told: Err(DROPPED),
-        },
-        AskedRow {
-            is_second: true,
-            asked: Asked::Broken,
-            told: Ok(b""),
-        },
-        AskedRow {
-            is_second: false,
-            asked: Asked::Flush,
-            told: Err(DeskFault::Memory),
-        },
-        AskedRow {
-            is_second: false,
-            asked: Asked::Flush,
-            told: Ok(b""),
-        },
-        AskedRow {
-            is_second: false,
-            asked: Asked::Drain,
-            told: Ok(b""),
-        },
-        AskedRow {
-            is_second: false,
-            asked: Asked::Drain,
-            told: Ok(b"H\x05"),
-        },
-        AskedRow {
-            is_second: false,
-            asked: Asked::Drain,
-            told: Ok(b"\x06"),
-        },
-        AskedRow {
-            is_second: false,
-            asked: Asked::Drain,
-            told: Ok(b""),
-        },
-        AskedRow {
-            is_second: true,
-            asked: Asked::Drain,
-            told: Ok(b"HF"),
-        },
-    ];
-    let mut desk = MemoryDesk::new(alloc, 3, plan)?;
+    let mut desk = desk_of(rt.alloc())?;
     assert!(rt; connect(&mut desk) == Err(STOPPED));
     let Ok(first) = connect(&mut desk) else {
         assert!(rt; false, "no first session");
@@ -196,40 +212,8 @@ fn a_desk_keeps_to_its_plan(rt: HostRuntime) -> Result<(), Fail> {
         assert!(rt; false, "no second session");
         return Ok(());
     };
-    for row in rows {
-        let session = if row.is_second { second } else { first };
-        match ask(alloc, &mut desk, session, row.asked)? {
-            Ok(letters) => assert!(rt; row.told == Ok(letters.as_slice())),
-            Err(fault) => assert!(rt; row.told == Err(fault)),
-        }
-    }
-    assert!(rt; desk.stopped() == Ok(false));
-    assert!(rt; desk.stopped() == Ok(true));
-    assert!(rt; desk.stopped() == Err(LOCK_FULL));
-    let faults = [
-        (0, Some(STOPPED)),
-        (first, Some(DROPPED)),
-        (second, Some(DeskFault::Memory)),
-        (3, None),
-    ];
-    for (session, fault) in faults {
-        assert_eq!(rt; desk.first_fault(session), fault);
-    }
-    match desk.close(Moment::at_most(3), first) {
-        Ok(()) => assert!(rt; false, "closed"),
-        Err(fault) => {
-            assert_eq!(rt; fault, LOCK_FULL);
-            assert!(rt; desk.close(Moment::at_most(3), first).is_ok());
-        }
-    }
-    let mut sessions = Vec::new(alloc);
-    for record in desk.records() {
-        assert_eq!(rt; record.entry.pass, 3);
-        sessions.push(record.session)?;
-    }
-    assert_eq!(rt;
-        sessions.as_slice(),
-        [1, 2, 1, 2, 0, 1, 1, 1, 1, 2, 1].as_slice()
-    );
+    check_rows(&rt, rt.alloc(), &mut desk, first, second)?;
+    check_close(&rt, &mut desk, first);
+    check_left(&rt, &mut desk, first, second);
     Ok(())
 }

@@ -4,7 +4,7 @@ use Rattle.kom_links.specs.declared.desk.DeskFault.{DeskFault}
 use Rattle.kom_links.specs.DeskCalls.{DeskView, Connects}
 use Rattle.kom_links.specs.Records.{IsOpen}
 use Rattle.memory_links.proofs.OpenKept.{opened_connects, kept_connects}
-use Rattle.memory_links.proofs.memory_desk_tests.connect.Goals as goal
+use Rattle.client_tests.proofs.desk_tests.connect.Goals as goal
 
 opened_if : {old new : DeskView} {moment : ℕ} {user host : List ℕ} (answer : Result ℕ DeskFault) →
     Connects old moment user host answer new → IfOk answer (λ session. IsOpen session new.mine)

@@ -1,5 +1,5 @@
 use Rattle.memory_links.proofs.OpenKept.{kept_acts, kept_calls, kept_drains, kept_flushes}
-use Rattle.memory_links.proofs.memory_desk_tests.ask.Goals as goal
+use Rattle.client_tests.proofs.desk_tests.ask.Goals as goal
 
 pub returns-in-Call : goal.returns-in-Call
 returns-in-Call c = kept_calls c.call-answer.result c.call-answer.ensures.calls tt
