@@ -173,231 +173,244 @@ fn check_returned(
     }
 }
 
+const FAULTY_LINE: Row = Row {
+    inputs: &[b"A5Hceder\n1 +5\n"],
+    left: &[(TOLD, SessionEnd::Broken(11))],
+    ..PLAIN
+};
+
+static ANSWERED: [Row; 9] = [
+    PLAIN,
+    Row { most: 1, ..PLAIN },
+    Row {
+        inputs: &[b"A5Hceder\n1 56\n2 5"],
+        most: 3,
+        ..PLAIN
+    },
+    Row {
+        inputs: &[b"A1Ha\n1 84 1\n"],
+        left: &[(
+            b"LysKOM\n=1 1Ha 6Hmemory 0H 0 0 0 29 1 100 2 59 0\n",
+            SessionEnd::End,
+        )],
+        ..PLAIN
+    },
+    FAULTY_LINE,
+    Row {
+        most: 1,
+        ..FAULTY_LINE
+    },
+    Row {
+        inputs: &[b"A5Hceder\n5\n"],
+        left: &[(TOLD, SessionEnd::Broken(10))],
+        ..PLAIN
+    },
+    Row {
+        inputs: &[b"B"],
+        left: &[(b"%%Protocol error.\n", SessionEnd::Broken(0))],
+        ..PLAIN
+    },
+    Row {
+        inputs: &[b"A5Hcede"],
+        left: &[(b"", SessionEnd::End)],
+        ..PLAIN
+    },
+];
+
 #[test]
 fn a_client_is_answered_by_its_lines(rt: HostRuntime) -> Result<(), Fail> {
-    let faulty = Row {
-        inputs: &[b"A5Hceder\n1 +5\n"],
-        left: &[(TOLD, SessionEnd::Broken(11))],
-        ..PLAIN
-    };
-    let rows = [
-        PLAIN,
-        Row { most: 1, ..PLAIN },
-        Row {
-            inputs: &[b"A5Hceder\n1 56\n2 5"],
-            most: 3,
-            ..PLAIN
-        },
-        Row {
-            inputs: &[b"A1Ha\n1 84 1\n"],
-            left: &[(
-                b"LysKOM\n=1 1Ha 6Hmemory 0H 0 0 0 29 1 100 2 59 0\n",
-                SessionEnd::End,
-            )],
-            ..PLAIN
-        },
-        faulty,
-        Row { most: 1, ..faulty },
-        Row {
-            inputs: &[b"A5Hceder\n5\n"],
-            left: &[(TOLD, SessionEnd::Broken(10))],
-            ..PLAIN
-        },
-        Row {
-            inputs: &[b"B"],
-            left: &[(b"%%Protocol error.\n", SessionEnd::Broken(0))],
-            ..PLAIN
-        },
-        Row {
-            inputs: &[b"A5Hcede"],
-            left: &[(b"", SessionEnd::End)],
-            ..PLAIN
-        },
-    ];
-    check_rows(&rt, rt.alloc(), &rows)
+    check_rows(&rt, rt.alloc(), &ANSWERED)
 }
+
+/// What was read at once is settled together: a flush, a drain that gives all, and one that
+/// gives nothing once that is written. A session that is there at a read at which nothing is
+/// ready is settled too.
+const WHOLE: Row = Row {
+    cut: 9,
+    readings: Some(10),
+    ..PLAIN
+};
+
+const BROKEN_LINK: Row = Row {
+    left: &[(b"", SessionEnd::LinkFault)],
+    ..WHOLE
+};
+
+static LINK_FAILS: [Row; 10] = [
+    Row {
+        read_waits: 1,
+        ..WHOLE
+    },
+    Row {
+        read_waits: 2,
+        readings: Some(12),
+        ..WHOLE
+    },
+    Row {
+        write_waits: 1,
+        ..WHOLE
+    },
+    Row {
+        write_waits: 2,
+        ..WHOLE
+    },
+    Row {
+        read_fails: 1,
+        readings: Some(1),
+        ..BROKEN_LINK
+    },
+    Row {
+        read_fails: 2,
+        readings: Some(6),
+        left: &[(b"LysKOM\n", SessionEnd::LinkFault)],
+        ..BROKEN_LINK
+    },
+    Row {
+        read_fails: 3,
+        readings: Some(10),
+        left: &[(ANSWERS, SessionEnd::LinkFault)],
+        ..BROKEN_LINK
+    },
+    Row {
+        cut: 0,
+        read_fails: 2,
+        readings: Some(7),
+        left: &[(ANSWERS, SessionEnd::LinkFault)],
+        ..BROKEN_LINK
+    },
+    Row {
+        write_fails: 1,
+        cut: 0,
+        readings: Some(6),
+        ..BROKEN_LINK
+    },
+    Row {
+        write_fails: 2,
+        readings: Some(9),
+        left: &[(b"LysKOM\n", SessionEnd::LinkFault)],
+        ..BROKEN_LINK
+    },
+];
 
 #[test]
 fn a_link_that_fails_ends_its_session_alone(rt: HostRuntime) -> Result<(), Fail> {
-    // What was read at once is settled together: a flush, a drain that gives all, and one that
-    // gives nothing once that is written. A session that is there at a read at which nothing is
-    // ready is settled too.
-    let whole = Row {
-        cut: 9,
-        readings: Some(10),
-        ..PLAIN
-    };
-    let broken = Row {
-        left: &[(b"", SessionEnd::LinkFault)],
-        ..whole
-    };
-    let rows = [
-        Row {
-            read_waits: 1,
-            ..whole
-        },
-        Row {
-            read_waits: 2,
-            readings: Some(12),
-            ..whole
-        },
-        Row {
-            write_waits: 1,
-            ..whole
-        },
-        Row {
-            write_waits: 2,
-            ..whole
-        },
-        Row {
-            read_fails: 1,
-            readings: Some(1),
-            ..broken
-        },
-        Row {
-            read_fails: 2,
-            readings: Some(6),
-            left: &[(b"LysKOM\n", SessionEnd::LinkFault)],
-            ..broken
-        },
-        Row {
-            read_fails: 3,
-            readings: Some(10),
-            left: &[(ANSWERS, SessionEnd::LinkFault)],
-            ..broken
-        },
-        Row {
-            cut: 0,
-            read_fails: 2,
-            readings: Some(7),
-            left: &[(ANSWERS, SessionEnd::LinkFault)],
-            ..broken
-        },
-        Row {
-            write_fails: 1,
-            cut: 0,
-            readings: Some(6),
-            ..broken
-        },
-        Row {
-            write_fails: 2,
-            readings: Some(9),
-            left: &[(b"LysKOM\n", SessionEnd::LinkFault)],
-            ..broken
-        },
-    ];
-    check_rows(&rt, rt.alloc(), &rows)
+    check_rows(&rt, rt.alloc(), &LINK_FAILS)
 }
+
+const NO_GATE: Row = Row {
+    status: 5,
+    left: &[],
+    ..PLAIN
+};
+
+static GATE_FAILS: [Row; 6] = [
+    Row {
+        gate_waits: 1,
+        ..PLAIN
+    },
+    Row {
+        gate_waits: 2,
+        ..PLAIN
+    },
+    Row {
+        gate_fails: 1,
+        ..NO_GATE
+    },
+    Row {
+        gate_fails: 2,
+        status: 5,
+        ..PLAIN
+    },
+    Row {
+        gate_waits: 1,
+        gate_fails: 2,
+        ..NO_GATE
+    },
+    Row {
+        has_gate: false,
+        ..NO_GATE
+    },
+];
 
 #[test]
 fn a_gate_that_fails_ends_the_run(rt: HostRuntime) -> Result<(), Fail> {
-    let none = Row {
-        status: 5,
-        left: &[],
-        ..PLAIN
-    };
-    let rows = [
-        Row {
-            gate_waits: 1,
-            ..PLAIN
-        },
-        Row {
-            gate_waits: 2,
-            ..PLAIN
-        },
-        Row {
-            gate_fails: 1,
-            ..none
-        },
-        Row {
-            gate_fails: 2,
-            status: 5,
-            ..PLAIN
-        },
-        Row {
-            gate_waits: 1,
-            gate_fails: 2,
-            ..none
-        },
-        Row {
-            has_gate: false,
-            ..none
-        },
-    ];
-    check_rows(&rt, rt.alloc(), &rows)
+    check_rows(&rt, rt.alloc(), &GATE_FAILS)
 }
+
+const REFUSED: Row = Row {
+    words: &[],
+    has_gate: false,
+    status: 2,
+    left: &[],
+    report: b"usage: komd once [STORE] | serve STORE PORT WORKERS | init STORE PASSWORD \
+        | check STORE | load N\n",
+    ..PLAIN
+};
+
+static WORDS_REFUSED: [Row; 4] = [
+    REFUSED,
+    Row {
+        words: &["twice"],
+        ..REFUSED
+    },
+    Row {
+        words: &["once", "more", "words"],
+        ..REFUSED
+    },
+    Row {
+        words: &["once", ""],
+        sink_fails: 1,
+        report: b"",
+        ..REFUSED
+    },
+];
 
 #[test]
 fn other_words_are_refused(rt: HostRuntime) -> Result<(), Fail> {
-    let refused = Row {
-        words: &[],
-        has_gate: false,
-        status: 2,
-        left: &[],
-        report: b"usage: komd once [STORE] | serve STORE PORT WORKERS | init STORE PASSWORD \
-            | check STORE | load N\n",
-        ..PLAIN
-    };
-    let rows = [
-        refused,
-        Row {
-            words: &["twice"],
-            ..refused
-        },
-        Row {
-            words: &["once", "more", "words"],
-            ..refused
-        },
-        Row {
-            words: &["once", ""],
-            sink_fails: 1,
-            report: b"",
-            ..refused
-        },
-    ];
-    check_rows(&rt, rt.alloc(), &rows)
+    check_rows(&rt, rt.alloc(), &WORDS_REFUSED)
 }
+
+static ENDED: [Row; 4] = [
+    Row {
+        inputs: &[b"A1Ha\n1 56\n2 {\n3 56\n"],
+        left: &[(b"LysKOM\n=1 1\n%%Protocol error.\n", SessionEnd::Broken(13))],
+        ..PLAIN
+    },
+    // What comes after a session ended itself is not called; the next client is served.
+    Row {
+        inputs: &[b"A1Ha\n1 55 0\n2 56\n", b"A1Hb\n1 56\n"],
+        left: &[
+            (b"LysKOM\n=1\n", SessionEnd::Dropped),
+            (b"LysKOM\n=1 2\n", SessionEnd::End),
+        ],
+        ..PLAIN
+    },
+    // Nothing is called after the server was shut down, and nobody is greeted.
+    Row {
+        inputs: &[
+            b"A1Ha\n1 62 5 0H 0\n2 42 255\n3 44 0\n4 56\n5 56\n",
+            b"A1Hb\n1 56\n",
+        ],
+        left: &[
+            (b"LysKOM\n=1\n=2\n=3\n", SessionEnd::Stopped),
+            (b"", SessionEnd::Stopped),
+        ],
+        ..PLAIN
+    },
+    // Who is not privileged shuts nothing down.
+    Row {
+        inputs: &[b"A1Ha\n1 62 5 0H 0\n2 44 0\n3 56\n", b"A1Hb\n1 56\n"],
+        left: &[
+            (b"LysKOM\n=1\n%2 12 0\n=3 1\n", SessionEnd::End),
+            (b"LysKOM\n=1 2\n", SessionEnd::End),
+        ],
+        ..PLAIN
+    },
+];
 
 #[test]
 fn a_session_ends_by_its_client_or_by_a_call(rt: HostRuntime) -> Result<(), Fail> {
-    let rows = [
-        Row {
-            inputs: &[b"A1Ha\n1 56\n2 {\n3 56\n"],
-            left: &[(b"LysKOM\n=1 1\n%%Protocol error.\n", SessionEnd::Broken(13))],
-            ..PLAIN
-        },
-        // What comes after a session ended itself is not called; the next client is served.
-        Row {
-            inputs: &[b"A1Ha\n1 55 0\n2 56\n", b"A1Hb\n1 56\n"],
-            left: &[
-                (b"LysKOM\n=1\n", SessionEnd::Dropped),
-                (b"LysKOM\n=1 2\n", SessionEnd::End),
-            ],
-            ..PLAIN
-        },
-        // Nothing is called after the server was shut down, and nobody is greeted.
-        Row {
-            inputs: &[
-                b"A1Ha\n1 62 5 0H 0\n2 42 255\n3 44 0\n4 56\n5 56\n",
-                b"A1Hb\n1 56\n",
-            ],
-            left: &[
-                (b"LysKOM\n=1\n=2\n=3\n", SessionEnd::Stopped),
-                (b"", SessionEnd::Stopped),
-            ],
-            ..PLAIN
-        },
-        // Who is not privileged shuts nothing down.
-        Row {
-            inputs: &[b"A1Ha\n1 62 5 0H 0\n2 44 0\n3 56\n", b"A1Hb\n1 56\n"],
-            left: &[
-                (b"LysKOM\n=1\n%2 12 0\n=3 1\n", SessionEnd::End),
-                (b"LysKOM\n=1 2\n", SessionEnd::End),
-            ],
-            ..PLAIN
-        },
-    ];
-    check_rows(&rt, rt.alloc(), &rows)
+    check_rows(&rt, rt.alloc(), &ENDED)
 }
 
 /// Makes conference 6, and persons 7, 8 and 9.
@@ -430,43 +443,44 @@ const ADDED: (&[u8], SessionEnd) = (b"LysKOM\n=1\n=2\n", SessionEnd::End);
 
 /// Person 7 writes a letter to person 8, with an item on it: one in the one world, and another in
 /// the other. Person 9 is sent the same in both, until 7 adds 9 as a recipient.
+static TWO_WORLDS: [Row; 2] = [
+    Row {
+        inputs: &[
+            SETS_UP,
+            b"A2HBo\n1 62 7 1Hb 0\n2 86 4Hyes! 1 { 0 8 } 1 { 3 00000000 1 1Hp }\n",
+            LOOKS,
+            ADDS,
+            READS,
+        ],
+        left: &[
+            SET_UP,
+            WRITTEN,
+            LOOKED,
+            ADDED,
+            (b"LysKOM\n=1\n=4 4Hyes!\n", SessionEnd::End),
+        ],
+        ..PLAIN
+    },
+    Row {
+        inputs: &[
+            SETS_UP,
+            b"A2HBo\n1 62 7 1Hb 0\n2 86 4Hno!! 1 { 0 8 } 1 { 3 00000000 1 1Hq }\n",
+            LOOKS,
+            ADDS,
+            READS,
+        ],
+        left: &[
+            SET_UP,
+            WRITTEN,
+            LOOKED,
+            ADDED,
+            (b"LysKOM\n=1\n=4 4Hno!!\n", SessionEnd::End),
+        ],
+        ..PLAIN
+    },
+];
+
 #[test]
 fn a_letter_of_others_changes_nothing_in_two_worlds(rt: HostRuntime) -> Result<(), Fail> {
-    let rows = [
-        Row {
-            inputs: &[
-                SETS_UP,
-                b"A2HBo\n1 62 7 1Hb 0\n2 86 4Hyes! 1 { 0 8 } 1 { 3 00000000 1 1Hp }\n",
-                LOOKS,
-                ADDS,
-                READS,
-            ],
-            left: &[
-                SET_UP,
-                WRITTEN,
-                LOOKED,
-                ADDED,
-                (b"LysKOM\n=1\n=4 4Hyes!\n", SessionEnd::End),
-            ],
-            ..PLAIN
-        },
-        Row {
-            inputs: &[
-                SETS_UP,
-                b"A2HBo\n1 62 7 1Hb 0\n2 86 4Hno!! 1 { 0 8 } 1 { 3 00000000 1 1Hq }\n",
-                LOOKS,
-                ADDS,
-                READS,
-            ],
-            left: &[
-                SET_UP,
-                WRITTEN,
-                LOOKED,
-                ADDED,
-                (b"LysKOM\n=1\n=4 4Hno!!\n", SessionEnd::End),
-            ],
-            ..PLAIN
-        },
-    ];
-    check_rows(&rt, rt.alloc(), &rows)
+    check_rows(&rt, rt.alloc(), &TWO_WORLDS)
 }

@@ -168,347 +168,356 @@ fn check_left(rt: &impl Abort, records: &[Record], output: &[u8], served: Served
     }
 }
 
+const FEW: Row = Row {
+    most_drained: 2,
+    ..PLAIN
+};
+
+static SETTLED: [Row; 4] = [
+    Row {
+        input: b"A5Hceder\n",
+        made: Some(b"Cfddx"),
+        put: HELLO,
+        ..FEW
+    },
+    Row {
+        input: b"A5Hceder\n1 56\n2 56\n3 56\n4 56\n",
+        made: Some(b"Cccccfddddx"),
+        put: b"LysKOM\n=1 1\n=2 1\n=3 1\n=4 1\n",
+        ..FEW
+    },
+    Row {
+        input: b"A5Hceder\n1 56\n2 56\n3 56\n4 56\n5 56\n",
+        made: Some(b"Cccccfddddcfddx"),
+        put: b"LysKOM\n=1 1\n=2 1\n=3 1\n=4 1\n=5 1\n",
+        ..FEW
+    },
+    Row {
+        input: b"A5Hceder\n1 56\n2 56\n3 +",
+        made: Some(b"Cccbfdddx"),
+        put: b"LysKOM\n=1 1\n=2 1\n%%Protocol error.\n",
+        end: SessionEnd::Broken(21),
+        ..FEW
+    },
+];
+
 #[test]
 fn four_lines_are_settled_together(rt: HostRuntime) -> Result<(), Fail> {
-    let few = Row {
-        most_drained: 2,
-        ..PLAIN
-    };
-    let rows = [
-        Row {
-            input: b"A5Hceder\n",
-            made: Some(b"Cfddx"),
-            put: HELLO,
-            ..few
-        },
-        Row {
-            input: b"A5Hceder\n1 56\n2 56\n3 56\n4 56\n",
-            made: Some(b"Cccccfddddx"),
-            put: b"LysKOM\n=1 1\n=2 1\n=3 1\n=4 1\n",
-            ..few
-        },
-        Row {
-            input: b"A5Hceder\n1 56\n2 56\n3 56\n4 56\n5 56\n",
-            made: Some(b"Cccccfddddcfddx"),
-            put: b"LysKOM\n=1 1\n=2 1\n=3 1\n=4 1\n=5 1\n",
-            ..few
-        },
-        Row {
-            input: b"A5Hceder\n1 56\n2 56\n3 +",
-            made: Some(b"Cccbfdddx"),
-            put: b"LysKOM\n=1 1\n=2 1\n%%Protocol error.\n",
-            end: SessionEnd::Broken(21),
-            ..few
-        },
-    ];
-    check_rows(&rt, rt.alloc(), &rows)
+    check_rows(&rt, rt.alloc(), &SETTLED)
 }
+
+/// What is read first, and what comes after it, is whole or in fault by itself.
+const FAULT_TOLD: Row = Row {
+    put: TOLD,
+    end: SessionEnd::Broken(11),
+    ..PLAIN
+};
+
+static AT_FAULT: [Row; 5] = [
+    Row {
+        input: b"A5Hceder\n1 x",
+        ..FAULT_TOLD
+    },
+    Row {
+        input: b"A5Hceder\n1 x",
+        first_read: 9,
+        ..FAULT_TOLD
+    },
+    Row {
+        input: b"A5Hceder\n1 x1 56\n",
+        first_read: 12,
+        ..FAULT_TOLD
+    },
+    Row {
+        input: b"A5Hceder\n1 56\n2 56\n",
+        first_read: 3,
+        put: b"LysKOM\n=1 1\n=2 1\n",
+        end: SessionEnd::End,
+        ..FAULT_TOLD
+    },
+    Row {
+        input: b"B5Hceder\n",
+        first_read: 1,
+        session: 0,
+        put: b"%%Protocol error.\n",
+        end: SessionEnd::Broken(0),
+        ..FAULT_TOLD
+    },
+];
 
 #[test]
 fn a_stream_that_is_at_fault_is_told_where(rt: HostRuntime) -> Result<(), Fail> {
-    // What is read first, and what comes after it, is whole or in fault by itself.
-    let faulty = Row {
-        put: TOLD,
-        end: SessionEnd::Broken(11),
-        ..PLAIN
-    };
-    let rows = [
-        Row {
-            input: b"A5Hceder\n1 x",
-            ..faulty
-        },
-        Row {
-            input: b"A5Hceder\n1 x",
-            first_read: 9,
-            ..faulty
-        },
-        Row {
-            input: b"A5Hceder\n1 x1 56\n",
-            first_read: 12,
-            ..faulty
-        },
-        Row {
-            input: b"A5Hceder\n1 56\n2 56\n",
-            first_read: 3,
-            put: b"LysKOM\n=1 1\n=2 1\n",
-            end: SessionEnd::End,
-            ..faulty
-        },
-        Row {
-            input: b"B5Hceder\n",
-            first_read: 1,
-            session: 0,
-            put: b"%%Protocol error.\n",
-            end: SessionEnd::Broken(0),
-            ..faulty
-        },
-    ];
-    check_rows(&rt, rt.alloc(), &rows)
+    check_rows(&rt, rt.alloc(), &AT_FAULT)
 }
+
+/// The greeting and the line come together: the connect is act 1, the call, or that the stream
+/// is at fault, 2, the flush 3, the drains 4 and 5, and the close 6. After a call that is
+/// refused with Dropped or Stopped what waits is sent.
+const UNANSWERED: Row = Row { put: b"", ..PLAIN };
+
+const LINE_AT_FAULT: Row = Row {
+    input: FAULTY,
+    put: TOLD,
+    ..PLAIN
+};
+
+static DESK_FAULTS: [Row; 21] = [
+    Row {
+        put: ANSWERS,
+        ..UNANSWERED
+    },
+    Row {
+        refusals: &[(1, STOPPED)],
+        session: 0,
+        end: SessionEnd::Stopped,
+        ..UNANSWERED
+    },
+    Row {
+        refusals: &[(1, DeskFault::Full(MOST_SESSIONS))],
+        session: 0,
+        end: SessionEnd::Full(MOST_SESSIONS),
+        ..UNANSWERED
+    },
+    Row {
+        refusals: &[(1, DeskFault::Memory)],
+        session: 0,
+        end: SessionEnd::Memory,
+        ..UNANSWERED
+    },
+    Row {
+        refusals: &[(2, OVERRUN)],
+        end: SessionEnd::Overrun,
+        ..UNANSWERED
+    },
+    Row {
+        refusals: &[(2, DROPPED)],
+        put: ANSWERS,
+        end: SessionEnd::Dropped,
+        ..UNANSWERED
+    },
+    Row {
+        refusals: &[(2, STOPPED)],
+        put: ANSWERS,
+        end: SessionEnd::Stopped,
+        ..UNANSWERED
+    },
+    Row {
+        refusals: &[(2, STOPPED), (3, STOPPED)],
+        end: SessionEnd::Stopped,
+        ..UNANSWERED
+    },
+    Row {
+        refusals: &[(2, DeskFault::Full(LOCK_FULL))],
+        end: SessionEnd::Full(LOCK_FULL),
+        ..UNANSWERED
+    },
+    Row {
+        refusals: &[(2, DeskFault::Memory)],
+        end: SessionEnd::Memory,
+        ..UNANSWERED
+    },
+    Row {
+        refusals: &[(3, STOPPED)],
+        end: SessionEnd::Stopped,
+        ..UNANSWERED
+    },
+    Row {
+        refusals: &[(3, DeskFault::Memory)],
+        end: SessionEnd::Memory,
+        ..UNANSWERED
+    },
+    Row {
+        refusals: &[(4, OVERRUN)],
+        end: SessionEnd::Overrun,
+        ..UNANSWERED
+    },
+    Row {
+        refusals: &[(5, OVERRUN)],
+        put: ANSWERS,
+        end: SessionEnd::Overrun,
+        ..UNANSWERED
+    },
+    Row {
+        refusals: &[(6, DeskFault::Full(LOCK_FULL))],
+        put: ANSWERS,
+        end: SessionEnd::Full(LOCK_FULL),
+        ..UNANSWERED
+    },
+    Row {
+        refusals: &[(2, DROPPED), (5, OVERRUN)],
+        put: ANSWERS,
+        end: SessionEnd::Dropped,
+        ..UNANSWERED
+    },
+    Row {
+        end: SessionEnd::Broken(11),
+        ..LINE_AT_FAULT
+    },
+    Row {
+        refusals: &[(2, OVERRUN)],
+        end: SessionEnd::Overrun,
+        ..LINE_AT_FAULT
+    },
+    Row {
+        refusals: &[(3, DeskFault::Memory)],
+        put: b"",
+        end: SessionEnd::Memory,
+        ..LINE_AT_FAULT
+    },
+    Row {
+        input: b"B",
+        session: 0,
+        put: b"%%Protocol error.\n",
+        end: SessionEnd::Broken(0),
+        ..UNANSWERED
+    },
+    // A fault of the link goes before one of the desk.
+    Row {
+        refusals: &[(5, DeskFault::Full(LOCK_FULL))],
+        write_fails: 1,
+        made: Some(b"Ccfd"),
+        end: SessionEnd::LinkFault,
+        ..UNANSWERED
+    },
+];
 
 #[test]
 fn the_first_fault_of_a_desk_gives_the_end(rt: HostRuntime) -> Result<(), Fail> {
-    // The greeting and the line come together: the connect is act 1, the call, or that the stream
-    // is at fault, 2, the flush 3, the drains 4 and 5, and the close 6. After a call that is
-    // refused with Dropped or Stopped what waits is sent.
-    let asks = Row { put: b"", ..PLAIN };
-    let faulty = Row {
-        input: FAULTY,
-        put: TOLD,
-        ..PLAIN
-    };
-    let rows = [
-        Row {
-            put: ANSWERS,
-            ..asks
-        },
-        Row {
-            refusals: &[(1, STOPPED)],
-            session: 0,
-            end: SessionEnd::Stopped,
-            ..asks
-        },
-        Row {
-            refusals: &[(1, DeskFault::Full(MOST_SESSIONS))],
-            session: 0,
-            end: SessionEnd::Full(MOST_SESSIONS),
-            ..asks
-        },
-        Row {
-            refusals: &[(1, DeskFault::Memory)],
-            session: 0,
-            end: SessionEnd::Memory,
-            ..asks
-        },
-        Row {
-            refusals: &[(2, OVERRUN)],
-            end: SessionEnd::Overrun,
-            ..asks
-        },
-        Row {
-            refusals: &[(2, DROPPED)],
-            put: ANSWERS,
-            end: SessionEnd::Dropped,
-            ..asks
-        },
-        Row {
-            refusals: &[(2, STOPPED)],
-            put: ANSWERS,
-            end: SessionEnd::Stopped,
-            ..asks
-        },
-        Row {
-            refusals: &[(2, STOPPED), (3, STOPPED)],
-            end: SessionEnd::Stopped,
-            ..asks
-        },
-        Row {
-            refusals: &[(2, DeskFault::Full(LOCK_FULL))],
-            end: SessionEnd::Full(LOCK_FULL),
-            ..asks
-        },
-        Row {
-            refusals: &[(2, DeskFault::Memory)],
-            end: SessionEnd::Memory,
-            ..asks
-        },
-        Row {
-            refusals: &[(3, STOPPED)],
-            end: SessionEnd::Stopped,
-            ..asks
-        },
-        Row {
-            refusals: &[(3, DeskFault::Memory)],
-            end: SessionEnd::Memory,
-            ..asks
-        },
-        Row {
-            refusals: &[(4, OVERRUN)],
-            end: SessionEnd::Overrun,
-            ..asks
-        },
-        Row {
-            refusals: &[(5, OVERRUN)],
-            put: ANSWERS,
-            end: SessionEnd::Overrun,
-            ..asks
-        },
-        Row {
-            refusals: &[(6, DeskFault::Full(LOCK_FULL))],
-            put: ANSWERS,
-            end: SessionEnd::Full(LOCK_FULL),
-            ..asks
-        },
-        Row {
-            refusals: &[(2, DROPPED), (5, OVERRUN)],
-            put: ANSWERS,
-            end: SessionEnd::Dropped,
-            ..asks
-        },
-        Row {
-            end: SessionEnd::Broken(11),
-            ..faulty
-        },
-        Row {
-            refusals: &[(2, OVERRUN)],
-            end: SessionEnd::Overrun,
-            ..faulty
-        },
-        Row {
-            refusals: &[(3, DeskFault::Memory)],
-            put: b"",
-            end: SessionEnd::Memory,
-            ..faulty
-        },
-        Row {
-            input: b"B",
-            session: 0,
-            put: b"%%Protocol error.\n",
-            end: SessionEnd::Broken(0),
-            ..asks
-        },
-        // A fault of the link goes before one of the desk.
-        Row {
-            refusals: &[(5, DeskFault::Full(LOCK_FULL))],
-            write_fails: 1,
-            made: Some(b"Ccfd"),
-            end: SessionEnd::LinkFault,
-            ..asks
-        },
-    ];
-    check_rows(&rt, rt.alloc(), &rows)
+    check_rows(&rt, rt.alloc(), &DESK_FAULTS)
 }
+
+/// The greeting and the call are read one by one, but where the first read gives both. Where a
+/// stop is found, what waits is flushed, drained and written first.
+const ONE_BY_ONE: Row = Row {
+    first_read: 9,
+    made: Some(b"Cfddcfddx"),
+    ..PLAIN
+};
+
+static STOPPED_AT: [Row; 16] = [
+    ONE_BY_ONE,
+    // before a session
+    Row {
+        read_waits: 1,
+        ..ONE_BY_ONE
+    },
+    Row {
+        read_waits: 1,
+        stops: 1,
+        session: 0,
+        made: Some(b""),
+        put: b"",
+        end: SessionEnd::Stopped,
+        ..ONE_BY_ONE
+    },
+    Row {
+        read_waits: 1,
+        lock_ends: 1,
+        session: 0,
+        made: Some(b""),
+        put: b"",
+        end: SessionEnd::Full(LOCK_FULL),
+        ..ONE_BY_ONE
+    },
+    // at a read
+    Row {
+        read_waits: 2,
+        made: Some(b"Cfddfdcfddx"),
+        ..ONE_BY_ONE
+    },
+    Row {
+        read_waits: 2,
+        stops: 1,
+        made: Some(b"Cfddfdx"),
+        put: HELLO,
+        end: SessionEnd::Stopped,
+        ..ONE_BY_ONE
+    },
+    Row {
+        read_waits: 2,
+        idle_drain: 3,
+        stops: 1,
+        made: Some(b"Cfdfddx"),
+        put: HELLO,
+        end: SessionEnd::Stopped,
+        ..ONE_BY_ONE
+    },
+    Row {
+        read_waits: 2,
+        lock_ends: 1,
+        made: Some(b"Cfddfdx"),
+        put: HELLO,
+        end: SessionEnd::Full(LOCK_FULL),
+        ..ONE_BY_ONE
+    },
+    // while an item is written
+    Row {
+        write_waits: 1,
+        ..ONE_BY_ONE
+    },
+    Row {
+        write_waits: 1,
+        stops: 1,
+        made: Some(b"Cfddfdx"),
+        put: HELLO,
+        end: SessionEnd::Stopped,
+        ..ONE_BY_ONE
+    },
+    Row {
+        write_waits: 2,
+        most_written: 3,
+        stops: 1,
+        made: Some(b"Cfddfdx"),
+        put: HELLO,
+        end: SessionEnd::Stopped,
+        ..ONE_BY_ONE
+    },
+    Row {
+        write_waits: 2,
+        stops: 1,
+        made: Some(b"Cfddcfddfdx"),
+        put: ANSWERS,
+        end: SessionEnd::Stopped,
+        ..ONE_BY_ONE
+    },
+    Row {
+        first_read: 14,
+        write_waits: 1,
+        most_drained: 1,
+        idle_drain: 5,
+        stops: 1,
+        made: Some(b"Ccfddfddx"),
+        end: SessionEnd::Stopped,
+        ..ONE_BY_ONE
+    },
+    Row {
+        write_waits: 1,
+        lock_ends: 1,
+        made: Some(b"Cfddfdx"),
+        put: HELLO,
+        end: SessionEnd::Full(LOCK_FULL),
+        ..ONE_BY_ONE
+    },
+    // the link fails
+    Row {
+        write_fails: 2,
+        made: Some(b"Cfddcfdx"),
+        put: HELLO,
+        end: SessionEnd::LinkFault,
+        ..ONE_BY_ONE
+    },
+    Row {
+        read_fails: 2,
+        made: Some(b"Cfddx"),
+        put: HELLO,
+        end: SessionEnd::LinkFault,
+        ..ONE_BY_ONE
+    },
+];
 
 #[test]
 fn a_wait_finds_the_desk_stopped(rt: HostRuntime) -> Result<(), Fail> {
-    // The greeting and the call are read one by one, but where the first read gives both. Where a
-    // stop is found, what waits is flushed, drained and written first.
-    let none = Row {
-        first_read: 9,
-        made: Some(b"Cfddcfddx"),
-        ..PLAIN
-    };
-    let rows = [
-        none,
-        // before a session
-        Row {
-            read_waits: 1,
-            ..none
-        },
-        Row {
-            read_waits: 1,
-            stops: 1,
-            session: 0,
-            made: Some(b""),
-            put: b"",
-            end: SessionEnd::Stopped,
-            ..none
-        },
-        Row {
-            read_waits: 1,
-            lock_ends: 1,
-            session: 0,
-            made: Some(b""),
-            put: b"",
-            end: SessionEnd::Full(LOCK_FULL),
-            ..none
-        },
-        // at a read
-        Row {
-            read_waits: 2,
-            made: Some(b"Cfddfdcfddx"),
-            ..none
-        },
-        Row {
-            read_waits: 2,
-            stops: 1,
-            made: Some(b"Cfddfdx"),
-            put: HELLO,
-            end: SessionEnd::Stopped,
-            ..none
-        },
-        Row {
-            read_waits: 2,
-            idle_drain: 3,
-            stops: 1,
-            made: Some(b"Cfdfddx"),
-            put: HELLO,
-            end: SessionEnd::Stopped,
-            ..none
-        },
-        Row {
-            read_waits: 2,
-            lock_ends: 1,
-            made: Some(b"Cfddfdx"),
-            put: HELLO,
-            end: SessionEnd::Full(LOCK_FULL),
-            ..none
-        },
-        // while an item is written
-        Row {
-            write_waits: 1,
-            ..none
-        },
-        Row {
-            write_waits: 1,
-            stops: 1,
-            made: Some(b"Cfddfdx"),
-            put: HELLO,
-            end: SessionEnd::Stopped,
-            ..none
-        },
-        Row {
-            write_waits: 2,
-            most_written: 3,
-            stops: 1,
-            made: Some(b"Cfddfdx"),
-            put: HELLO,
-            end: SessionEnd::Stopped,
-            ..none
-        },
-        Row {
-            write_waits: 2,
-            stops: 1,
-            made: Some(b"Cfddcfddfdx"),
-            put: ANSWERS,
-            end: SessionEnd::Stopped,
-            ..none
-        },
-        Row {
-            first_read: 14,
-            write_waits: 1,
-            most_drained: 1,
-            idle_drain: 5,
-            stops: 1,
-            made: Some(b"Ccfddfddx"),
-            end: SessionEnd::Stopped,
-            ..none
-        },
-        Row {
-            write_waits: 1,
-            lock_ends: 1,
-            made: Some(b"Cfddfdx"),
-            put: HELLO,
-            end: SessionEnd::Full(LOCK_FULL),
-            ..none
-        },
-        // the link fails
-        Row {
-            write_fails: 2,
-            made: Some(b"Cfddcfdx"),
-            put: HELLO,
-            end: SessionEnd::LinkFault,
-            ..none
-        },
-        Row {
-            read_fails: 2,
-            made: Some(b"Cfddx"),
-            put: HELLO,
-            end: SessionEnd::LinkFault,
-            ..none
-        },
-    ];
-    check_rows(&rt, rt.alloc(), &rows)
+    check_rows(&rt, rt.alloc(), &STOPPED_AT)
 }
 
 /// A link in memory whose client sends its second piece only after so many bytes were put to it.
