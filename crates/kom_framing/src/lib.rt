@@ -9,8 +9,6 @@ mod lexer;
 mod line;
 mod lines;
 mod splitter;
-#[cfg(test)]
-mod tests;
 mod token;
 mod units;
 mod writer;
