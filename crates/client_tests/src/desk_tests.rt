@@ -30,7 +30,7 @@ enum Asked {
 /// given, or the fault.
 type Row = (bool, Asked, Result<&'static [u8], DeskFault>);
 
-const ROWS: [Row; 10] = [
+static ROWS: [Row; 10] = [
     (false, Asked::Call(5), Ok(b"")),
     (false, Asked::Call(6), Err(DROPPED)),
     (true, Asked::Broken, Ok(b"")),
@@ -157,11 +157,11 @@ fn check_rows(
     requires second { IsOpen second (⟦<MemoryDesk as Desk>⟧.view desk.old).mine }
     ensures { IsOpen first (⟦<MemoryDesk as Desk>⟧.view desk.new).mine }
 {
-    for (is_second, asked, told) in ROWS {
-        let session = if is_second { second } else { first };
-        match ask(alloc, desk, session, asked)? {
-            Ok(letters) => assert!(rt; told == Ok(letters.as_slice())),
-            Err(fault) => assert!(rt; told == Err(fault)),
+    for (is_second, asked, told) in &ROWS {
+        let session = if *is_second { second } else { first };
+        match ask(alloc, desk, session, *asked)? {
+            Ok(letters) => assert!(rt; *told == Ok(letters.as_slice())),
+            Err(fault) => assert!(rt; *told == Err(fault)),
         }
     }
     Ok(())
