@@ -27,8 +27,3 @@ pub use place::{HostPlace, OpenedFile, Place};
 pub use read::read_up_to;
 pub use shared_disk::{Change, Given, SharedDisk};
 pub use tear::Tear;
-
-#[cfg(test)]
-mod file_tests;
-#[cfg(test)]
-mod tests;
