@@ -26,8 +26,6 @@ mod held;
 mod pass;
 mod plays;
 mod steps;
-#[cfg(test)]
-mod tests;
 mod views;
 
 pub use booked::Booked;

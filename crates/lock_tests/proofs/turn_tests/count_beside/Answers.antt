@@ -1,7 +1,7 @@
 use Rattle.std.proofs.Common.{length, drop, sym, subst, arith}
 use Rattle.kom_state_lock.specs.Passes.{AreReady, AreReadyButLast, IsReadyLast}
 use Rattle.kom_state_lock.proofs.Ready.{ready_table, ready_every, ready_free, ready_popped, ready_pushed}
-use Rattle.kom_state_lock.proofs.tests.count_beside.Goals as goal
+use Rattle.lock_tests.proofs.turn_tests.count_beside.Goals as goal
 
 -- the others' passes, and the last one
 parts : (g : _) (c : goal.After-as_mut_slice g)
