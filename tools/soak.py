@@ -43,6 +43,8 @@ WORKERS = 64
 PERSONS, HOSTILE, SLOW, SILENT, UNREAD, HALF = 44, 8, 4, 2, 2, 2
 ROUNDS = 10
 SILENCE_SECONDS, STALL_SECONDS = 30, 60
+# How long a busy server may take to write as much as a connection holds.
+FULL_SECONDS = 45
 # How much later than it should an end may come on a busy machine.
 LATE_SECONDS = 15
 # For so long no hostile stream begins before a kill, since a long line takes memory while it is there.
@@ -316,21 +318,15 @@ def unread(soak):
     def one(server, _chosen):
         session = Session(server.port, "unread", receive=4_096)
         fill(session, lambda: soak.is_running(server))
-        if not pause(soak, server, STALL_SECONDS + LATE_SECONDS):
-            session.close()
-            return
-        # It was let go, so all that is there to read has an end, long before all that it asked for.
-        session.socket.settimeout(5)
-        count = 0
-        try:
-            while piece := session.socket.recv(1 << 20):
-                count += len(piece)
-        except TimeoutError:
-            raise Wrong(f"a client that never read is served on: {count} bytes are there") from None
-        except ConnectionResetError:
-            pass
+        watch, end = select.poll(), time.monotonic() + FULL_SECONDS + STALL_SECONDS + LATE_SECONDS
+        watch.register(session.socket, 0)
+        while soak.is_running(server):
+            if watch.poll(200):
+                soak.counts["clients that never read and were let go"] += 1
+                break
+            if time.monotonic() > end:
+                raise Wrong("a client that never read is served on")
         session.close()
-        soak.counts["clients that never read and were let go"] += 1
 
     return one
 
