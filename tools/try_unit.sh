@@ -81,7 +81,7 @@ drop_in() {
 
 dpkg -i /komd.deb >/said.dpkg 2>&1 || cat /said.dpkg
 same 'the units as systemd-analyze finds them' '' \
-    "$(systemd-analyze verify /usr/lib/systemd/system/komd{.service,-backup.service,-backup.timer} 2>&1)"
+    "$(systemd-analyze verify --man=no /usr/lib/systemd/system/komd{.service,-backup.service,-backup.timer} 2>&1)"
 echo "systemd-analyze security: $(systemd-analyze security --no-pager komd.service | tail -n 1)"
 systemctl start komd
 stands 'where there is no store' 'failed exit-code 4 0' 12
