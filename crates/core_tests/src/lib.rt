@@ -1,4 +1,5 @@
-//! Tests of the core: several sessions and what they are sent, and what a keeper gets.
+//! Tests of the core: several sessions and what they are sent, what a keeper gets, and the time
+//! that a session is told.
 #![tactic(auto)]
 
 #[cfg(test)]
@@ -7,5 +8,7 @@ mod keeper_tests;
 mod kept;
 #[cfg(test)]
 mod message_tests;
+#[cfg(test)]
+mod time_tests;
 #[cfg(test)]
 mod tried;

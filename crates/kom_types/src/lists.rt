@@ -129,23 +129,3 @@ impl Words {
         self.texts[place].as_str()
     }
 }
-
-#[cfg(test)]
-mod tests {
-    use super::*;
-    use std::test::Fail;
-
-    #[test]
-    fn lists_keep_what_they_are_given(rt: HostRuntime) -> Result<(), Fail> {
-        let copy = Bytes::copy_of(rt.alloc(), b"ceder")?;
-        assert_eq!(rt; copy.as_slice(), b"ceder".as_slice());
-        assert_eq!(rt; Bytes::of(copy.into_vec()).len(), 5);
-        assert!(rt; Bytes::new(rt.alloc()).is_empty());
-        let mut words = Words::new(rt.alloc());
-        words.push("once")?;
-        words.push("store")?;
-        assert_eq!(rt; words.len(), 2);
-        assert_eq!(rt; words.word(1), "store");
-        Ok(())
-    }
-}

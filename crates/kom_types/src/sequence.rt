@@ -70,21 +70,3 @@ impl<T: Drop> Sequence<T> {
         self.values.is_empty()
     }
 }
-
-#[cfg(test)]
-mod tests {
-    use super::*;
-    use std::test::Fail;
-
-    #[test]
-    fn a_sequence_keeps_what_it_is_given(rt: HostRuntime) -> Result<(), Fail> {
-        let mut numbers: Sequence<u32> = Sequence::new(rt.alloc());
-        assert!(rt; numbers.is_empty());
-        numbers.push(7)?;
-        numbers.push(5)?;
-        assert_eq!(rt; numbers.as_slice(), [7, 5].as_slice());
-        let again = Sequence::of(numbers.into_vec());
-        assert_eq!(rt; again.len(), 2);
-        Ok(())
-    }
-}
