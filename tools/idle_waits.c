@@ -1,9 +1,9 @@
-// Waits as the workers of `komd` do that have idle connections, and tells which part of a core that takes:
+// Waits as workers with idle connections would that were not woken, and tells which part of a core that takes:
 //
 //     idle_waits THREADS MILLISECONDS SECONDS
 //
-// Each thread has a socket on which nothing comes: it reads, polls for so many milliseconds, and reads again. After a second it
-// measures its processor time for so many seconds.
+// Each thread has a socket on which nothing comes: it reads, polls for so many milliseconds, and reads again where something
+// came. After a second it measures its processor time for so many seconds.
 #define _GNU_SOURCE
 #include <pthread.h>
 #include <stdio.h>
@@ -26,8 +26,8 @@ static void *wait_on(void *number) {
     usleep((useconds_t)(*(int *)number * 7919 % pause_milliseconds) * 1000);
     for (;;) {
         recv(pair[0], input, sizeof input, 0);
-        epoll_wait(poll, &event, 1, pause_milliseconds);
-        recv(pair[0], input, sizeof input, 0);
+        if (epoll_wait(poll, &event, 1, pause_milliseconds) > 0)
+            recv(pair[0], input, sizeof input, 0);
     }
     return NULL;
 }

@@ -5,7 +5,7 @@ Each part makes a store in memory and has it served by 64 workers:
 - memory: what the server has resident after ten thousand calls of four connections that send what they can, and after ten
   million; of a hundred calls eighteen are stored;
 - idle: which part of a core the server takes in 20 seconds, by clock ticks, while 64 connections at which somebody is logged in
-  are idle, and what it takes without them; and what C (idle_waits.c) takes meanwhile of which 64 threads wait in the same way;
+  are idle, and what it takes without them; and what C (idle_waits.c) takes meanwhile of which 64 threads poll, again and again;
 - messages: how long 1,000 messages take to a session that is idle, of 64; the median, and what 99 of 100 do not exceed.
 
 It prints a line for each, with the machine's load before and after: another load than its own makes the figures greater. All
@@ -127,8 +127,8 @@ def idle(program, folder):
         alone, theirs_alone = parts_of_core(server, waits)
         sessions = [Session(server.port, f"idle{number}").login() for number in range(WORKERS)]
         part, theirs = parts_of_core(server, waits)
-        print(f"with {WORKERS} workers an idle server takes {alone:.2%} of a core, {alone / theirs_alone:.1f} of C that waits so;")
-        print(f"with {WORKERS} idle connections {part:.2%}, {part / theirs:.1f} of C that waits so")
+        print(f"with {WORKERS} workers an idle server takes {alone:.2%} of a core, {alone / theirs_alone:.1f} of C that polls;")
+        print(f"with {WORKERS} idle connections {part:.2%}, {part / theirs:.1f} of C that polls")
         for session in sessions:
             session.close()
         end(server)
@@ -147,7 +147,7 @@ def messages(program, folder):
         times = []
         for number in range(MESSAGES):
             # (so that messages come at all moments of the pause)
-            time.sleep((number * 37 % 160) / 1_000)
+            time.sleep((number * 37 % (2 * PAUSE_MILLISECONDS)) / 1_000)
             begun = time.monotonic()
             reference = sender.send(f"53 {ADMINISTRATOR} {string(str(number))}")
             listener.message()

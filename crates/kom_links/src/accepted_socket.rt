@@ -1,18 +1,19 @@
 ghost use Rattle.std.specs.Prelude.{◌<◌, length};
 ghost use Rattle.kom_links.specs.Streams.{GivesWithin, TakesWithin};
 
+use crate::bells::Watch;
 use crate::link::{Got, Took};
 use crate::streams::{try_read, try_write};
 use mio::net::TcpStream;
-use mio::{Events, Interest, Poll, Token};
-use std::alloc::Global;
+use mio::{Interest, Token};
 use std::io;
-use std::net::{Net, Shutdown};
+use std::net::Shutdown;
 use std::rt::Clock;
-use std::time::{Duration, Instant};
+use std::time::Instant;
 
-/// How long a call waits at most if nothing is ready, in milliseconds.
-pub(crate) const PAUSE_MILLIS: u64 = 80;
+// How long a call waits if nothing is ready, in milliseconds. A read waits on while nothing is done
+// at the port.
+const PAUSE_MILLIS: u64 = 80;
 
 // A socket fails that has sent no byte so long after it was accepted.
 const SILENCE_SECONDS: u64 = 30;
@@ -23,13 +24,13 @@ const STALL_SECONDS: u64 = 60;
 // How many pieces are read at most of what a peer still sends as its socket is closed.
 const LAST_READS: u32 = 16;
 
-/// A socket that was accepted, with a poll of its own. If nothing is ready a call waits for it, for
-/// a pause at most.
+/// A socket that was accepted, with a watch. If nothing is ready a call waits for it for a pause; a
+/// read waits on until something is done at the port, which may be something to be told to its
+/// peer.
 #[derive(Drop)]
 pub(crate) struct AcceptedSocket<C: Clock + Drop> {
     stream: TcpStream,
-    poll: Poll,
-    events: Events,
+    watch: Watch,
     clock: C,
     accepted: Instant,
     has_sent: bool,
@@ -38,38 +39,33 @@ pub(crate) struct AcceptedSocket<C: Clock + Drop> {
 }
 
 impl<C: Clock + Drop> AcceptedSocket<C> {
-    /// A socket that was accepted now.
-    pub(crate) fn new<R: Net>(
-        net: &R,
-        alloc: Global,
+    /// A socket that was accepted now; or the watch, if the socket cannot be used.
+    pub(crate) fn new(
         mut stream: TcpStream,
+        watch: Watch,
         clock: C,
-    ) -> io::Result<AcceptedSocket<C>> {
-        stream.set_nodelay(true)?;
-        let poll = Poll::new(net)?;
-        poll.registry().register(
-            &mut stream,
-            Token(0),
-            Interest::READABLE | Interest::WRITABLE,
-        )?;
-        let events = Events::with_capacity(alloc, 1)?;
-        let accepted = Instant::now(&clock)?;
-        Ok(AcceptedSocket {
-            stream,
-            poll,
-            events,
-            clock,
-            accepted,
-            has_sent: false,
-            stalled: None,
-        })
+    ) -> Result<AcceptedSocket<C>, Watch> {
+        if prepare(&mut stream, &watch).is_err() {
+            return Err(watch);
+        }
+        match Instant::now(&clock) {
+            Ok(accepted) => Ok(AcceptedSocket {
+                stream,
+                watch,
+                clock,
+                accepted,
+                has_sent: false,
+                stalled: None,
+            }),
+            Err(_) => Err(watch),
+        }
     }
 
     pub(crate) fn read(&mut self, into: &mut [u8]) -> Got
         requires { 0 < length into.old }
         ensures { GivesWithin (length into.new) result }
     {
-        let got = self.read_soon(into);
+        let got = self.read_soon(into, self.has_sent);
         match got {
             Got::Some(_) => {
                 self.has_sent = true;
@@ -91,6 +87,8 @@ impl<C: Clock + Drop> AcceptedSocket<C> {
         requires { 0 < length from.now }
         ensures { TakesWithin (length from.now) result }
     {
+        // What is told here comes of an act, which may have done something for others.
+        self.watch.ring();
         let took = self.write_soon(from);
         match took {
             Took::Some(_) => {
@@ -108,40 +106,59 @@ impl<C: Clock + Drop> AcceptedSocket<C> {
         }
     }
 
-    /// Closes the socket: its writing side first, and then, once the peer has ended its own or sends
-    /// nothing for a pause, all of it. A socket that is closed with bytes unread is reset, and the
-    /// last line may be lost.
-    pub(crate) fn close(mut self) {
-        if self.stream.shutdown(Shutdown::Write).is_err() {
-            return;
+    /// Closes the socket: its writing side first, and then, once the peer has ended its own or
+    /// sends nothing for a pause, all of it. A socket that is closed with bytes unread is reset,
+    /// and the last line may be lost. The watch is returned.
+    pub(crate) fn close(mut self) -> Watch {
+        self.watch.ring();
+        if self.stream.shutdown(Shutdown::Write).is_ok() {
+            self.read_rest();
         }
+        let AcceptedSocket {
+            stream,
+            watch,
+            clock: _,
+            accepted: _,
+            has_sent: _,
+            stalled: _,
+        } = self;
+        drop(stream);
+        watch
+    }
+
+    fn read_rest(&mut self) {
         let mut rest = [0u8; 4096];
         for _ in 0..LAST_READS {
-            match self.read_soon(&mut rest) {
+            match self.read_soon(&mut rest, false) {
                 Got::Some(_) => {}
                 _ => return,
             }
         }
     }
 
-    // Reads what is ready. If nothing is, it waits for a pause and reads once more.
-    fn read_soon(&mut self, into: &mut [u8]) -> Got
+    // Reads what is ready. If nothing is, it waits, and reads once more where something became
+    // ready.
+    fn read_soon(&mut self, into: &mut [u8], waits_on: bool) -> Got
         requires { 0 < length into.old }
         ensures { GivesWithin (length into.new) result }
     {
         if let Some(got) = try_read(&mut self.stream, into) {
             return got;
         }
-        if !self.wait() {
-            return Got::Failed;
-        }
-        match try_read(&mut self.stream, into) {
-            Some(got) => got,
-            None => Got::NotYet,
+        let ready = if waits_on {
+            self.watch.wait(PAUSE_MILLIS)
+        } else {
+            self.watch.pause(PAUSE_MILLIS)
+        };
+        match ready {
+            Ok(true) => try_read(&mut self.stream, into).unwrap_or(Got::NotYet),
+            Ok(false) => Got::NotYet,
+            Err(_) => Got::Failed,
         }
     }
 
-    // Writes what can be written. If nothing can, it waits for a pause and writes once more.
+    // Writes what can be written. If nothing can, it waits for a pause and writes once more: a
+    // socket can have some room before it is told to be ready.
     fn write_soon(&mut self, from: &[u8]) -> Took
         requires { 0 < length from.now }
         ensures { TakesWithin (length from.now) result }
@@ -149,19 +166,10 @@ impl<C: Clock + Drop> AcceptedSocket<C> {
         if let Some(took) = try_write(&mut self.stream, from) {
             return took;
         }
-        if !self.wait() {
-            return Took::Failed;
+        match self.watch.pause(PAUSE_MILLIS) {
+            Ok(_) => try_write(&mut self.stream, from).unwrap_or(Took::NotYet),
+            Err(_) => Took::Failed,
         }
-        match try_write(&mut self.stream, from) {
-            Some(took) => took,
-            None => Took::NotYet,
-        }
-    }
-
-    // Waits until the socket is ready for something, for a pause at most; false if that failed.
-    fn wait(&mut self) -> bool {
-        let pause = Duration::from_millis(PAUSE_MILLIS);
-        self.poll.poll(&mut self.events, Some(pause)).is_ok()
     }
 
     // Notes that a write took nothing, and whether none has taken anything for too long.
@@ -182,4 +190,11 @@ impl<C: Clock + Drop> AcceptedSocket<C> {
             Err(_) => false,
         }
     }
+}
+
+// Has the watch look at a socket, whose bytes are sent at once.
+fn prepare(stream: &mut TcpStream, watch: &Watch) -> io::Result<()> {
+    stream.set_nodelay(true)?;
+    let both = Interest::READABLE | Interest::WRITABLE;
+    watch.registry().register(stream, Token(0), both)
 }

@@ -17,7 +17,8 @@ pub struct SocketLink<S: Read + Write + Drop, C: Clock + Drop> {
     faults: u64,
 }
 
-// A call of its own, so that whoever lets a link go has one step to prove and not one for each part.
+// A call of its own, so that whoever lets a link go has one step to prove and not one for each
+// part.
 impl<S: Read + Write + Drop, C: Clock + Drop> Drop for SocketLink<S, C> {
     fn drop(self) {
         let SocketLink {

@@ -1,10 +1,12 @@
 use crate::accepted_socket::AcceptedSocket;
+use crate::bells::open_watches;
 use crate::doors::open_port;
 use crate::{Gate, Got, Link, Next, Served, SessionEnd, StdWorld, Took, World, WorldFault};
 use mio::net::TcpStream;
+use std::alloc::Global;
 use std::cell::Cell;
-use std::io::{Read, Write};
-use std::net::{Ipv4Addr, Shutdown, SocketAddr};
+use std::io::{ErrorKind, Read, Write};
+use std::net::{Ipv4Addr, Net, Shutdown, SocketAddr};
 use std::test::Fail;
 use std::time::{Duration, Instant};
 use std::{io, net, rt};
@@ -65,6 +67,22 @@ impl rt::Clock for Told {
     fn sleep(&self, _duration: Duration) {}
 }
 
+// A socket with a watch of its own, by this clock.
+fn watched<'a, R: Net>(
+    net: &R,
+    alloc: Global,
+    stream: TcpStream,
+    clock: &'a Told,
+) -> io::Result<AcceptedSocket<&'a Told>> {
+    let Some(watch) = open_watches(net, alloc, 1)?.pop() else {
+        return Err(io::Error::from(ErrorKind::Other));
+    };
+    match AcceptedSocket::new(stream, watch, clock) {
+        Ok(socket) => Ok(socket),
+        Err(_) => Err(io::Error::from(ErrorKind::Other)),
+    }
+}
+
 #[test]
 fn a_socket_fails_that_is_silent_or_stalls(rt: HostRuntime) -> Result<(), Fail> {
     let anywhere = SocketAddr::from((Ipv4Addr::LOCALHOST, 0));
@@ -75,7 +93,7 @@ fn a_socket_fails_that_is_silent_or_stalls(rt: HostRuntime) -> Result<(), Fail> 
     let clock = Told {
         seconds: Cell::new(7),
     };
-    let mut socket = AcceptedSocket::new(&rt, rt.alloc(), TcpStream::from_std(stream), &clock)?;
+    let mut socket = watched(&rt, rt.alloc(), TcpStream::from_std(stream), &clock)?;
     let mut buffer = [0u8; 8];
     clock.seconds.set(36);
     assert_eq!(rt; socket.read(&mut buffer), Got::NotYet);

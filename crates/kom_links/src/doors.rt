@@ -1,22 +1,25 @@
-//! Doors at a port: one listener, of which each gate has a clone and a poll of its own.
+//! Doors at a port: one listener, of which each gate has a clone and a watch of its own.
 ghost use Rattle.std.specs.Prelude.{◌≡◌, IfOk, length};
 ghost use Rattle.std.specs.List.{AllByRecursion};
 ghost use Rattle.kom_links.specs.Doors.{IsNewGate};
 
-use crate::accepted_socket::{AcceptedSocket, PAUSE_MILLIS};
+use crate::accepted_socket::AcceptedSocket;
+use crate::bells::{Watch, open_watches};
 use crate::gate::Gate;
 use crate::std_gate::StdGate;
 use crate::std_link::Host;
 use arrayvec::ArrayString;
 use mio::net::{TcpListener, TcpStream};
-use mio::{Events, Interest, Poll, Token};
+use mio::{Interest, Token};
 use std::alloc::Global;
 use std::fmt::Write;
 use std::io::{ErrorKind, Input};
 use std::net::{Ipv4Addr, Ipv6Addr, Net, SocketAddr};
 use std::rt::Clock;
-use std::time::Duration;
 use std::{io, net};
+
+// For how long a gate waits at least before it returns that nobody has come, in milliseconds.
+const PAUSE_MILLIS: u64 = 500;
 
 // The system has no sockets of this family.
 const FAMILY_UNSUPPORTED: i32 = 97;
@@ -31,29 +34,34 @@ pub(crate) enum Arrival<C: Clock + Drop> {
     Broken,
 }
 
-/// A door at a port.
+/// A door at a port. One client is let in at a time.
 #[derive(Drop)]
 pub(crate) struct Door<'a, R: Net + Clock> {
     rt: &'a R,
-    alloc: Global,
     listener: TcpListener,
-    poll: Poll,
-    events: Events,
+    watch: Watch,
+    /// That of the next client.
+    spare: Option<Watch>,
 }
 
 impl<'a, R: Net + Clock> Door<'a, R> {
-    fn open(rt: &'a R, alloc: Global, listener: &net::TcpListener) -> io::Result<Door<'a, R>> {
+    fn open(
+        rt: &'a R,
+        listener: &net::TcpListener,
+        watches: &mut Vec<Watch>,
+    ) -> io::Result<Door<'a, R>> {
         let mut listener = TcpListener::from_std(listener.try_clone()?);
-        let poll = Poll::new(rt)?;
-        poll.registry()
+        let Some(watch) = watches.pop() else {
+            return Err(io::Error::from(ErrorKind::Other));
+        };
+        watch
+            .registry()
             .register(&mut listener, Token(0), Interest::READABLE)?;
-        let events = Events::with_capacity(alloc, 1)?;
         Ok(Door {
             rt,
-            alloc,
             listener,
-            poll,
-            events,
+            watch,
+            spare: watches.pop(),
         })
     }
 
@@ -62,22 +70,28 @@ impl<'a, R: Net + Clock> Door<'a, R> {
         Ok(self.listener.local_addr()?.port())
     }
 
-    /// Who comes next. If nobody is there, it waits for a pause and looks once more.
+    /// Who comes next. If nobody is there, it waits until somebody comes or something is done at
+    /// the port, and looks once more where somebody may be there.
     pub(crate) fn next(&mut self) -> Arrival<&'a R> {
         match self.look() {
             Arrival::Client(socket, host) => return Arrival::Client(socket, host),
             Arrival::Nobody => {}
             Arrival::Broken => return Arrival::Broken,
         }
-        let pause = Duration::from_millis(PAUSE_MILLIS);
-        if self.poll.poll(&mut self.events, Some(pause)).is_err() {
-            return Arrival::Broken;
+        match self.watch.wait(PAUSE_MILLIS) {
+            Ok(true) => self.look(),
+            Ok(false) => Arrival::Nobody,
+            Err(_) => Arrival::Broken,
         }
-        self.look()
+    }
+
+    /// Takes a client's socket back, and closes it.
+    pub(crate) fn close(&mut self, socket: AcceptedSocket<&'a R>) {
+        self.spare = Some(socket.close());
     }
 
     // An accept that fails for want of descriptors, or because the peer has gone, found nobody.
-    fn look(&self) -> Arrival<&'a R> {
+    fn look(&mut self) -> Arrival<&'a R> {
         match self.listener.accept() {
             Ok((stream, address)) => self.let_in(stream, address),
             Err(error) => {
@@ -90,14 +104,20 @@ impl<'a, R: Net + Clock> Door<'a, R> {
         }
     }
 
-    fn let_in(&self, stream: TcpStream, address: SocketAddr) -> Arrival<&'a R> {
+    fn let_in(&mut self, stream: TcpStream, address: SocketAddr) -> Arrival<&'a R> {
         let mut host = ArrayString::new();
         if write!(host, "{}", address.ip().to_canonical()).is_err() {
             return Arrival::Nobody;
         }
-        match AcceptedSocket::new(self.rt, self.alloc, stream, self.rt) {
+        let Some(watch) = self.spare.take() else {
+            return Arrival::Nobody;
+        };
+        match AcceptedSocket::new(stream, watch, self.rt) {
             Ok(socket) => Arrival::Client(socket, host),
-            Err(_) => Arrival::Nobody,
+            Err(watch) => {
+                self.spare = Some(watch);
+                Arrival::Nobody
+            }
         }
     }
 }
@@ -115,8 +135,9 @@ pub(crate) fn open_port<'a, R: Input + Print + Clock + Net>(
 {
     let mut gates = Vec::with_capacity(alloc, number as usize)?;
     let listener = net::TcpListener::from(bind(rt, port)?);
+    let mut watches = open_watches(rt, alloc, number as usize * 2)?;
     for count in 0..number {
-        let door = Door::open(rt, alloc, &listener)?;
+        let door = Door::open(rt, &listener, &mut watches)?;
         gates.push_reserved(StdGate::at(door));
     }
     Ok(gates)

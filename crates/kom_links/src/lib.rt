@@ -3,6 +3,7 @@
 #![tactic(auto)]
 
 mod accepted_socket;
+mod bells;
 mod client_links;
 mod clock;
 mod desk;

@@ -10,8 +10,9 @@ use std::net::Net;
 use std::rt::Clock;
 
 /// A gate of the process: the one that gives one link, over standard input and output, and then
-/// ends; or one at a port, which gives the links of clients that come, waits some 80 milliseconds
-/// for one, and never ends. It tells nothing of links.
+/// ends; or one at a port, which gives the links of clients that come, and never ends: it waits for
+/// one until something is done at the port, for some two seconds at most. It tells nothing of
+/// links.
 #[derive(Drop)]
 pub struct StdGate<'a, R: Input + Print + Clock + Net> {
     entrance: Entrance<'a, R>,
@@ -94,6 +95,10 @@ impl<'a, R: Input + Print + Clock + Net> Gate for StdGate<'a, R> {
     }
 
     fn give_back(&mut self, link: StdLink<R::Reader, Printer<'a, R>, &'a R>, _served: Served) {
-        link.close();
+        let socket = link.into_socket();
+        match (&mut self.entrance, socket) {
+            (Entrance::Port(door), Some(socket)) => door.close(socket),
+            _ => {}
+        }
     }
 }

@@ -14,7 +14,8 @@ pub(crate) type Host = ArrayString<64>;
 
 /// A link over the process's own input and output, or over a socket that was accepted. It tells
 /// nothing of what it gives and takes. If nothing is ready a call waits for it, for some 20
-/// milliseconds at most, at a socket for 80.
+/// milliseconds at most; at a socket for 80, and a read until something is done at its port, for
+/// some two seconds at most.
 #[derive(Drop)]
 pub struct StdLink<I: Read + Drop, O: Write + Drop, C: Clock + Drop> {
     stream: Stream<I, O, C>,
@@ -82,16 +83,17 @@ impl<I: Read + Drop, O: Write + Drop, C: Clock + Drop> StdLink<I, O, C> {
         }
     }
 
-    /// Closes the socket, if there is one.
-    pub(crate) fn close(self) {
+    /// The socket, if it is over one.
+    pub(crate) fn into_socket(self) -> Option<AcceptedSocket<C>> {
         let StdLink {
             stream,
             host: _,
             has_ended: _,
             faults: _,
         } = self;
-        if let Stream::Accepted(socket) = stream {
-            socket.close();
+        match stream {
+            Stream::Accepted(socket) => Some(socket),
+            Stream::Standard(_, _, _) => None,
         }
     }
 
