@@ -72,5 +72,6 @@ pub plain_unstored : {D : Type 0} (book : BookView D) (db : Db) → book.core.st
 plain_unstored {D} book db state sound none calm = record {
   opening = (db, state, sound);
   waits = subst (λ (journal : Option (JournalView D)). IfSome journal (λ store. store.pending ≡ [])) (sym none) tt;
+  whole = subst (λ (journal : Option (JournalView D)). IfSome journal (λ store. store.refused ≡ false)) (sym none) tt;
   refused = calm;
 }

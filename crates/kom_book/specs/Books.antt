@@ -43,10 +43,11 @@ module _ {D : Type 0} where
   abbrev pub batches_in : BookView D → ℕ
   batches_in book = elim book.journal [ None ↦ 0 | Some store ↦ store.batches ]
 
-  -- A book before its first act: nothing waits, and no flush was refused.
+  -- A book before its first act: nothing waits, and no flush has failed or was refused.
   pub record IsPlain (book : BookView D) : Type 0 where
     pub opening : IsOpening (state_in book)
     pub waits : IfSome book.journal (λ store. store.pending ≡ [])
+    pub whole : IfSome book.journal (λ store. store.refused ≡ false)
     pub refused : book.refused ≡ None
 
   -- A book goes on by this entry, made by the pass of its session.

@@ -79,13 +79,23 @@ module _ {D : Type 0} where
   rose_same faults first old new same rose =
       subst (λ (n : ℕ). Rose (faults first.disk) n) (sym same) rose
 
+  -- that none has failed and it would get too long stays too
+  full_same : (old new : JournalView D) → StaysAs old new → new.pending ≡ old.pending →
+      (old.refused ≡ false) × (2 ^ 40 < size_with old) → (new.refused ≡ false) × (2 ^ 40 < size_with new)
+  full_same old new stays waits full = (
+    stays.refused ∙ full.0,
+    subst (λ (n : ℕ). 2 ^ 40 < n) (sym (size_same old new stays.place waits)) full.1,
+  )
+
   -- one of a plain opening
   store_empty : (faults : D → ℕ) (start : State) (store : JournalView D) → start.stable ≡ 0 →
-      start.store_refused ≡ false → store.pending ≡ [] → StoreLeads faults start [] store start store
-  store_empty faults start store nothing unmarked waits = record {
+      start.store_refused ≡ false → store.pending ≡ [] → store.refused ≡ false →
+      StoreLeads faults start [] store start store
+  store_empty faults start store nothing unmarked waits whole = record {
     pending = waits ∙ rw nothing refl;
     batches = refl;
     unrefused = λ is. refl;
+    unfailed = λ is. whole;
     refused = λ is. absurd (let wrong : true ≡ false = sym is ∙ unmarked in cc);
   }
 
@@ -96,22 +106,21 @@ module _ {D : Type 0} where
     pending = stays.1 ∙ leads.pending;
     batches = stays.0.batches ∙ leads.batches;
     unrefused = λ is. ap faults stays.0.disk ∙ leads.unrefused (sym (ap (λ s. s.store_refused) same) ∙ is);
+    unfailed = λ is. stays.0.refused ∙ leads.unfailed (sym (ap (λ s. s.store_refused) same) ∙ is);
     refused = λ is. elim (leads.refused (sym (ap (λ s. s.store_refused) same) ∙ is)) [
       | inl rose ↦ inl (rose_same faults first old new (ap faults stays.0.disk) rose)
-      | inr full ↦ inr (subst (λ (n : ℕ). 2 ^ 40 < n)
-          (sym (size_same old new stays.0.place stays.1)) full)
+      | inr full ↦ inr (full_same old new stays.0 stays.1 full)
     ];
   }
 
   -- why the flush of a record was refused, since the opening
   store_cause : (faults : D → ℕ) (first old new : JournalView D) (why : FlushFault) →
-      faults old.disk ≡ faults first.disk → IsFlushCause faults old new why →
-      Rose (faults first.disk) (faults new.disk) ⊎ (2 ^ 40 < size_with new)
-  store_cause faults first old new fault.Fault calm cause =
+      faults old.disk ≡ faults first.disk → old.refused ≡ false → IsFlushCause faults old new why →
+      Rose (faults first.disk) (faults new.disk) ⊎ ((new.refused ≡ false) × (2 ^ 40 < size_with new))
+  store_cause faults first old new fault.Fault calm whole cause =
       inl (subst (λ (n : ℕ). Rose n (faults new.disk)) calm cause)
-  store_cause faults first old new (fault.Full n) calm cause =
-      inr (subst (λ (m : ℕ). 2 ^ 40 < m)
-      (cause.1 ∙ sym (size_same old new cause.2.0.place cause.2.1)) cause.0)
+  store_cause faults first old new (fault.Full n) calm whole cause =
+      inr (full_same old new cause.2.0 cause.2.1 (whole, subst (λ (m : ℕ). 2 ^ 40 < m) cause.1 cause.0))
 
   store_follows : (faults : D → ℕ) (start : State) (history : List (Ticked D)) (first old new : JournalView D)
       (state : State) (entry : Ticked D) (why : Option FlushFault) → start.entries ≡ 0 → start.stable ≡ 0 →
@@ -136,12 +145,18 @@ module _ {D : Type 0} where
           | inr other ↦ follows.unrefused other.1
               ∙ leads.unrefused (sym (marked_same state made other.1) ∙ is)
         ];
+        unfailed = λ is. elim (refused_or_not made) [
+          | inl refused ↦ absurd (let marked : (after state made).store_refused ≡ true =
+              marked_refused state made refused.0 in cc)
+          | inr other ↦ follows.unfailed other.1
+              ∙ leads.unfailed (sym (marked_same state made other.1) ∙ is)
+        ];
         refused = λ is. elim (refused_or_not made) [
           | inl refused ↦
               let cause = follows.refused refused.1 refused.2 in
-              store_cause faults first old new cause.0
-              (leads.unrefused (flush_unmarked state (subst (λ what. refusal_of state what ≡ None)
-              refused.1 may.possible))) cause.2
+              let unmarked : state.store_refused ≡ false =
+              flush_unmarked state (subst (λ what. refusal_of state what ≡ None) refused.1 may.possible) in
+              store_cause faults first old new cause.0 (leads.unrefused unmarked) (leads.unfailed unmarked) cause.2
           | inr other ↦
               let marked : state.store_refused ≡ true = sym (marked_same state made other.1) ∙ is in
               let closes = only_closes state made marked may.possible in
@@ -151,8 +166,7 @@ module _ {D : Type 0} where
               ∙ ap (λ (more : List Effect). old.pending ++ more) closes.none ∙ append-nil old.pending in
               elim (leads.refused marked) [
                 | inl rose ↦ inl (rose_same faults first old new (ap faults stays.disk) rose)
-                | inr full ↦ inr (subst (λ (n : ℕ). 2 ^ 40 < n)
-                    (sym (size_same old new stays.place waits)) full)
+                | inr full ↦ inr (full_same old new stays waits full)
               ]
         ];
       }
@@ -179,8 +193,9 @@ module _ {D : Type 0} where
       plain_store None is = tt
       plain_store (Some store) is = λ plain.
           let waits : store.pending ≡ [] = (rw is at plain.waits) in
+          let whole : store.refused ≡ false = (rw is at plain.whole) in
           store_empty faults (state_in opening) store (ap (λ s. s.stable) plain.opening.1)
-          (ap (λ s. s.store_refused) plain.opening.1) waits
+          (ap (λ s. s.store_refused) plain.opening.1) waits whole
 
   pub staying_leads : (faults : D → ℕ) (opening : BookView D) (history : List (Ticked D)) (old new : BookView D) →
       Leads faults opening history old → Stays old new → Leads faults opening history new

@@ -39,15 +39,18 @@ module _ {D : Type 0} where
   records_of history = map record_of history
 
   -- A store since a plain opening: what waits is what is kept of the records from the stable number
-  -- on. Its disk has not failed while no flush was refused; one was refused only because the disk
-  -- failed, or because the store would have got longer than its limit.
+  -- on. Neither its disk nor a flush has failed while no flush was refused; one was refused only
+  -- because the disk failed, or because the store would have got longer than its limit, and then
+  -- none has failed.
   pub record StoreLeads (faults : D → ℕ) (start : State) (history : List (Ticked D))
       (old : JournalView D) (state : State) (new : JournalView D) : Type 0 where
     pub pending : new.pending ≡ pending_along start (records_of history)
     pub batches : new.batches ≡ old.batches
     pub unrefused : state.store_refused ≡ false → faults new.disk ≡ faults old.disk
+    pub unfailed : state.store_refused ≡ false → new.refused ≡ false
     pub refused : state.store_refused ≡ true
-        → Rose (faults old.disk) (faults new.disk) ⊎ (2 ^ 40 < size_with new)
+        → Rose (faults old.disk) (faults new.disk)
+        ⊎ ((new.refused ≡ false) × (2 ^ 40 < size_with new))
 
 module _ {D : Type 0} (moment : D → ℕ) where
   -- when an act ended, on the disk's clock; 0 where there is no store

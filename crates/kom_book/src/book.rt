@@ -6,6 +6,7 @@ ghost use Rattle.kom_model.specs.Initial.{initial};
 ghost use Rattle.kom_model.specs.State.{opening};
 ghost use Rattle.kom_journal.specs.Images.{StandsFor, AreFor, IsKept, IsCause, IsLeftOf, HasCount};
 ghost use Rattle.kom_journal.specs.Images.{as_read, images, images_at, moment as moment_on};
+ghost use Rattle.kom_journal.specs.Journals.{EndsAtGate};
 ghost use Rattle.kom_journal.specs.Opened.{Opens};
 ghost use Rattle.kom_journal.specs.Opening.{IsMakeFault};
 ghost use Rattle.kom_book.specs.Books.{IsPlain, StandsNow, disk_in, batches_in};
@@ -117,7 +118,8 @@ impl<D: Disk + Drop> Book<D> {
             → IsKept (images D.images disk)
             → MatchResult result
             (λ book. IfSome (disk_in book) (λ opened. Opens (moment_on D.moment)
-            (images_at D.images_at) disk opened (images D.images disk) (IsLeftOf (as_read D.bytes disk) db)))
+            (images_at D.images_at) disk opened (images D.images disk)
+            (IsLeftOf (as_read D.bytes disk) db)))
             (λ refused. Opens (moment_on D.moment) (images_at D.images_at) disk refused.0
             (images D.images disk)
             (IsLeftOf (as_read D.bytes disk) db)) }
@@ -165,7 +167,8 @@ impl<D: Disk + Drop> Book<D> {
 
     /// The disk of the store, if there is one. What waits is dropped.
     pub fn into_disk(self) -> Option<D>
-        ensures { result ≡ disk_in self }
+        ensures disk { result ≡ disk_in self }
+        ensures size { IsTrue D.tells → IfSome self.journal (EndsAtGate D.size) }
     {
         Box::into_inner(self.inner).into_disk()
     }

@@ -1,11 +1,12 @@
 // What lies in a book's box: the core, and the store that keeps it.
 ghost use Rattle.std.specs.Prelude.{◌≡◌, ◌<◌, ◌^◌, ◌||◌, Some, None, IsTrue, IfOk, IsOk, OnErr};
-ghost use Rattle.std.specs.Prelude.{is_some, false};
+ghost use Rattle.std.specs.Prelude.{is_some, false, IfSome};
 ghost use Rattle.kom_model.specs.Legal.{HasUser};
 ghost use Rattle.kom_model.specs.Out.{taken_by};
 ghost use Rattle.kom_model.specs.Refusal.{TakesNoMemory};
 ghost use Rattle.kom_book.specs.Books.{Stays, state_in, disk_in, batches_in};
 ghost use Rattle.kom_journal.specs.Images.{images_at, moment};
+ghost use Rattle.kom_journal.specs.Journals.{EndsAtGate};
 ghost use Rattle.kom_book.specs.Making.{BookComes, StopsCome};
 
 use crate::making::make_record;
@@ -116,7 +117,8 @@ impl<D: Disk + Drop> Inner<D> {
     }
 
     pub(crate) fn into_disk(self) -> Option<D>
-        ensures { result ≡ disk_in self }
+        ensures disk { result ≡ disk_in self }
+        ensures size { IsTrue D.tells → IfSome self.journal (EndsAtGate D.size) }
     {
         let Inner {
             core: _,

@@ -1,6 +1,7 @@
 -- What the calls of a log make of what a journal keeps.
 use Rattle.std.proofs.Common.{◌≡◌, ◌≢◌, ◌<◌, ◌+◌, ◌^◌, ◌↔◌, inl, inr, ℕ, Bool, true, false, IsTrue, List, [], ◌∷◌, ◌++◌, length, take, ap, sym, subst, ◌∙◌, refl, arith}
 use Rattle.std.proofs.lemmas.Bool.{cases_lt}
+use Rattle.std.proofs.lemmas.List.{length-append, length-take}
 use Rattle.kom_types.specs.declared.effects.Effect.{Effect}
 use Rattle.kom_model.specs.Db.{Db, empty_db}
 use Rattle.kom_model.specs.Effects.{apply_all, all_fit}
@@ -34,6 +35,13 @@ made_stored bytes images is stable =
 
 made_sound : (bytes : List ℕ) → bytes ≡ header ++ 0 ∷ [] → SoundFor empty_db empty_db bytes
 made_sound bytes is = shut_sound [] empty_db makes_none bytes [] is
+
+-- bytes that end with a gate at a place are one more than stand before it
+pub rest_size : (place : ℕ) (bytes : List ℕ) → bytes ≡ take place bytes ++ 0 ∷ [] → length bytes ≡ place + 1
+rest_size place bytes is =
+    let counts : length bytes ≡ length (take place bytes) + 1 =
+    ap length is ∙ length-append (take place bytes) (0 ∷ []) in
+    omega (arith, counts, length-take place bytes)
 
 -- a flush that does not answer that the store is full has a short body
 pub short_of : (P : ℕ → Type 0) (place : ℕ) (body : List ℕ)

@@ -1,5 +1,5 @@
 -- What contracts see of a journal, and what it keeps.
-use Rattle.std.specs.Prelude.{◌≡◌, ℕ, Bool, false, IsTrue, List}
+use Rattle.std.specs.Prelude.{◌≡◌, ℕ, ◌+◌, Bool, false, IsTrue, List}
 use Rattle.kom_types.specs.declared.effects.Effect.{Effect}
 use Rattle.batch_log.specs.Gates.{IsAtRest}
 use Rattle.batch_log.specs.Walk.{IsReadTo}
@@ -21,6 +21,10 @@ pub record JournalView (D : Type 0) : Type 0 where
 -- how long the store gets by a flush of what waits, or the end of its type
 abbrev pub size_with : {D : Type 0} → JournalView D → ℕ
 size_with journal = size_after journal.place (body_of journal.pending)
+
+-- a store none of whose flushes has failed ends with its closed gate, as its disk counts its bytes
+abbrev pub EndsAtGate : {D : Type 0} → (D → ℕ) → JournalView D → Type 0
+EndsAtGate size journal = journal.refused ≡ false → size journal.disk ≡ journal.place + 1
 
 -- the bytes are a store whose closed gate at this place ends them, and all of it is stable
 pub record IsStored (place : ℕ) (bytes : List ℕ) (images : List ℕ → Type 0) : Type 0 where

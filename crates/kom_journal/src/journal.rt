@@ -14,6 +14,7 @@ ghost use Rattle.kom_model.specs.Whole.{IsWhole};
 ghost use Rattle.kom_journal.specs.Files.{header, body_of};
 ghost use Rattle.kom_journal.specs.Images.{StandsFor, AreFor, IsKept, IsForEither, IsCause};
 ghost use Rattle.kom_journal.specs.Images.{HasCount, IsLeftOf, as_read, images, images_at, moment};
+ghost use Rattle.kom_journal.specs.Journals.{EndsAtGate};
 ghost use Rattle.kom_journal.specs.Opened.{Opens};
 ghost use Rattle.kom_journal.specs.Opening.{IsMakeFault};
 
@@ -160,7 +161,8 @@ impl<D: Disk> Journal<D> {
 
     /// The disk. What waits is dropped.
     pub fn into_disk(self) -> D
-        ensures { result ≡ self.disk }
+        ensures disk { result ≡ self.disk }
+        ensures size { IsTrue D.tells → EndsAtGate D.size self }
     {
         self.log.into_disk()
     }

@@ -1,6 +1,7 @@
 // What a command came to.
 ghost use Rattle.std.specs.Prelude.{◌≡◌, ◌≢◌, ◌↔◌, ◌⊎◌, IsTrue, IsSome, IsNone, IsSomeAnd, None};
-ghost use Rattle.std.specs.Prelude.{false, true};
+ghost use Rattle.std.specs.Prelude.{false, true, IfSome};
+ghost use Rattle.kom_journal.specs.Journals.{EndsAtGate};
 ghost use Rattle.kom_book.specs.Books.{state_in, disk_in};
 ghost use Rattle.store_check.specs.Stores.{Fails};
 
@@ -51,6 +52,7 @@ pub(crate) fn unopened<W: World>(gate_failed: bool) -> Ran<W>
 /// What came of serving, where the world may have failed.
 pub(crate) fn settle<W: World>(left: Left<Book<W::Disk>, W>, world_failed: bool) -> Ran<W>
     ensures disk { result.disk ≡ disk_in left.server }
+    ensures size { IsTrue W.Disk.tells → IfSome left.server.journal (EndsAtGate W.Disk.size) }
     ensures end { result.end ≡ left.end }
     ensures store { IsTrue result.cases.store_failed ↔ (IsSomeAnd result.disk (λ disk.
         W.Disk.faults disk ≢ 0)

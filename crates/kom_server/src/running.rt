@@ -21,7 +21,7 @@ ghost use Rattle.kom_server.specs.Runs.{new_server, usage, Opens, IsHidingRun, I
 ghost use Rattle.kom_server.specs.Runs.{HasFailed, IsOverAt, gates_at, IsFirstMoment};
 ghost use Rattle.kom_server.specs.Statuses.{Serves, NamesStore, ServesStore, OpensStore};
 ghost use Rattle.kom_server.specs.Statuses.{StoreFails, HasRefused, Asks, serve_over, opens_store};
-ghost use Rattle.kom_server.specs.Stops.{IsKeptAlong};
+ghost use Rattle.kom_server.specs.Stops.{HasServed};
 ghost use Rattle.kom_server.specs.Loads.{IsLoaded};
 
 use crate::loads::load;
@@ -61,10 +61,10 @@ pub fn run<R: Threads + Wait + Sync, W: World<Gate: Gate<Link: Send>>>(
         (is_some result.disk) (is_some result.end) (with_sink (W.view world.old).counts)
         (W.view world.new).counts }
 
-    // The other statuses, in the order in which they are tried: 3 says that the store failed; 4 that
-    // there is no store, or something where one is to be made; 5 that a gate or the world failed; 7
-    // that the sink failed; 6 that memory ran out; 0 that each gate has ended or the server was
-    // stopped, or that the report was written.
+    // The other statuses, in the order in which they are tried: 3 says that the store failed; 4
+    // that there is no store, or something where one is to be made; 5 that a gate or the world
+    // failed; 7 that the sink failed; 6 that memory ran out; 0 that each gate has ended or the
+    // server was stopped, or that the report was written.
     ensures statuses { (result.status ≡ 2) ⊎ IsStatus result.status }
     ensures store { (result.status ≡ 3) ↔ StoreFails W.Disk.faults (NamesStore words.now
         × Rose (W.view world.old).faults (W.view world.new).faults) result.disk
@@ -94,8 +94,8 @@ pub fn run<R: Threads + Wait + Sync, W: World<Gate: Gate<Link: Send>>>(
         × (length closing.gates.items ≡ 1)) }
 
     // `once` over a store, or `serve`: the same over the server that the store stands for as it is
-    // found, where that is told; by one gate, or at a port by as many as there are workers; and what
-    // a stop would leave of the store at any moment.
+    // found, where that is told; by one gate, or at a port by as many as there are workers; what a
+    // stop would leave of the store at any moment; and why it refused a flush, if it did.
     ensures over { (store : List ℕ) (port : Option PortModel) → ServesStore words.now store port
         → IfSome result.end (λ closing. (db : Db)
         × IfFound W.Disk.tells (W.view world.old).files store (StandsFor db)
@@ -107,9 +107,8 @@ pub fn run<R: Threads + Wait + Sync, W: World<Gate: Gate<Link: Send>>>(
         (map (λ entry. entry.made) closing.pass.seen)
         (map (λ gate. W.Gate.view gate) closing.gates.items))
         × (length closing.gates.items ≡ gates_at port)
-        × IfSome result.disk (λ disk. IsTrue W.Disk.tells
-        → IsKeptAlong (moment_on W.Disk.moment) (images_at W.Disk.images_at) (opening db)
-        closing.pass.seen disk)) }
+        × IfSome result.disk (HasServed (moment_on W.Disk.moment) (images_at W.Disk.images_at)
+        W.Disk.tells W.Disk.faults W.Disk.size (opening db) closing.pass.seen)) }
     ensures no_store { (store : List ℕ) → OpensStore words.now store → result.status ≡ 4
         → IfFound W.Disk.tells (W.view world.old).files store IsNoStore }
     ensures a_store { (store : List ℕ) → OpensStore words.now store
@@ -217,9 +216,8 @@ fn carry_out<R: Threads + Wait + Sync, W: World<Gate: Gate<Link: Send>>>(
         (map (λ entry. entry.made) closing.pass.seen)
         (map (λ gate. W.Gate.view gate) closing.gates.items))
         × (length closing.gates.items ≡ gates_at port)
-        × IfSome result.disk (λ disk. IsTrue W.Disk.tells
-        → IsKeptAlong (moment_on W.Disk.moment) (images_at W.Disk.images_at) (opening db)
-        closing.pass.seen disk)) }
+        × IfSome result.disk (HasServed (moment_on W.Disk.moment) (images_at W.Disk.images_at)
+        W.Disk.tells W.Disk.faults W.Disk.size (opening db) closing.pass.seen)) }
 
     // What was found and made.
     ensures no_store { (store : List ℕ) → slice_get words.now 1 ≡ Some store

@@ -17,7 +17,7 @@ ghost use Rattle.store_check.specs.Stores.{is_of_content, is_memory};
 ghost use Rattle.kom_server.specs.Runs.{IsRun, IsHidingRun, HasFailed, AsksPlace, gates_at};
 ghost use Rattle.kom_server.specs.Runs.{IsOverAt, IsWithin, IsFirstMoment};
 ghost use Rattle.kom_server.specs.Statuses.{StoreFails, HasRefused};
-ghost use Rattle.kom_server.specs.Stops.{IsKeptAlong};
+ghost use Rattle.kom_server.specs.Stops.{HasServed};
 
 use crate::outcome::Closing;
 use crate::ports::serve_port;
@@ -34,9 +34,9 @@ use std::sync::Wait;
 use std::thread::Threads;
 use store_check::cases_of;
 
-/// Serves the sessions over standard input and output, or at a port, on the server that the store of
-/// a path keeps, until the gates end or fail or the server at a port is stopped. The world had failed
-/// so often before.
+/// Serves the sessions over standard input and output, or at a port, on the server that the store
+/// of a path keeps, until the gates end or fail or the server at a port is stopped. The world had
+/// failed so often before.
 pub(crate) fn serve_store<R: Threads + Wait + Sync, W: World<Gate: Gate<Link: Send>>>(
     rt: &R,
     alloc: Global,
@@ -75,9 +75,8 @@ pub(crate) fn serve_store<R: Threads + Wait + Sync, W: World<Gate: Gate<Link: Se
         (map (λ entry. entry.made) closing.pass.seen)
         (map (λ gate. W.Gate.view gate) closing.gates.items))
         × (length closing.gates.items ≡ gates_at port)
-        × IfSome result.disk (λ disk. IsTrue W.Disk.tells
-        → IsKeptAlong (moment_on W.Disk.moment) (images_at W.Disk.images_at) (opening db)
-        closing.pass.seen disk)) }
+        × IfSome result.disk (HasServed (moment_on W.Disk.moment) (images_at W.Disk.images_at)
+        W.Disk.tells W.Disk.faults W.Disk.size (opening db) closing.pass.seen)) }
 {
     let Ok(disk) = world.open_disk(path) else {
         return unopened(has_risen(before, world.faults()));
@@ -126,9 +125,9 @@ fn serve_opened<R: Threads + Wait + Sync, W: World<Gate: Gate<Link: Send>>>(
         ⊎ IsOverAt port (state_in book) (map (λ entry. entry.made) closing.pass.seen)
         (map (λ gate. W.Gate.view gate) closing.gates.items)) }
     ensures gates { IfSome result.end (λ closing. length closing.gates.items ≡ gates_at port) }
-    ensures kept { IfSome result.end (λ closing. IfSome result.disk (λ disk. IsTrue W.Disk.tells
-        → IsKeptAlong (moment_on W.Disk.moment) (images_at W.Disk.images_at) (state_in book)
-        closing.pass.seen disk)) }
+    ensures left { IfSome result.end (λ closing. IfSome result.disk
+        (HasServed (moment_on W.Disk.moment) (images_at W.Disk.images_at) W.Disk.tells
+        W.Disk.faults W.Disk.size (state_in book) closing.pass.seen)) }
 {
     let left = serve_at(rt, alloc, book, port, world);
     settle(left, has_risen(before, world.faults()))

@@ -12,7 +12,7 @@ returns-in-Ok-init-clause-made g c =
     let password = c.args.password.now in
     let first : g.W.Clock.Clock.first c.in-Ok-clock.clock ≡ (g.W.World.view c.args.world.now).moment =
     c.in-Ok-clock.ensures.first ∙ c.in-Ok.ensures.told.moment in
-    let disk : c.into_disk.result ≡ disk_in c.in-Ok-init.book = c.into_disk.ensures in
+    let disk : c.into_disk.result ≡ disk_in c.in-Ok-init.book = c.into_disk.ensures.disk in
     inr (
       c.put_text.ensures,
       (

@@ -1,13 +1,13 @@
 use Rattle.std.proofs.Common.{inl, inr, refl, ap, map, ◌∙◌}
 use Rattle.std.specs.Prelude.{is_some}
 use Rattle.kom_journal.specs.Images.{images_at, moment}
-use Rattle.kom_book.specs.Books.{state_in, disk_in}
+use Rattle.kom_book.specs.Books.{state_in}
 use denote.Exit as exit
 use denote.Param.Send.{param_send, arg_send}
 use Rattle.kom_server.proofs.Sending.{ticked_send}
 use Rattle.kom_server.proofs.Hiding.{hiding_run}
-use Rattle.kom_server.proofs.Stopping.{kept_disk}
-use Rattle.kom_server.proofs.StoreRuns.{some_then, wrong_or_so, marked_by, refused_end, disk_there, both_there, told_so}
+use Rattle.kom_server.proofs.Stopping.{served_disk}
+use Rattle.kom_server.proofs.StoreRuns.{some_then, wrong_or_so, marked_by, refused_end, disk_there, both_there}
 use Rattle.kom_server.proofs.store_runs.serve_opened.Goals as goal
 
 pub returns-clause-disk : goal.returns-clause-disk
@@ -49,13 +49,13 @@ returns-clause-over g c =
 pub returns-clause-gates : goal.returns-clause-gates
 returns-clause-gates g c = rw c.settle.ensures.end c.serve_at-left.ensures.gates
 
-pub returns-clause-kept : goal.returns-clause-kept
-returns-clause-kept g c =
+pub returns-clause-left : goal.returns-clause-left
+returns-clause-left g c =
     rw (c.settle.ensures.end, c.settle.ensures.disk)
     (some_then _ _ c.serve_at-left.result.end c.serve_at-left.ensures.leads
-    (λ closing led. told_so _ _ (disk_in c.serve_at-left.result.server)
-    (λ told. kept_disk (moment g.W.Disk.Disk.moment) (images_at g.W.Disk.Disk.images_at) c.args.book
-    c.serve_at-left.result.server closing.pass.seen c.requires.plain (c.requires.stands told) (led.1 told))))
+    (λ closing led. served_disk (moment g.W.Disk.Disk.moment) (images_at g.W.Disk.Disk.images_at) g.W.Disk.Disk.tells
+    g.W.Disk.Disk.faults g.W.Disk.Disk.size c.args.book c.serve_at-left.result.server closing.pass.seen c.requires.plain
+    c.requires.stands led.0 led.1 c.settle.ensures.size))
 
 pub serve_at-left-requires-send-B-Entry : goal.serve_at-left-requires-send-B-Entry
 serve_at-left-requires-send-B-Entry g c κs within =

@@ -46,7 +46,7 @@ returns-in-Ok-open-clause-over g c =
     some_then _ _ c.serve_opened.result.end
     (both_some _ _ c.serve_opened.result.end c.serve_opened.ensures.run
     (both_some _ _ c.serve_opened.result.end c.serve_opened.ensures.over
-    (both_some _ _ c.serve_opened.result.end c.serve_opened.ensures.gates c.serve_opened.ensures.kept)))
+    (both_some _ _ c.serve_opened.result.end c.serve_opened.ensures.gates c.serve_opened.ensures.left)))
     (λ closing facts. (
       db,
       found,

@@ -12,5 +12,6 @@ returns-clause-plain g c =
         c.in_ok-core.ensures.sound,
       );
       waits = tt;
+      whole = tt;
       refused = refl;
     })

@@ -33,6 +33,7 @@ returns-in-Ok-store_initial-clause-plain g c =
         c.in-Ok-store_initial.ensures.sound,
       );
       waits = c.in-Ok-store_initial.ensures.emptied;
+      whole = c.in-Ok-store_initial.ensures.unfailed;
       refused = refl;
     })
 
@@ -95,6 +96,6 @@ returns-in-Err-store_initial-clause-kinds g c = c.in-Err-store_initial.ensures.k
 pub returns-in-Err-store_initial-clause-cause : goal.returns-in-Err-store_initial-clause-cause
 returns-in-Err-store_initial-clause-cause g c same =
     subst (λ (disk : g.row.D.Denot). Rose (g.D.Disk.faults c.args.disk) (g.D.Disk.faults disk))
-    (sym c.into_disk.ensures)
+    (sym c.into_disk.ensures.disk)
     (subst (λ (n : ℕ). Rose n (g.D.Disk.faults c.store_initial.new.store.disk)) c.in-Ok.ensures.no_cause
     (c.store_initial.ensures.cause (c.in-Err-store_initial.is ∙ ap (λ f. Err f) same)))

@@ -23,6 +23,7 @@ returns-in-Ok-clause-plain g c =
     ok_of c.with_store.result _ IsPlain c.with_store.ensures.made (record {
       opening = (c.in-Ok.rows.db, ap (λ core. core.state) c.of.ensures.value, c.of.ensures.sound);
       waits = c.in-Ok.ensures.pending;
+      whole = c.in-Ok.ensures.refused;
       refused = refl;
     })
 
