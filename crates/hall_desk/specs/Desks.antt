@@ -149,8 +149,8 @@ WasRefusedSince start old new =
     × IsUndrained start new.number session (old.seen ++ more)))
 
 -- A later state of the same desk: of the same pass of the same hall, which has seen all that it had
--- seen then, in the same order and before anything else, and knows of no fewer tickets. If it counts
--- a refusal now and counted none then, a flush or a drain was refused since.
+-- seen then, in the same order and before anything else, and knows of no fewer tickets. If it
+-- counts a refusal now and counted none then, a flush or a drain was refused since.
 pub record GoesOn (old new : Kept) : Type 0 where
   pub table : new.table ≡ old.table
   pub start : new.start ≡ old.start

@@ -59,5 +59,6 @@ module _ {D : Type 0} where
 abbrev pub StopsCome : {D : Type 0} → (D → ℕ) → (D → ℕ → Image → Type 0) → BookView D → BookView D
     → Result Record Refusal → Type 0
 StopsCome moment images_at old new (Ok made) = IfBoth (Unit {0}) (λ one other.
-    StopFollows moment images_at (state_in old) one made (state_in new) other) old.journal new.journal
+    StopFollows moment images_at (state_in old) one made (state_in new) other)
+    old.journal new.journal
 StopsCome moment images_at old new (Err refusal) = Unit {0}

@@ -78,8 +78,8 @@ module _ {D : Type 0} where
     pub refused : IsFlush made → made.short ≡ true
         → (why : FlushFault) × (cause ≡ Some why) × IsFlushCause faults old new why
 
--- A stop inside an act leaves what stands for the base; inside a flush, or once one was refused, also
--- what stands for the rows before the act.
+-- A stop inside an act leaves what stands for the base; inside a flush, or once one was refused,
+-- also what stands for the rows before the act.
 abbrev pub MayLeave : State → Record → Db → ℕ → Image → Type 0
 MayLeave state made base at image = StandsFor base image
     ⊎ ((IsFlush made ⊎ (state.store_refused ≡ true)) × StandsFor state.db image)

@@ -29,8 +29,8 @@ impl<D: Disk + Drop> Acts for Book<D> {
         requires own { IsByOwner (state_in self.old) entry }
         requires user { HasUser entry.act }
         ensures comes { IfOk result
-            (Comes (GoesOn (moment D.moment) (images_at D.images_at) D.tells D.faults) Stays record_of
-            state_in
+            (Comes (GoesOn (moment D.moment) (images_at D.images_at) D.tells D.faults) Stays
+            record_of state_in
             self.old entry self.new) }
         ensures taken { items.new.items ≡ taken_by (state_in self.old) entry.act }
         ensures memory { OnErr result (Stays self.old self.new) }

@@ -36,7 +36,8 @@ pub(crate) fn make_stored<D: Disk + Drop>(
     requires whole { refused.old ≡ None → store.old.refused ≡ false }
     ensures comes { IfOk result (BookComes D.faults (book_of core.old store.old refused.old) entry
         (book_of core.new store.new refused.new)) }
-    ensures stops { IsTrue D.tells → IfOk result (StopsCome (moment D.moment) (images_at D.images_at)
+    ensures stops { IsTrue D.tells
+        → IfOk result (StopsCome (moment D.moment) (images_at D.images_at)
         (book_of core.old store.old refused.old) (book_of core.new store.new refused.new)) }
     ensures taken { items.new.items ≡ taken_by core.old.state entry.act }
     ensures memory { OnErr result (Stays (book_of core.old store.old refused.old)

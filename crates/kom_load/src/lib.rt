@@ -1,5 +1,5 @@
-//! A run that loads a new server with calls that it makes up itself: which call is next, what became
-//! of those before it, and the lines that tell what the run came to.
+//! A run that loads a new server with calls that it makes up itself: which call is next, what
+//! became of those before it, and the lines that tell what the run came to.
 #![tactic(auto)]
 
 mod generator;

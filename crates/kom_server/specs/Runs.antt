@@ -70,10 +70,10 @@ abbrev pub is_lock_full : ℕ → Bool
 is_lock_full drawn = nat_lt (2 ^ 62) drawn
 
 -- Why the service of a link ended, in the history that was made and among the tickets that were
--- drawn: it failed; or it did not, and it has ended, its stream is at fault, its session was overrun
--- or dropped, the server was stopped, all numbers of sessions were drawn or a ticket that has no
--- turn, or memory ran out. A session that was dropped was given all that was queued for it, unless
--- it was also overrun, the server stopped, or no turn was left.
+-- drawn: it failed; or it did not, and it has ended, its stream is at fault, its session was
+-- overrun or dropped, the server was stopped, all numbers of sessions were drawn or a ticket that
+-- has no turn, or memory ran out. A session that was dropped was given all that was queued for it,
+-- unless it was also overrun, the server stopped, or no turn was left.
 abbrev pub IsCause : State → LinkView → List Record → ℕ → ℕ → SessionEnd → Type 0
 IsCause start link history drawn session end.End = (link.faults ≡ 0) × (link.ended ≡ true)
 IsCause start link history drawn session (end.Broken place) = link.faults ≡ 0
@@ -159,7 +159,8 @@ told_sessions gate = elim gate.returned [ None ↦ [] | Some links ↦ sessions_
 
 -- What was seen is a legal history of the one-thread server from this state on, in which each
 -- session's acts are made by the pass that connected it; each record is of one of the passes that
--- have a clock; each of these has served its gate by it; and different links have different sessions.
+-- have a clock; each of these has served its gate by it; and different links have different
+-- sessions.
 pub record IsRun {L : Type 0} (view : L → LinkView) (start : State) (history : List Record)
     (drawn : ℕ) (gates : List (GateView L)) (clocks : List (Option (List ℕ))) : Type 0 where
   pub legal : IsLegal start history
@@ -168,8 +169,8 @@ pub record IsRun {L : Type 0} (view : L → LinkView) (start : State) (history :
   pub workers : AreWorkers view start history drawn 0 gates clocks
   pub distinct : IsDistinct nat_eq (flat_map told_sessions gates)
 
--- such a run, of which what the rights hide from a group of persons changes nothing that its sessions
--- are sent
+-- such a run, of which what the rights hide from a group of persons changes nothing that its
+-- sessions are sent
 pub record IsHidingRun {L : Type 0} (view : L → LinkView) (start : State) (history : List Record)
     (drawn : ℕ) (gates : List (GateView L)) (clocks : List (Option (List ℕ))) : Type 0 where
   pub run : IsRun view start history drawn gates clocks
@@ -222,9 +223,9 @@ abbrev pub with_clocks : ℕ → WorldCounts → WorldCounts
 with_clocks zero counts = counts
 with_clocks (suc number) counts = with_clock (with_clocks number counts)
 
--- What serving a port by so many workers asks its world for: so many clocks, and then as many gates.
--- What it was given is left to be closed (`true`), or a clock, the gates or memory for them was
--- refused.
+-- What serving a port by so many workers asks its world for: so many clocks, and then as many
+-- gates. What it was given is left to be closed (`true`), or a clock, the gates or memory for them
+-- was refused.
 abbrev pub AsksPort : ℕ → Bool → WorldCounts → WorldCounts → Type 0
 AsksPort workers true old new = new ≡ with_port true (with_clocks workers old)
 AsksPort workers false old new =
@@ -232,8 +233,8 @@ AsksPort workers false old new =
     ⊎ (new ≡ with_port false (with_clocks workers old))
 
 -- What serving a store asks its world for, over standard input and output or at a port; how many
--- gates it serves; and when it is over: over standard input and output the gate has ended, at a port
--- each gate has, or the server was stopped.
+-- gates it serves; and when it is over: over standard input and output the gate has ended, at a
+-- port each gate has, or the server was stopped.
 abbrev pub AsksPlace : Option AtPort → Bool → WorldCounts → WorldCounts → Type 0
 AsksPlace None serves old new = Opens serves old new
 AsksPlace (Some at) serves old new = AsksPort at.workers serves old new
@@ -242,7 +243,8 @@ abbrev pub gates_at : Option AtPort → ℕ
 gates_at None = 1
 gates_at (Some at) = at.workers
 
-abbrev pub IsOverAt : {L : Type 0} → Option AtPort → State → List Record → List (GateView L) → Type 0
+abbrev pub IsOverAt : {L : Type 0} → Option AtPort → State → List Record → List (GateView L)
+    → Type 0
 IsOverAt None start history gates = AllByRecursion (λ gate. gate.ended ≡ true) gates
 IsOverAt (Some at) start history gates = IsOver start history gates
 

@@ -19,8 +19,8 @@ use Rattle.kom_server.specs.Runs.{Opens, AsksPort}
 abbrev pub Serves : List (List ℕ) → Type 0
 Serves words = (command : Command) × IsSpelled words command × (serves command ≡ true)
 
--- the words are a command that serves the server of this store: over standard input and output, or at
--- a port by so many workers
+-- the words are a command that serves the server of this store: over standard input and output, or
+-- at a port by so many workers
 abbrev pub ServesStore : List (List ℕ) → List ℕ → Option AtPort → Type 0
 ServesStore words store None = words ≡ codes "once" ∷ store ∷ []
 ServesStore words store (Some at) = (port workers : List ℕ)

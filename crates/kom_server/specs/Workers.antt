@@ -10,8 +10,8 @@ use Rattle.hall_desk.specs.Passes.{pass_view}
 use Rattle.kom_server.specs.Runs.{AllGivenBack, IsDone, IsFirstReading}
 use Rattle.kom_server.specs.Serving.{Serves}
 
--- what contracts see of a worker: its pass, while it does not serve, its gate, and the readings that
--- its clock gave
+-- what contracts see of a worker: its pass, while it does not serve, its gate, and the readings
+-- that its clock gave
 pub record WorkerView (B E L : Type 0) : Type 0 where
   pub pass : Option (PassModel B E)
   pub gate : GateView L

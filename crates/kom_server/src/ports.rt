@@ -18,9 +18,9 @@ use std::alloc::Global;
 use std::sync::Wait;
 use std::thread::Threads;
 
-/// Serves the sessions at gates at a port, each by a worker, on a server that has made no act, until
-/// each gate ends or fails or the server is stopped. Nothing is served where the gates, a clock, or
-/// memory for them is refused.
+/// Serves the sessions at gates at a port, each by a worker, on a server that has made no act,
+/// until each gate ends or fails or the server is stopped. Nothing is served where the gates, a
+/// clock, or memory for them is refused.
 pub(crate) fn serve_port<
     R: Threads + Wait + Sync,
     B: Acts<Entry: Send> + Drop + Send,

@@ -15,9 +15,9 @@ use kom_state_lock::{Hall, Pass};
 use std::alloc::Global;
 use std::sync::Wait;
 
-/// Serves the sessions at a gate that has given no link yet, by the first of the two passes of a new
-/// hall, until the gate ends or fails, and closes the hall. Returns whether the gate failed, the
-/// server, and a pass that has seen the whole history.
+/// Serves the sessions at a gate that has given no link yet, by the first of the two passes of a
+/// new hall, until the gate ends or fails, and closes the hall. Returns whether the gate failed,
+/// the server, and a pass that has seen the whole history.
 pub(crate) fn serve_alone<R: Wait, B: Acts + Drop, G: Gate, C: Clock>(
     rt: &R,
     alloc: Global,

@@ -21,8 +21,9 @@ pub(crate) struct Left<B: Acts + Drop, W: World> {
     pub end: Option<Closing<B, W>>,
 }
 
-/// Serves the sessions at the gate over standard input and output, on a server that has made no act,
-/// until the gate ends or fails. Nothing is served where the gate, or memory for it, is refused.
+/// Serves the sessions at the gate over standard input and output, on a server that has made no
+/// act, until the gate ends or fails. Nothing is served where the gate, or memory for it, is
+/// refused.
 pub(crate) fn serve_standard<R: Wait, B: Acts + Drop, W: World>(
     rt: &R,
     alloc: Global,

@@ -446,7 +446,9 @@ told_broken {place = place} {past = past} f room moment done desk gave acts gain
       acts gains,
 )
 
-pub untold_broken : {X : Type 0} {place : ℕ} {start : Seen} {past : Past} {known : Known} {now : Seen} → IsFaulty place start past known now → (moment : ℕ) (reason : DeskFault) (desk : DeskView) (gave : Option (List ℕ)) →
+pub untold_broken : {X : Type 0} {place : ℕ} {start : Seen} {past : Past} {known : Known} {now : Seen} →
+    IsFaulty place start past known now →
+    (moment : ℕ) (reason : DeskFault) (desk : DeskView) (gave : Option (List ℕ)) →
     Acts {X = X} now.desk moment (act.Broken known.session) known.session (Err reason) desk
     → Gains now.gave moment gave →
     ((later : Past) × (later.fed ≡ past.fed)

@@ -95,7 +95,8 @@ SettlesSince before known after = ((known.phase ≡ phase.Calm)
 
 -- What the steps leave of a tally: no count falls, and what the desk answered is told. The link is
 -- not read.
-pub record Tallies (old : State) (before : DeskTally) (new : State) (after : DeskTally) : Type 0 where
+pub record Tallies (old : State) (before : DeskTally) (new : State) (after : DeskTally)
+    : Type 0 where
   pub asked : RoseBy 0 before.asked after.asked
   pub refused : RoseBy 0 before.refused after.refused
   pub told : IsTold old.known before → IsTold new.known after

@@ -66,7 +66,8 @@ fn keys_of(alloc: Global, keys: &[u8]) -> Result<MemoryLink, AllocError>
     Ok(MemoryLink::new(alloc, typed, LinkPlan::new(alloc)))
 }
 
-/// Talks to the server at a port, and returns how the talk ends and whether it shows what it should.
+/// Talks to the server at a port, and returns how the talk ends and whether it shows what it
+/// should.
 fn visit<R: Wait + Net + Clock>(rt: &R, alloc: Global, port: u16) -> io::Result<(TalkEnd, bool)> {
     let mut keys = keys_of(alloc, KEYS)?;
     let mut link = SocketLink::new(connect(rt, port)?, b"localhost".to_vec(alloc)?, rt);

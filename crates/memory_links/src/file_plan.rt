@@ -20,7 +20,8 @@ pub struct FilePlan {
     pub stop: Option<u64>,
 }
 
-// A call of its own, so that whoever lets a plan go has one step to prove and not one for each part.
+// A call of its own, so that whoever lets a plan go has one step to prove and not one for each
+// part.
 impl Drop for FilePlan {
     fn drop(self) {
         let FilePlan {

@@ -33,7 +33,8 @@ pub struct MemoryDesk {
         (vec_capacity records - vec_len records) },
 }
 
-// A call of its own, so that whoever lets a desk go has one step to prove and not one for each part.
+// A call of its own, so that whoever lets a desk go has one step to prove and not one for each
+// part.
 impl Drop for MemoryDesk {
     fn drop(self) {
         let MemoryDesk {

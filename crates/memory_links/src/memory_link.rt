@@ -60,7 +60,8 @@ pub struct LinkPlan {
     pub flags: Flags,
 }
 
-// A call of its own, so that whoever lets a plan go has one step to prove and not one for each part.
+// A call of its own, so that whoever lets a plan go has one step to prove and not one for each
+// part.
 impl Drop for LinkPlan {
     fn drop(self) {
         let LinkPlan {

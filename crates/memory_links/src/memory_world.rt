@@ -29,7 +29,8 @@ pub struct GatePlan {
     pub script: Script,
 }
 
-// A call of its own, so that whoever lets a plan go has one step to prove and not one for each part.
+// A call of its own, so that whoever lets a plan go has one step to prove and not one for each
+// part.
 impl Drop for GatePlan {
     fn drop(self) {
         let GatePlan { clients, script } = self;
@@ -93,8 +94,8 @@ impl MemoryWorld {
     ghost use Rattle.memory_links.specs.Memories.{files_of, disk_fails_of};
     ghost use Rattle.memory_links.specs.Memories.{port_plans_of};
 
-    /// A world without files whose gate has this plan or is refused, whose clocks give these moments,
-    /// and whose sink fails at the writes of these numbers, counted from 1.
+    /// A world without files whose gate has this plan or is refused, whose clocks give these
+    /// moments, and whose sink fails at the writes of these numbers, counted from 1.
     pub fn new(
         alloc: Global,
         gate: Option<GatePlan>,
