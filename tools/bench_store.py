@@ -2,12 +2,13 @@
 """Benchmarks `komd once STORE` against a small C program, and prints ratios taken in one run: bench_store.py [KOMD [FOLDER]]
 
 one      create-text of 500 bytes, each sent once the one before it was answered; the C program writes as many bytes to a file for
-         each, syncs, writes a byte and syncs, and does no more
+         each, syncs, writes a byte and syncs, and does no more; then it does so for lines that it is sent, which it answers
 four     the same in pieces of four calls, each sent once the one before it was answered; the C program does the same once for each
          piece, and the store must have one batch for each piece
 opening  `komd check` of the store that has 100,000 such texts; the C program reads the file in pieces of as many bytes
 
-The files stand in FOLDER, which should be on a disk (/var/tmp if left out). The two take turns, nine times, and the medians are compared.
+Who is asked is asked by the same C program, over two pipes. The files stand in FOLDER, which should be on a disk (/var/tmp if left
+out). The two take turns, nine times, and the medians are compared.
 """
 import os
 import pathlib
@@ -20,14 +21,38 @@ import time
 ROOT = pathlib.Path(__file__).resolve().parent.parent
 CALLS, ROUNDS, TEXTS = 200, 9, 100_000
 BODY = b"500H" + b"x" * 500
+# `FILE TIMES SIZE` writes as said above, and `FILE TIMES SIZE PIECE` does so for each so many lines of its standard input, and answers
+# them; `FILE 0 0` reads the file; and `- TIMES PIECE REFERENCE` asks a server at its standard input and output so often for so many
+# texts, from this reference number on.
 LOOP_C = r"""
 #include <fcntl.h>
+#include <stdio.h>
 #include <stdlib.h>
 #include <string.h>
 #include <unistd.h>
+static char bytes[1 << 16];
+static int read_lines(long count) {
+    static char input[1 << 16];
+    for (long got; count > 0; ) {
+        if ((got = read(0, input, sizeof input)) <= 0) return 0;
+        for (long place = 0; place < got; place++) count -= input[place] == '\n';
+    }
+    return 1;
+}
+static int ask(long times, long piece, long reference) {
+    static char body[501];
+    memset(body, 'x', 500);
+    for (; times > 0; times--) {
+        long size = 0;
+        for (long place = 0; place < piece; place++)
+            size += sprintf(bytes + size, "%ld 86 500H%s 0 { } 0 { }\n", reference++, body);
+        if (write(1, bytes, size) != size || !read_lines(piece)) return 1;
+    }
+    return 0;
+}
 int main(int count, char **words) {
-    static char bytes[1 << 16];
     long times = atol(words[2]), size = atol(words[3]), end = 0;
+    if (strcmp(words[1], "-") == 0) return ask(times, size, atol(words[4]));
     int file = open(words[1], O_RDWR | O_CREAT, 0600);
     if (file < 0) return 1;
     if (times == 0) {
@@ -35,9 +60,12 @@ int main(int count, char **words) {
         return end == 0;
     }
     memset(bytes, 'x', sizeof bytes);
+    long piece = count > 4 ? atol(words[4]) : 0;
     for (; times > 0; times--, end += size) {
+        if (!read_lines(piece)) return 1;
         if (pwrite(file, bytes, size, end + 1) != size || fdatasync(file)) return 1;
         if (pwrite(file, "\1", 1, end) != 1 || fdatasync(file)) return 1;
+        if (piece > 0 && write(1, "=1\n=2\n=3\n=4\n", 3 * piece) != 3 * piece) return 1;
     }
     return 0;
 }
@@ -48,10 +76,9 @@ class Talk:
     """A session of `komd once STORE` that is logged in."""
 
     def __init__(self, komd, store):
-        self.process = subprocess.Popen([komd, "once", store], stdin=subprocess.PIPE, stdout=subprocess.PIPE)
+        self.process = subprocess.Popen([komd, "once", store], stdin=subprocess.PIPE, stdout=subprocess.PIPE, bufsize=0)
         self.reference = 1
         self.process.stdin.write(b"A1Ha\n1 62 5 0H 0\n")
-        self.process.stdin.flush()
         self.lines(2)
 
     def lines(self, count):
@@ -59,12 +86,18 @@ class Talk:
             if not self.process.stdout.readline():
                 sys.exit("the server ended")
 
+    def ask(self, loop, piece):
+        """Has the C program ask for texts, a measured number of times so many in a piece."""
+        asks = [loop, "-", str(CALLS), str(piece), str(self.reference + 1)]
+        self.reference += CALLS * piece
+        subprocess.run(asks, stdin=self.process.stdout, stdout=self.process.stdin, check=True)
+
     def create(self, count):
         """Sends so many create-texts in one piece, and waits for their replies."""
         piece = b"".join(b"%d 86 %s 0 { } 0 { }\n" % (self.reference + 1 + place, BODY) for place in range(count))
         self.reference += count
-        self.process.stdin.write(piece)
-        self.process.stdin.flush()
+        while piece:
+            piece = piece[self.process.stdin.write(piece):]
         self.lines(count)
 
     def end(self):
@@ -90,22 +123,31 @@ def made(komd, folder, name):
     return store
 
 
+def asked(loop, file, size, piece):
+    """Has the C program asked as a server is."""
+    words = [loop, file, str(CALLS), str(size), str(piece)]
+    with subprocess.Popen(words, stdin=subprocess.PIPE, stdout=subprocess.PIPE, bufsize=0) as it:
+        subprocess.run([loop, "-", str(CALLS), str(piece), "1"], stdin=it.stdout, stdout=it.stdin, check=True)
+
+
 def create_texts(komd, loop, folder, piece):
-    """The ratio of the C program's time to that of the server, for pieces of so many calls."""
+    """The ratios of the C program's time to that of the server, where nobody asks it and where it is asked, for pieces of so many
+    calls."""
     store = made(komd, folder, f"store{piece}")
-    talk, ours, theirs = Talk(komd, store), [], []
+    talk, ours, theirs, likewise = Talk(komd, store), [], [], []
     for number in range(ROUNDS):
         before = store.stat().st_size
-        ours.append(seconds(lambda: [talk.create(piece) for _ in range(CALLS)]))
+        ours.append(seconds(lambda: talk.ask(loop, piece)))
         size = (store.stat().st_size - before) // CALLS
         file = folder / f"loop{piece}.{number}"
         theirs.append(seconds(lambda: subprocess.run([loop, file, str(CALLS), str(size - 1)], check=True)))
+        likewise.append(seconds(lambda: asked(loop, folder / f"asked{piece}.{number}", size - 1, piece)))
     talk.end()
     told = counts(komd, store)
     # The store was made by one batch, and the login is another.
     if (told["batches"], told["texts"]) != (2 + ROUNDS * CALLS, piece * ROUNDS * CALLS):
         sys.exit(f"the store has {told}")
-    return statistics.median(theirs) / statistics.median(ours)
+    return [statistics.median(times) / statistics.median(ours) for times in (theirs, likewise)]
 
 
 def opening(komd, loop, folder):
@@ -130,7 +172,8 @@ def main(words):
         source.write_text(LOOP_C)
         subprocess.run(["gcc", "-O2", "-o", loop, source], check=True)
         for name, piece in [("one", 1), ("four", 4)]:
-            print(f"{name}: the C program takes {create_texts(komd, loop, folder, piece):.2f} of the server's time")
+            alone, likewise = create_texts(komd, loop, folder, piece)
+            print(f"{name}: the C program takes {alone:.2f} of the server's time, and {likewise:.2f} where it is asked")
         took, times = opening(komd, loop, folder)
         print(f"opening: {took * 1000:.0f} ms, {times:.1f} times what reading the file takes")
 
