@@ -7,8 +7,11 @@ four     the same in pieces of four calls, each sent once the one before it was 
          piece, and the store must have one batch for each piece
 opening  `komd check` of the store that has 100,000 such texts; the C program reads the file in pieces of as many bytes
 
-Who is asked is asked by the same C program, over two pipes. The files stand in FOLDER, which should be on a disk (/var/tmp if left
-out). The two take turns, nine times, and the medians are compared.
+Who is asked is asked by the same C program, over two pipes. There two processes wake each other for each piece; where nobody asks,
+none is woken. So both are asked as well by one that is a piece ahead: it sends the next piece once the one before it was read, not
+once that was answered. The next piece then stands there already when one is answered, and never do two, which would share a flush.
+
+The files stand in FOLDER, which should be on a disk (/var/tmp if left out). All take turns, nine times, and medians are compared.
 """
 import os
 import pathlib
@@ -21,38 +24,49 @@ import time
 ROOT = pathlib.Path(__file__).resolve().parent.parent
 CALLS, ROUNDS, TEXTS = 200, 9, 100_000
 BODY = b"500H" + b"x" * 500
-# `FILE TIMES SIZE` writes as said above, and `FILE TIMES SIZE PIECE` does so for each so many lines of its standard input, and answers
-# them; `FILE 0 0` reads the file; and `- TIMES PIECE REFERENCE` asks a server at its standard input and output so often for so many
-# texts, from this reference number on.
+# `FILE TIMES SIZE` writes as said above, and `FILE TIMES SIZE PIECE` does so for each so many lines of its standard input, and
+# answers them; `FILE 0 0` reads the file; and `- TIMES PIECE REFERENCE AHEAD` asks a server at its standard input and output so
+# often for so many texts, from this reference number on, and is so many pieces ahead, 0 or 1.
 LOOP_C = r"""
 #include <fcntl.h>
+#include <poll.h>
+#include <sched.h>
 #include <stdio.h>
 #include <stdlib.h>
 #include <string.h>
+#include <sys/ioctl.h>
 #include <unistd.h>
 static char bytes[1 << 16];
 static int read_lines(long count) {
     static char input[1 << 16];
-    for (long got; count > 0; ) {
+    static long lines; /* that came with those before them */
+    for (long got; lines < count; ) {
         if ((got = read(0, input, sizeof input)) <= 0) return 0;
-        for (long place = 0; place < got; place++) count -= input[place] == '\n';
+        for (long place = 0; place < got; place++) lines += input[place] == '\n';
     }
+    lines -= count;
     return 1;
 }
-static int ask(long times, long piece, long reference) {
+static int all_read(void) {
+    int unread = 1;
+    struct pollfd reader = { .fd = 1 }; /* poll counts it once nobody reads any more */
+    while (ioctl(1, FIONREAD, &unread) == 0 && unread > 0 && poll(&reader, 1, 0) == 0) sched_yield();
+    return unread == 0;
+}
+static int ask(long times, long piece, long reference, long ahead) {
     static char body[501];
     memset(body, 'x', 500);
-    for (; times > 0; times--) {
+    for (long sent = 0; sent < times; sent++) {
         long size = 0;
         for (long place = 0; place < piece; place++)
             size += sprintf(bytes + size, "%ld 86 500H%s 0 { } 0 { }\n", reference++, body);
-        if (write(1, bytes, size) != size || !read_lines(piece)) return 1;
+        if (!all_read() || write(1, bytes, size) != size || (sent >= ahead && !read_lines(piece))) return 1;
     }
-    return 0;
+    return !read_lines(ahead * piece);
 }
 int main(int count, char **words) {
     long times = atol(words[2]), size = atol(words[3]), end = 0;
-    if (strcmp(words[1], "-") == 0) return ask(times, size, atol(words[4]));
+    if (strcmp(words[1], "-") == 0) return ask(times, size, atol(words[4]), atol(words[5]));
     int file = open(words[1], O_RDWR | O_CREAT, 0600);
     if (file < 0) return 1;
     if (times == 0) {
@@ -72,6 +86,11 @@ int main(int count, char **words) {
 """
 
 
+def ask(loop, process, piece, reference, ahead):
+    words = [loop, "-", str(CALLS), str(piece), str(reference), str(ahead)]
+    subprocess.run(words, stdin=process.stdout, stdout=process.stdin, check=True)
+
+
 class Talk:
     """A session of `komd once STORE` that is logged in."""
 
@@ -86,11 +105,10 @@ class Talk:
             if not self.process.stdout.readline():
                 sys.exit("the server ended")
 
-    def ask(self, loop, piece):
+    def ask(self, loop, piece, ahead):
         """Has the C program ask for texts, a measured number of times so many in a piece."""
-        asks = [loop, "-", str(CALLS), str(piece), str(self.reference + 1)]
+        ask(loop, self.process, piece, self.reference + 1, ahead)
         self.reference += CALLS * piece
-        subprocess.run(asks, stdin=self.process.stdout, stdout=self.process.stdin, check=True)
 
     def create(self, count):
         """Sends so many create-texts in one piece, and waits for their replies."""
@@ -123,31 +141,34 @@ def made(komd, folder, name):
     return store
 
 
-def asked(loop, file, size, piece):
+def asked(loop, file, size, piece, ahead):
     """Has the C program asked as a server is."""
     words = [loop, file, str(CALLS), str(size), str(piece)]
     with subprocess.Popen(words, stdin=subprocess.PIPE, stdout=subprocess.PIPE, bufsize=0) as it:
-        subprocess.run([loop, "-", str(CALLS), str(piece), "1"], stdin=it.stdout, stdout=it.stdin, check=True)
+        ask(loop, it, piece, 1, ahead)
 
 
 def create_texts(komd, loop, folder, piece):
     """The ratios of the C program's time to that of the server, where nobody asks it and where it is asked, for pieces of so many
-    calls."""
+    calls; first those where who asks waits for each reply, then those where it is a piece ahead."""
     store = made(komd, folder, f"store{piece}")
-    talk, ours, theirs, likewise = Talk(komd, store), [], [], []
+    talk, ours, theirs, likewise = Talk(komd, store), ([], []), [], ([], [])
     for number in range(ROUNDS):
         before = store.stat().st_size
-        ours.append(seconds(lambda: talk.ask(loop, piece)))
-        size = (store.stat().st_size - before) // CALLS
+        for ahead in (0, 1):
+            ours[ahead].append(seconds(lambda: talk.ask(loop, piece, ahead)))
+        size = (store.stat().st_size - before) // (2 * CALLS)
         file = folder / f"loop{piece}.{number}"
         theirs.append(seconds(lambda: subprocess.run([loop, file, str(CALLS), str(size - 1)], check=True)))
-        likewise.append(seconds(lambda: asked(loop, folder / f"asked{piece}.{number}", size - 1, piece)))
+        for ahead in (0, 1):
+            file = folder / f"asked{piece}.{number}.{ahead}"
+            likewise[ahead].append(seconds(lambda: asked(loop, file, size - 1, piece, ahead)))
     talk.end()
-    told = counts(komd, store)
+    told, pieces = counts(komd, store), 2 * ROUNDS * CALLS
     # The store was made by one batch, and the login is another.
-    if (told["batches"], told["texts"]) != (2 + ROUNDS * CALLS, piece * ROUNDS * CALLS):
+    if (told["batches"], told["texts"]) != (2 + pieces, piece * pieces):
         sys.exit(f"the store has {told}")
-    return [statistics.median(times) / statistics.median(ours) for times in (theirs, likewise)]
+    return [statistics.median(times) / statistics.median(ours[ahead]) for ahead in (0, 1) for times in (theirs, likewise[ahead])]
 
 
 def opening(komd, loop, folder):
@@ -172,8 +193,9 @@ def main(words):
         source.write_text(LOOP_C)
         subprocess.run(["gcc", "-O2", "-o", loop, source], check=True)
         for name, piece in [("one", 1), ("four", 4)]:
-            alone, likewise = create_texts(komd, loop, folder, piece)
-            print(f"{name}: the C program takes {alone:.2f} of the server's time, and {likewise:.2f} where it is asked")
+            alone, likewise, alone_ahead, likewise_ahead = create_texts(komd, loop, folder, piece)
+            print(f"{name}: the C program takes {alone:.2f} of the server's time, and {likewise:.2f} where it is asked; "
+                  f"and {alone_ahead:.2f} and {likewise_ahead:.2f} where the next piece stands there already")
         took, times = opening(komd, loop, folder)
         print(f"opening: {took * 1000:.0f} ms, {times:.1f} times what reading the file takes")
 
