@@ -65,11 +65,6 @@ impl<'a, R: Net + Clock> Door<'a, R> {
         })
     }
 
-    #[cfg(test)]
-    pub(crate) fn port(&self) -> io::Result<u16> {
-        Ok(self.listener.local_addr()?.port())
-    }
-
     /// Who comes next. If nobody is there, it waits until somebody comes or something is done at
     /// the port, and looks once more where somebody may be there.
     pub(crate) fn next(&mut self) -> Arrival<&'a R> {

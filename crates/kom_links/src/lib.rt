@@ -8,8 +8,6 @@ mod client_links;
 mod clock;
 mod desk;
 mod desk_tally;
-#[cfg(test)]
-mod door_tests;
 mod doors;
 mod gate;
 mod link;
@@ -19,13 +17,9 @@ mod sink;
 mod std_gate;
 mod std_link;
 mod std_sink;
-#[cfg(test)]
-mod std_tests;
 mod std_world;
 mod streams;
 mod system_clock;
-#[cfg(test)]
-mod tests;
 mod world;
 mod world_counts;
 

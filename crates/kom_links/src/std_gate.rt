@@ -50,14 +50,6 @@ impl<'a, R: Input + Print + Clock + Net> StdGate<'a, R> {
             faults: 0,
         }
     }
-
-    #[cfg(test)]
-    pub(crate) fn port(&self) -> io::Result<u16> {
-        match &self.entrance {
-            Entrance::Standard(_) => Ok(0),
-            Entrance::Port(door) => door.port(),
-        }
-    }
 }
 
 impl<'a, R: Input + Print + Clock + Net> Gate for StdGate<'a, R> {
