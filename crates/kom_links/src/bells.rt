@@ -41,7 +41,10 @@ impl Bells {
             return;
         }
         for bell in &self.bells {
-            if bell.is_waiting.swap(false, Ordering::SeqCst) {
+            // A bell that nobody waits at is not written to.
+            if bell.is_waiting.load(Ordering::SeqCst)
+                && bell.is_waiting.swap(false, Ordering::SeqCst)
+            {
                 let _ = bell.waker.wake();
             }
         }
@@ -97,10 +100,13 @@ impl Watch {
         let mut is_ready = self.pause(millis)?;
         if !is_ready && self.bells.count_rung() == self.seen {
             self.bells.begin(self.place);
-            if self.bells.count_rung() == self.seen {
-                is_ready = self.pause(LONGEST_MILLIS)?;
-            }
+            let waited = if self.bells.count_rung() == self.seen {
+                self.pause(LONGEST_MILLIS)
+            } else {
+                Ok(false)
+            };
             self.bells.end(self.place);
+            is_ready = waited?;
         }
         // What is done from now on is seen by the next wait.
         self.seen = self.bells.count_rung();
