@@ -98,4 +98,14 @@ impl ObjectLists {
             self.conferences.remove(object, number);
         }
     }
+
+    /// Looks at so many texts and as many conferences, and forgets those whose list is empty, with
+    /// its room.
+    pub(crate) fn sweep(&mut self, steps: usize)
+        ensures { (on_text : Bool) (object : ℕ) → list_at self.new on_text object
+            ≡ list_at self.old on_text object }
+    {
+        self.texts.sweep(steps);
+        self.conferences.sweep(steps);
+    }
 }

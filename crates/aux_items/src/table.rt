@@ -140,6 +140,15 @@ impl Items {
         self.rows.reserve(additional)?;
         self.of_objects.reserve(on_text, object, additional)
     }
+
+    /// Gives back memory of items that are gone: it looks at so many texts and as many conferences.
+    /// The room for more items may go.
+    pub fn sweep(&mut self, steps: usize)
+        ensures { self.new.rows ≡ self.old.rows }
+    {
+        self.rows.settle();
+        self.of_objects.sweep(steps);
+    }
 }
 
 /// The place of the item of a number, among those at some places.

@@ -19,12 +19,14 @@ use std::alloc::Global;
 use texts::{Need, Texts};
 
 impl StoredRows {
-    /// Takes the room that effects need, of which one at most gives a name.
+    /// Takes the room that effects need, of which one at most gives a name. Room that was taken before
+    /// may go.
     pub fn reserve(&mut self, effects: &[Effect]) -> Result<(), Memory>
         requires { IsOrderly effects.now }
         ensures db { self.new.db ≡ self.old.db }
         ensures ok { OnOk result (HasRoom self.new.room effects.now) }
     {
+        self.sweep(effects);
         let conferences = effects
             .iter()
             .filter(|effect| adds_conference(effect))
@@ -37,6 +39,29 @@ impl StoredRows {
         reserve_items(&mut self.items, effects)?;
         reserve_name(&mut self.names, effects)
     }
+
+    /// Gives back memory of rows that are gone, with the room that was taken before. For each row
+    /// that goes it looks at two keys of each table, so it comes to all of them before as many as
+    /// half of them have lost their last row.
+    fn sweep(&mut self, effects: &[Effect])
+        ensures { self.new.db ≡ self.old.db }
+    {
+        let going = effects.iter().filter(|effect| takes_away(effect)).count();
+        self.texts.sweep(going.saturating_mul(2));
+        self.items.sweep(going.saturating_mul(2));
+    }
+}
+
+/// Whether an effect takes away something that hung on a text or a conference.
+fn takes_away(effect: &Effect) -> bool {
+    matches!(
+        effect,
+        Effect::RecipientGone { .. }
+            | Effect::LinkGone { .. }
+            | Effect::MarkGone { .. }
+            | Effect::AuxGone { .. }
+            | Effect::ConfGone { .. }
+    )
 }
 
 /// Makes room for all that effects add to texts.

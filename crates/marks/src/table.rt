@@ -218,6 +218,16 @@ impl MarkTable {
         self.on_text.reserve(text, additional)?;
         Ok(())
     }
+
+    /// Gives back memory of marks that are gone: it looks at so many persons and as many texts. The
+    /// room for more marks may go.
+    pub fn sweep(&mut self, steps: usize)
+        ensures { self.new.marks ≡ self.old.marks }
+    {
+        self.rows.settle();
+        self.of_person.sweep(steps);
+        self.on_text.sweep(steps);
+    }
 }
 
 /// The place of the mark of a person, among those at some places.

@@ -111,4 +111,13 @@ impl KindLists {
             self.comments.remove(text, number);
         }
     }
+
+    /// Looks at so many texts of each kind, and forgets those whose list is empty, with its room.
+    pub(crate) fn sweep(&mut self, steps: usize)
+        ensures { (text : ℕ) (footnote : Bool) → list_at self.new text footnote
+            ≡ list_at self.old text footnote }
+    {
+        self.comments.sweep(steps);
+        self.footnotes.sweep(steps);
+    }
 }

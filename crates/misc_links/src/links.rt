@@ -231,6 +231,16 @@ impl Links {
     {
         self.into.reserve(text, footnote, additional)
     }
+
+    /// Gives back memory of links that are gone: it looks at so many texts of each list. The room
+    /// for more links may go.
+    pub fn sweep(&mut self, steps: usize)
+        ensures { self.new.links ≡ self.old.links }
+    {
+        self.rows.settle();
+        self.from.sweep(steps);
+        self.into.sweep(steps);
+    }
 }
 
 /// The place of the link into a text, among those at some places.

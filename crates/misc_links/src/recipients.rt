@@ -140,6 +140,15 @@ impl Recipients {
         self.by_text.reserve(text, additional)?;
         Ok(())
     }
+
+    /// Gives back memory of recipients that are gone: it looks at so many texts. The room for more
+    /// recipients may go.
+    pub fn sweep(&mut self, steps: usize)
+        ensures { self.new.recipients ≡ self.old.recipients }
+    {
+        self.rows.settle();
+        self.by_text.sweep(steps);
+    }
 }
 
 /// The place of a conference as a recipient, among those at some places.

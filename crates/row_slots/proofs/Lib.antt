@@ -1,5 +1,8 @@
+pub mod Blocks
 pub mod DenseRooms
+pub mod Laid
 pub mod Members
+pub mod Pages
 pub mod Passing
 pub mod Places
 pub mod Rooms

@@ -1,7 +1,7 @@
 -- Rows in the order of adding, each in a slot of its own; one that was taken away leaves its slot
 -- empty.
-use Rattle.std.specs.Prelude.{ℕ, zero, suc, ◌+◌, Bool, List, [], ◌∷◌, Option, Some, None}
-use Rattle.std.specs.Prelude.{if◌then◌else◌}
+use Rattle.std.specs.Prelude.{◌≡◌, ℕ, zero, suc, ◌+◌, Bool, List, [], ◌∷◌, ◌++◌, length, Option}
+use Rattle.std.specs.Prelude.{Some, None, replicate, if◌then◌else◌}
 
 -- What slots are to their callers: what stands in each, and how many more rows fit without memory.
 pub record Slotted (R : Type 0) : Type 0 where
@@ -39,3 +39,17 @@ module _ {R : Type 0} where
   replaced zero row (None ∷ slots) = None ∷ slots
   replaced zero row (Some first ∷ slots) = Some row ∷ slots
   replaced (suc place) row (slot ∷ slots) = slot ∷ replaced place row slots
+
+  -- the slots of a block: where none is kept all are empty
+  abbrev pub spread : List (Option R) → List (Option R)
+  spread [] = replicate 64 None
+  spread (slot ∷ slots) = slot ∷ slots
+
+  -- so many slots are a block
+  abbrev pub IsBlock : List (Option R) → Type 0
+  IsBlock slots = length slots ≡ 64
+
+  -- the slots of blocks, one block after the other, and then the last ones
+  abbrev pub laid : List (List (Option R)) → List (Option R) → List (Option R)
+  laid [] last = last
+  laid (block ∷ blocks) last = block ++ laid blocks last

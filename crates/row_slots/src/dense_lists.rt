@@ -1,25 +1,28 @@
-ghost use Rattle.std.specs.Prelude.{◌≡◌, ℕ, ◌+◌, ◌≤◌, ◌<◌, [], ◌∷◌, ◌++◌, ◌↔◌};
-ghost use Rattle.std.specs.Prelude.{nat_eq, position, OnOk, IsOk, IsTrue};
+ghost use Rattle.std.specs.Prelude.{◌≡◌, ℕ, ◌+◌, ◌/◌, ◌≤◌, ◌<◌, [], ◌∷◌, ◌++◌, ◌↔◌};
+ghost use Rattle.std.specs.Prelude.{nat_eq, option_copied, vec_len, OnOk, IsOk, IsTrue};
 ghost use Rattle.std.specs.Bool.{OnTrue};
 ghost use Rattle.std.specs.Set.{remove_key, is_member};
-ghost use Rattle.row_slots.specs.DenseLists.{dense_list, dense_room, IsNear, HasNoneFar};
-ghost use Rattle.row_slots.specs.DenseLists.{HasOnlyDenseChanged};
+ghost use Rattle.row_slots.specs.DenseLists.{dense_list, dense_room, near_list, IsNear};
+ghost use Rattle.row_slots.specs.DenseLists.{HasNoneFar, HasNoPage, HasOnlyDenseChanged};
 
 use crate::lists::Lists;
+use crate::page::{PAGE, Page, grow_at, is_used, push_at, remove_at, unused_page};
 use smallvec::SmallVec;
 use std::alloc::{AllocError, Global};
 
 /// A list of numbers for each key: for keys that are numbered one after the other.
 ///
-/// The lists of near keys, from 0 on, stand in a vector, which has a place for each key up to the
-/// highest of them. A key is far that is more than four times as high as there were keys before it,
-/// and a thousand; from the first far key on all that are higher than the near ones are far. Far
-/// ones are hashed, so the memory grows with the keys that are used, however high they are. A list
-/// of up to four numbers takes no further memory of its own.
+/// The lists of near keys stand in pages, which are found by the key; a page all of whose lists are
+/// empty takes no memory once a sweep has seen it. A key is far that is more than four times as high
+/// as there were keys before it, and a thousand; from the first far key on all that are in no page
+/// are far. Far ones are hashed, so the memory grows with the keys that are used, however high they
+/// are. A list of up to four numbers takes no further memory of its own.
 pub struct DenseLists {
-    near: Vec<SmallVec<u32, 4>>,
-    /// How often a near key was higher than all before it.
+    near: Vec<Page>,
+    /// How often a near key was in a higher page than all before it.
     grown: usize,
+    /// The page at which the next sweep goes on.
+    hand: usize,
     far: Lists,
 }
 
@@ -27,8 +30,13 @@ pub struct DenseLists {
 // part.
 impl Drop for DenseLists {
     fn drop(self) {
-        let DenseLists { near, grown, far } = self;
-        drop((near, grown, far));
+        let DenseLists {
+            near,
+            grown,
+            hand,
+            far,
+        } = self;
+        drop((near, grown, hand, far));
     }
 }
 
@@ -40,32 +48,34 @@ impl DenseLists {
         DenseLists {
             near: Vec::new(alloc),
             grown: 0,
+            hand: 0,
             far: Lists::new(alloc),
         }
+    }
+
+    /// The list of a near key.
+    fn near_list(&self, key: u32) -> Option<&SmallVec<u32, 4>>
+        ensures { option_copied result ≡ near_list self.now.near.items key }
+    {
+        let page = self.near.get(key as usize / PAGE)?;
+        page.get(key as usize % PAGE)
     }
 
     /// The list of a key.
     pub fn list(&self, key: u32) -> &[u32]
         ensures { result.now ≡ dense_list self.now key }
     {
-        match self.near.get(key as usize) {
+        match self.near_list(key) {
             Some(list) => list.as_slice(),
             None => self.far.list(key),
         }
-    }
-
-    /// The place of a number in the list of a key. The time grows with the list.
-    fn position_of(&self, key: u32, number: u32) -> Option<usize>
-        ensures { result ≡ position (nat_eq number) (dense_list self.now key) }
-    {
-        self.list(key).iter().position(|other| number == *other)
     }
 
     /// How many more numbers fit into the list of a key without memory.
     fn room(&self, key: u32) -> usize
         ensures { result ≡ dense_room self.now key }
     {
-        match self.near.get(key as usize) {
+        match self.near_list(key) {
             Some(list) => list.capacity() - list.len(),
             None => self.far.room(key),
         }
@@ -87,7 +97,8 @@ impl DenseLists {
         if !self.may_extend(key) {
             return self.far.reserve(key, additional);
         }
-        self.extend(key)?;
+        self.extend(key as usize / PAGE)?;
+        self.fill(key)?;
         self.grow(key, additional)
     }
 
@@ -95,35 +106,62 @@ impl DenseLists {
     fn is_near(&self, key: u32) -> bool
         ensures { IsTrue result ↔ IsNear self.now key }
     {
-        (key as usize) < self.near.len()
+        self.near_list(key).is_some()
     }
 
-    /// Whether the near keys may go as far as this one: none is far, and it is not too high.
+    /// Whether the pages may go as far as that of this key: none is far, it is not too high, and
+    /// its page has no lists.
     fn may_extend(&self, key: u32) -> bool
-        ensures { OnTrue result (HasNoneFar self.now) }
+        ensures far { OnTrue result (HasNoneFar self.now) }
+        ensures page { OnTrue result (HasNoPage self.now (key / 64)) }
     {
-        let limit = self.grown.saturating_mul(4).saturating_add(1_000);
-        self.far.is_empty() && (key as usize) < limit
+        let limit = self.grown.saturating_mul(4 * PAGE).saturating_add(1_000);
+        self.far.is_empty() && (key as usize) < limit && self.has_no_page(key as usize / PAGE)
     }
 
-    /// Keeps a near list for a key, and for each key below it, from now on, even if it is empty.
-    fn extend(&mut self, key: u32) -> Result<(), AllocError>
-        requires { HasNoneFar self.old }
+    /// Whether a page has no lists.
+    fn has_no_page(&self, place: usize) -> bool
+        ensures { OnTrue result (HasNoPage self.now place) }
+    {
+        match self.near.get(place) {
+            Some(page) => page.is_empty(),
+            None => true,
+        }
+    }
+
+    /// Has as many pages as reach this one, even if they have no lists.
+    fn extend(&mut self, place: usize) -> Result<(), AllocError>
+        requires { place ≤ 67108864 }
+        ensures near { (key : ℕ) → near_list self.new.near.items key
+            ≡ near_list self.old.near.items key }
+        ensures far { self.new.far ≡ self.old.far }
+        ensures page { HasNoPage self.old place → HasNoPage self.new place }
+        ensures ok { OnOk result (place < vec_len self.new.near) }
+    {
+        let kept = self.near.len();
+        if place < kept {
+            return Ok(());
+        }
+        let alloc = *self.near.allocator();
+        self.near.reserve(place + 1 - kept)?;
+        for _ in kept..place + 1 {
+            self.near.push(Vec::new(alloc))?;
+        }
+        self.grown = self.grown.saturating_add(1);
+        Ok(())
+    }
+
+    /// Keeps lists for the keys of a page that has none.
+    fn fill(&mut self, key: u32) -> Result<(), AllocError>
+        requires none { HasNoneFar self.old }
+        requires page { HasNoPage self.old (key / 64) }
+        requires within { key / 64 < vec_len self.old.near }
         ensures lists { (other : ℕ) → dense_list self.new other ≡ dense_list self.old other }
         ensures room { (other : ℕ) → dense_room self.old other ≤ dense_room self.new other }
         ensures ok { OnOk result (IsNear self.new key) }
     {
-        let kept = self.near.len();
-        let wanted = key as usize + 1;
-        if wanted <= kept {
-            return Ok(());
-        }
         let alloc = *self.near.allocator();
-        self.near.reserve(wanted - kept)?;
-        for _ in kept..wanted {
-            self.near.push(SmallVec::new(alloc))?;
-        }
-        self.grown = self.grown.saturating_add(1);
+        self.near[key as usize / PAGE] = unused_page(alloc)?;
         Ok(())
     }
 
@@ -134,8 +172,8 @@ impl DenseLists {
         ensures ok { OnOk result (additional ≤ dense_room self.new key) }
         ensures room { (other : ℕ) → dense_room self.old other ≤ dense_room self.new other }
     {
-        let list = &mut self.near[key as usize];
-        list.reserve(additional)
+        let page = &mut self.near[key as usize / PAGE];
+        grow_at(page, key as usize % PAGE, additional)
     }
 
     /// Puts a number at the end of the list of a key. Takes no memory.
@@ -160,8 +198,8 @@ impl DenseLists {
         ensures room { dense_room self.old key ≤ dense_room self.new key + 1 }
         ensures others { HasOnlyDenseChanged self.old self.new key }
     {
-        let list = &mut self.near[key as usize];
-        list.push(number).unwrap();
+        let page = &mut self.near[key as usize / PAGE];
+        push_at(page, key as usize % PAGE, number);
     }
 
     /// Takes a number out of the list of a key that has it.
@@ -188,9 +226,34 @@ impl DenseLists {
         ensures room { dense_room self.new key ≡ dense_room self.old key + 1 }
         ensures others { HasOnlyDenseChanged self.old self.new key }
     {
-        let place = self.position_of(key, number).unwrap();
-        let list = &mut self.near[key as usize];
-        prove!(list.len() <= list.capacity());
-        list.remove(place);
+        let page = &mut self.near[key as usize / PAGE];
+        remove_at(page, key as usize % PAGE, number);
+    }
+
+    /// Looks at the next page, and lets go of it if each of its lists is empty, and at so many far
+    /// keys. Room that lists have may go.
+    pub fn sweep(&mut self, steps: usize)
+        ensures { (key : ℕ) → dense_list self.new key ≡ dense_list self.old key }
+    {
+        self.far.sweep(steps);
+        if self.hand >= self.near.len() {
+            self.hand = 0;
+            return;
+        }
+        if self.far.is_empty() {
+            self.sweep_page();
+        }
+        self.hand = self.hand.saturating_add(1);
+    }
+
+    /// Lets go of the page that is next if each of its lists is empty.
+    fn sweep_page(&mut self)
+        requires far { HasNoneFar self.old }
+        requires within { self.old.hand < vec_len self.old.near }
+        ensures { (key : ℕ) → dense_list self.new key ≡ dense_list self.old key }
+    {
+        if !is_used(&self.near[self.hand]) {
+            self.near[self.hand] = Vec::new(*self.near.allocator());
+        }
     }
 }

@@ -2,10 +2,15 @@
 //! each found by a key.
 #![tactic(auto)]
 
+mod block;
 mod dense_lists;
 mod lists;
+mod page;
 mod slots;
 
+// A crate can name the slots in a contract only if the types of their fields are exported.
+#[doc(hidden)]
+pub use block::Block;
 pub use dense_lists::DenseLists;
 pub use lists::Lists;
 pub use slots::Slots;

@@ -12,13 +12,15 @@ use std::alloc::{AllocError, Global};
 /// A list of up to four numbers takes no memory of its own.
 pub struct Lists {
     map: IndexMap<u32, SmallVec<u32, 4>>,
+    /// The place in the map at which the next sweep goes on.
+    hand: usize,
 }
 
 // A call of its own, so that whoever lets the lists go has one step to prove and not one for each
 // part.
 impl Drop for Lists {
     fn drop(self) {
-        let Lists { map } = self;
+        let Lists { map, hand: _ } = self;
         drop(map);
     }
 }
@@ -30,6 +32,7 @@ impl Lists {
     {
         Lists {
             map: IndexMap::new(alloc),
+            hand: 0,
         }
     }
 
@@ -141,5 +144,31 @@ impl Lists {
         let list = self.map.get_mut(&key).unwrap();
         prove!(list.len() <= list.capacity());
         list.remove(place);
+    }
+
+    /// Looks at so many keys, from where the last sweep ended, and forgets those whose list is
+    /// empty, with the room that it has. As many sweeps as there are keys look at each.
+    pub fn sweep(&mut self, steps: usize)
+        ensures { (key : ℕ) → list_of self.new key ≡ list_of self.old key }
+    {
+        for _ in 0..steps {
+            self.sweep_next();
+        }
+    }
+
+    /// Looks at the next key, or begins again.
+    fn sweep_next(&mut self)
+        ensures { (key : ℕ) → list_of self.new key ≡ list_of self.old key }
+    {
+        let Some((key, _)) = self.map.get_index(self.hand) else {
+            self.hand = 0;
+            return;
+        };
+        let key = *key;
+        if self.list(key).is_empty() {
+            self.map.swap_remove(&key);
+        } else {
+            self.hand = self.hand.saturating_add(1);
+        }
     }
 }

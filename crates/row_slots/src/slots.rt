@@ -1,37 +1,47 @@
-ghost use Rattle.std.specs.Prelude.{◌≡◌, ◌<◌, ◌≤◌, ◌+◌, ◌++◌, ◌∷◌, [], length, Some, slice_get};
-ghost use Rattle.std.specs.Prelude.{option_copied, IsOk, OnOk, OnErr, IfOk};
+ghost use Rattle.std.specs.Prelude.{◌≡◌, ◌<◌, ◌≤◌, ◌+◌, ◌-◌, ◌++◌, ◌∷◌, [], length, Some};
+ghost use Rattle.std.specs.Prelude.{slice_get, option_copied, IsOk, OnOk, OnErr, IfOk};
 ghost use Rattle.std.specs.Option.{option_flatten};
 ghost use Rattle.row_slots.specs.Slots.{emptied, replaced};
 
+use crate::block::{BLOCK, Block, row_at, set_at, take_at};
 use std::alloc::{AllocError, Global};
 use std::marker::Model;
+use std::mem;
 
 /// Rows in the order of adding. The slot of a row that was taken away stays empty.
 ///
-/// All but `reserve`, and a `push` that takes memory, are done in constant time.
+/// All but `reserve`, `settle`, and a `push` that takes memory, are done in constant time. The slots
+/// stand in blocks, each of which takes no memory once all of it is empty, and those that were added
+/// last by themselves.
 pub struct Slots<R> {
-    slots: Vec<Option<R>>,
+    settled: Vec<Block<R>>,
+    last: Vec<Option<R>>,
 }
 
 // A call of its own, so that whoever lets the rows go has one step to prove and not one for each
 // part.
 impl<R: Drop> Drop for Slots<R> {
     fn drop(self) {
-        let Slots { slots } = self;
-        drop(slots);
+        let Slots { settled, last } = self;
+        drop((settled, last));
     }
 }
 
 impl<R> Model for Slots<R> {
-    ghost use Rattle.std.specs.Prelude.{◌-◌, min, vec_len, vec_capacity};
-    ghost use Rattle.row_slots.specs.Slots.{Slotted};
+    ghost use Rattle.std.specs.Prelude.{◌+◌, ◌*◌, ◌-◌, ◌≤◌, min, vec_len, vec_capacity};
+    ghost use Rattle.std.specs.List.{AllByRecursion};
+    ghost use Rattle.row_slots.specs.Slots.{Slotted, IsBlock, laid};
 
     ghost Value = { Slotted R };
 
     ghost view = { λ a. record {
-      slots = a.slots.items;
-      spare = min (vec_capacity a.slots - vec_len a.slots) (4294967295 - vec_len a.slots);
+      slots = laid a.settled.items a.last.items;
+      spare = min (vec_capacity a.last - vec_len a.last)
+          (4294967295 - (64 * vec_len a.settled + vec_len a.last));
     } };
+
+    ghost invariant = { λ a. AllByRecursion IsBlock a.settled.items
+        × (64 * vec_len a.settled + vec_len a.last ≤ 4294967295) };
 }
 
 impl<R: Drop> Slots<R> {
@@ -40,7 +50,8 @@ impl<R: Drop> Slots<R> {
         ensures { result.slots ≡ [] }
     {
         Slots {
-            slots: Vec::new(alloc),
+            settled: Vec::new(alloc),
+            last: Vec::new(alloc),
         }
     }
 
@@ -48,7 +59,11 @@ impl<R: Drop> Slots<R> {
     pub fn get(&self, place: u32) -> Option<&R>
         ensures { option_copied result ≡ option_flatten (slice_get self.now.slots place) }
     {
-        self.slots.get(place as usize)?.as_ref()
+        let place = place as usize;
+        match self.settled.get(place / BLOCK) {
+            Some(block) => block.get(place % BLOCK),
+            None => row_at(&self.last, place - BLOCK * self.settled.len()),
+        }
     }
 
     /// Adds a row in a slot of its own, whose place is returned. There are fewer than 2^32 slots.
@@ -59,10 +74,19 @@ impl<R: Drop> Slots<R> {
         ensures succeeds { 0 < self.old.spare → IsOk result }
         ensures spare { self.old.spare ≤ self.new.spare + 1 }
     {
-        let place = next_place(self.slots.len())?;
-        self.slots.reserve(1)?;
-        self.slots.push(Some(row))?;
+        let place = next_place(self.count())?;
+        self.last.reserve(1)?;
+        self.last.push(Some(row))?;
         Ok(place)
+    }
+
+    /// How many slots there are.
+    fn count(&self) -> usize
+        ensures count { result ≡ length self.now.slots }
+        ensures fits { result ≤ 4294967295 }
+        ensures spare { self.now.spare ≤ 4294967295 - result }
+    {
+        BLOCK * self.settled.len() + self.last.len()
     }
 
     /// Takes the row out of a slot, if one is there.
@@ -71,8 +95,14 @@ impl<R: Drop> Slots<R> {
         ensures slots { self.new.slots ≡ emptied place self.old.slots }
         ensures spare { self.old.spare ≤ self.new.spare }
     {
-        let slot = self.slots.get_mut(place as usize)?;
-        slot.take()
+        let place = place as usize;
+        match self.settled.get_mut(place / BLOCK) {
+            Some(block) => block.take(place % BLOCK),
+            None => {
+                let place = place - BLOCK * self.settled.len();
+                take_at(&mut self.last, place)
+            }
+        }
     }
 
     /// Puts a row in place of the one in a slot, if one is there.
@@ -80,10 +110,14 @@ impl<R: Drop> Slots<R> {
         ensures slots { self.new.slots ≡ replaced place row self.old.slots }
         ensures spare { self.old.spare ≤ self.new.spare }
     {
-        if self.get(place).is_none() {
-            return;
+        let place = place as usize;
+        match self.settled.get_mut(place / BLOCK) {
+            Some(block) => block.set(place % BLOCK, row),
+            None => {
+                let place = place - BLOCK * self.settled.len();
+                set_at(&mut self.last, place, row);
+            }
         }
-        self.slots[place as usize] = Some(row);
     }
 
     /// Makes room for so many more rows.
@@ -93,10 +127,26 @@ impl<R: Drop> Slots<R> {
         ensures err { OnErr result (self.old.spare < additional) }
         ensures spare { self.old.spare ≤ self.new.spare }
     {
-        if additional > (u32::MAX as usize).saturating_sub(self.slots.len()) {
+        if additional > u32::MAX as usize - self.count() {
             return Err(AllocError);
         }
-        self.slots.reserve(additional)
+        self.last.reserve(additional)
+    }
+
+    /// Puts the oldest of the slots that stand by themselves into a block, once they fill one. The
+    /// room for more rows may go. Without memory for it nothing is done.
+    pub fn settle(&mut self)
+        ensures { self.new.slots ≡ self.old.slots }
+    {
+        if self.last.len() < BLOCK || self.settled.reserve(1).is_err() {
+            return;
+        }
+        let Ok(rest) = self.last.split_off(BLOCK) else {
+            return;
+        };
+        let mut slots = mem::replace(&mut self.last, rest);
+        slots.shrink_to_fit();
+        self.settled.push(Block::of(slots)).unwrap();
     }
 }
 

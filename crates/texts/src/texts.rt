@@ -271,4 +271,14 @@ impl Texts {
             Need::Created(person) => self.created.reserve(person, additional),
         }
     }
+
+    /// Gives back memory of what hung on texts and is gone: in each table it looks at so many keys.
+    /// The room for more rows may go.
+    pub fn sweep(&mut self, steps: usize)
+        ensures { self.new.rows ≡ self.old.rows }
+    {
+        self.recipients.sweep(steps);
+        self.links.sweep(steps);
+        self.marks.sweep(steps);
+    }
 }

@@ -1,12 +1,12 @@
-use Rattle.std.proofs.Common.{◌≡◌, ℕ, ◌≤◌, vec_len}
-use Rattle.row_slots.specs.DenseLists.{dense_list, dense_room}
+use Rattle.std.proofs.Common.{◌≡◌, ℕ, vec_len}
+use Rattle.row_slots.specs.DenseLists.{near_list, HasNoPage}
 use Rattle.row_slots.proofs.dense_lists.DenseLists.extend.Given as goal
 
--- every list stands as it did, and so many are kept
+-- every near list stands as it did, and there are so many pages
 abbrev pub invariant-loop : goal.invariant-loop
 invariant-loop l = record {
-  lists : (other : ℕ) → dense_list l.self other ≡ dense_list l.fn.self other;
-  room : (other : ℕ) → dense_room l.fn.self other ≤ dense_room l.self other;
-  kept : vec_len l.self.near ≡ l.counter;
+  near : (key : ℕ) → near_list l.self.near.items key ≡ near_list l.fn.self.near.items key;
   far : l.self.far ≡ l.fn.self.far;
+  page : HasNoPage l.fn.self l.fn.place → HasNoPage l.self l.fn.place;
+  kept : vec_len l.self.near ≡ l.counter;
 }

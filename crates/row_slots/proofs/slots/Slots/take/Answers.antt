@@ -1,26 +1,71 @@
-use Rattle.std.proofs.Common.{◌<◌, vec_len, refl, sym, ap, ◌∙◌, arith}
+use Rattle.std.proofs.Common.{◌≡◌, ◌<◌, ◌+◌, ◌*◌, ◌-◌, ◌/◌, ◌%◌, length, slice_get, Some, refl, sym, ap, ◌∙◌, arith}
 use Rattle.std.specs.Option.{option_flatten}
 use Rattle.std.proofs.Math.ListN.{set}
 use Rattle.std.proofs.lemmas.Bool.{false≢true}
-use Rattle.std.proofs.lemmas.Option.{slice_get_read, slice_get_past}
-use Rattle.row_slots.proofs.Rows.{emptied-set, emptied-empty}
+use Rattle.std.proofs.lemmas.Option.{slice_get_read}
+use Rattle.row_slots.specs.Slots.{laid, emptied, IsBlock}
+use Rattle.row_slots.proofs.Blocks.{length-emptied}
+use Rattle.row_slots.proofs.Laid.{get-laid, get-last, emptied-laid, emptied-last, all-set, all-at}
 use Rattle.row_slots.proofs.slots.Slots.take.Goals as goal
 
-pub returns-in_err-slot-clause-slots : goal.returns-in_err-slot-clause-slots
-returns-in_err-slot-clause-slots g c =
-    let past : c.args.place < vec_len c.self.inside.slots → ⊥ =
-    λ within. false≢true (c.in_err-slot.ensures.variant.1 within) in
-    let empty = slice_get_past c.self.inside.slots.items c.args.place (omega (arith, c.self.inside.slots.ok.0)) in
-    rw (← c.self.view_is) (sym (emptied-empty c.args.place c.self.inside.slots.items (ap option_flatten empty)))
+pub invariant_of-self : goal.invariant_of-self
+invariant_of-self g c =
+    let all = c.self.inside.settled.items in
+    let there : slice_get all (c.args.place / 64) ≡ Some c.in-Some.block.now =
+    slice_get_read all _ (c.args.place / 64) c.in-Some.block.now c.self.inside.settled.ok.0
+    (c.in-Some.ensures.variant.0 refl) c.in-Some.ensures.value in
+    let whole : IsBlock c.take.new.self =
+    ap length c.take.ensures.slots ∙ length-emptied (c.args.place % 64) c.in-Some.block.now
+    ∙ all-at IsBlock all (c.args.place / 64) c.in-Some.block.now c.self.invariant.0 there in
+    (all-set IsBlock all (c.args.place / 64) c.take.new.self c.self.invariant.0 whole, c.self.invariant.1)
 
-pub returns-clause-row : goal.returns-clause-row
-returns-clause-row g c =
-    let at = slice_get_read c.self.inside.slots.items _ c.args.place c.in_ok-slot.slot.now c.self.inside.slots.ok.0
-    (c.in_ok-slot.ensures.variant.0 refl) c.in_ok-slot.ensures.value in
-    rw (← c.self.view_is) (sym (ap option_flatten at ∙ sym c.take.ensures.value))
-
-pub returns-clause-slots : goal.returns-clause-slots
-returns-clause-slots g c =
+pub returns-in-Some-clause-row : goal.returns-in-Some-clause-row
+returns-in-Some-clause-row g c =
+    let all = c.self.inside.settled.items in
+    let last = c.self.inside.last.items in
+    let there : slice_get all (c.args.place / 64) ≡ Some c.in-Some.block.now =
+    slice_get_read all _ (c.args.place / 64) c.in-Some.block.now c.self.inside.settled.ok.0
+    (c.in-Some.ensures.variant.0 refl) c.in-Some.ensures.value in
     rw (← c.self.view_is)
-    (ap (set c.self.inside.slots.items c.args.place) c.take.ensures.after
-    ∙ emptied-set c.args.place c.self.inside.slots.items)
+    (c.take.ensures.row
+    ∙ ap option_flatten (sym
+    (ap (slice_get (laid all last)) (omega arith)
+    ∙ get-laid all last (c.args.place / 64) (c.args.place % 64) c.in-Some.block.now c.self.invariant.0 there (omega arith))))
+
+pub returns-in-Some-clause-slots : goal.returns-in-Some-clause-slots
+returns-in-Some-clause-slots g c =
+    let all = c.self.inside.settled.items in
+    let last = c.self.inside.last.items in
+    let there : slice_get all (c.args.place / 64) ≡ Some c.in-Some.block.now =
+    slice_get_read all _ (c.args.place / 64) c.in-Some.block.now c.self.inside.settled.ok.0
+    (c.in-Some.ensures.variant.0 refl) c.in-Some.ensures.value in
+    rw (← c.self.view_is)
+    (ap (λ block. laid (set all (c.args.place / 64) block) last) c.take.ensures.slots
+    ∙ emptied-laid all last (c.args.place / 64) (c.args.place % 64) c.in-Some.block.now c.self.invariant.0 there (omega arith)
+    ∙ ap (λ place. emptied place (laid all last)) (omega arith))
+
+pub returns-in-None-clause-row : goal.returns-in-None-clause-row
+returns-in-None-clause-row g c =
+    let all = c.self.inside.settled.items in
+    let last = c.self.inside.last.items in
+    let past : c.args.place / 64 < length all → ⊥ =
+    λ within. false≢true (c.in-None.ensures.variant.1 (omega (arith, c.self.inside.settled.ok.0, within))) in
+    let place : c.args.place ≡ 64 * length all + (c.args.place - 64 * c.len.result) =
+    omega (arith, past, c.len.ensures, c.self.inside.settled.ok.0) in
+    rw (← c.self.view_is)
+    (c.take_at.ensures.row
+    ∙ ap option_flatten (sym
+    (ap (slice_get (laid all last)) place ∙ get-last all last (c.args.place - 64 * c.len.result) c.self.invariant.0)))
+
+pub returns-in-None-clause-slots : goal.returns-in-None-clause-slots
+returns-in-None-clause-slots g c =
+    let all = c.self.inside.settled.items in
+    let last = c.self.inside.last.items in
+    let past : c.args.place / 64 < length all → ⊥ =
+    λ within. false≢true (c.in-None.ensures.variant.1 (omega (arith, c.self.inside.settled.ok.0, within))) in
+    let place : 64 * length all + (c.args.place - 64 * c.len.result) ≡ c.args.place =
+    omega (arith, past, c.len.ensures, c.self.inside.settled.ok.0) in
+    rw (← c.self.view_is)
+    (ap (laid all) c.take_at.ensures.slots
+    ∙ emptied-last all last (c.args.place - 64 * c.len.result) c.self.invariant.0
+    ∙ ap (λ at. emptied at (laid all last)) place)
