@@ -2,7 +2,6 @@
 ghost use Rattle.std.specs.Prelude.{◌≡◌, ◌++◌, IfOk};
 ghost use Rattle.kom_types.specs.declared.calls.Call.TheVariants as call;
 ghost use Rattle.kom_types.specs.declared.decisions.Decision.{Decision};
-ghost use Rattle.kom_types.specs.tables.Texts.{lines_of};
 ghost use Rattle.kom_model.specs.ToWhom.{sent_by, of_made};
 ghost use Rattle.async_fanout.specs.Added.{made_by};
 ghost use Rattle.async_fanout.specs.Delivered.{all_brought, listed};
@@ -12,8 +11,9 @@ use crate::deliveries::{Delivery, Tells, deliver};
 use access_rights::{gets_text, shown_stat, stat_of, takes};
 use kom_model::{TextHead, Viewer};
 use kom_state::{Asked, StoredRows};
-use kom_types::{Boxed, Bytes, Effect, Memory, Message, TextRow};
+use kom_types::{Boxed, Effect, Memory, Message, TextRow};
 use std::alloc::Global;
+use texts::lines_of;
 
 /// Message 14, deleted-text: to who reads the text and takes the texts of a recipient, with what is
 /// told of it to that person.
@@ -241,7 +241,7 @@ fn push_made(
                     number: *number,
                     author: *author,
                     created: *at,
-                    lines: lines_of(body),
+                    lines: lines_of(body.as_slice()),
                     chars: body.len(),
                 },
             };
@@ -249,14 +249,4 @@ fn push_made(
         }
         _ => Ok(()),
     }
-}
-
-/// How many line feeds a body has.
-fn lines_of(body: &Bytes) -> usize
-    ensures { result ≡ lines_of body.now }
-{
-    body.as_slice()
-        .iter()
-        .filter(|byte| **byte == b'\n')
-        .count()
 }

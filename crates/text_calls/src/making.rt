@@ -6,7 +6,6 @@ ghost use Rattle.kom_model.specs.Db.{next_text_of};
 ghost use Rattle.kom_model.specs.calls.Call.{Meets};
 ghost use Rattle.kom_model.specs.calls.Guards.{Guards};
 ghost use Rattle.kom_model.specs.calls.NewTexts as NewTexts;
-ghost use Rattle.kom_types.specs.tables.Texts.{lines_of};
 
 use crate::inheriting::made_items;
 use crate::naming::{items_are_good, names_footnote, names_recipient};
@@ -19,6 +18,7 @@ use kom_types::{
     Bytes, Counter, Decision, Effect, EffectList, Memory, MiscInput, NewText, Object, Reply,
     Sequence, TextLink, errors,
 };
+use texts::lines_of;
 
 /// Call 86, create-text.
 pub fn create_text(asked: &Asked<'_>, given: &NewText) -> Result<Decision, CallError>
@@ -195,11 +195,4 @@ fn push_author(
         lines_of(body) as u64,
     )?;
     push_count(effects, person, Counter::CreatedBytes, body.len() as u64)
-}
-
-/// How many lines a body has: each ends at a line feed.
-fn lines_of(body: &[u8]) -> usize
-    ensures { result ≡ lines_of body.now }
-{
-    body.iter().filter(|byte| **byte == b'\n').count()
 }
