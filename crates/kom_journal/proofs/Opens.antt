@@ -10,11 +10,13 @@ use Rattle.batch_log.specs.Gates.{IsStable}
 use Rattle.batch_log.specs.Repair.{Mends}
 use Rattle.batch_log.specs.Walk.{IsReadTo}
 use Rattle.batch_log.proofs.Ends.{begins_read, before_is, reads_more, reads_end}
-use Rattle.kom_journal.specs.Batch.{MakesBatch}
+use Rattle.kom_journal.specs.Batch.{MakesBatch, IsNoNext}
+use Rattle.kom_journal.specs.declared.errors.OpenFault.{OpenFault}
+use Rattle.kom_journal.specs.declared.errors.OpenFault.TheVariants as fault
 use Rattle.kom_journal.specs.Files.{IsStoreOf, IsSoundFile, HasOneMore, header, body_of}
 use Rattle.kom_journal.specs.Journals.{IsStored}
 use Rattle.kom_journal.specs.Opened.{Makes, store_of, IsMadeTo, IsMadeOf, IsLeftOfFile}
-use Rattle.kom_journal.specs.Opening.{HasUnfit, IsDamagedAt}
+use Rattle.kom_journal.specs.Opening.{HasUnfit, IsDamagedAt, IsCauseInFile}
 use Rattle.kom_journal.proofs.Sound.{SoundFor, makes_none, makes_more, bodies_more, stands_with, shut_sound, gated_sound, either_of, one_of}
 use Rattle.kom_journal.proofs.Unique.{same_lists, stands_for_one}
 
@@ -71,6 +73,18 @@ made_damaged at count db file more made is damaged = record {
   fit = made.makes.fit;
   damaged = subst (λ (d : Db). IsBroken more ⊎ HasUnfit d more) made.makes.rows damaged;
 }
+
+-- why no batch is made there
+pub cause_there : (at count : ℕ) (db : Db) (file rest : List ℕ) (why : OpenFault) → IsMadeTo at count db file
+    → drop at file ≡ rest → IsNoNext at rest db why → IsCauseInFile file why
+cause_there at count db file rest fault.Fault made is none = tt
+cause_there at count db file rest (fault.Foreign place byte) made is none = absurd none
+cause_there at count db file rest (fault.Short len) made is none = absurd none
+cause_there at count db file rest (fault.Damaged place) made is none =
+    subst (λ (p : ℕ). IsDamagedAt p file) (sym none.0)
+    (made_damaged at count db file none.1.0 made (is ∙ none.1.1) none.1.2)
+cause_there at count db file rest (fault.Used len) made is none = absurd none
+cause_there at count db file rest fault.Memory made is none = tt
 
 -- the rows that a file stands for
 module _ (place gate count : ℕ) (db : Db) (file : List ℕ) (of : IsMadeOf place gate count db file) where

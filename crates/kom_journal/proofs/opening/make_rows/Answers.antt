@@ -1,9 +1,12 @@
-use Rattle.std.proofs.Common.{◌<◌, ◌+◌, List, ℕ, drop, refl, sym, subst, ◌∙◌, arith}
+use Rattle.std.proofs.Common.{◌<◌, ◌+◌, List, ℕ, drop, refl, sym, ap, subst, ◌∙◌, arith}
+use Rattle.std.specs.Prelude.{Result, Ok, Err, IfErr}
+use Rattle.std.specs.Result.{IsErrAnd}
 use Rattle.kom_model.specs.Db.{Db}
 use Rattle.batch_log.proofs.Looking.{unread, looks_on}
 use Rattle.kom_journal.specs.Batch.{IsNext, EndsBefore, MakesBatch}
 use Rattle.kom_journal.specs.Opened.{IsMadeTo}
-use Rattle.kom_journal.proofs.Opens.{made_none, made_more}
+use Rattle.kom_journal.specs.Opening.{IsCauseInFile}
+use Rattle.kom_journal.proofs.Opens.{made_none, made_more, cause_there}
 use Rattle.kom_journal.proofs.opening.make_rows.Goals as goal
 
 pub gates-init : goal.gates-init
@@ -54,3 +57,30 @@ gates-preserved g c =
           (subst (λ (b : List ℕ). MakesBatch size (drop c.gates.at b) c.gates.rows.db c.make_batch.new.rows.db)
           (kept.looks.same_bytes told) there);
     }
+
+-- a refused batch leaves what the looks before it left
+pub returns-in_err-size-clause-cause : goal.returns-in_err-size-clause-cause
+returns-in_err-size-clause-cause g c = λ told.
+    let file = g.D.Disk.bytes c.args.disk.now in
+    let kept = c.gates.invariant in
+    let cause : IsCauseInFile file c.in_err-size.field-0.0 =
+    cause_there c.gates.at c.gates.batches c.gates.rows.db file _ c.in_err-size.field-0.0 (kept.made told)
+    (ap (drop c.gates.at) (sym (kept.looks.same_bytes told))) (c.in_err-size.ensures.none told) in
+    if_err c.from_residual-in_err-size.result _ (IsCauseInFile file) c.from_residual-in_err-size.ensures.1
+    (λ why is. subst (IsCauseInFile file) (sym is) cause)
+  where
+    if_err : {X E : Type 0} (r : Result X E) (Q P : E → Type 0) → IsErrAnd r Q → ((e : E) → Q e → P e) → IfErr r P
+    if_err (Ok x) Q P and all = tt
+    if_err (Err e) Q P and all = all e and
+
+pub returns-in_err-size-clause-stop : goal.returns-in_err-size-clause-stop
+returns-in_err-size-clause-stop g c = λ told.
+    looks_on g.D.Disk.moment g.D.Disk.images g.D.Disk.images_at g.D.Disk.tells told
+    (λ disk image. g.met.D.Disk.images_now disk image told) c.args.disk.now c.gates.disk c.make_batch.new.disk
+    (c.gates.invariant.looks.stop told) (c.in_err-size.ensures.stop told)
+
+pub returns-in-End-clause-stop : goal.returns-in-End-clause-stop
+returns-in-End-clause-stop g c = λ told.
+    looks_on g.D.Disk.moment g.D.Disk.images g.D.Disk.images_at g.D.Disk.tells told
+    (λ disk image. g.met.D.Disk.images_now disk image told) c.args.disk.now c.gates.disk c.make_batch.new.disk
+    (c.gates.invariant.looks.stop told) (c.in_ok-size.ensures.stop told)
