@@ -17,8 +17,8 @@ or with the line of a fault; a silent one half a minute after it came; one that 
 full, if it is given the time; the others not before they want to.
 
 It prints a line for each start with what the server had resident before, after some seconds in which no hostile stream began, and
-counts at the end. It ends with 1 if something was otherwise, or if what is resident has grown by more than 200 bytes for each
-change and 8 MiB since the second start, as a row that goes leaves its slot empty; else with 0. Its server is ended either way.
+counts at the end. It ends with 1 if something was otherwise, or if what is resident has grown by more than 64 bytes for each change
+and 8 MiB since the second start, as a conference that goes leaves some 700 bytes; else with 0. Its server is ended either way.
 SEED (1) chooses the calls; how threads take turns chooses too. The store lies in FOLDER, or in a folder of its own for a while.
 PROGRAM is crates/komd/out/komd, unless it is named.
 """
@@ -50,7 +50,7 @@ LATE_SECONDS = 15
 # For so long no hostile stream begins before a kill, since a long line takes memory while it is there.
 CALM_SECONDS = 5
 # By how much the resident memory may grow: in all, and in bytes for each change.
-MOST_GROWN_KIB, MOST_GROWN = 8_192, 200
+MOST_GROWN_KIB, MOST_GROWN = 8_192, 64
 # So that the C library keeps no large blocks for later, in each thread by itself: what it keeps is not what the program has.
 MEMORY = {"MALLOC_MMAP_THRESHOLD_": "131072", "MALLOC_TRIM_THRESHOLD_": "131072"}
 # Numbers up to this one belong to nobody, so that lines of calls that name small numbers find something.
