@@ -17,8 +17,8 @@ or with the line of a fault; a silent one half a minute after it came; one that 
 full, if it is given the time; the others not before they want to.
 
 It prints a line for each start with what the server had resident before, after some seconds in which no hostile stream began, and
-counts at the end. It ends with 1 if something was otherwise, or if what is resident has grown by more than 64 bytes for each change
-and 8 MiB since the second start, as a conference that goes leaves some 700 bytes; else with 0. Its server is ended either way.
+counts at the end. It ends with 1 if something was otherwise, or if what is resident without hostile clients has grown by more than
+8 MiB since the second start, whatever was made and deleted meanwhile; else with 0. Its server is ended either way.
 SEED (1) chooses the calls; how threads take turns chooses too. The store lies in FOLDER, or in a folder of its own for a while.
 PROGRAM is crates/komd/out/komd, unless it is named.
 """
@@ -49,8 +49,8 @@ FULL_SECONDS = 45
 LATE_SECONDS = 15
 # For so long no hostile stream begins before a kill, since a long line takes memory while it is there.
 CALM_SECONDS = 5
-# By how much the resident memory may grow: in all, and in bytes for each change.
-MOST_GROWN_KIB, MOST_GROWN = 8_192, 64
+# By how much the resident memory may grow.
+MOST_GROWN_KIB = 8_192
 # So that the C library keeps no large blocks for later, in each thread by itself: what it keeps is not what the program has.
 MEMORY = {"MALLOC_MMAP_THRESHOLD_": "131072", "MALLOC_TRIM_THRESHOLD_": "131072"}
 # Numbers up to this one belong to nobody, so that lines of calls that name small numbers find something.
@@ -474,7 +474,7 @@ def main(words):
     second, last = residents[min(1, len(residents) - 1)] if residents else (0, 0), residents[-1] if residents else (0, 0)
     grown, changes = last[0] - second[0], last[1] - second[1]
     print(f"{len(soak.faults)} faults; resident memory has grown by {grown} KiB with {changes} changes")
-    return 1 if soak.faults or grown > MOST_GROWN_KIB + changes * MOST_GROWN // 1_024 else 0
+    return 1 if soak.faults or grown > MOST_GROWN_KIB else 0
 
 
 if __name__ == "__main__":

@@ -19,8 +19,8 @@ use std::alloc::Global;
 use texts::{Need, Texts};
 
 impl StoredRows {
-    /// Takes the room that effects need, of which one at most gives a name. Room that was taken before
-    /// may go.
+    /// Takes the room that effects need, of which one at most gives a name. Room that was taken
+    /// before may go.
     pub fn reserve(&mut self, effects: &[Effect]) -> Result<(), Memory>
         requires { IsOrderly effects.now }
         ensures db { self.new.db ≡ self.old.db }
@@ -49,6 +49,7 @@ impl StoredRows {
         let going = effects.iter().filter(|effect| takes_away(effect)).count();
         self.texts.sweep(going.saturating_mul(2));
         self.items.sweep(going.saturating_mul(2));
+        self.memberships.sweep(going.saturating_mul(2));
     }
 }
 
@@ -60,6 +61,7 @@ fn takes_away(effect: &Effect) -> bool {
             | Effect::LinkGone { .. }
             | Effect::MarkGone { .. }
             | Effect::AuxGone { .. }
+            | Effect::MemberGone { .. }
             | Effect::ConfGone { .. }
     )
 }

@@ -13,13 +13,15 @@ use std::marker::Model;
 /// The texts of several owners, conferences or authors, by their local numbers.
 pub struct LocalMaps {
     maps: IndexMap<u32, LocalMap>,
+    /// The place among the maps at which the next sweep goes on.
+    hand: usize,
 }
 
 // A call of its own, so that whoever lets the maps go has one step to prove and not one for each
 // part.
 impl Drop for LocalMaps {
     fn drop(self) {
-        let LocalMaps { maps } = self;
+        let LocalMaps { maps, hand: _ } = self;
         drop(maps);
     }
 }
@@ -39,6 +41,7 @@ impl LocalMaps {
     {
         LocalMaps {
             maps: IndexMap::new(alloc),
+            hand: 0,
         }
     }
 
@@ -140,6 +143,32 @@ impl LocalMaps {
         let alloc = self.alloc();
         self.maps.insert(owner, LocalMap::new(alloc))?;
         Ok(())
+    }
+
+    /// Looks at so many owners, from where the last sweep ended, and forgets those that have no
+    /// texts, with their room. As many steps as there are owners look at each.
+    pub fn sweep(&mut self, steps: usize)
+        ensures { (owner : ℕ) → pairs_of self.new owner ≡ pairs_of self.old owner }
+    {
+        for _ in 0..steps {
+            self.sweep_next();
+        }
+    }
+
+    /// Looks at the next owner, or begins again.
+    fn sweep_next(&mut self)
+        ensures { (owner : ℕ) → pairs_of self.new owner ≡ pairs_of self.old owner }
+    {
+        let Some((owner, _)) = self.maps.get_index(self.hand) else {
+            self.hand = 0;
+            return;
+        };
+        let owner = *owner;
+        if self.len_of(owner) == 0 {
+            self.maps.swap_remove(&owner);
+        } else {
+            self.hand = self.hand.saturating_add(1);
+        }
     }
 
     fn alloc(&self) -> Global {

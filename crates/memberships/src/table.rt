@@ -99,6 +99,18 @@ impl Memberships {
         }
     }
 
+    /// Gives back memory of memberships that are gone: it looks at so many persons and as many
+    /// conferences. The room for more memberships may go.
+    pub fn sweep(&mut self, steps: usize)
+        ensures rows { self.new.rows ≡ self.old.rows }
+        ensures reads { self.new.reads ≡ self.old.reads }
+    {
+        self.conferences.sweep(steps);
+        self.persons.sweep(steps);
+        self.secret_conferences.sweep(steps);
+        self.secret_persons.sweep(steps);
+    }
+
     /// The membership of a person in a conference. The time grows with the person's memberships.
     pub fn get(&self, person: u32, conference: u32) -> Option<MembershipRow>
         ensures { result ≡ membership_of person conference self.now.rows }

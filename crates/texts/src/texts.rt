@@ -280,5 +280,7 @@ impl Texts {
         self.recipients.sweep(steps);
         self.links.sweep(steps);
         self.marks.sweep(steps);
+        self.locals.sweep(steps);
+        self.created.sweep(steps);
     }
 }
