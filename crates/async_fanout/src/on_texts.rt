@@ -11,9 +11,8 @@ use crate::deliveries::{Delivery, Tells, deliver};
 use access_rights::{gets_text, shown_stat, stat_of, takes};
 use kom_model::{TextHead, Viewer};
 use kom_state::{Asked, StoredRows};
-use kom_types::{Boxed, Effect, Memory, Message, TextRow};
+use kom_types::{Boxed, Effect, Memory, Message, TextRow, lines_of};
 use std::alloc::Global;
-use texts::lines_of;
 
 /// Message 14, deleted-text: to who reads the text and takes the texts of a recipient, with what is
 /// told of it to that person.

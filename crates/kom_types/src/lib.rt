@@ -61,6 +61,6 @@ pub use shortage::Memory;
 pub use side::Side;
 pub use texts::{
     Block, LocalText, Mapping, Mark, MarkRow, Marks, MiscInfo, MiscInfos, MiscInput, MiscInputs,
-    NewText, Recipient, TextLink, TextRow, TextStat,
+    NewText, Recipient, TextLink, TextRow, TextStat, lines_of,
 };
 pub use times::{Moment, Time};

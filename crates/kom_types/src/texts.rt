@@ -1,7 +1,11 @@
+ghost use Rattle.std.specs.Prelude.{◌≡◌};
+ghost use Rattle.kom_types.specs.tables.Texts.{lines_of};
+
 use crate::aux_items::{AuxInputs, AuxRows};
 use crate::lists::{Bytes, Numbers};
 use crate::sequence::Sequence;
 use crate::times::Moment;
+use memchr::memchr_iter;
 
 /// One thing that a text is linked to. (Protocol A, "Misc-Info".)
 #[derive(Clone, Copy, Debug)]
@@ -148,4 +152,15 @@ pub struct NewText {
     pub body: Bytes,
     pub misc_inputs: MiscInputs,
     pub aux_items: AuxInputs,
+}
+
+/// How many lines a body has: each ends at a line feed.
+pub fn lines_of(body: &[u8]) -> usize
+    ensures { result ≡ lines_of body.now }
+{
+    let mut lines = 0;
+    for _ in memchr_iter(b'\n', body) {
+        lines += 1;
+    }
+    lines
 }

@@ -1,5 +1,4 @@
 ghost use Rattle.std.specs.Prelude.{◌≡◌, ◌↔◌, option_copied, IsTrue};
-ghost use Rattle.kom_types.specs.tables.Texts.{lines_of};
 ghost use Rattle.noninterference.specs.respect.Hidden.{may_be_hidden, may_differ, text_of_act};
 ghost use Rattle.noninterference.specs.respect.Hidden.{are_as_long, AreAlike, MayDiffer};
 ghost use Rattle.noninterference.specs.respect.Hidden.{text_of_call};
@@ -7,7 +6,7 @@ ghost use Rattle.noninterference.specs.Hiding.{AreSameAlong, StandAlike};
 
 use crate::group::Group;
 use call_equality::are_equal_entries;
-use kom_types::{Act, Call, Entry, NewText};
+use kom_types::{Act, Call, Entry, NewText, lines_of};
 
 /// A call that asks, that the reader refused, or one of the eleven whose change may be hidden.
 fn may_be_hidden(call: &Call) -> bool
@@ -135,13 +134,6 @@ fn text_of_act(act: &Act) -> Option<&NewText>
         Act::Flush => None,
         Act::Close { .. } => None,
     }
-}
-
-/// How many lines a body has: each ends at a line feed.
-fn lines_of(body: &[u8]) -> usize
-    ensures { result ≡ lines_of body.now }
-{
-    body.iter().filter(|byte| **byte == b'\n').count()
 }
 
 /// Two acts that make texts make texts as long, in bytes and in lines; and one that makes a text

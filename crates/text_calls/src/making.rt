@@ -16,9 +16,8 @@ use kom_state::{Asked, StoredRows, push_count, push_items};
 use kom_types::limits::{LAST_DRAWN, LONGEST_BODY};
 use kom_types::{
     Bytes, Counter, Decision, Effect, EffectList, Memory, MiscInput, NewText, Object, Reply,
-    Sequence, TextLink, errors,
+    Sequence, TextLink, errors, lines_of,
 };
-use texts::lines_of;
 
 /// Call 86, create-text.
 pub fn create_text(asked: &Asked<'_>, given: &NewText) -> Result<Decision, CallError>

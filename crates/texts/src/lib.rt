@@ -11,5 +11,5 @@ mod table;
 mod texts;
 
 pub use needs::Need;
-pub use row::{fresh_text, lines_of};
+pub use row::fresh_text;
 pub use texts::Texts;
