@@ -113,8 +113,9 @@ fn ask(
             Ok(no_letters(alloc, answer))
         }
         Asked::Drain => {
-            let answer = desk.drain(moment, session);
-            letters_of(alloc, answer, session)
+            let mut items = ArrayVec::new();
+            let answer = desk.drain_into(moment, session, &mut items);
+            letters_of(alloc, answer, items.as_slice(), session)
         }
     }
 }
@@ -130,13 +131,14 @@ fn no_letters(alloc: Global, answer: Result<(), DeskFault>) -> Result<Vec<u8>, D
 /// What a drain is answered, with the letters of the items.
 fn letters_of(
     alloc: Global,
-    answer: Result<ArrayVec<Item, 64>, DeskFault>,
+    answer: Result<(), DeskFault>,
+    items: &[Item],
     session: u32,
 ) -> Result<Result<Vec<u8>, DeskFault>, AllocError> {
     match answer {
-        Ok(items) => {
+        Ok(()) => {
             let mut letters = Vec::new(alloc);
-            for item in items.as_slice() {
+            for item in items {
                 letters.push(letter_of(item, session))?;
             }
             Ok(Ok(letters))

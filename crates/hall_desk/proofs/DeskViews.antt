@@ -1,5 +1,6 @@
 -- What contracts see of the desk after each of its acts.
-use Rattle.std.proofs.Common.{◌≡◌, ◌≢◌, ℕ, ◌+◌, ◌<◌, ◌≤◌, inl, inr, Bool, true, false, ◌||◌, ◌==◌, eqb, List, [], ◌∷◌, ◌++◌, Option, Some, None, refl, sym, ap, subst, ◌∙◌, arith, append-nil, if◌then◌else◌}
+use Rattle.std.proofs.Common.{◌≡◌, ◌≢◌, ℕ, ◌+◌, ◌<◌, ◌≤◌, inl, inr, Bool, true, false, ◌||◌, ◌==◌, eqb, List, [], ◌∷◌}
+use Rattle.std.proofs.Common.{◌++◌, Option, Some, None, refl, sym, ap, subst, ◌∙◌, arith, append-nil, if◌then◌else◌}
 use mathlib.Core.Path.{fun_ext}
 use Rattle.std.specs.Prelude.{Result, Ok, Err, IfErr, ⊤}
 use Rattle.std.proofs.lemmas.Bool.{eq-eqb}
@@ -12,7 +13,9 @@ use Rattle.kom_types.specs.declared.calls.Call.{Call}
 use Rattle.kom_types.specs.declared.items.Item.{Item}
 use Rattle.kom_links.specs.declared.desk.DeskFault.{DeskFault}
 use Rattle.kom_links.specs.declared.desk.DeskFault.TheVariants as fault
-use Rattle.kom_links.specs.DeskCalls.{DeskView, StaysForAll, record_of, first_fault, first_stop, is_lock_full, IsActFault, IsLockFault, IsConnectFault, IsFlushFault, Connects, NotesAt, Acts, Calls, Drains, is_noted, AddsNoneOrShort, Flushes, Closes, AsksStopped}
+use Rattle.kom_links.specs.DeskCalls.{DeskView, StaysForAll, record_of, first_fault, first_stop, is_lock_full}
+use Rattle.kom_links.specs.DeskCalls.{IsActFault, IsLockFault, IsConnectFault, IsFlushFault, Connects, NotesAt, Acts}
+use Rattle.kom_links.specs.DeskCalls.{Calls, Drains, is_noted, AddsNoneOrShort, Flushes, Closes, AsksStopped}
 use Rattle.kom_links.specs.Records.{is_open, IsOpen, has_session}
 use Rattle.kom_model.specs.State.{State}
 use Rattle.kom_model.specs.Refusal.{refusal_of}
@@ -21,14 +24,17 @@ use Rattle.kom_model.specs.Legal.{state_after}
 use Rattle.kom_model.specs.Out.{given_by, given_by_pass, given_from, taken_by}
 use Rattle.hall_desk.specs.declared.turning.Made.{Made}
 use Rattle.hall_desk.specs.Passes.{PassView, connects_in, Knows}
-use Rattle.hall_desk.specs.Faults.{FaultTable, first_of, fault_in, is_open_in, noted_at, noted_at_none, noted_everywhere, closed_at}
+use Rattle.hall_desk.specs.Faults.{FaultTable, first_of, fault_in, is_open_in, noted_at, noted_at_none}
+use Rattle.hall_desk.specs.Faults.{noted_everywhere, closed_at}
 use Rattle.hall_desk.specs.Desks.{WasStopped, IsKnown, Kept, desk_view, Stands, IsSame}
 use Rattle.hall_desk.specs.Turns.{WasMade, Ends, Tells}
 use Rattle.hall_desk.proofs.Starting.{IsStart, starts}
 use Rattle.hall_desk.proofs.Stepping.{connects_in-append}
-use Rattle.hall_desk.proofs.Histories.{gives_none, given_before, undrawn_absent, absent_of, connects-state_after, state_after-append}
+use Rattle.hall_desk.proofs.Histories.{gives_none, given_before, undrawn_absent, absent_of, connects-state_after}
+use Rattle.hall_desk.proofs.Histories.{state_after-append}
 use Rattle.hall_desk.proofs.Growing.{Keeps, Adds, made_adds, fault_keeps, tells_keeps, given_keeps, given_adds}
-use Rattle.hall_desk.proofs.ChangedFaults.{noted_here, noted_there, everywhere_noted, closed_fault, fault_same, open_same, row_some, none_there, fault_connected, first_is}
+use Rattle.hall_desk.proofs.ChangedFaults.{noted_here, noted_there, everywhere_noted, closed_fault, fault_same}
+use Rattle.hall_desk.proofs.ChangedFaults.{open_same, row_some, none_there, fault_connected, first_is}
 use Rattle.hall_desk.proofs.Refusals.{IsTurnTold, lock_any, ask_told}
 
 -- the entry that a desk hands in
@@ -321,27 +327,6 @@ drains_refused old mid new moment session items one given stands is_open refuses
   none_given = (refused_given old mid new session one given refuses, nothing);
   why = subst IsActFault (sym refuses.handed) refuses.told.may;
   rest = notes_at old mid new session one given stands is_open refuses faults;
-}
-
-same_first : (X Y : Type 0) (first : Option DeskFault) (one : DeskFault) →
-    first_fault {X = X} first (Err one) ≡ first_fault {X = Y} first (Err one)
-same_first X Y None one = refl
-same_first X Y (Some first) one = refl
-
--- a refused drain says the same whatever it would have returned
-pub drains_other : (X : Type 0) (old new : DeskView) (moment session : ℕ) (items : List Item) (one : DeskFault) →
-    Drains {X = ⊤} old moment session items (Err one) new → Drains {X = X} old moment session items (Err one) new
-drains_other X old new moment session items one drains = record {
-  added = tt;
-  given = tt;
-  none_given = drains.none_given;
-  why = drains.why;
-  rest = record {
-    none_added = drains.rest.none_added;
-    noted = (drains.rest.noted.0 ∙ same_first ⊤ X (old.fault_to session) one, drains.rest.noted.1);
-    lock_full = drains.rest.lock_full ∙ ap (λ b. old.lock_full || b) (sym (lock_any X one));
-    pass = drains.rest.pass;
-  };
 }
 
 -- ---- a close

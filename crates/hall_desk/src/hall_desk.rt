@@ -452,15 +452,6 @@ impl<'a, R: Wait, B: Acts> Desk for HallDesk<'a, R, B> {
         }
     }
 
-    // As the trait has it: of a desk that borrows its hall the check of lifetimes wants it written.
-    fn drain(&mut self, moment: Moment, session: u32) -> Result<ArrayVec<Item, 64>, DeskFault> {
-        let mut items = ArrayVec::new();
-        match self.drain_into(moment, session, &mut items) {
-            Ok(()) => Ok(items),
-            Err(fault) => Err(fault),
-        }
-    }
-
     fn flush(&mut self, moment: Moment) -> Result<(), DeskFault>
         ensures flushes { Flushes (desk_view self.old) moment result (desk_view self.new) }
         ensures tally { self.new.tally ≡ with_flush result self.old.tally }

@@ -77,20 +77,6 @@ pub trait Desk {
         ensures tally { tally self.new ≡ with_drain into.new.items result (tally self.old) }
         ensures on { goes_on self.old self.new };
 
-    /// The same, with the items by value.
-    fn drain(&mut self, moment: Moment, session: u32) -> Result<ArrayVec<Item, 64>, DeskFault>
-        requires { IsOpen session (view self.old).mine }
-        ensures drains { (items : List Taken) × IfOk result (λ given. given.items ≡ items)
-            × Drains (view self.old) moment session items result (view self.new) }
-        ensures tally { (items : List Taken) × IfOk result (λ given. given.items ≡ items)
-            × (tally self.new ≡ with_drain items result (tally self.old)) }
-        ensures on { goes_on self.old self.new }
-    {
-        let mut items = ArrayVec::new();
-        self.drain_into(moment, session, &mut items)?;
-        Ok(items)
-    }
-
     /// Makes stable what was done so far.
     fn flush(&mut self, moment: Moment) -> Result<(), DeskFault>
         ensures flushes { Flushes (view self.old) moment result (view self.new) }

@@ -11,4 +11,4 @@ pub returns-in-Flush : goal.returns-in-Flush
 returns-in-Flush c = kept_flushes c.flush-answer.result c.flush-answer.ensures.flushes
 
 pub returns-in-Drain : goal.returns-in-Drain
-returns-in-Drain c = kept_drains c.drain-answer.result c.drain-answer.ensures.drains.2
+returns-in-Drain c = kept_drains c.drain_into-answer.result c.drain_into-answer.ensures.drains
