@@ -1,5 +1,5 @@
 #!/usr/bin/env bash
-# Runs the tests of map_chain, and random calls of chains, under valgrind: every block of memory must be freed, once, and
+# Runs the tests of chains, and random calls of chains, under valgrind: every block of memory must be freed, once, and
 # none be read or written where nothing lies. First with all the memory that is asked for, over 20,000 pairs, or as many
 # as the one word says; then each test, and calls over 300 pairs, again for each allocation with that one refused. Needs
 # valgrind, a C compiler, and `rt` on the path, which proves both programs first.
@@ -9,9 +9,9 @@ few=300
 root=$(cd "$(dirname "$0")/.." && pwd)
 work=$(mktemp -d)
 trap 'rm -rf "$work"' EXIT
-(cd "$root/crates/map_chain" && rt test) > "$work/log" 2>&1 || { cat "$work/log"; exit 1; }
+(cd "$root/crates/table_tests" && rt test) > "$work/log" 2>&1 || { cat "$work/log"; exit 1; }
 (cd "$root/crates/bench" && rt run) > "$work/log" 2>&1 || { cat "$work/log"; exit 1; }
-tests=$root/crates/map_chain/out/map_chain_tests
+tests=$root/crates/table_tests/out/table_tests_tests
 calls=$root/crates/bench/out/bench
 
 # Refuses the allocation whose number REFUSE says, in the program that PROGRAM names, and then makes the file REFUSED.
@@ -73,7 +73,7 @@ refuse_each() {
 
 run 0 "$calls" map_chain "$pairs"
 echo "$(basename "$calls") map_chain $pairs: nothing lost"
-for test in $("$tests" --list | sed -n 's/: test$//p'); do
+for test in $("$tests" --list | sed -n 's/^\(chain_tests::.*\): test$/\1/p'); do
     refuse_each "$tests" "$test"
 done
 refuse_each "$calls" map_chain "$few"

@@ -16,6 +16,3 @@ mod walks;
 pub use chain::Chain;
 pub use memory::Memory;
 pub use walks::{Downward, Upward};
-
-#[cfg(test)]
-mod tests;

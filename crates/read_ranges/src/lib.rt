@@ -21,8 +21,6 @@ mod edit;
 mod kept;
 pub mod list;
 mod search;
-#[cfg(test)]
-mod tests;
 
 pub use changes::{Marked, rise, up_to};
 use kept::Kept;

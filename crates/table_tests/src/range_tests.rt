@@ -1,4 +1,7 @@
-use super::*;
+//! Sets of read numbers: what each call leaves, with ample memory.
+use kom_types::ReadRange;
+use read_ranges::{RangeFault, Ranges, list};
+use std::alloc::Global;
 use std::test::Fail;
 
 fn range(first: u32, last: u32) -> ReadRange {

@@ -1,6 +1,6 @@
 use Rattle.std.proofs.Common.{sym, ◌∙◌}
 use Rattle.map_chain.proofs.Below.{below_none}
-use Rattle.map_chain.proofs.tests.add.Goals as goal
+use Rattle.table_tests.proofs.chain_tests.add.Goals as goal
 
 pub append-requires : goal.append-requires
 append-requires c = record {

@@ -1,4 +1,5 @@
-use super::*;
+//! Chains of blocks: the last block is used again, and a refused append changes nothing.
+use map_chain::{Chain, Memory};
 use std::test::Fail;
 
 // Adds the pair of a local and a text 1000 above it, where all locals there are below.
