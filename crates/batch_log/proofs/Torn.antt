@@ -1,6 +1,8 @@
 -- What a stop leaves of a write after a closed gate, of the gate itself, and of a cut.
-use Rattle.std.proofs.Common.{◌≡◌, ◌<◌, ◌≤◌, ◌+◌, ℕ, List, [], ◌∷◌, ◌++◌, length, get_or, take, drop, Result, Ok, Err, OnOk, sym, ◌∙◌, ap, subst, arith, append_assoc, length-append, take-append-drop}
-use Rattle.std.proofs.lemmas.List.{drop_more, length-take, length-take-le, take_at, drop_at, take_all, drop_all, append-nil, take-append-le, take-take}
+use Rattle.std.proofs.Common.{◌≡◌, ◌<◌, ◌≤◌, ◌+◌, ℕ, List, [], ◌∷◌, ◌++◌, length, get_or, take, drop, Result, Ok, Err}
+use Rattle.std.proofs.Common.{OnOk, sym, ◌∙◌, ap, subst, arith, append_assoc, length-append, take-append-drop}
+use Rattle.std.proofs.lemmas.List.{drop_more, length-take, length-take-le, take_at, drop_at, take_all, drop_all}
+use Rattle.std.proofs.lemmas.List.{append-nil, take-append-le, take-take}
 use Rattle.kom_disk.specs.Disk.{overwritten, Torn, Shortened, ComesBy, Only}
 use Rattle.batch_log.specs.Gates.{IsStable, IsShut, IsGated}
 

@@ -1,5 +1,6 @@
 -- What a walk has read so far.
-use Rattle.std.proofs.Common.{◌≡◌, ◌<◌, ◌≤◌, ◌+◌, ℕ, Bool, IsTrue, List, [], ◌∷◌, ◌++◌, length, take, drop, arith, ◌∙◌, ap, subst, Some, None}
+use Rattle.std.proofs.Common.{◌≡◌, ◌<◌, ◌≤◌, ◌+◌, ℕ, Bool, IsTrue, List, [], ◌∷◌, ◌++◌, length, take, drop, arith, ◌∙◌}
+use Rattle.std.proofs.Common.{ap, subst, Some, None}
 use Rattle.std.proofs.lemmas.List.{length_push}
 use Rattle.kom_disk.specs.Moments.{LeavesOnly}
 use Rattle.batch_log.specs.Walk.{Stays, IsReadTo, HasFirst, IsWalked, Stands}

@@ -1,5 +1,6 @@
 -- What a torn write of a slot, or of the byte that names one, stands for.
-use Rattle.std.proofs.Common.{◌≡◌, ◌<◌, ◌⊎◌, ◌==◌, inl, inr, ℕ, Bool, true, false, List, length, get_or, take, drop, Result, Ok, Err, OnOk, if◌then◌else◌, refl, sym, ◌∙◌, ap, subst, arith}
+use Rattle.std.proofs.Common.{◌≡◌, ◌<◌, ◌⊎◌, ◌==◌, inl, inr, ℕ, Bool, true, false, List, length, get_or, take, drop}
+use Rattle.std.proofs.Common.{Result, Ok, Err, OnOk, if◌then◌else◌, refl, sym, ◌∙◌, ap, subst, arith}
 use Rattle.std.proofs.lemmas.List.{get_or-take, drop-take, drop-drop}
 use Rattle.kom_disk.specs.Disk.{Torn, ComesBy, Only}
 use Rattle.disk_example.specs.Cell.{content_of, other_of, IsEither, IsSettled}

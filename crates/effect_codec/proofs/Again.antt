@@ -10,8 +10,10 @@ use Rattle.std.proofs.lemmas.Nat.{from_le_bytes-to_le_bytes_4, from_le_bytes-to_
 use Rattle.kom_types.specs.declared.memberships.ReadRange.{ReadRange}
 use Rattle.effect_codec.specs.Fields.{Field, Byte, Half, Flag, Number, Small, Moment, Text, Fixed, Ranges, OneOf, Of}
 use Rattle.effect_codec.specs.Fields.{Setting, IsIn, IsAtMost, IsRange, coded_value, coded_range, coded_ranges, Read}
-use Rattle.effect_codec.specs.Fields.{Whole, Short, Wrong, and_then, bytes_at, number_at, half_at, limited_at, ranges_of}
-use Rattle.effect_codec.specs.Fields.{so_many_ranges_at, set_at, greatest_of, value_at, Values, AreIn, coded, Makes, made_of}
+use Rattle.effect_codec.specs.Fields.{Whole, Short, Wrong, and_then, bytes_at, number_at, half_at, limited_at}
+use Rattle.effect_codec.specs.Fields.{ranges_of}
+use Rattle.effect_codec.specs.Fields.{so_many_ranges_at, set_at, greatest_of, value_at, Values, AreIn, coded, Makes}
+use Rattle.effect_codec.specs.Fields.{made_of}
 use Rattle.effect_codec.specs.Fields.{made_at, last_moment}
 
 -- bytes of a length, before others
@@ -25,14 +27,16 @@ bytes_again bytes rest many long =
 
 pub number_again : (n : ℕ) (rest : List ℕ) → n < 2 ^ 32 → number_at (to_le_bytes w32 n ++ rest) ≡ Whole n rest
 number_again n rest small =
-    ap (λ (m : ℕ). cond (ltb (length (to_le_bytes w32 n ++ rest)) 4) Short (Whole m (drop 4 (to_le_bytes w32 n ++ rest))))
+    ap (λ (m : ℕ). cond (ltb (length (to_le_bytes w32 n ++ rest)) 4) Short
+    (Whole m (drop 4 (to_le_bytes w32 n ++ rest))))
     (from_le_bytes-to_le_bytes_4 n small)
     ∙ ap (λ (b : Bool). cond b Short (Whole n (drop 4 (to_le_bytes w32 n ++ rest))))
     (enough (to_le_bytes w32 n) rest 4 refl)
 
 pub half_again : (n : ℕ) (rest : List ℕ) → n < 2 ^ 16 → half_at (to_be_bytes w16 n ++ rest) ≡ Whole n rest
 half_again n rest small =
-    ap (λ (m : ℕ). cond (ltb (length (to_be_bytes w16 n ++ rest)) 2) Short (Whole m (drop 2 (to_be_bytes w16 n ++ rest))))
+    ap (λ (m : ℕ). cond (ltb (length (to_be_bytes w16 n ++ rest)) 2) Short
+    (Whole m (drop 2 (to_be_bytes w16 n ++ rest))))
     (from_be_bytes-to_be_bytes_2 n small)
     ∙ ap (λ (b : Bool). cond b Short (Whole n (drop 2 (to_be_bytes w16 n ++ rest))))
     (enough (to_be_bytes w16 n) rest 2 refl)
@@ -108,7 +112,9 @@ one_of_again greatest set rest is = by_greatest (greatest_of set.part greatest) 
   by_greatest : (found : Option ℕ) → IsAtMost found set.value
       → set_at set.part found (to_le_bytes w64 set.value ++ rest) ≡ Whole set rest
   by_greatest None none = absurd none
-  by_greatest (Some last) most = ap (λ (r : Read ℕ). and_then r (λ value after. Whole (record { part = set.part; value = value }) after)) (limited_8_again last set.value rest most.0 most.1)
+  by_greatest (Some last) most = ap
+      (λ (r : Read ℕ). and_then r (λ value after. Whole (record { part = set.part; value = value }) after))
+      (limited_8_again last set.value rest most.0 most.1)
 
 -- what stands in a field is read again
 pub value_again : (field : Field) (value : Of field) (rest : List ℕ) → IsIn field value

@@ -1,6 +1,7 @@
 -- What is too short lacks some of an effect's bytes.
 use Rattle.std.proofs.Common.{◌≡◌, ℕ, zero, suc, ◌-◌, ◌*◌, ◌<◌, ◌≤◌, ◌^◌, Bool, true, false, cond, ◌⊎◌, inl, inr}
-use Rattle.std.proofs.Common.{List, [], ◌∷◌, ◌++◌, length, take, drop, refl, sym, ap, subst, ◌∙◌, append_assoc, append-nil}
+use Rattle.std.proofs.Common.{List, [], ◌∷◌, ◌++◌, length, take, drop, refl, sym, ap, subst, ◌∙◌, append_assoc}
+use Rattle.std.proofs.Common.{append-nil}
 use Rattle.std.proofs.Common.{length-append, arith, ltb, get_or, Option, Some, None, ◌/◌, ◌%◌}
 use Rattle.std.specs.Prelude.{◌&&◌}
 use Rattle.std.specs.Int.{Width, w16, w32, w64, byte_len, to_le_bytes, from_le_bytes, to_be_bytes, from_be_bytes}
@@ -13,7 +14,8 @@ use Rattle.kom_types.specs.declared.memberships.ReadRange.{ReadRange}
 use Rattle.effect_codec.specs.Fields.{Field, Byte, Half, Flag, Number, Small, Moment, Text, Fixed, Ranges, OneOf, Of}
 use Rattle.effect_codec.specs.Fields.{IsIn, IsAtMost, IsRange, coded_value, coded_ranges, Read}
 use Rattle.effect_codec.specs.Fields.{Whole, Short, Wrong, and_then, bytes_at, number_at, byte_at, limited_at}
-use Rattle.effect_codec.specs.Fields.{flag_of, ranges_of, so_many_ranges_at, set_at, greatest_of, value_at, Values, AreIn}
+use Rattle.effect_codec.specs.Fields.{flag_of, ranges_of, so_many_ranges_at, set_at, greatest_of, value_at, Values}
+use Rattle.effect_codec.specs.Fields.{AreIn}
 use Rattle.effect_codec.specs.Fields.{coded, Makes, made_of, made_at, last_moment}
 use Rattle.effect_codec.specs.Table.{Row, rows, row_of, set}
 use Rattle.effect_codec.specs.Coding.{coded_effect, effect_at, kind_at, IsInRange}
@@ -318,20 +320,21 @@ set_goes_on : (greatest : List ℕ) (part : ℕ) (found : Option ℕ) (between :
     → AreBytes between → set_at part found between ≡ Short → FieldCompletes (OneOf greatest) (part ∷ between)
 set_goes_on greatest part None between found_is are is = absurd (cc is)
 set_goes_on greatest part (Some last) between found_is are is = by_rule
-    (and_then_short (limited_at w64 last between) (λ value rest. Whole (record { part = part; value = value }) rest) is) where
-      by_rule : (limited_at w64 last between ≡ Short)
-          ⊎ ((value : ℕ) × (rest : List ℕ) × (limited_at w64 last between ≡ Whole value rest)
-          × (Whole (set part value) rest ≡ Short)) → FieldCompletes (OneOf greatest) (part ∷ between)
-      by_rule (inl size) =
-          let short = limited_short w64 last between size in
-          let both = filled_8 between are short.0 in
-          record {
-            value = set part (from_le_bytes w64 between);
-            missing = zeros (8 - length between);
-            allowed = subst (λ (o : Option ℕ). IsAtMost o (from_le_bytes w64 between)) (sym found_is) (short.1, both.1);
-            spelled = ap (λ (l : List ℕ). part ∷ l) both.0;
-          }
-      by_rule (inr (value, rest, size, whole)) = absurd (cc whole)
+    (and_then_short (limited_at w64 last between) (λ value rest. Whole (record { part = part; value = value }) rest) is)
+  where
+    by_rule : (limited_at w64 last between ≡ Short)
+        ⊎ ((value : ℕ) × (rest : List ℕ) × (limited_at w64 last between ≡ Whole value rest)
+        × (Whole (set part value) rest ≡ Short)) → FieldCompletes (OneOf greatest) (part ∷ between)
+    by_rule (inl size) =
+        let short = limited_short w64 last between size in
+        let both = filled_8 between are short.0 in
+        record {
+          value = set part (from_le_bytes w64 between);
+          missing = zeros (8 - length between);
+          allowed = subst (λ (o : Option ℕ). IsAtMost o (from_le_bytes w64 between)) (sym found_is) (short.1, both.1);
+          spelled = ap (λ (l : List ℕ). part ∷ l) both.0;
+        }
+    by_rule (inr (value, rest, size, whole)) = absurd (cc whole)
 
 one_of_goes_on : (greatest bytes : List ℕ) → has_value (OneOf greatest) ≡ true → AreBytes bytes
     → value_at (OneOf greatest) bytes ≡ Short → FieldCompletes (OneOf greatest) bytes

@@ -83,7 +83,8 @@ puts_5 at_0 at_1 at_2 at_3 at_4 at_5 a b c d e whole put_a put_b put_c put_d put
     ∙ ap (λ (l : List ℕ). at_0 ++ l) is
 
 pub puts_7 : (at_0 at_1 at_2 at_3 at_4 at_5 at_6 at_7 a b c d e f g whole : List ℕ)
-    → at_1 ≡ at_0 ++ a → at_2 ≡ at_1 ++ b → at_3 ≡ at_2 ++ c → at_4 ≡ at_3 ++ d → at_5 ≡ at_4 ++ e → at_6 ≡ at_5 ++ f → at_7 ≡ at_6 ++ g
+    → at_1 ≡ at_0 ++ a → at_2 ≡ at_1 ++ b → at_3 ≡ at_2 ++ c → at_4 ≡ at_3 ++ d → at_5 ≡ at_4 ++ e → at_6 ≡ at_5 ++ f →
+    at_7 ≡ at_6 ++ g
     → a ++ (b ++ (c ++ (d ++ (e ++ (f ++ (g ++ [])))))) ≡ whole → at_7 ≡ at_0 ++ whole
 puts_7 at_0 at_1 at_2 at_3 at_4 at_5 at_6 at_7 a b c d e f g whole put_a put_b put_c put_d put_e put_f put_g is =
     put_first at_0 at_1 at_7 a (b ++ (c ++ (d ++ (e ++ (f ++ (g ++ [])))))) put_a

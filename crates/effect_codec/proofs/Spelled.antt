@@ -1,6 +1,7 @@
 -- What is read as an effect is spelled so.
 use Rattle.std.proofs.Common.{◌≡◌, ℕ, zero, suc, ◌+◌, ◌*◌, ◌<◌, ◌≤◌, ◌^◌, Bool, true, false, cond, List, [], ◌∷◌, ◌++◌}
-use Rattle.std.proofs.Common.{length, take, drop, refl, sym, ap, subst, ◌∙◌, append_assoc, arith, ltb, get_or, Option, Some, None}
+use Rattle.std.proofs.Common.{length, take, drop, refl, sym, ap, subst, ◌∙◌, append_assoc, arith, ltb, get_or, Option}
+use Rattle.std.proofs.Common.{Some, None}
 use Rattle.std.specs.Int.{Width, w16, w32, w64, byte_len, to_le_bytes, from_le_bytes, to_be_bytes, from_be_bytes}
 use Rattle.std.specs.List.{AllByRecursion}
 use Rattle.std.proofs.lemmas.Bool.{ltb-false}
@@ -10,7 +11,8 @@ use Rattle.kom_types.specs.declared.memberships.ReadRange.{ReadRange}
 use Rattle.effect_codec.specs.Fields.{Field, Byte, Half, Flag, Number, Small, Moment, Text, Fixed, Ranges, OneOf, Of}
 use Rattle.effect_codec.specs.Fields.{Setting, IsIn, IsAtMost, IsRange, bit, coded_value, coded_ranges, Read}
 use Rattle.effect_codec.specs.Fields.{Whole, Short, Wrong, and_then, bytes_at, number_at, half_at, byte_at, limited_at}
-use Rattle.effect_codec.specs.Fields.{flag_of, ranges_of, so_many_ranges_at, set_at, greatest_of, value_at, Values, AreIn}
+use Rattle.effect_codec.specs.Fields.{flag_of, ranges_of, so_many_ranges_at, set_at, greatest_of, value_at, Values}
+use Rattle.effect_codec.specs.Fields.{AreIn}
 use Rattle.effect_codec.specs.Fields.{coded, Makes, made_of, made_at, last_moment}
 use Rattle.effect_codec.specs.Laws.{AreBytes}
 use Rattle.effect_codec.proofs.Stays.{read_of, le_same, be_same}
@@ -155,7 +157,8 @@ pub limited_4_spelled : (greatest : ℕ) (bytes : List ℕ) (found : ℕ) (rest 
 limited_4_spelled greatest bytes found rest are is =
     let whole = limited_whole w32 greatest bytes found rest is in
     let both = le_4 bytes are whole.0.here in
-    spells_read (from_le_bytes w32) 4 bytes found rest (to_le_bytes w32 found) ((found ≤ greatest) × (found < 2 ^ 32)) are
+    spells_read (from_le_bytes w32) 4 bytes found rest (to_le_bytes w32 found) ((found ≤ greatest) × (found < 2 ^ 32))
+    are
     whole.0 (ap (to_le_bytes w32) whole.0.found_is ∙ both.0)
     (whole.1, subst (λ (n : ℕ). n < 2 ^ 32) (sym whole.0.found_is) both.1)
 
@@ -165,7 +168,8 @@ limited_8_spelled : (greatest : ℕ) (bytes : List ℕ) (found : ℕ) (rest : Li
 limited_8_spelled greatest bytes found rest are is =
     let whole = limited_whole w64 greatest bytes found rest is in
     let both = le_8 bytes are whole.0.here in
-    spells_read (from_le_bytes w64) 8 bytes found rest (to_le_bytes w64 found) ((found ≤ greatest) × (found < 2 ^ 64)) are
+    spells_read (from_le_bytes w64) 8 bytes found rest (to_le_bytes w64 found) ((found ≤ greatest) × (found < 2 ^ 64))
+    are
     whole.0 (ap (to_le_bytes w64) whole.0.found_is ∙ both.0)
     (whole.1, subst (λ (n : ℕ). n < 2 ^ 64) (sym whole.0.found_is) both.1)
 
@@ -217,7 +221,8 @@ text_spelled most bytes found rest are is =
     let text = bytes_spelled both.0 both.1 found rest size.left both.3 in
     let sized : Spells (to_le_bytes w32 (length found)) ((length found ≤ most) × (length found < 2 ^ 32)) bytes both.1 =
     subst (λ (n : ℕ). Spells (to_le_bytes w32 n) ((n ≤ most) × (n < 2 ^ 32)) bytes both.1) (sym text.allowed) size in
-    spells_as (coded_value (Text most) found) (((length found ≤ most) × (length found < 2 ^ 32)) × (length found ≡ both.0))
+    spells_as (coded_value (Text most) found)
+    (((length found ≤ most) × (length found < 2 ^ 32)) × (length found ≡ both.0))
     (IsIn (Text most) found) bytes rest (λ all. all.0)
     (spells_both (to_le_bytes w32 (length found)) found ((length found ≤ most) × (length found < 2 ^ 32))
     (length found ≡ both.0) bytes both.1 rest sized text)
@@ -245,8 +250,10 @@ ranges_here (suc many) bytes are here =
     let other_4 : Spells (to_le_bytes w32 last) (last < 2 ^ 32) (drop 4 bytes) (drop 4 (drop 4 bytes)) =
     number_here (drop 4 bytes) (bytes_dropped 4 bytes are) (omega (arith, length-drop 4 bytes, here)) in
     let other : Spells (to_le_bytes w32 last) (last < 2 ^ 32) (drop 4 bytes) (drop 8 bytes) =
-    subst (λ (l : List ℕ). Spells (to_le_bytes w32 last) (last < 2 ^ 32) (drop 4 bytes) l) (drop-drop 4 4 bytes) other_4 in
-    let rest_8 : Spells (coded_ranges more) (AllByRecursion IsRange more) (drop 8 bytes) (drop (8 * many) (drop 8 bytes)) =
+    subst (λ (l : List ℕ). Spells (to_le_bytes w32 last) (last < 2 ^ 32) (drop 4 bytes) l) (drop-drop 4 4 bytes) other_4
+    in
+    let rest_8 : Spells (coded_ranges more) (AllByRecursion IsRange more) (drop 8 bytes)
+    (drop (8 * many) (drop 8 bytes)) =
     ranges_here many (drop 8 bytes) (bytes_dropped 8 bytes are) (omega (arith, length-drop 8 bytes, here)) in
     let place : 8 + 8 * many ≡ 8 * suc many = omega arith in
     let rest : Spells (coded_ranges more) (AllByRecursion IsRange more) (drop 8 bytes) (drop (8 * suc many) bytes) =
@@ -278,7 +285,8 @@ ranges_spelled bytes found rest are is =
     subst (λ (l : List ReadRange). Spells (coded_ranges l) (AllByRecursion IsRange l) after (drop (8 * many) after))
     (sym read.found_is) body_here in
     let body : Spells (coded_ranges found) (AllByRecursion IsRange found) after rest =
-    subst (λ (l : List ℕ). Spells (coded_ranges found) (AllByRecursion IsRange found) after l) (sym read.rest_is) body_found in
+    subst (λ (l : List ℕ). Spells (coded_ranges found) (AllByRecursion IsRange found) after l) (sym read.rest_is)
+    body_found in
     let sized : Spells (to_le_bytes w32 (length found)) (length found < 2 ^ 32) bytes after =
     subst (λ (n : ℕ). Spells (to_le_bytes w32 n) (n < 2 ^ 32) bytes after) (sym long) size in
     spells_both (to_le_bytes w32 (length found)) (coded_ranges found) (length found < 2 ^ 32)
@@ -313,15 +321,19 @@ one_of_spelled greatest bytes found rest are is =
     let part : ℕ = both.0 in
     let byte : Spells (part ∷ []) (part < 256) bytes both.1 = byte_spelled bytes part both.1 are both.2 in
     let set = set_spelled part (greatest_of part greatest) both.1 found rest byte.left both.3 in
-    let all : Spells (part ∷ to_le_bytes w64 found.value) ((part < 256) × IsAtMost (greatest_of part greatest) found.value)
+    let all : Spells (part ∷ to_le_bytes w64 found.value)
+    ((part < 256) × IsAtMost (greatest_of part greatest) found.value)
     bytes rest =
-    spells_both (part ∷ []) (to_le_bytes w64 found.value) (part < 256) (IsAtMost (greatest_of part greatest) found.value)
+    spells_both (part ∷ []) (to_le_bytes w64 found.value) (part < 256)
+    (IsAtMost (greatest_of part greatest) found.value)
     bytes both.1 rest byte set.0 in
     let named : Spells (found.part ∷ to_le_bytes w64 found.value)
     ((found.part < 256) × IsAtMost (greatest_of found.part greatest) found.value) bytes rest =
-    subst (λ (n : ℕ). Spells (n ∷ to_le_bytes w64 found.value) ((n < 256) × IsAtMost (greatest_of n greatest) found.value)
+    subst (λ (n : ℕ). Spells (n ∷ to_le_bytes w64 found.value)
+    ((n < 256) × IsAtMost (greatest_of n greatest) found.value)
     bytes rest) set.1 all in
-    spells_as (coded_value (OneOf greatest) found) ((found.part < 256) × IsAtMost (greatest_of found.part greatest) found.value)
+    spells_as (coded_value (OneOf greatest) found)
+    ((found.part < 256) × IsAtMost (greatest_of found.part greatest) found.value)
     (IsIn (OneOf greatest) found) bytes rest (λ both. both.1) named
 
 -- what was read of a field is spelled so, and may stand in it

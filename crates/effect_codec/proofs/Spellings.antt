@@ -1,5 +1,6 @@
 -- What is read as an effect begins with the bytes of that effect.
-use Rattle.std.proofs.Common.{◌≡◌, ℕ, zero, suc, ◌==◌, Bool, true, false, not, cond, List, [], ◌∷◌, ◌++◌, refl, sym, ap, subst, ◌∙◌}
+use Rattle.std.proofs.Common.{◌≡◌, ℕ, zero, suc, ◌==◌, Bool, true, false, not, cond, List, [], ◌∷◌, ◌++◌, refl, sym, ap}
+use Rattle.std.proofs.Common.{subst, ◌∙◌}
 use Rattle.std.proofs.Common.{Option, Some, None}
 use Rattle.std.specs.Prelude.{find}
 use Rattle.std.specs.List.{AllByRecursion}
@@ -7,7 +8,8 @@ use Rattle.std.proofs.lemmas.Bool.{eqb-true}
 use Rattle.kom_types.specs.declared.effects.Effect.{Effect}
 use Rattle.effect_codec.specs.Fields.{OneOf, Setting, IsIn, IsAtMost, greatest_of, Whole, Values}
 use Rattle.effect_codec.specs.Fields.{AreIn, made_of}
-use Rattle.effect_codec.specs.Table.{Row, rows, row_of, conf_parts, conf_field, conf_setting, person_parts, person_field}
+use Rattle.effect_codec.specs.Table.{Row, rows, row_of, conf_parts, conf_field, conf_setting, person_parts}
+use Rattle.effect_codec.specs.Table.{person_field}
 use Rattle.effect_codec.specs.Table.{person_setting, counters, counter_of, counter_number, set}
 use Rattle.effect_codec.specs.Table as table
 use Rattle.effect_codec.specs.Coding.{coded_effect, coded_row, kind_at, IsInRange}
@@ -71,7 +73,8 @@ RowSpells row = (values : Values row.fields) → AreIn row.fields values →
 -- the same of a row whose effect has other values that are the same
 row_spells : (row : Row) (values other : Values row.fields) → other ≡ values → AreIn row.fields values
     → (coded_row row other ≡ coded_row row values) × AreIn row.fields other
-row_spells row values other same are = (ap (coded_row row) same, subst (λ (v : Values row.fields). AreIn row.fields v) (sym same) are)
+row_spells row values other same are =
+    (ap (coded_row row) same, subst (λ (v : Values row.fields). AreIn row.fields v) (sym same) are)
 
 conf_added_spells : RowSpells table.conf_added
 conf_added_spells values are = (refl, are)
@@ -93,7 +96,8 @@ person_gone_spells : RowSpells table.person_gone
 person_gone_spells values are = (refl, are)
 
 person_set_spells : RowSpells table.person_set
-person_set_spells values are = row_spells table.person_set values (values.0, (person_setting (person_field values.1.0), tt))
+person_set_spells values are = row_spells table.person_set values
+    (values.0, (person_setting (person_field values.1.0), tt))
     (ap (λ (s : Setting). (values.0, (s, tt))) (person_setting_again values.1.0 are.1.0)) are
 
 password_spells : RowSpells table.password
@@ -190,7 +194,13 @@ rows_spell = (
                                     member_gone_spells,
                                     (
                                       read_set_spells,
-                                      (mark_set_spells, (mark_gone_spells, (aux_added_spells, (aux_gone_spells, (created_spells, tt))))),
+                                      (
+                                        mark_set_spells,
+                                        (
+                                          mark_gone_spells,
+                                          (aux_added_spells, (aux_gone_spells, (created_spells, tt))),
+                                        ),
+                                      ),
                                     ),
                                   ),
                                 ),
@@ -233,7 +243,8 @@ kind_spelled : (kind : ℕ) (found : Option Row) (bytes : List ℕ) (effect : Ef
     → (kind ∷ bytes ≡ coded_effect effect ++ rest) × IsInRange effect
 kind_spelled kind None bytes effect rest are found_is is = absurd (cc is)
 kind_spelled kind (Some row) bytes effect rest are found_is is =
-    let made : MadeOf row.fields row.make bytes effect rest = made_spelled row.fields row.make bytes effect rest are is in
+    let made : MadeOf row.fields row.make bytes effect rest =
+    made_spelled row.fields row.make bytes effect rest are is in
     let found = row_found RowSpells rows kind row rows_spell found_is in
     let spells = found.0 made.values made.spells.allowed in
     let coded_is : coded_effect effect ≡ coded_row row made.values =

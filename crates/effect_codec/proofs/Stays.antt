@@ -1,6 +1,8 @@
 -- What is read stays read when more bytes follow, and what is wrong stays wrong.
-use Rattle.std.proofs.Common.{◌≡◌, ◌≢◌, ℕ, zero, suc, ◌-◌, ◌*◌, ◌^◌, ◌<◌, ◌≤◌, Bool, true, false, cond, List, [], ◌∷◌, ◌++◌}
-use Rattle.std.proofs.Common.{length, take, drop, refl, sym, ap, subst, ◌∙◌, length-append, append-nil, arith, ltb, get_or}
+use Rattle.std.proofs.Common.{◌≡◌, ◌≢◌, ℕ, zero, suc, ◌-◌, ◌*◌, ◌^◌, ◌<◌, ◌≤◌, Bool, true, false, cond, List, [], ◌∷◌}
+use Rattle.std.proofs.Common.{◌++◌}
+use Rattle.std.proofs.Common.{length, take, drop, refl, sym, ap, subst, ◌∙◌, length-append, append-nil, arith, ltb}
+use Rattle.std.proofs.Common.{get_or}
 use Rattle.std.proofs.Common.{Option, Some, None}
 use Rattle.std.specs.Int.{Width, w16, w32, w64, byte_len, byte_worth, sum_through, from_le_bytes, from_be_bytes}
 use Rattle.std.proofs.Math.Nat.{mul-le-mul_right}
@@ -10,7 +12,8 @@ use Rattle.kom_types.specs.declared.effects.Effect.{Effect}
 use Rattle.kom_types.specs.declared.memberships.ReadRange.{ReadRange}
 use Rattle.effect_codec.specs.Fields.{Field, Byte, Half, Flag, Number, Small, Moment, Text, Fixed, Ranges, OneOf}
 use Rattle.effect_codec.specs.Fields.{Read, Whole, Short, Wrong, and_then, bytes_at, number_at, half_at, byte_at}
-use Rattle.effect_codec.specs.Fields.{limited_at, flag_of, ranges_of, so_many_ranges_at, set_at, greatest_of, value_at, Makes}
+use Rattle.effect_codec.specs.Fields.{limited_at, flag_of, ranges_of, so_many_ranges_at, set_at, greatest_of, value_at}
+use Rattle.effect_codec.specs.Fields.{Makes}
 use Rattle.effect_codec.specs.Fields.{made_at, last_moment}
 use Rattle.effect_codec.specs.Table.{Row, row_of}
 use Rattle.effect_codec.specs.Coding.{coded_effect, effect_at, kind_at}
@@ -23,7 +26,8 @@ Stays (Whole value rest) more after = after ≡ Whole value (rest ++ more)
 Stays Short more after = Unit {0}
 Stays Wrong more after = after ≡ Wrong
 
-and_then_stays : {X Y : Type 0} (read after : Read X) (next : X → List ℕ → Read Y) (more : List ℕ) → Stays read more after
+and_then_stays : {X Y : Type 0} (read after : Read X) (next : X → List ℕ → Read Y) (more : List ℕ) →
+    Stays read more after
     → ((value : X) (rest : List ℕ) → Stays (next value rest) more (next value (rest ++ more)))
     → Stays (and_then read next) more (and_then after next)
 and_then_stays {X} (Whole value rest) after next more is then_is =

@@ -86,7 +86,8 @@ pub(crate) fn put_amount(out: &mut Vec<u8>, amount: u64)
 pub(crate) fn put_text(out: &mut Vec<u8>, bytes: &[u8])
     requires length { length bytes.now < 2 ^ 32 }
     requires room { vec_len out.old + (4 + length bytes.now) ≤ vec_capacity out.old }
-    ensures items { out.new.items ≡ out.old.items ++ (to_le_bytes w32 (length bytes.now) ++ bytes.now) }
+    ensures items { out.new.items ≡ out.old.items
+        ++ (to_le_bytes w32 (length bytes.now) ++ bytes.now) }
     ensures len { vec_len out.new ≡ vec_len out.old + (4 + length bytes.now) }
     ensures capacity { vec_capacity out.old ≤ vec_capacity out.new }
 {

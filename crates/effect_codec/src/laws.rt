@@ -9,7 +9,8 @@ pub fn effects_are_read_again()
 {}
 
 /// A law alone: an effect is read where its bytes are there, and nowhere else; too few bytes are
-/// those that lack some of an effect's; and what is wrong begins with no effect's, whatever follows.
+/// those that lack some of an effect's; and what is wrong begins with no effect's, whatever
+/// follows.
 pub fn readings_stay()
     ensures stays_short { StaysShort }
     ensures is_spelled { IsSpelled }

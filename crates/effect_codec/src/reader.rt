@@ -173,7 +173,8 @@ impl<'a> Reader<'a> {
 
     /// The number of a part, and what it is set to: each part has a greatest value.
     pub(crate) fn setting(&mut self, greatest: &[u64]) -> Result<(u8, u64), Stop>
-        ensures gives { Gives (λ x. set x.0 x.1) (value_at (field.OneOf greatest.now) self.old) result self.new }
+        ensures gives { Gives (λ x. set x.0 x.1) (value_at (field.OneOf greatest.now) self.old)
+            result self.new }
         ensures range { IfOk result (λ x. field.IsIn (field.OneOf greatest.now) (set x.0 x.1)) }
     {
         let part = self.byte()?;

@@ -170,9 +170,11 @@ pub fn append(out: &mut Vec<u8>, effect: &Effect)
 
 fn append_item(out: &mut Vec<u8>, on_text: bool, object: u32, item: &AuxRow)
     requires lengths { IsShortEnough (effect.AuxAdded on_text object item.now) }
-    requires room { vec_len out.old + length (coded_effect (effect.AuxAdded on_text object item.now))
+    requires room { vec_len out.old + length
+        (coded_effect (effect.AuxAdded on_text object item.now))
         ≤ vec_capacity out.old }
-    ensures items { out.new.items ≡ out.old.items ++ coded_effect (effect.AuxAdded on_text object item.now) }
+    ensures items { out.new.items ≡ out.old.items
+        ++ coded_effect (effect.AuxAdded on_text object item.now) }
     ensures capacity { vec_capacity out.old ≤ vec_capacity out.new }
     ensures range { IsInRange (effect.AuxAdded on_text object item.now) }
 {
@@ -195,7 +197,8 @@ fn append_item(out: &mut Vec<u8>, on_text: bool, object: u32, item: &AuxRow)
 }
 
 fn append_recipient(out: &mut Vec<u8>, row: &Recipient)
-    requires { vec_len out.old + length (coded_effect (effect.RecipientAdded row.now)) ≤ vec_capacity out.old }
+    requires { vec_len out.old + length (coded_effect (effect.RecipientAdded row.now))
+        ≤ vec_capacity out.old }
     ensures items { out.new.items ≡ out.old.items ++ coded_effect (effect.RecipientAdded row.now) }
     ensures capacity { vec_capacity out.old ≤ vec_capacity out.new }
     ensures range { IsInRange (effect.RecipientAdded row.now) }
@@ -213,7 +216,8 @@ fn append_recipient(out: &mut Vec<u8>, row: &Recipient)
 }
 
 fn append_link(out: &mut Vec<u8>, row: &TextLink)
-    requires { vec_len out.old + length (coded_effect (effect.LinkAdded row.now)) ≤ vec_capacity out.old }
+    requires { vec_len out.old + length (coded_effect (effect.LinkAdded row.now))
+        ≤ vec_capacity out.old }
     ensures items { out.new.items ≡ out.old.items ++ coded_effect (effect.LinkAdded row.now) }
     ensures capacity { vec_capacity out.old ≤ vec_capacity out.new }
     ensures range { IsInRange (effect.LinkAdded row.now) }

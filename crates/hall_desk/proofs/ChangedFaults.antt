@@ -1,5 +1,6 @@
 -- What is noted at each session after a change of the table.
-use Rattle.std.proofs.Common.{◌≡◌, ◌≢◌, ℕ, ◌<◌, ◌≤◌, ◌⊎◌, inl, inr, Bool, true, false, cond, ◌||◌, ◌==◌, eqb, List, [], ◌∷◌, ◌++◌, map, Option, Some, None, refl, sym, ap, ◌∙◌, arith, if◌then◌else◌}
+use Rattle.std.proofs.Common.{◌≡◌, ◌≢◌, ℕ, ◌<◌, ◌≤◌, ◌⊎◌, inl, inr, Bool, true, false, cond, ◌||◌, ◌==◌, eqb, List, []}
+use Rattle.std.proofs.Common.{◌∷◌, ◌++◌, map, Option, Some, None, refl, sym, ap, ◌∙◌, arith, if◌then◌else◌}
 use Rattle.std.specs.List.{find, filter, AllByRecursion}
 use Rattle.std.specs.Option.{option_map}
 use Rattle.std.specs.Prelude.{Err}
@@ -7,7 +8,8 @@ use Rattle.std.proofs.lemmas.Bool.{cases_Bool, eqb-true, eq-eqb, ne_eqb}
 use Rattle.kom_links.specs.declared.desk.DeskFault.{DeskFault}
 use Rattle.kom_links.specs.DeskCalls.{first_fault, ChangesAt}
 use Rattle.hall_desk.specs.declared.faults.Noted.{Noted}
-use Rattle.hall_desk.specs.Faults.{FaultTable, first_of, is_row, fault_of, fault_in, open_of, is_open_in, with_fault, noted_at, noted_at_none, noted_everywhere, closed_at}
+use Rattle.hall_desk.specs.Faults.{FaultTable, first_of, is_row, fault_of, fault_in, open_of, is_open_in, with_fault}
+use Rattle.hall_desk.specs.Faults.{noted_at, noted_at_none, noted_everywhere, closed_at}
 use Rattle.hall_desk.specs.Desks.{AreApart}
 
 -- ---- which row is found

@@ -1,5 +1,6 @@
 -- What holds of legal histories.
-use Rattle.std.proofs.Common.{◌≡◌, ℕ, ◌+◌, ◌<◌, ◌≤◌, ◌⊎◌, inl, inr, Bool, true, false, not, ◌||◌, ◌&&◌, eqb, ◌==◌, List, [], ◌∷◌, ◌++◌, length, refl, sym, ap, subst, ◌∙◌, arith, append_assoc, if◌then◌else◌}
+use Rattle.std.proofs.Common.{◌≡◌, ℕ, ◌+◌, ◌<◌, ◌≤◌, ◌⊎◌, inl, inr, Bool, true, false, not, ◌||◌, ◌&&◌, eqb, ◌==◌, List}
+use Rattle.std.proofs.Common.{[], ◌∷◌, ◌++◌, length, refl, sym, ap, subst, ◌∙◌, arith, append_assoc, if◌then◌else◌}
 use Rattle.std.specs.Option.{IsSome}
 use Rattle.std.proofs.lemmas.Bool.{cases_Bool, ne_eqb, eqb-true, eq-eqb}
 use Rattle.std.proofs.lemmas.List.Elements.{filter-append}
@@ -15,7 +16,9 @@ use Rattle.kom_model.specs.After.{MayFollow, after}
 use Rattle.kom_model.specs.Legal.{IsLegal, AreByOwners, state_after}
 use Rattle.kom_model.specs.Out.{given_by, given_by_pass}
 use Rattle.hall_desk.specs.Passes.{of_pass, connects_in}
-use Rattle.hall_desk.proofs.Stepping.{connects-after, connects_in-append, within_step, AreDrawn, drawn-after, Has, HasOr, has_before, connects_now, has_step, acting_stands, stands_drawn, drawn_step}
+use Rattle.hall_desk.proofs.Stepping.{connects-after, connects_in-append, within_step, AreDrawn, drawn-after, Has}
+use Rattle.hall_desk.proofs.Stepping.{HasOr, has_before, connects_now, has_step, acting_stands, stands_drawn}
+use Rattle.hall_desk.proofs.Stepping.{drawn_step}
 
 -- ---- tests
 

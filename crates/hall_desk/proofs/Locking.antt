@@ -1,5 +1,6 @@
 -- What the turns of the lock tell a pass, in records.
-use Rattle.std.proofs.Common.{◌≡◌, ℕ, ◌+◌, ◌^◌, ◌<◌, ◌≤◌, inl, inr, Bool, true, false, ◌||◌, eqb, List, [], ◌∷◌, ◌++◌, length, map, Option, Some, None, refl, sym, ap, subst, ◌∙◌, arith}
+use Rattle.std.proofs.Common.{◌≡◌, ℕ, ◌+◌, ◌^◌, ◌<◌, ◌≤◌, inl, inr, Bool, true, false, ◌||◌, eqb, List, [], ◌∷◌, ◌++◌}
+use Rattle.std.proofs.Common.{length, map, Option, Some, None, refl, sym, ap, subst, ◌∙◌, arith}
 use Rattle.std.specs.Prelude.{Ok, Err, IsSome}
 use Rattle.std.proofs.lemmas.Bool.{cases_Bool}
 use Rattle.std.proofs.lemmas.List.{map-append, length-map}
@@ -22,10 +23,12 @@ use Rattle.kom_state_lock.specs.Passes.{HallModel, PassModel, TakesTurn, logged_
 use Rattle.hall_desk.specs.Acts.{IsMadeBy, IsLed}
 use Rattle.hall_desk.specs.Passes.{PassView, pass_view, of_pass, Knows}
 use Rattle.hall_desk.specs.declared.turning.Made.{Made}
-use Rattle.hall_desk.specs.Turns.{IsOfOpen, Sees, Logs, LogsNone, record_in, fault_from, WasMade, WasRefused, IsConnect, Ends, Tells}
+use Rattle.hall_desk.specs.Turns.{IsOfOpen, Sees, Logs, LogsNone, record_in, fault_from, WasMade, WasRefused, IsConnect}
+use Rattle.hall_desk.specs.Turns.{Ends, Tells}
 use Rattle.hall_desk.proofs.Starting.{IsStart}
 use Rattle.hall_desk.proofs.Stepping.{by_owner}
-use Rattle.hall_desk.proofs.Histories.{legal-append, owners-append, entries-state_after, of_pass-append, of_own, open_has}
+use Rattle.hall_desk.proofs.Histories.{legal-append, owners-append, entries-state_after, of_pass-append, of_own}
+use Rattle.hall_desk.proofs.Histories.{open_has}
 
 -- ---- in records alone
 

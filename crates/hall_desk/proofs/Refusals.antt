@@ -1,5 +1,6 @@
 -- What a refusal tells of the history.
-use Rattle.std.proofs.Common.{◌≡◌, ℕ, ◌+◌, ◌^◌, ◌≤◌, ◌⊎◌, inl, inr, Bool, true, false, ltb, ◌&&◌, ◌||◌, List, [], Some, None, refl, sym, ap, subst, ◌∙◌, arith, append-nil}
+use Rattle.std.proofs.Common.{◌≡◌, ℕ, ◌+◌, ◌^◌, ◌≤◌, ◌⊎◌, inl, inr, Bool, true, false, ltb, ◌&&◌, ◌||◌, List, [], Some}
+use Rattle.std.proofs.Common.{None, refl, sym, ap, subst, ◌∙◌, arith, append-nil}
 use Rattle.std.specs.Prelude.{Err, ⊤}
 use Rattle.std.proofs.lemmas.Bool.{cases_Bool, ltb-false, le-leb}
 use Rattle.kom_types.specs.declared.acts.Act.TheVariants as act
@@ -16,7 +17,8 @@ use Rattle.kom_links.specs.declared.desk.DeskFault.TheVariants as fault
 use Rattle.kom_links.specs.DeskCalls.{IsConnectFault, IsActFault, IsFlushFault, IsLockFault, is_lock_full}
 use Rattle.kom_links.specs.Records.{IsOpen}
 use Rattle.kom_model.specs.State.{State, session_of}
-use Rattle.kom_model.specs.Refusal.{most_sessions, is_drained, call_refused, drain_refused, close_refused, connect_refused, unless_store_refused, refusal_of}
+use Rattle.kom_model.specs.Refusal.{most_sessions, is_drained, call_refused, drain_refused, close_refused}
+use Rattle.kom_model.specs.Refusal.{connect_refused, unless_store_refused, refusal_of}
 use Rattle.kom_model.specs.Legal.{IsLegal, state_after}
 use Rattle.hall_desk.specs.Passes.{PassView, connects_in}
 use Rattle.hall_desk.specs.Desks.{WasStopped, IsKnown}

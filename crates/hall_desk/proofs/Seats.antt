@@ -1,12 +1,14 @@
 -- Rows that keep the numbers of their sessions, the passes that connected them, and that a call ended them.
-use Rattle.std.proofs.Common.{◌≡◌, ℕ, ◌≤◌, true, false, cond, eqb, List, [], ◌∷◌, ◌++◌, map, Option, Some, refl, ap, ◌∙◌, inl, inr, arith, ◌==◌}
+use Rattle.std.proofs.Common.{◌≡◌, ℕ, ◌≤◌, true, false, cond, eqb, List, [], ◌∷◌, ◌++◌, map, Option, Some, refl, ap}
+use Rattle.std.proofs.Common.{◌∙◌, inl, inr, arith, ◌==◌}
 use Rattle.std.specs.List.{find, AllByRecursion}
 use Rattle.std.proofs.lemmas.Bool.{cases_Bool}
 use Rattle.kom_types.specs.declared.items.Item.{Item}
 use Rattle.kom_types.specs.declared.seats.Seat.{Seat}
 use Rattle.kom_types.specs.declared.session_changes.SessionChange.{SessionChange}
 use Rattle.kom_types.specs.declared.session_changes.SessionChange.TheVariants as change
-use Rattle.kom_types.specs.Sessions.{Session, Limits, is_session, fits, queued, changed_session, changed_seat, changed, with_invisible}
+use Rattle.kom_types.specs.Sessions.{Session, Limits, is_session, fits, queued, changed_session, changed_seat, changed}
+use Rattle.kom_types.specs.Sessions.{with_invisible}
 use Rattle.kom_model.specs.State.{State}
 use Rattle.kom_model.specs.Sending.{Delivery}
 use Rattle.kom_model.specs.After.{with_session, queue_all, make_change, make_changes}

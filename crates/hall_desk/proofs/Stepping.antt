@@ -1,5 +1,6 @@
 -- What one record does to the rows of the sessions.
-use Rattle.std.proofs.Common.{◌≡◌, ℕ, ◌+◌, ◌<◌, ◌≤◌, ◌⊎◌, inl, inr, Bool, true, false, cond, ◌&&◌, eqb, ◌==◌, List, [], ◌∷◌, ◌++◌, Option, Some, None, refl, sym, ap, subst, ◌∙◌, ltb, arith}
+use Rattle.std.proofs.Common.{◌≡◌, ℕ, ◌+◌, ◌<◌, ◌≤◌, ◌⊎◌, inl, inr, Bool, true, false, cond, ◌&&◌, eqb, ◌==◌, List, []}
+use Rattle.std.proofs.Common.{◌∷◌, ◌++◌, Option, Some, None, refl, sym, ap, subst, ◌∙◌, ltb, arith}
 use Rattle.std.specs.List.{find}
 use Rattle.std.specs.Option.{IsSome, IfSome}
 use Rattle.std.proofs.lemmas.Bool.{cases_Bool, eq-eqb, ltb-true}
@@ -13,7 +14,8 @@ use Rattle.kom_types.specs.Sessions.{Session, waiting_limits, is_session, draine
 use Rattle.kom_links.specs.DeskCalls.{record_of}
 use Rattle.kom_links.specs.Records.{is_connect, is_close}
 use Rattle.kom_model.specs.State.{State, session_of}
-use Rattle.kom_model.specs.Refusal.{most_sessions, call_refused, drain_refused, close_refused, connect_refused, unless_store_refused}
+use Rattle.kom_model.specs.Refusal.{most_sessions, call_refused, drain_refused, close_refused, connect_refused}
+use Rattle.kom_model.specs.Refusal.{unless_store_refused}
 use Rattle.kom_model.specs.After.{MayFollow, moment_of, decision_at, deliveries, acted, after}
 use Rattle.kom_model.specs.Effects.{apply_all}
 use Rattle.kom_model.specs.Legal.{IsByOwner}
@@ -23,7 +25,8 @@ use Rattle.kom_model.proofs.Changing.{make_changes-rows}
 use Rattle.kom_model.proofs.Numbers.{drawn-added, drawn-filtered}
 use Rattle.hall_desk.specs.Passes.{connects_in}
 use Rattle.hall_desk.specs.Turns.{IsBetween}
-use Rattle.hall_desk.proofs.Seats.{KeepsSeats, seats-same, seats-changed, seats-queued, seats-changes, AllDrawn, drawn-seats, IsOwned, owned-seats}
+use Rattle.hall_desk.proofs.Seats.{KeepsSeats, seats-same, seats-changed, seats-queued, seats-changes, AllDrawn}
+use Rattle.hall_desk.proofs.Seats.{drawn-seats, IsOwned, owned-seats}
 
 -- ---- why an act may be made
 

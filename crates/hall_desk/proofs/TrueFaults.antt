@@ -1,5 +1,7 @@
 -- A table of faults stays true to the history.
-use Rattle.std.proofs.Common.{◌≡◌, ◌≢◌, ℕ, ◌+◌, ◌<◌, ◌≤◌, ◌⊎◌, inl, inr, Bool, true, false, not, ◌&&◌, ◌||◌, ◌==◌, eqb, List, [], ◌∷◌, ◌++◌, Option, Some, None, refl, sym, ap, subst, ◌∙◌, arith, append_assoc, if◌then◌else◌}
+use Rattle.std.proofs.Common.{◌≡◌, ◌≢◌, ℕ, ◌+◌, ◌<◌, ◌≤◌, ◌⊎◌, inl, inr, Bool, true, false, not, ◌&&◌, ◌||◌, ◌==◌, eqb}
+use Rattle.std.proofs.Common.{List, [], ◌∷◌, ◌++◌, Option, Some, None, refl, sym, ap, subst, ◌∙◌, arith, append_assoc}
+use Rattle.std.proofs.Common.{if◌then◌else◌}
 use Rattle.std.specs.List.{find, filter, AllByRecursion}
 use Rattle.std.proofs.lemmas.Bool.{cases_Bool, cases_eq, eqb-true, eq-eqb, ne_eqb}
 use Rattle.std.proofs.lemmas.List.Folds.{list_any-append}
@@ -17,14 +19,19 @@ use Rattle.kom_model.specs.Refusal.{most_sessions}
 use Rattle.kom_model.specs.Legal.{IsLegal, state_after}
 use Rattle.hall_desk.specs.declared.faults.Noted.{Noted}
 use Rattle.hall_desk.specs.Passes.{PassView, connects_in}
-use Rattle.hall_desk.specs.Faults.{FaultTable, first_of, is_row, fault_of, fault_in, open_of, is_open_in, noted_at, noted_at_none, noted_everywhere, closed_at}
+use Rattle.hall_desk.specs.Faults.{FaultTable, first_of, is_row, fault_of, fault_in, open_of, is_open_in, noted_at}
+use Rattle.hall_desk.specs.Faults.{noted_at_none, noted_everywhere, closed_at}
 use Rattle.hall_desk.specs.Desks.{WasOnce, WasStopped, WasFull, IsKnown, AreApart, AreNoted}
 use Rattle.hall_desk.specs.Turns.{IsBetween}
 use Rattle.hall_desk.proofs.Starting.{IsStart}
 use Rattle.hall_desk.proofs.Stepping.{connects_in-append}
 use Rattle.hall_desk.proofs.Histories.{or_second, or_none, connects-state_after, connects_within}
 use Rattle.hall_desk.proofs.Growing.{GoesOn}
-use Rattle.hall_desk.proofs.ChangedFaults.{found_pushed_other, found_pushed_same, found_none, if_open, found_open, noted_or, noted_there, noted_opened, everywhere_noted, everywhere_opened, closed_fault, closed_here, closed_there, all_pushed, all_filtered, all_turned, apart_filtered, apart_pushed, apart_noted, apart_everywhere, apart_closed, drawn_noted, drawn_everywhere, drawn_closed}
+use Rattle.hall_desk.proofs.ChangedFaults.{found_pushed_other, found_pushed_same, found_none, if_open, found_open}
+use Rattle.hall_desk.proofs.ChangedFaults.{noted_or, noted_there, noted_opened, everywhere_noted, everywhere_opened}
+use Rattle.hall_desk.proofs.ChangedFaults.{closed_fault, closed_here, closed_there, all_pushed, all_filtered}
+use Rattle.hall_desk.proofs.ChangedFaults.{all_turned, apart_filtered, apart_pushed, apart_noted, apart_everywhere}
+use Rattle.hall_desk.proofs.ChangedFaults.{apart_closed, drawn_noted, drawn_everywhere, drawn_closed}
 
 -- ---- who is open after one record more
 

@@ -1,5 +1,6 @@
 -- A desk goes on from any earlier state of it.
-use Rattle.std.proofs.Common.{◌≡◌, ℕ, ◌≤◌, inl, inr, List, [], ◌++◌, refl, sym, ap, subst, ◌∙◌, append_assoc, append-nil, arith, le_refl}
+use Rattle.std.proofs.Common.{◌≡◌, ℕ, ◌≤◌, inl, inr, List, [], ◌++◌, refl, sym, ap, subst, ◌∙◌}
+use Rattle.std.proofs.Common.{append_assoc, append-nil, arith, le_refl}
 use Rattle.std.proofs.lemmas.Bool.{cases_eq}
 use Rattle.kom_types.specs.declared.acts.Record.{Record}
 use Rattle.kom_model.specs.State.{State}
@@ -17,27 +18,33 @@ goes_on_itself kept = record {
 }
 
 -- a refusal before the pass went on
-refused_more : (start : State) (old mid new : PassView) (more : List Record) → new.number ≡ mid.number →
+refused_more : (start : State) (old mid new : PassView) (more : List Record) →
+    new.number ≡ mid.number →
     new.seen ≡ mid.seen ++ more → mid.drawn ≤ new.drawn → WasRefusedSince start old mid →
     WasRefusedSince start old new
 refused_more start old mid new more number seen drawn (inl full) = inl (omega arith)
-refused_more start old mid new more number seen drawn (inr (inl (before, rest, is, stopped))) = inr (inl (
-  before,
-  rest ++ more,
-  seen ∙ ap (λ (seen : List Record). seen ++ more) is ∙ append_assoc before rest more,
-  stopped,
-))
-refused_more start old mid new more number seen drawn (inr (inr (session, between, rest, is, undrained))) =
+refused_more start old mid new more number seen drawn (inr (inl (before, rest, is, stopped))) =
+    inr (inl (
+      before,
+      rest ++ more,
+      seen ∙ ap (λ (seen : List Record). seen ++ more) is ∙ append_assoc before rest more,
+      stopped,
+    ))
+refused_more start old mid new more number seen drawn
+    (inr (inr (session, between, rest, is, undrained))) =
     inr (inr (
       session,
       between,
       rest ++ more,
-      seen ∙ ap (λ (seen : List Record). seen ++ more) is ∙ append_assoc (old.seen ++ between) rest more,
-      subst (λ (pass : ℕ). IsUndrained start pass session (old.seen ++ between)) (sym number) undrained,
+      seen ∙ ap (λ (seen : List Record). seen ++ more) is
+          ∙ append_assoc (old.seen ++ between) rest more,
+      subst (λ (pass : ℕ). IsUndrained start pass session (old.seen ++ between)) (sym number)
+          undrained,
     ))
 
 -- one after it had
-refused_later : (start : State) (old mid new : PassView) (more : List Record) → mid.seen ≡ old.seen ++ more →
+refused_later : (start : State) (old mid new : PassView) (more : List Record) →
+    mid.seen ≡ old.seen ++ more →
     WasRefusedSince start mid new → WasRefusedSince start old new
 refused_later start old mid new more seen (inl full) = inl full
 refused_later start old mid new more seen (inr (inl stopped)) = inr (inl stopped)
@@ -69,7 +76,8 @@ goes_on_further first second third one other = record {
         refused_later third.start first.pass second.pass third.pass one.seen.0 one.seen.1
         (other.refused zero some)
     | inr already ↦
-        refused_more third.start first.pass second.pass third.pass other.seen.0 other.number other.seen.1 other.drawn
+        refused_more third.start first.pass second.pass third.pass other.seen.0 other.number
+        other.seen.1 other.drawn
         (subst (λ (start : State). WasRefusedSince start first.pass second.pass) (sym other.start)
         (one.refused none already))
   ];

@@ -32,8 +32,8 @@ pub struct Seen {
 }
 
 impl Left {
-    /// Opens each image that a stop now may leave: those of the choices from 0 to 31, and of a write
-    /// torn after each of its bytes.
+    /// Opens each image that a stop now may leave: those of the choices from 0 to 31, and of a
+    /// write torn after each of its bytes.
     pub fn seen(&self, alloc: Global) -> Result<Seen, Wrong> {
         let mut seen = Seen {
             is_open: self.is_open,

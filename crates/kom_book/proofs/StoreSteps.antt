@@ -1,5 +1,6 @@
 -- How a store goes on by an act.
-use Rattle.std.proofs.Common.{◌≡◌, ◌≢◌, ◌<◌, ◌≤◌, ◌^◌, ◌⊎◌, inl, inr, ℕ, Bool, true, false, cond, List, [], ◌∷◌, ◌++◌, Option, Some, None, Result, Ok, Err, refl, sym, ap, ◌∙◌, subst}
+use Rattle.std.proofs.Common.{◌≡◌, ◌≢◌, ◌<◌, ◌≤◌, ◌^◌, ◌⊎◌, inl, inr, ℕ, Bool, true, false, cond, List, [], ◌∷◌, ◌++◌}
+use Rattle.std.proofs.Common.{Option, Some, None, Result, Ok, Err, refl, sym, ap, ◌∙◌, subst}
 use Rattle.std.specs.Prelude.{◌↔◌, is_some}
 use Rattle.std.proofs.Math.Nat.{le_refl}
 use Rattle.std.proofs.lemmas.Bool.{cases_lt}
@@ -25,7 +26,8 @@ use Rattle.kom_journal.specs.Journals.{JournalView, StaysAs, size_with}
 use Rattle.kom_journal.proofs.Sound.{apply_all-append, all_fit-append}
 use Rattle.kom_book.specs.Stores.{IsFlush, IsNotRefused, is_taken, pending_after, base_after, StoreStays, StoreFollows}
 use Rattle.kom_book.specs.Stores.{IsFlushCause, IsLeftNow, IsBase, MayLeave, StopFollows}
-use Rattle.kom_book.specs.Records.{taken_is, is_of_taken, not_taken, short_taken, marked_same, marked_refused, flush_keeps, flush_unmarked, only_closes}
+use Rattle.kom_book.specs.Records.{taken_is, is_of_taken, not_taken, short_taken, marked_same, marked_refused}
+use Rattle.kom_book.specs.Records.{flush_keeps, flush_unmarked, only_closes}
 use Rattle.kom_book.specs.StopLeading.{nothing_passes}
 
 module _ {D : Type 0} (faults : D → ℕ) where
@@ -235,4 +237,5 @@ within_limit store result calm full ok = elim (cases_lt (2 ^ 40) (size_with stor
         (pending ≡ []) ⊎ (size_with store ≤ 2 ^ 40)
     go [] refused = inl refl
     go (one ∷ more) refused =
-        absurd (let wrong : ◌≡◌ {A = Result Unit FlushFault} (Ok tt) (Err (fault.Full (size_with store))) = sym ok ∙ refused (λ none. cc) in cc)
+        absurd (let wrong : ◌≡◌ {A = Result Unit FlushFault} (Ok tt) (Err (fault.Full (size_with store))) =
+        sym ok ∙ refused (λ none. cc) in cc)

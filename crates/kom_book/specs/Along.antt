@@ -1,5 +1,7 @@
 -- What waits, and which rows stand, along a history that gets one record longer.
-use Rattle.std.proofs.Common.{◌≡◌, ◌≤◌, ◌<◌, ℕ, ◌+◌, Bool, true, false, cond, List, [], ◌∷◌, ◌++◌, length, take, drop, refl, sym, ap, ◌∙◌, subst, arith, append_assoc, length-append}
+use Rattle.std.proofs.Common.{◌≡◌, ◌≤◌, ◌<◌, ℕ, ◌+◌, Bool, true, false, cond, List, [], ◌∷◌, ◌++◌}
+use Rattle.std.proofs.Common.{length, take, drop, refl, sym, ap, ◌∙◌, subst, arith, append_assoc}
+use Rattle.std.proofs.Common.{length-append}
 use Rattle.std.proofs.Math.Seq.{take-append_seam, drop-append_seam, take-length}
 use Rattle.std.proofs.lemmas.List.{append-nil, take-append-le, drop-append-le, take-append-drop}
 use Rattle.kom_types.specs.declared.acts.Record.{Record}
@@ -25,7 +27,8 @@ pub stable_within : (start : State) (records : List Record) → start.stable ≤
 stable_within start [] low = low
 stable_within start (made ∷ records) low =
     stable_within (after start made) records
-    (stable_step (is_taken made) start.entries start.stable (after start made).stable low (stable_after start made))
+    (stable_step (is_taken made) start.entries start.stable (after start made).stable low
+    (stable_after start made))
 
 -- of a history from the first entry on
 pub stable_of : (start : State) (records : List Record) → start.entries ≡ 0 → start.stable ≡ 0 →
@@ -46,10 +49,12 @@ entries_of start records none = omega (arith, none, entries-state_after start re
 -- ---- the rows
 
 -- after fewer records than there are, one more changes nothing
-pub rows_more : (start : State) (records : List Record) (made : Record) (count : ℕ) → count ≤ length records →
+pub rows_more : (start : State) (records : List Record) (made : Record) (count : ℕ) →
+    count ≤ length records →
     rows_after start (records ++ made ∷ []) count ≡ rows_after start records count
 rows_more start records made count few =
-    ap (λ (some : List Record). (state_after start some).db) (take-append-le count records (made ∷ []) few)
+    ap (λ (some : List Record). (state_after start some).db)
+    (take-append-le count records (made ∷ []) few)
 
 -- after all but the last one
 pub rows_before : (start : State) (records : List Record) (made : Record) →
@@ -60,10 +65,12 @@ rows_before start records made =
 -- after all
 pub rows_all : (start : State) (records : List Record) →
     rows_after start records (length records) ≡ (state_after start records).db
-rows_all start records = ap (λ (some : List Record). (state_after start some).db) (take-length records)
+rows_all start records = ap (λ (some : List Record). (state_after start some).db)
+    (take-length records)
 
 -- the base after a record is the rows after as many as are stable then
-pub base_more : (start : State) (records : List Record) (made : Record) → start.entries ≡ 0 → start.stable ≡ 0 →
+pub base_more : (start : State) (records : List Record) (made : Record) → start.entries ≡ 0 →
+    start.stable ≡ 0 →
     let state : State = state_after start records in
     base_after state (rows_after start records state.stable) made
     ≡ rows_after start (records ++ made ∷ []) (after state made).stable
@@ -75,7 +82,8 @@ base_more start records made none nothing =
     stable_after state made in
     let chosen : (b : Bool) → is_taken made ≡ b →
     cond b state.db first ≡ rows (cond b state.entries state.stable) = λ b.
-    elim b as (λ c. is_taken made ≡ c → cond c state.db first ≡ rows (cond c state.entries state.stable)) [
+    elim b as (λ c. is_taken made ≡ c →
+    cond c state.db first ≡ rows (cond c state.entries state.stable)) [
       | true ↦ λ is. sym (rows_before start records made)
           ∙ ap (λ (n : ℕ). rows n) (sym (entries_of start records none))
       | false ↦ λ is. sym (rows_more start records made state.stable
@@ -86,10 +94,12 @@ base_more start records made none nothing =
 -- ---- what waits
 
 pub kept_along-append : (state : State) (some more : List Record) →
-    kept_along state (some ++ more) ≡ kept_along state some ++ kept_along (state_after state some) more
+    kept_along state (some ++ more) ≡ kept_along state some
+    ++ kept_along (state_after state some) more
 kept_along-append state [] more = refl
 kept_along-append state (made ∷ some) more =
-    ap (λ (rest : List Effect). kept_of state made ++ rest) (kept_along-append (after state made) some more)
+    ap (λ (rest : List Effect). kept_of state made ++ rest)
+    (kept_along-append (after state made) some more)
     ∙ sym (append_assoc (kept_of state made) (kept_along (after state made) some)
     (kept_along (state_after (after state made) some) more))
 
@@ -98,9 +108,11 @@ kept_last state made = append-nil (kept_of state made)
 
 -- what is kept of the records from a number on
 abbrev kept_from : State → List Record → ℕ → List Effect
-kept_from start records count = kept_along (state_after start (take count records)) (drop count records)
+kept_from start records count =
+    kept_along (state_after start (take count records)) (drop count records)
 
-kept_more : (start : State) (records : List Record) (made : Record) (count : ℕ) → count ≤ length records →
+kept_more : (start : State) (records : List Record) (made : Record) (count : ℕ) →
+    count ≤ length records →
     kept_from start (records ++ made ∷ []) count
     ≡ kept_from start records count ++ kept_of (state_after start records) made
 kept_more start records made count few =
@@ -109,16 +121,20 @@ kept_more start records made count few =
     let there : state_after first rest ≡ state_after start records =
     sym (state_after-append start (take count records) rest)
     ∙ ap (λ (all : List Record). state_after start all) (take-append-drop count records) in
-    ap (λ (some : List Record). kept_along (state_after start some) (drop count (records ++ made ∷ [])))
+    ap (λ (some : List Record). kept_along (state_after start some)
+    (drop count (records ++ made ∷ [])))
     (take-append-le count records (made ∷ []) few)
-    ∙ ap (λ (more : List Record). kept_along first more) (drop-append-le count records (made ∷ []) few)
+    ∙ ap (λ (more : List Record). kept_along first more)
+    (drop-append-le count records (made ∷ []) few)
     ∙ kept_along-append first rest (made ∷ [])
     ∙ ap (λ (state : State). kept_along first rest ++ kept_along state (made ∷ [])) there
-    ∙ ap (λ (more : List Effect). kept_along first rest ++ more) (kept_last (state_after start records) made)
+    ∙ ap (λ (more : List Effect). kept_along first rest ++ more)
+    (kept_last (state_after start records) made)
 
 -- of the last record alone
 kept_of_last : (start : State) (records : List Record) (made : Record) →
-    kept_from start (records ++ made ∷ []) (length records) ≡ kept_of (state_after start records) made
+    kept_from start (records ++ made ∷ []) (length records)
+    ≡ kept_of (state_after start records) made
 kept_of_last start records made =
     ap (λ (some : List Record).
     kept_along (state_after start some) (drop (length records) (records ++ made ∷ [])))
@@ -130,7 +146,8 @@ kept_of_last start records made =
 -- What waits after a record is what is kept of those from the stable number on.
 pub pending_more : (start : State) (records : List Record) (made : Record) → start.entries ≡ 0 →
     start.stable ≡ 0 → let state : State = state_after start records in
-    pending_after state (pending_along start records) made ≡ pending_along start (records ++ made ∷ [])
+    pending_after state (pending_along start records) made
+    ≡ pending_along start (records ++ made ∷ [])
 pending_more start records made none nothing =
     let state : State = state_after start records in
     let from : ℕ → List Effect = kept_from start (records ++ made ∷ []) in
@@ -140,11 +157,13 @@ pending_more start records made none nothing =
     stable_after state made in
     let chosen : (b : Bool) → is_taken made ≡ b →
     cond b [] (first ++ kept) ≡ from (cond b state.entries state.stable) = λ b.
-    elim b as (λ c. is_taken made ≡ c → cond c [] (first ++ kept) ≡ from (cond c state.entries state.stable)) [
+    elim b as (λ c. is_taken made ≡ c →
+    cond c [] (first ++ kept) ≡ from (cond c state.entries state.stable)) [
       | true ↦ λ is. sym (flush_keeps state made (taken_is made is).0).0
           ∙ sym (kept_of_last start records made)
           ∙ ap (λ (n : ℕ). from n) (sym (entries_of start records none))
-      | false ↦ λ is. sym (kept_more start records made state.stable (stable_of start records none nothing))
+      | false ↦ λ is. sym (kept_more start records made state.stable
+          (stable_of start records none nothing))
     ] in
     let whole : state_after start (records ++ made ∷ []) ≡ after state made =
     state_after-append start records (made ∷ []) in

@@ -1,5 +1,6 @@
 -- A history leads from a book to the next.
-use Rattle.std.proofs.Common.{◌≡◌, ◌<◌, ◌≤◌, ◌^◌, ◌⊎◌, inl, inr, ℕ, true, false, List, [], ◌∷◌, ◌++◌, cond, Option, Some, None, refl, sym, ap, ◌∙◌, subst}
+use Rattle.std.proofs.Common.{◌≡◌, ◌<◌, ◌≤◌, ◌^◌, ◌⊎◌, inl, inr, ℕ, true, false, List, [], ◌∷◌}
+use Rattle.std.proofs.Common.{◌++◌, cond, Option, Some, None, refl, sym, ap, ◌∙◌, subst}
 use Rattle.std.specs.Prelude.{map}
 use Rattle.std.specs.List.{AllByRecursion}
 use Rattle.std.proofs.lemmas.List.{append-nil, map-append}
@@ -17,7 +18,8 @@ use Rattle.kom_disk.specs.Faults.{Rose}
 use Rattle.batch_log.specs.declared.errors.FlushFault.{FlushFault}
 use Rattle.batch_log.specs.declared.errors.FlushFault.TheVariants as fault
 use Rattle.kom_journal.specs.Journals.{JournalView, StaysAs, size_with}
-use Rattle.kom_book.specs.Stores.{IsFlush, IsNotRefused, IfBoth, StoreStays, StoreFollows, IsFlushCause}
+use Rattle.kom_book.specs.Stores.{IsFlush, IsNotRefused, IfBoth, StoreStays, StoreFollows}
+use Rattle.kom_book.specs.Stores.{IsFlushCause}
 use Rattle.kom_book.specs.Stores.{pending_after}
 use Rattle.kom_book.specs.Stops.{record_of, records_of, pending_along, StoreLeads}
 use Rattle.kom_book.specs.Books.{BookView, Follows, Stays, Leads, IsPlain, state_in}
@@ -61,7 +63,8 @@ both_then N M L P Q R (Some a) None three none some first second = absurd first
 both_then N M L P Q R (Some a) (Some b) None none some first second = absurd second
 both_then N M L P Q R (Some a) (Some b) (Some c) none some first second = some a b c first second
 
-pub both_same : {X : Type 0} (N : Type 0) (P : X → X → Type 0) (one : Option X) → N → ((a : X) → P a a) →
+pub both_same : {X : Type 0} (N : Type 0) (P : X → X → Type 0) (one : Option X) → N →
+    ((a : X) → P a a) →
     IfBoth N P one one
 both_same N P None none some = none
 both_same N P (Some a) none some = some a
@@ -81,7 +84,8 @@ module _ {D : Type 0} where
 
   -- that none has failed and it would get too long stays too
   full_same : (old new : JournalView D) → StaysAs old new → new.pending ≡ old.pending →
-      (old.refused ≡ false) × (2 ^ 40 < size_with old) → (new.refused ≡ false) × (2 ^ 40 < size_with new)
+      (old.refused ≡ false) × (2 ^ 40 < size_with old) →
+      (new.refused ≡ false) × (2 ^ 40 < size_with new)
   full_same old new stays waits full = (
     stays.refused ∙ full.0,
     subst (λ (n : ℕ). 2 ^ 40 < n) (sym (size_same old new stays.place waits)) full.1,
@@ -99,13 +103,15 @@ module _ {D : Type 0} where
     refused = λ is. absurd (let wrong : true ≡ false = sym is ∙ unmarked in cc);
   }
 
-  store_stays : (faults : D → ℕ) (start : State) (history : List (Ticked D)) (first old new : JournalView D)
+  store_stays : (faults : D → ℕ) (start : State) (history : List (Ticked D))
+      (first old new : JournalView D)
       (state later : State) → later ≡ state → StoreLeads faults start history first state old →
       StoreStays old new → StoreLeads faults start history first later new
   store_stays faults start history first old new state later same leads stays = record {
     pending = stays.1 ∙ leads.pending;
     batches = stays.0.batches ∙ leads.batches;
-    unrefused = λ is. ap faults stays.0.disk ∙ leads.unrefused (sym (ap (λ s. s.store_refused) same) ∙ is);
+    unrefused = λ is. ap faults stays.0.disk
+        ∙ leads.unrefused (sym (ap (λ s. s.store_refused) same) ∙ is);
     unfailed = λ is. stays.0.refused ∙ leads.unfailed (sym (ap (λ s. s.store_refused) same) ∙ is);
     refused = λ is. elim (leads.refused (sym (ap (λ s. s.store_refused) same) ∙ is)) [
       | inl rose ↦ inl (rose_same faults first old new (ap faults stays.0.disk) rose)
@@ -116,18 +122,24 @@ module _ {D : Type 0} where
   -- why the flush of a record was refused, since the opening
   store_cause : (faults : D → ℕ) (first old new : JournalView D) (why : FlushFault) →
       faults old.disk ≡ faults first.disk → old.refused ≡ false → IsFlushCause faults old new why →
-      Rose (faults first.disk) (faults new.disk) ⊎ ((new.refused ≡ false) × (2 ^ 40 < size_with new))
+      Rose (faults first.disk) (faults new.disk)
+      ⊎ ((new.refused ≡ false) × (2 ^ 40 < size_with new))
   store_cause faults first old new fault.Fault calm whole cause =
       inl (subst (λ (n : ℕ). Rose n (faults new.disk)) calm cause)
   store_cause faults first old new (fault.Full n) calm whole cause =
-      inr (full_same old new cause.2.0 cause.2.1 (whole, subst (λ (m : ℕ). 2 ^ 40 < m) cause.1 cause.0))
+      inr (full_same old new cause.2.0 cause.2.1
+      (whole, subst (λ (m : ℕ). 2 ^ 40 < m) cause.1 cause.0))
 
-  store_follows : (faults : D → ℕ) (start : State) (history : List (Ticked D)) (first old new : JournalView D)
-      (state : State) (entry : Ticked D) (why : Option FlushFault) → start.entries ≡ 0 → start.stable ≡ 0 →
+  store_follows : (faults : D → ℕ) (start : State) (history : List (Ticked D))
+      (first old new : JournalView D)
+      (state : State) (entry : Ticked D) (why : Option FlushFault) → start.entries ≡ 0 →
+      start.stable ≡ 0 →
       state ≡ state_after start (records_of history) → MayFollow state entry.made →
-      StoreLeads faults start history first state old → StoreFollows faults state old entry.made why new →
+      StoreLeads faults start history first state old →
+      StoreFollows faults state old entry.made why new →
       StoreLeads faults start (history ++ entry ∷ []) first (after state entry.made) new
-  store_follows faults start history first old new state entry why none nothing led may leads follows =
+  store_follows faults start history first old new state entry why none nothing led may leads
+      follows =
       let made : Record = entry.made in
       let records : List Record = records_of history in
       record {
@@ -155,15 +167,19 @@ module _ {D : Type 0} where
           | inl refused ↦
               let cause = follows.refused refused.1 refused.2 in
               let unmarked : state.store_refused ≡ false =
-              flush_unmarked state (subst (λ what. refusal_of state what ≡ None) refused.1 may.possible) in
-              store_cause faults first old new cause.0 (leads.unrefused unmarked) (leads.unfailed unmarked) cause.2
+              flush_unmarked state (subst (λ what. refusal_of state what ≡ None) refused.1
+              may.possible) in
+              store_cause faults first old new cause.0 (leads.unrefused unmarked)
+              (leads.unfailed unmarked) cause.2
           | inr other ↦
               let marked : state.store_refused ≡ true = sym (marked_same state made other.1) ∙ is in
               let closes = only_closes state made marked may.possible in
               let stays : StaysAs old new = follows.unflushed closes.unflushed in
               let waits : new.pending ≡ old.pending = follows.pending
-              ∙ ap (λ b. cond b [] (old.pending ++ kept_of state made)) (not_taken made closes.unflushed)
-              ∙ ap (λ (more : List Effect). old.pending ++ more) closes.none ∙ append-nil old.pending in
+              ∙ ap (λ b. cond b [] (old.pending ++ kept_of state made))
+              (not_taken made closes.unflushed)
+              ∙ ap (λ (more : List Effect). old.pending ++ more) closes.none
+              ∙ append-nil old.pending in
               elim (leads.refused marked) [
                 | inl rose ↦ inl (rose_same faults first old new (ap faults stays.disk) rose)
                 | inr full ↦ inr (full_same old new stays waits full)
@@ -188,7 +204,8 @@ module _ {D : Type 0} where
   }
     where
       plain_store : (journal : Option (JournalView D)) → opening.journal ≡ journal →
-          IfBoth (AllByRecursion (λ (entry : Ticked D). IsNotRefused entry.made) []) (λ one other. IsPlain opening
+          IfBoth (AllByRecursion (λ (entry : Ticked D). IsNotRefused entry.made) [])
+          (λ one other. IsPlain opening
           → StoreLeads faults (state_in opening) [] one (state_in opening) other) journal journal
       plain_store None is = tt
       plain_store (Some store) is = λ plain.
@@ -197,7 +214,8 @@ module _ {D : Type 0} where
           store_empty faults (state_in opening) store (ap (λ s. s.stable) plain.opening.1)
           (ap (λ s. s.store_refused) plain.opening.1) waits whole
 
-  pub staying_leads : (faults : D → ℕ) (opening : BookView D) (history : List (Ticked D)) (old new : BookView D) →
+  pub staying_leads : (faults : D → ℕ) (opening : BookView D) (history : List (Ticked D))
+      (old new : BookView D) →
       Leads faults opening history old → Stays old new → Leads faults opening history new
   staying_leads faults opening history old new leads stays = record {
     led = record {
@@ -206,12 +224,15 @@ module _ {D : Type 0} where
       state = stays.state ∙ leads.led.state;
     };
     store = both_then _ _ _ _ _ _ opening.journal old.journal new.journal (λ none same. none)
-        (λ first one other since same plain. store_stays faults (state_in opening) history first one other
+        (λ first one other since same plain. store_stays faults (state_in opening) history first one
+        other
         (state_in old) (state_in new) stays.state (since plain) same) leads.store stays.store;
   }
 
-  pub following_leads : (faults : D → ℕ) (opening : BookView D) (history : List (Ticked D)) (old : BookView D)
-      (entry : Ticked D) (new : BookView D) → Leads faults opening history old → Follows faults old entry new →
+  pub following_leads : (faults : D → ℕ) (opening : BookView D) (history : List (Ticked D))
+      (old : BookView D)
+      (entry : Ticked D) (new : BookView D) → Leads faults opening history old →
+      Follows faults old entry new →
       Leads faults opening (history ++ entry ∷ []) new
   following_leads faults opening history old entry new leads follows =
       let start : State = state_in opening in
@@ -231,9 +252,11 @@ module _ {D : Type 0} where
           state = on.2 ∙ ap (λ (records : List Record). state_after start records) records;
         };
         store = both_then _ _ _ _ _ _ opening.journal old.journal new.journal
-            (λ before now. all_then (λ (entry : Ticked D). IsNotRefused entry.made) history entry before now)
+            (λ before now. all_then (λ (entry : Ticked D). IsNotRefused entry.made) history entry
+            before now)
             (λ first one other since on plain.
-            subst (λ (state : State). StoreLeads faults start (history ++ entry ∷ []) first state other)
+            subst (λ (state : State). StoreLeads faults start (history ++ entry ∷ []) first state
+            other)
             (sym follows.state)
             (store_follows faults start history first one other (state_in old) entry new.refused
             (ap (λ s. s.entries) plain.opening.1) (ap (λ s. s.stable) plain.opening.1)

@@ -1,5 +1,6 @@
 -- What a record does to what a store keeps of a server.
-use Rattle.std.proofs.Common.{◌≡◌, ◌≤◌, ◌⊎◌, inl, inr, ℕ, ◌+◌, Bool, true, false, cond, List, [], refl, sym, ap, ◌∙◌}
+use Rattle.std.proofs.Common.{◌≡◌, ◌≤◌, ◌⊎◌, inl, inr, ℕ, ◌+◌, Bool, true, false, cond, List, []}
+use Rattle.std.proofs.Common.{refl, sym, ap, ◌∙◌}
 use Rattle.std.specs.Prelude.{Some, None}
 use Rattle.kom_types.specs.declared.acts.Act.{Act}
 use Rattle.kom_types.specs.declared.acts.Act.TheVariants as act
@@ -182,10 +183,12 @@ flush_keeps state made is =
     flush_acts state made.entry.pass made.entry.moment made.entry.act made.session made.short is
 
 -- one is possible only where none was refused
-pub flush_unmarked : (state : State) → refusal_of state act.Flush ≡ None → state.store_refused ≡ false
+pub flush_unmarked : (state : State) → refusal_of state act.Flush ≡ None →
+    state.store_refused ≡ false
 flush_unmarked state possible =
     elim state.store_refused as (λ b. state.store_refused ≡ b → b ≡ false) [
-      | true ↦ λ is. absurd (let wrong : refusal_of state act.Flush ≡ Some (Gone Stopped) = rw is refl in cc)
+      | true ↦ λ is. absurd (let wrong : refusal_of state act.Flush ≡ Some (Gone Stopped) =
+          rw is refl in cc)
       | false ↦ λ is. refl
     ] refl
 

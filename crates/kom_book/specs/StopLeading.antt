@@ -1,5 +1,7 @@
 -- What a stop leaves along a history that leads from a book to the next.
-use Rattle.std.proofs.Common.{◌≡◌, ◌<◌, ◌≤◌, ◌⊎◌, inl, inr, ⊎_elim, ℕ, ◌+◌, true, List, [], ◌∷◌, ◌++◌, length, Option, Some, None, refl, sym, ap, ◌∙◌, subst, arith, length-append}
+use Rattle.std.proofs.Common.{◌≡◌, ◌<◌, ◌≤◌, ◌⊎◌, inl, inr, ⊎_elim, ℕ, ◌+◌, true, List, [], ◌∷◌}
+use Rattle.std.proofs.Common.{◌++◌, length, Option, Some, None, refl, sym, ap, ◌∙◌, subst, arith}
+use Rattle.std.proofs.Common.{length-append}
 use Rattle.std.specs.Prelude.{map, ◌↔◌, IfSome}
 use Rattle.std.specs.List.{AllByRecursion}
 use Rattle.std.proofs.Math.Nat.{le_trans, le_refl}
@@ -15,9 +17,12 @@ use Rattle.hall_desk.proofs.Histories.{state_after-append}
 use Rattle.kom_disk.specs.Moments.{LeavesOnly}
 use Rattle.kom_journal.specs.Images.{Image, StandsFor, AreFor, IsKept}
 use Rattle.kom_journal.specs.Journals.{JournalView}
-use Rattle.kom_book.specs.Stores.{IfBoth, StoreStays, IsLeftNow, IsBase, MayLeave, StopFollows, base_after}
-use Rattle.kom_book.specs.Stops.{record_of, records_of, rows_after, tick_of, stable_by, IsLeftBy, StopLeads}
-use Rattle.kom_book.specs.Books.{BookView, Follows, Stays, Leads, IsPlain, StandsNow, StopsFollow, StopsLead, state_in}
+use Rattle.kom_book.specs.Stores.{IfBoth, StoreStays, IsLeftNow, IsBase, MayLeave, StopFollows}
+use Rattle.kom_book.specs.Stores.{base_after}
+use Rattle.kom_book.specs.Stops.{record_of, records_of, rows_after, tick_of, stable_by, IsLeftBy}
+use Rattle.kom_book.specs.Stops.{StopLeads}
+use Rattle.kom_book.specs.Books.{BookView, Follows, Stays, Leads, IsPlain, StandsNow, StopsFollow}
+use Rattle.kom_book.specs.Books.{StopsLead, state_in}
 use Rattle.kom_book.specs.Along.{base_more, rows_more, rows_before, rows_all, stable_of}
 use Rattle.kom_book.specs.Ticks.{ticked_later, stable_all, stable_before}
 use Rattle.kom_book.specs.Leading.{all_then, both_then, both_same}
@@ -27,7 +32,8 @@ module _ {D : Type 0} (moment : D → ℕ) (images_at : D → ℕ → Image → 
   -- ---- one store
 
   -- a moment that is neither before nor after now is now
-  left_now : (disk : D) (at : ℕ) (image : Image) → moment disk ≤ at → at ≤ moment disk → images_at disk at image →
+  left_now : (disk : D) (at : ℕ) (image : Image) → moment disk ≤ at → at ≤ moment disk →
+      images_at disk at image →
       IsLeftNow moment images_at disk image
   left_now disk at image from to left =
       let is : at ≡ moment disk = omega (arith, from, to) in
@@ -44,7 +50,8 @@ module _ {D : Type 0} (moment : D → ℕ) (images_at : D → ℕ → Image → 
   }
 
   stop_empty : (start : State) (store : JournalView D) → start.stable ≡ 0 → store.pending ≡ [] →
-      AreFor (IsLeftNow moment images_at store.disk) start.db → StopLeads moment images_at start [] store start store
+      AreFor (IsLeftNow moment images_at store.disk) start.db →
+      StopLeads moment images_at start [] store start store
   stop_empty start store nothing waits stands = record {
     base = record {
       fit = rw waits refl;
@@ -62,7 +69,8 @@ module _ {D : Type 0} (moment : D → ℕ) (images_at : D → ℕ → Image → 
     kept = λ kept. kept;
   }
 
-  base_stays : (old new : JournalView D) (state later : State) (base : Db) → later ≡ state → StoreStays old new →
+  base_stays : (old new : JournalView D) (state later : State) (base : Db) → later ≡ state →
+      StoreStays old new →
       IsBase moment images_at state old base → IsBase moment images_at later new base
   base_stays old new state later base same stays is = record {
     fit = rw (stays.1) is.fit;
@@ -70,24 +78,32 @@ module _ {D : Type 0} (moment : D → ℕ) (images_at : D → ℕ → Image → 
     left = rw (stays.0.disk, same) is.left;
   }
 
-  stop_stays : (start : State) (history : List (Ticked D)) (first old new : JournalView D) (state later : State) →
-      later ≡ state → StopLeads moment images_at start history first state old → StoreStays old new →
+  stop_stays : (start : State) (history : List (Ticked D)) (first old new : JournalView D)
+      (state later : State) →
+      later ≡ state → StopLeads moment images_at start history first state old →
+      StoreStays old new →
       StopLeads moment images_at start history first later new
   stop_stays start history first old new state later same leads stays = record {
-    base = subst (λ (s : State). IsBase moment images_at later new (rows_after start (records_of history) s.stable))
+    base = subst (λ (s : State). IsBase moment images_at later new
+        (rows_after start (records_of history) s.stable))
         (sym same) (base_stays old new state later _ same stays leads.base);
     since = leads.since;
-    ticked = subst (λ (disk : D). AllByRecursion (λ entry. tick_of moment entry ≤ moment disk) history)
+    ticked = subst (λ (disk : D). AllByRecursion (λ entry. tick_of moment entry ≤ moment disk)
+        history)
         (sym stays.0.disk) leads.ticked;
-    any_moment = subst (λ (disk : D). LeavesOnly moment images_at first.disk disk (IsLeftBy moment start history))
+    any_moment = subst (λ (disk : D). LeavesOnly moment images_at first.disk disk
+        (IsLeftBy moment start history))
         (sym stays.0.disk) leads.any_moment;
     kept = subst (λ (disk : D). IsKept (IsLeftNow moment images_at first.disk)
         → IsKept (IsLeftNow moment images_at disk)) (sym stays.0.disk) leads.kept;
   }
 
-  stop_follows : (start : State) (history : List (Ticked D)) (first old new : JournalView D) (state : State)
-      (entry : Ticked D) → start.entries ≡ 0 → start.stable ≡ 0 → state ≡ state_after start (records_of history) →
-      tick_of moment entry ≡ moment new.disk → StopLeads moment images_at start history first state old →
+  stop_follows : (start : State) (history : List (Ticked D)) (first old new : JournalView D)
+      (state : State)
+      (entry : Ticked D) → start.entries ≡ 0 → start.stable ≡ 0 →
+      state ≡ state_after start (records_of history) →
+      tick_of moment entry ≡ moment new.disk →
+      StopLeads moment images_at start history first state old →
       StopFollows moment images_at state old entry.made (after state entry.made) new →
       StopLeads moment images_at start (history ++ entry ∷ []) first (after state entry.made) new
   stop_follows start history first old new state entry none nothing led ticks leads follows =
@@ -96,19 +112,22 @@ module _ {D : Type 0} (moment : D → ℕ) (images_at : D → ℕ → Image → 
       let longer : List (Ticked D) = history ++ entry ∷ [] in
       let later : State = after state made in
       let base : Db = rows_after start records state.stable in
-      let all : records ++ made ∷ [] ≡ records_of longer = sym (map-append record_of history (entry ∷ [])) in
+      let all : records ++ made ∷ [] ≡ records_of longer =
+      sym (map-append record_of history (entry ∷ [])) in
       let whole : later ≡ state_after start (records_of longer) =
       ap (λ (s : State). after s made) led ∙ sym (state_after-append start records (made ∷ []))
       ∙ ap (λ (list : List Record). state_after start list) all in
       let long : length records ≡ length history = length-map history record_of in
       let longer_by : length longer ≡ length history + 1 = length-append history (entry ∷ []) in
       let few : state.stable ≤ length records =
-      subst (λ (s : State). s.stable ≤ length records) (sym led) (stable_of start records none nothing) in
+      subst (λ (s : State). s.stable ≤ length records) (sym led)
+      (stable_of start records none nothing) in
       let few_now : later.stable ≤ length (records_of longer) =
       subst (λ (s : State). s.stable ≤ length (records_of longer)) (sym whole)
       (stable_of start (records_of longer) none nothing) in
       let long_now : length (records_of longer) ≡ length longer = length-map longer record_of in
-      let new_base : base_after state base made ≡ rows_after start (records_of longer) later.stable =
+      let new_base : base_after state base made
+      ≡ rows_after start (records_of longer) later.stable =
       subst (λ (s : State). base_after s (rows_after start records s.stable) made
       ≡ rows_after start (records_of longer) (after s made).stable) (sym led)
       (subst (λ (list : List Record). base_after (state_after start records)
@@ -116,7 +135,8 @@ module _ {D : Type 0} (moment : D → ℕ) (images_at : D → ℕ → Image → 
       ≡ rows_after start list (after (state_after start records) made).stable) all
       (base_more start records made none nothing)) in
       let step = follows.any_moment base leads.base in
-      let now : IsBase moment images_at later new (rows_after start (records_of longer) later.stable) =
+      let now : IsBase moment images_at later new
+      (rows_after start (records_of longer) later.stable) =
       subst (IsBase moment images_at later new) new_base (follows.base base leads.base) in
       let ticked : AllByRecursion (λ one. tick_of moment one ≤ moment new.disk) longer =
       all_then (λ (one : Ticked D). tick_of moment one ≤ moment new.disk) history entry
@@ -134,10 +154,12 @@ module _ {D : Type 0} (moment : D → ℕ) (images_at : D → ℕ → Image → 
       subst (λ (db : Db). StandsFor db image) (ap (λ (s : State). s.db) led
       ∙ sym (rows_before start records made)
       ∙ ap (λ (list : List Record). rows_after start list (length records)) all) stands in
-      let ended : (at : ℕ) (image : Image) → moment new.disk ≤ at → IsLeftNow moment images_at new.disk image →
+      let ended : (at : ℕ) (image : Image) → moment new.disk ≤ at →
+      IsLeftNow moment images_at new.disk image →
       IsLeftBy moment start longer at image = λ at image late left.
       let stable : stable_by moment start longer at ≡ later.stable =
-      stable_all moment start longer at (ticked_later moment longer (moment new.disk) at late ticked)
+      stable_all moment start longer at
+      (ticked_later moment longer (moment new.disk) at late ticked)
       ∙ sym (ap (λ (s : State). s.stable) whole) in
       elim (now.left image left) [
         | inl stands ↦ record {
@@ -158,7 +180,8 @@ module _ {D : Type 0} (moment : D → ℕ) (images_at : D → ℕ → Image → 
       images_at new.disk at image → IsLeftBy moment start longer at image = λ at image from to left.
       let stable : stable_by moment start longer at ≡ state.stable =
       stable_before moment start history entry at (omega (arith, ticks, to))
-      ∙ stable_all moment start history at (ticked_later moment history (moment old.disk) at from leads.ticked)
+      ∙ stable_all moment start history at
+      (ticked_later moment history (moment old.disk) at from leads.ticked)
       ∙ sym (ap (λ (s : State). s.stable) led) in
       elim (step.each at image from (omega (arith, to)) left) [
         | inl stands ↦ record {
@@ -188,7 +211,8 @@ module _ {D : Type 0} (moment : D → ℕ) (images_at : D → ℕ → Image → 
       } in
       record {
         base = now;
-        since = all_then (λ (one : Ticked D). moment first.disk ≤ tick_of moment one) history entry leads.since
+        since = all_then (λ (one : Ticked D). moment first.disk ≤ tick_of moment one) history entry
+            leads.since
             (omega (arith, ticks, leads.any_moment.forward, step.forward));
         ticked = ticked;
         any_moment = record {
@@ -216,21 +240,26 @@ module _ {D : Type 0} (moment : D → ℕ) (images_at : D → ℕ → Image → 
     where
       plain_store : (journal : Option (JournalView D)) → opening.journal ≡ journal →
           IfBoth (Unit {0}) (λ one other. IsPlain opening → StandsNow moment images_at opening
-          → StopLeads moment images_at (state_in opening) [] one (state_in opening) other) journal journal
+          → StopLeads moment images_at (state_in opening) [] one (state_in opening) other) journal
+          journal
       plain_store None is = tt
       plain_store (Some store) is = λ plain stands.
           stop_empty (state_in opening) store (ap (λ s. s.stable) plain.opening.1)
           (rw is at plain.waits) (rw is at stands)
 
   pub staying_stops : (opening : BookView D) (history : List (Ticked D)) (old new : BookView D) →
-      StopsLead moment images_at opening history old → Stays old new → StopsLead moment images_at opening history new
+      StopsLead moment images_at opening history old → Stays old new →
+      StopsLead moment images_at opening history new
   staying_stops opening history old new leads stays =
       both_then _ _ _ _ _ _ opening.journal old.journal new.journal (λ none same. none)
-      (λ first one other since same plain stands. stop_stays (state_in opening) history first one other
+      (λ first one other since same plain stands. stop_stays (state_in opening) history first one
+      other
       (state_in old) (state_in new) stays.state (since plain stands) same) leads stays.store
 
-  pub following_stops : (faults : D → ℕ) (opening : BookView D) (history : List (Ticked D)) (old : BookView D)
-      (entry : Ticked D) (new : BookView D) → Leads faults opening history old → Follows faults old entry new →
+  pub following_stops : (faults : D → ℕ) (opening : BookView D) (history : List (Ticked D))
+      (old : BookView D)
+      (entry : Ticked D) (new : BookView D) → Leads faults opening history old →
+      Follows faults old entry new →
       StopsLead moment images_at opening history old → StopsFollow moment images_at old entry new →
       StopsLead moment images_at opening (history ++ entry ∷ []) new
   following_stops faults opening history old entry new led follows leads on =
@@ -238,11 +267,14 @@ module _ {D : Type 0} (moment : D → ℕ) (images_at : D → ℕ → Image → 
     where
       go : (one two three : Option (JournalView D)) → entry.store.value ≡ three →
           IfBoth (Unit {0}) (λ first store. IsPlain opening → StandsNow moment images_at opening
-          → StopLeads moment images_at (state_in opening) history first (state_in old) store) one two →
+          → StopLeads moment images_at (state_in opening) history first (state_in old) store) one
+          two →
           IfBoth (Unit {0}) (λ store other.
-          StopFollows moment images_at (state_in old) store entry.made (state_in new) other) two three →
+          StopFollows moment images_at (state_in old) store entry.made (state_in new) other) two
+          three →
           IfBoth (Unit {0}) (λ first other. IsPlain opening → StandsNow moment images_at opening
-          → StopLeads moment images_at (state_in opening) (history ++ entry ∷ []) first (state_in new) other)
+          → StopLeads moment images_at (state_in opening) (history ++ entry ∷ []) first
+          (state_in new) other)
           one three
       go None None None ticks leads on = tt
       go None None (Some new_store) ticks leads on = absurd on
@@ -251,10 +283,12 @@ module _ {D : Type 0} (moment : D → ℕ) (images_at : D → ℕ → Image → 
       go (Some first) (Some old_store) None ticks leads on = absurd on
       go (Some first) (Some old_store) (Some new_store) ticks leads on = λ plain stands.
           subst (λ (state : State).
-          StopLeads moment images_at (state_in opening) (history ++ entry ∷ []) first state new_store)
+          StopLeads moment images_at (state_in opening) (history ++ entry ∷ []) first state
+          new_store)
           (sym follows.state)
           (stop_follows (state_in opening) history first old_store new_store (state_in old) entry
           (ap (λ s. s.entries) plain.opening.1) (ap (λ s. s.stable) plain.opening.1) led.led.state
           (rw ticks refl) (leads plain stands)
-          (subst (λ (state : State). StopFollows moment images_at (state_in old) old_store entry.made state new_store)
+          (subst (λ (state : State). StopFollows moment images_at (state_in old) old_store
+          entry.made state new_store)
           follows.state on))

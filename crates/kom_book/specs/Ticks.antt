@@ -1,5 +1,6 @@
 -- Which acts had ended by a moment, along a history that gets one entry longer.
-use Rattle.std.proofs.Common.{◌≡◌, ◌≤◌, ◌<◌, ℕ, Bool, true, false, cond, List, [], ◌∷◌, ◌++◌, refl, sym, ap, ◌∙◌}
+use Rattle.std.proofs.Common.{◌≡◌, ◌≤◌, ◌<◌, ℕ, Bool, true, false, cond, List, [], ◌∷◌, ◌++◌, refl}
+use Rattle.std.proofs.Common.{sym, ap, ◌∙◌}
 use Rattle.std.proofs.Math.Nat.{le_trans}
 use Rattle.std.specs.Prelude.{nat_le}
 use Rattle.std.specs.List.{AllByRecursion, filter}
@@ -15,7 +16,8 @@ filter_all : {X : Type 0} (keep : X → Bool) (xs : List X) → AllByRecursion (
     filter keep xs ≡ xs
 filter_all keep [] all = refl
 filter_all keep (x ∷ xs) all =
-    ap (λ b. cond b (x ∷ filter keep xs) (filter keep xs)) all.0 ∙ ap (λ rest. x ∷ rest) (filter_all keep xs all.1)
+    ap (λ b. cond b (x ∷ filter keep xs) (filter keep xs)) all.0
+    ∙ ap (λ rest. x ∷ rest) (filter_all keep xs all.1)
 
 module _ {D : Type 0} (moment : D → ℕ) where
   pub ticked_later : (history : List (Ticked D)) (early late : ℕ) → early ≤ late →
@@ -25,7 +27,8 @@ module _ {D : Type 0} (moment : D → ℕ) where
   ticked_later (entry ∷ history) early late less all =
       (le_trans all.0 less, ticked_later history early late less all.1)
 
-  ended : (history : List (Ticked D)) (at : ℕ) → AllByRecursion (λ entry. tick_of moment entry ≤ at) history →
+  ended : (history : List (Ticked D)) (at : ℕ) →
+      AllByRecursion (λ entry. tick_of moment entry ≤ at) history →
       AllByRecursion (λ entry. nat_le (tick_of moment entry) at ≡ true) history
   ended [] at all = tt
   ended (entry ∷ history) at all = (le-leb (tick_of moment entry) at all.0, ended history at all.1)
@@ -40,10 +43,12 @@ module _ {D : Type 0} (moment : D → ℕ) where
 
   -- the last one had not
   pub stable_before : (start : State) (history : List (Ticked D)) (entry : Ticked D) (at : ℕ) →
-      at < tick_of moment entry → stable_by moment start (history ++ entry ∷ []) at ≡ stable_by moment start history at
+      at < tick_of moment entry → stable_by moment start (history ++ entry ∷ []) at
+      ≡ stable_by moment start history at
   stable_before start history entry at late =
       let keep : Ticked D → Bool = λ one. nat_le (tick_of moment one) at in
       ap (λ some. (state_after start (records_of some)).stable)
       (filter-append keep history (entry ∷ [])
-      ∙ ap (λ b. filter keep history ++ cond b (entry ∷ []) []) (lt-leb (tick_of moment entry) at late)
+      ∙ ap (λ b. filter keep history ++ cond b (entry ∷ []) [])
+      (lt-leb (tick_of moment entry) at late)
       ∙ append-nil (filter keep history))

@@ -30,13 +30,15 @@ impl<D: Disk + Drop> Booked for Book<D> {
 
     ghost staying_leads = { λ opening history old new leads stays. (
       leading.staying_leads D.faults opening history old new leads.0 stays,
-      λ told. stops.staying_stops (moment D.moment) (images_at D.images_at) opening history old new (leads.1 told)
+      λ told. stops.staying_stops (moment D.moment) (images_at D.images_at) opening history old new
+          (leads.1 told)
           stays,
     ) };
 
     ghost following_leads = { λ opening history old entry new leads follows. (
       leading.following_leads D.faults opening history old entry new leads.0 follows.0,
-      λ told. stops.following_stops (moment D.moment) (images_at D.images_at) D.faults opening history old entry new
+      λ told. stops.following_stops (moment D.moment) (images_at D.images_at) D.faults opening
+          history old entry new
           leads.0 follows.0 (leads.1 told) (follows.1 told),
     ) };
 }

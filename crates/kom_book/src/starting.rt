@@ -1,5 +1,6 @@
 // The rows of a new server, and the store that is made for them.
-ghost use Rattle.std.specs.Prelude.{◌≡◌, ◌≢◌, ◌∷◌, [], ℕ, false, Err, None, IsTrue, IfOk, IfErr, OnOk};
+ghost use Rattle.std.specs.Prelude.{◌≡◌, ◌≢◌, ◌∷◌, [], ℕ, false, Err, None, IsTrue, IfOk, IfErr};
+ghost use Rattle.std.specs.Prelude.{OnOk};
 ghost use Rattle.kom_disk.specs.Faults.{Rose};
 ghost use Rattle.kom_model.specs.Db.{empty_db};
 ghost use Rattle.kom_model.specs.Effects.{apply, apply_all, fitting};

@@ -20,4 +20,5 @@ made_line = codes "store made\n"
 
 -- what a sink has of a text that was put to it alone: all of it, or where it failed a prefix
 abbrev pub HasText : List ℕ → SinkView → Type 0
-HasText text sink = IfSome sink.put (λ bytes. IsPrefix bytes text × (sink.faults ≡ 0 → bytes ≡ text))
+HasText text sink = IfSome sink.put
+    (λ bytes. IsPrefix bytes text × (sink.faults ≡ 0 → bytes ≡ text))

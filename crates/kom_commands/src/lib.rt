@@ -1,5 +1,5 @@
-//! The command lines of the program: what its words ask for, its exit statuses, and the lines of its
-//! reports.
+//! The command lines of the program: what its words ask for, its exit statuses, and the lines of
+//! its reports.
 #![tactic(auto)]
 
 mod cases;

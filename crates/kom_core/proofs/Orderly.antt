@@ -49,7 +49,8 @@ use Rattle.kom_model.specs.calls.Memberships.{set_member, type_effects}
 use Rattle.kom_model.specs.calls.NewTexts.{names_recipient, names_footnote, item_effect, item_written, author_effects}
 use Rattle.kom_model.specs.calls.NewTexts.{text_effects, new_text, new_items}
 use Rattle.kom_model.specs.calls.Persons.{person_effects, maker}
-use Rattle.kom_model.specs.calls.Sessions.{counts, seat_left, all_left, leaving_effects, session_meant, ended, static_of}
+use Rattle.kom_model.specs.calls.Sessions.{counts, seat_left, all_left, leaving_effects, session_meant, ended}
+use Rattle.kom_model.specs.calls.Sessions.{static_of}
 use Rattle.kom_model.specs.calls.Texts.{gone_text, new_recipient, nearest_text}
 use Rattle.kom_model.specs.Decide.{asked_in, definition_of, decision_of}
 use Rattle.kom_model.specs.After.{moment_of}
@@ -205,7 +206,8 @@ item-nameless asked text item =
 author-nameless : (asked : Asked) (text : ℕ) (body : List ℕ) → IsNameless (author_effects asked text body)
 author-nameless asked text body =
     let person = (caller asked).person in
-    nameless-append (counts person counter.CreatedLines (lines_of body)) _ (counts-nameless person counter.CreatedLines _)
+    nameless-append (counts person counter.CreatedLines (lines_of body)) _
+    (counts-nameless person counter.CreatedLines _)
     (counts-nameless person counter.CreatedBytes (length body))
 
 text-nameless : (asked : Asked) (anonymous : Bool) (text : ℕ) (given : NewText) →

@@ -172,8 +172,8 @@ impl Core {
         }
     }
 
-    /// Makes the entry of a flush that the store refused, after which no act is made but a Close. It
-    /// takes no memory.
+    /// Makes the entry of a flush that the store refused, after which no act is made but a Close.
+    /// It takes no memory.
     pub fn refuse_flush(&mut self, pass: u32, moment: Moment)
         requires room { self.old.state.entries < 2 ^ 62 }
         requires possible { refusal_of self.old.state act.Flush ≡ None }

@@ -1,11 +1,14 @@
 -- How one more step changes what reads give and what a stop leaves.
-use Rattle.std.proofs.Common.{◌≡◌, ◌≢◌, ◌≤◌, ◌+◌, ◌⊎◌, Option, None, Some, Result, Ok, Err, IfSome, IsSomeAnd, OnOk, OnErr, inl, inr, ⊎_elim, ℕ, true, List, [], ◌∷◌, ◌++◌, length, take, Vec, refl, sym, ◌∙◌, ap, subst, arith, length-append, drop, All, take-append-drop}
+use Rattle.std.proofs.Common.{◌≡◌, ◌≢◌, ◌≤◌, ◌+◌, ◌⊎◌, Option, None, Some, Result, Ok, Err, IfSome, IsSomeAnd, OnOk}
+use Rattle.std.proofs.Common.{OnErr, inl, inr, ⊎_elim, ℕ, true, List, [], ◌∷◌, ◌++◌, length, take, Vec, refl, sym, ◌∙◌}
+use Rattle.std.proofs.Common.{ap, subst, arith, length-append, drop, All, take-append-drop}
 use Rattle.std.proofs.lemmas.List.{take-append-le}
 use Rattle.std.specs.List.{AllByRecursion}
 use Rattle.std.proofs.lemmas.List.Elements.{recursion_from_All}
 use Rattle.std.specs.declared.alloc.Global.{Global}
 use Rattle.kom_disk.specs.Disk.{overwritten, Torn, Shortened, ComesBy, AddsNone, Only, Passes}
-use Rattle.kom_disk.specs.Steps.{bytes_after, stable_after, torn_after, IsImage, KeepsNothing, IsWrite, LeftOf, LeftBy, EndsSynced, all_steps}
+use Rattle.kom_disk.specs.Steps.{bytes_after, stable_after, torn_after, IsImage, KeepsNothing, IsWrite, LeftOf, LeftBy}
+use Rattle.kom_disk.specs.Steps.{EndsSynced, all_steps}
 use Rattle.kom_disk.specs.declared.step.Step.{Step}
 use Rattle.kom_disk.specs.declared.step.Step.TheVariants.{Write, Cut, Sync, Pass}
 use Rattle.kom_disk.proofs.Moments.{passes_in_turn}

@@ -1,5 +1,6 @@
 -- A file that stands for rows is not damaged, and one that is damaged is so at one place.
-use Rattle.std.proofs.Common.{◌≡◌, ◌<◌, ◌^◌, ◌⊎◌, inl, inr, ℕ, Bool, true, ◌&&◌, List, [], ◌∷◌, ◌++◌, length, append_assoc, length-append, ap, sym, subst, ◌∙◌, refl, arith, map}
+use Rattle.std.proofs.Common.{◌≡◌, ◌<◌, ◌^◌, ◌⊎◌, inl, inr, ℕ, Bool, true, ◌&&◌, List, [], ◌∷◌, ◌++◌, length}
+use Rattle.std.proofs.Common.{append_assoc, length-append, ap, sym, subst, ◌∙◌, refl, arith, map}
 use Rattle.std.proofs.lemmas.Grind.{flat_map-append}
 use Rattle.std.specs.List.{AllByRecursion}
 use Rattle.kom_types.specs.declared.effects.Effect.{Effect}
@@ -205,7 +206,8 @@ same_before (a ∷ ones) [] db x y short_a short_b in_a in_b fit_a fit_b at_x at
 same_before (a ∷ ones) (b ∷ twos) db x y short_a short_b in_a in_b fit_a fit_b at_x at_y same =
     let first =
     same_sized (body_of a) (body_of b) (batches (map body_of ones) ++ 1 ∷ x) (batches (map body_of twos) ++ 1 ∷ y)
-    short_a.0 short_b.0 (same_tails (body_of a) (body_of b) (map body_of ones) (map body_of twos) (1 ∷ x) (1 ∷ y) same) in
+    short_a.0 short_b.0 (same_tails (body_of a) (body_of b) (map body_of ones) (map body_of twos) (1 ∷ x) (1 ∷ y) same)
+    in
     let is : a ≡ b = same_effects a b in_a.0 in_b.0 first.0 in
     let rows : apply_all b db ≡ apply_all a db = ap (λ (e : List Effect). apply_all e db) (sym is) in
     let fit_later : all_fit (all_of twos) (apply_all a db) ≡ true =

@@ -5,7 +5,9 @@ use Rattle.kom_model.specs.Db.{Db}
 use Rattle.kom_disk.specs.Moments.{LeavesOnly}
 use Rattle.kom_disk.proofs.Moments.{begins}
 use Rattle.kom_journal.specs.Files.{IsStoreOf, AreSoundFiles, AreStoresOf, IsStoreOfEither}
-use Rattle.kom_journal.specs.Images.{Image, as_read, images, images_at, moment, StandsFor, IsSoundImage, IsKept, AreFor, IsForEither, HasFurtherBatch, IsLeftOf, IsForeign, IsCutShort, IsDamaged, IsCause, HasCount}
+use Rattle.kom_journal.specs.Images.{Image, as_read, images, images_at, moment, StandsFor, IsSoundImage, IsKept, AreFor}
+use Rattle.kom_journal.specs.Images.{IsForEither, HasFurtherBatch, IsLeftOf, IsForeign, IsCutShort, IsDamaged, IsCause}
+use Rattle.kom_journal.specs.Images.{HasCount}
 use Rattle.kom_journal.specs.Opened.{IsLeftOfFile, IsUntil, Opens, CountsBatches}
 use Rattle.kom_journal.specs.Opening.{IsCauseInFile}
 use Rattle.kom_journal.specs.declared.errors.OpenFault.{OpenFault}

@@ -1,5 +1,6 @@
 -- What the calls of an opening come to.
-use Rattle.std.proofs.Common.{◌≡◌, ◌+◌, inl, ℕ, Bool, IsTrue, List, ◌∷◌, ◌++◌, take, drop, ap, sym, subst, ◌∙◌, arith, map}
+use Rattle.std.proofs.Common.{◌≡◌, ◌+◌, inl, ℕ, Bool, IsTrue, List, ◌∷◌, ◌++◌, take, drop, ap, sym, subst, ◌∙◌, arith}
+use Rattle.std.proofs.Common.{map}
 use Rattle.std.specs.Prelude.{◌↔◌}
 use Rattle.std.proofs.lemmas.List.{drop-drop, take-append-drop, length-map}
 use Rattle.kom_model.specs.Db.{Db}

@@ -1,5 +1,6 @@
 -- What is known of a store while it is opened.
-use Rattle.std.proofs.Common.{◌≡◌, ◌≢◌, ◌<◌, ◌≤◌, ◌+◌, ◌^◌, ◌⊎◌, inl, inr, ℕ, true, List, [], ◌∷◌, ◌++◌, length, take, drop, ap, sym, subst, ◌∙◌, refl, arith, map}
+use Rattle.std.proofs.Common.{◌≡◌, ◌≢◌, ◌<◌, ◌≤◌, ◌+◌, ◌^◌, ◌⊎◌, inl, inr, ℕ, true, List, [], ◌∷◌, ◌++◌, length, take}
+use Rattle.std.proofs.Common.{drop, ap, sym, subst, ◌∙◌, refl, arith, map}
 use Rattle.std.proofs.lemmas.List.{append-nil, length_push, take_at, drop_at}
 use Rattle.kom_types.specs.declared.effects.Effect.{Effect}
 use Rattle.kom_model.specs.Db.{Db, empty_db}
@@ -17,7 +18,8 @@ use Rattle.kom_journal.specs.Files.{IsStoreOf, IsSoundFile, HasOneMore, header, 
 use Rattle.kom_journal.specs.Journals.{IsStored}
 use Rattle.kom_journal.specs.Opened.{Makes, store_of, IsMadeTo, IsMadeOf, IsLeftOfFile}
 use Rattle.kom_journal.specs.Opening.{HasUnfit, IsDamagedAt, IsCauseInFile}
-use Rattle.kom_journal.proofs.Sound.{SoundFor, makes_none, makes_more, bodies_more, stands_with, shut_sound, gated_sound, either_of, one_of}
+use Rattle.kom_journal.proofs.Sound.{SoundFor, makes_none, makes_more, bodies_more, stands_with, shut_sound}
+use Rattle.kom_journal.proofs.Sound.{gated_sound, either_of, one_of}
 use Rattle.kom_journal.proofs.Unique.{same_lists, stands_for_one}
 
 tail_of : List ℕ → List ℕ

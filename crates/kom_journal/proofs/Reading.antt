@@ -1,7 +1,9 @@
 -- What the reading of bytes comes to, over one effect, a block, and a body.
-use Rattle.std.proofs.Common.{◌≡◌, ◌<◌, ◌≤◌, ◌+◌, ◌-◌, ℕ, true, false, List, [], ◌∷◌, ◌++◌, length, take, drop, append_assoc, ap, sym, subst, ◌∙◌, refl, arith, length-append, length-drop}
+use Rattle.std.proofs.Common.{◌≡◌, ◌<◌, ◌≤◌, ◌+◌, ◌-◌, ℕ, true, false, List, [], ◌∷◌, ◌++◌, length, take, drop}
+use Rattle.std.proofs.Common.{append_assoc, ap, sym, subst, ◌∙◌, refl, arith, length-append, length-drop}
 use Rattle.std.proofs.Math.Seq.{take-add}
-use Rattle.std.proofs.lemmas.List.{append-nil, drop-drop, drop-take, drop-append-le, take_at, take_all, take-take, take-append-le, length-take-le}
+use Rattle.std.proofs.lemmas.List.{append-nil, drop-drop, drop-take, drop-append-le, take_at, take_all, take-take}
+use Rattle.std.proofs.lemmas.List.{take-append-le, length-take-le}
 use Rattle.batch_log.specs.Walk.{HasFirst}
 use Rattle.batch_log.proofs.Parts.{rest_of}
 use Rattle.kom_types.specs.declared.effects.Effect.{Effect}

@@ -1,5 +1,6 @@
 -- What the calls of a log make of what a journal keeps.
-use Rattle.std.proofs.Common.{◌≡◌, ◌≢◌, ◌<◌, ◌+◌, ◌^◌, ◌↔◌, inl, inr, ℕ, Bool, true, false, IsTrue, List, [], ◌∷◌, ◌++◌, length, take, ap, sym, subst, ◌∙◌, refl, arith}
+use Rattle.std.proofs.Common.{◌≡◌, ◌≢◌, ◌<◌, ◌+◌, ◌^◌, ◌↔◌, inl, inr, ℕ, Bool, true, false, IsTrue, List, [], ◌∷◌, ◌++◌}
+use Rattle.std.proofs.Common.{length, take, ap, sym, subst, ◌∙◌, refl, arith}
 use Rattle.std.proofs.lemmas.Bool.{cases_lt}
 use Rattle.std.proofs.lemmas.List.{length-append, length-take}
 use Rattle.kom_types.specs.declared.effects.Effect.{Effect}
@@ -178,7 +179,8 @@ module _ {D : Type 0} (moment : D → ℕ) (images_at : D → ℕ → List ℕ �
         → bytes new.disk ≡ take old.place (bytes old.disk) ++ batches (flushed old.body) ++ 0 ∷ []
         → AreFor (store.images images new.disk) (apply_all (effects_in old.body) db)
     flush_rows stable is =
-        let found : SoundFor (apply_all (effects_in old.body) db) (apply_all (effects_in old.body) db) (bytes new.disk) =
+        let found : SoundFor (apply_all (effects_in old.body) db) (apply_all (effects_in old.body) db) (bytes new.disk)
+        =
         flush_leaves_all db old.place (bytes old.disk) stands (effects_in old.body) old.body whole.spelled.whole
         whole.spelled.coded fit short (bytes new.disk) is in
         for_on new.disk images (apply_all (effects_in old.body) db)

@@ -48,7 +48,8 @@ pub record HasFurther (db : Db) (effects : List Effect) (file : List ℕ) : Type
 
 abbrev pub IsLeftOfFile : List ℕ → Db → List ℕ → Type 0
 IsLeftOfFile file db image = IsStoreOf db image
-    ⊎ ((effects : List Effect) × HasFurther db effects file × IsStoreOf (apply_all effects db) image)
+    ⊎ ((effects : List Effect) × HasFurther db effects file
+    × IsStoreOf (apply_all effects db) image)
 
 -- until some moment a stop leaves what it could before, and from then on what has this fact
 abbrev pub IsUntil : {I : Type 0} → ℕ → (I → Type 0) → (I → Type 0) → ℕ → I → Type 0

@@ -1,5 +1,6 @@
 -- What stands in a store that is opened, and why one is not.
-use Rattle.std.specs.Prelude.{◌≡◌, ◌≢◌, ◌<◌, ◌⊎◌, ◌^◌, ℕ, true, List, [], ◌∷◌, ◌++◌, map, length, take}
+use Rattle.std.specs.Prelude.{◌≡◌, ◌≢◌, ◌<◌, ◌⊎◌, ◌^◌, ℕ, true, List, [], ◌∷◌, ◌++◌, map, length}
+use Rattle.std.specs.Prelude.{take}
 use Rattle.std.specs.Prelude.{slice_index}
 use Rattle.std.specs.List.{flat_map, AllByRecursion}
 use Rattle.kom_types.specs.declared.effects.Effect.{Effect}

@@ -72,7 +72,8 @@ impl<D: Disk> Journal<D> {
         ensures place { IfOk result (λ journal. journal.place ≡ 16) }
         ensures rows { IsTrue D.tells
             → IfOk result (λ journal. AreFor (images D.images journal.disk) empty_db) }
-        ensures kept { IsTrue D.tells → IfOk result (λ journal. IsKept (images D.images journal.disk)) }
+        ensures kept { IsTrue D.tells →
+            IfOk result (λ journal. IsKept (images D.images journal.disk)) }
         ensures new { IsTrue D.tells → IfOk result (λ journal. D.size disk ≡ 0) }
 
         // Why it is not made.

@@ -1,5 +1,6 @@
 // Opening a store again.
-ghost use Rattle.std.specs.Prelude.{◌≡◌, ◌<◌, ◌≤◌, ◌+◌, ◌-◌, ◌++◌, [], ◌∷◌, take, drop, length, vec_len};
+ghost use Rattle.std.specs.Prelude.{◌≡◌, ◌<◌, ◌≤◌, ◌+◌, ◌-◌, ◌++◌, [], ◌∷◌, take, drop, length};
+ghost use Rattle.std.specs.Prelude.{vec_len};
 ghost use Rattle.std.specs.Prelude.{IsTrue, IfOk, IfErr, OnOk, Ok, Err, MatchOption};
 ghost use Rattle.kom_disk.specs.Faults.{Rose};
 ghost use Rattle.kom_disk.specs.Moments.{LeavesOnly};
@@ -212,7 +213,8 @@ pub(crate) fn open_rows<D: Disk>(alloc: Global, disk: &mut D) -> Result<(MadeRow
     ensures any_moment { IsTrue D.tells → (db : Db) → IsStoreOf db (D.bytes disk.old)
         → AreSoundFiles (D.images disk.old) → Opens D.moment D.images_at disk.old disk.new
         (D.images disk.old) (IsLeftOfFile (D.bytes disk.old) db) }
-    ensures kept { IsTrue D.tells → AreSoundFiles (D.images disk.old) → AreSoundFiles (D.images disk.new) }
+    ensures kept { IsTrue D.tells → AreSoundFiles (D.images disk.old) →
+        AreSoundFiles (D.images disk.new) }
     ensures fault { result ≡ Err OpenFault.Fault → Rose (D.faults disk.old) (D.faults disk.new) }
     ensures no_fault { IfOk result (λ opened. D.faults disk.new ≡ D.faults disk.old) }
 {

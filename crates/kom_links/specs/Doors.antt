@@ -1,5 +1,6 @@
 -- What contracts see of gates, sinks and worlds, and what their calls and those of clocks say.
-use Rattle.std.specs.Prelude.{◌≡◌, ℕ, ◌+◌, ◌≤◌, ◌||◌, Bool, true, false, IsTrue, List, [], ◌∷◌, ◌++◌}
+use Rattle.std.specs.Prelude.{◌≡◌, ℕ, ◌+◌, ◌≤◌, ◌||◌, Bool, true, false, IsTrue, List, [], ◌∷◌}
+use Rattle.std.specs.Prelude.{◌++◌}
 use Rattle.std.specs.Prelude.{length, take, Option, Some, None, option_map, IfSome, Result, Ok, Err}
 use Rattle.std.specs.Prelude.{OnOk, OnErr}
 use Rattle.kom_links.specs.declared.world_counts.WorldCounts.{WorldCounts}
@@ -26,8 +27,8 @@ pub record SinkView : Type 0 where
   pub faults : ℕ
 
 -- What contracts see of a world: how often it was asked for what it has; how often it failed; and
--- if it tells them, the moment that each of its clocks gives first, and the bytes of each path as the
--- run found them. A missing file counts as empty.
+-- if it tells them, the moment that each of its clocks gives first, and the bytes of each path as
+-- the run found them. A missing file counts as empty.
 pub record WorldView : Type 0 where
   pub counts : WorldCounts
   pub faults : ℕ

@@ -14,7 +14,8 @@ with_port false counts = record counts { ports = next_call counts.ports }
 
 -- once more for its gate, which it gave or refused
 abbrev pub with_gate : Bool → WorldCounts → WorldCounts
-with_gate true counts = record counts { gates = next_call counts.gates; given = next_call counts.given }
+with_gate true counts =
+    record counts { gates = next_call counts.gates; given = next_call counts.given }
 with_gate false counts = record counts { gates = next_call counts.gates }
 
 -- once more for a clock

@@ -9,7 +9,8 @@ use Rattle.kom_types.specs.declared.effects.ConfField.{ConfField}
 use Rattle.kom_types.specs.declared.effects.ConfField.TheVariants as field
 use Rattle.kom_types.specs.declared.effects.Effect.{Effect}
 use Rattle.kom_types.specs.declared.effects.Effect.TheVariants as effect
-use Rattle.kom_types.specs.tables.Conferences.{number_of_conference, is_secret_protected, with_field, with_name, with_local_drawn, with_item_drawn}
+use Rattle.kom_types.specs.tables.Conferences.{number_of_conference, is_secret_protected, with_field, with_name}
+use Rattle.kom_types.specs.tables.Conferences.{with_local_drawn, with_item_drawn}
 use Rattle.kom_model.specs.Db.{Db, conference_of}
 use Rattle.kom_model.specs.Effects.{IsProtected, fits, made, apply, apply_all, may_set}
 
@@ -101,10 +102,11 @@ protected-made (effect.AuxAdded false object item) db fit protected =
 protected-made other db fit protected = protected
 
 IsProtected-apply : (what : Effect) (db : Db) → IsProtected db → IsProtected (apply what db)
-IsProtected-apply what db protected = elim (fits what db) as (λ b. fits what db ≡ b → IsProtected (cond b (made what db) db)) [
-  | true ↦ λ fit. protected-made what db fit protected
-  | false ↦ λ fit. protected
-] refl
+IsProtected-apply what db protected =
+    elim (fits what db) as (λ b. fits what db ≡ b → IsProtected (cond b (made what db) db)) [
+      | true ↦ λ fit. protected-made what db fit protected
+      | false ↦ λ fit. protected
+    ] refl
 
 -- effects keep it
 pub IsProtected-apply_all : (effects : List Effect) (db : Db) → IsProtected db → IsProtected (apply_all effects db)

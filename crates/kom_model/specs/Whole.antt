@@ -78,8 +78,8 @@ abbrev pub is_apart : List ConferenceRow → ConferenceRow → Bool
 is_apart rows one = not (list_any
     (λ row. not (row.number == one.number) && clash row.name one.name) rows)
 
--- The conferences: their numbers rise, from 1 on, and lie below the next one; their names are short,
--- and no two clash.
+-- The conferences: their numbers rise, from 1 on, and lie below the next one; their names are
+-- short, and no two clash.
 pub record AreConferences (rows : List ConferenceRow) (next : ℕ) : Type 0 where
   pub rising : IsByNumber number_of_conference rows
   pub positive : AllByRecursion (λ row. 0 < row.number) rows

@@ -1,5 +1,6 @@
 -- Who makes the calls of a session: its own pass alone, and nobody once a call has ended it.
-use Rattle.std.proofs.Common.{◌≡◌, ℕ, ◌+◌, ◌<◌, ◌≤◌, ◌⊎◌, inl, inr, Bool, true, false, ◌&&◌, eqb, ◌==◌, List, [], ◌∷◌, Option, Some, None, refl, sym, ap, subst, ◌∙◌, arith}
+use Rattle.std.proofs.Common.{◌≡◌, ℕ, ◌+◌, ◌<◌, ◌≤◌, ◌⊎◌, inl, inr, Bool, true, false, ◌&&◌, eqb, ◌==◌, List, [], ◌∷◌}
+use Rattle.std.proofs.Common.{Option, Some, None, refl, sym, ap, subst, ◌∙◌, arith}
 use Rattle.std.specs.List.{list_all, AllByRecursion}
 use Rattle.std.specs.Option.{IsSome, IfSome}
 use Rattle.std.proofs.lemmas.Bool.{cases_Bool, cases_eq, ne_eqb, eqb-true, eq-eqb}
@@ -22,7 +23,8 @@ use Rattle.kom_model.proofs.Finding.{find-added_other, find-removed_same, find-r
 use Rattle.kom_model.proofs.Closing.{IsOver, IsOver-after}
 use Rattle.hall_desk.specs.Passes.{of_pass}
 use Rattle.hall_desk.proofs.Seats.{IsEnded, ended-seats}
-use Rattle.hall_desk.proofs.Stepping.{sent-seats, acted-seats, AreDrawn, drawn-after, one_owner, stands_drawn, acting_stands}
+use Rattle.hall_desk.proofs.Stepping.{sent-seats, acted-seats, AreDrawn, drawn-after, one_owner, stands_drawn}
+use Rattle.hall_desk.proofs.Stepping.{acting_stands}
 use Rattle.hall_desk.proofs.Histories.{or_cases, or_none, and_both}
 use Rattle.kom_server.specs.Runs.{is_call, has_call}
 use Rattle.kom_server.proofs.Histories.{not_both, connect_above}
@@ -66,7 +68,8 @@ pub drawn_once : (n : ℕ) (state : State) (history : List Record) → IsLegal s
 drawn_once n state history legal below =
     elim (cases_Bool (has_connect n history)) [
       | inl again ↦
-          let above : state.connects < n = connect_above n state history legal again in absurd (omega (arith, above, below))
+          let above : state.connects < n =
+          connect_above n state history legal again in absurd (omega (arith, above, below))
       | inr never ↦ never
     ]
 

@@ -1,5 +1,6 @@
 -- What the status of a command that was carried out says of its cases.
-use Rattle.std.proofs.Common.{◌≡◌, ◌≢◌, ◌⊎◌, ◌↔◌, ◌≤◌, inl, inr, ℕ, Bool, not, eqb, true, false, List, Option, Some, None, refl, sym, ap, ◌∙◌, arith}
+use Rattle.std.proofs.Common.{◌≡◌, ◌≢◌, ◌⊎◌, ◌↔◌, ◌≤◌, inl, inr, ℕ, Bool, not, eqb, true, false, List, Option, Some}
+use Rattle.std.proofs.Common.{None, refl, sym, ap, ◌∙◌, arith}
 use Rattle.std.proofs.lemmas.Bool.{false≢true, true≢false, ne_eqb}
 use Rattle.std.specs.Option.{IfSome}
 use Rattle.std.specs.Prelude.{IsTrue, is_some, option_map}
@@ -14,7 +15,8 @@ use Rattle.kom_links.specs.Outside.{Rose}
 use Rattle.kom_commands.specs.Statuses.{IsStatus, status_of}
 use Rattle.store_check.specs.Stores.{IsWrong, Fails}
 use Rattle.kom_server.specs.Statuses.{StoreFails, HasRefused, Asks, serve_over}
-use Rattle.kom_server.proofs.StatusCases.{is_status, never_two, three, four, five, six, seven, nothing_wrong, something_wrong}
+use Rattle.kom_server.proofs.StatusCases.{is_status, never_two, three, four, five, six, seven, nothing_wrong}
+use Rattle.kom_server.proofs.StatusCases.{something_wrong}
 
 -- a store that failed for a reason failed for one that follows
 pub fails_too : {D : Type 0} (faults : D → ℕ) (one other : Type 0) (disk : Option D)

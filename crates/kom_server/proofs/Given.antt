@@ -1,5 +1,6 @@
 -- The drains of a session gave all that was queued for it up to its last call.
-use Rattle.std.proofs.Common.{◌≡◌, ℕ, ◌⊎◌, inl, inr, Bool, true, false, ◌&&◌, ◌||◌, eqb, ◌==◌, List, [], ◌∷◌, ◌++◌, Some, refl, sym, ap, subst, ◌∙◌, append_assoc, if◌then◌else◌}
+use Rattle.std.proofs.Common.{◌≡◌, ℕ, ◌⊎◌, inl, inr, Bool, true, false, ◌&&◌, ◌||◌, eqb, ◌==◌, List, [], ◌∷◌, ◌++◌}
+use Rattle.std.proofs.Common.{Some, refl, sym, ap, subst, ◌∙◌, append_assoc, if◌then◌else◌}
 use Rattle.std.specs.List.{list_all, flat_map, AllByRecursion}
 use Rattle.std.proofs.lemmas.Bool.{cases_Bool, eqb-true}
 use Rattle.std.proofs.lemmas.List.Folds.{list_any-append, list_all-append}
@@ -12,7 +13,8 @@ use Rattle.kom_types.specs.declared.answers.Why.TheVariants as why
 use Rattle.kom_types.specs.declared.items.Item.{Item}
 use Rattle.kom_links.specs.DeskCalls.{record_of}
 use Rattle.kom_links.specs.Records.{is_connect, has_connect, IsOpen}
-use Rattle.kom_links.specs.Talk.{Step, Connects, Asks, Breaks, Flushes, Drains, Closes, first_given, other_given, own_step, steps_of, is_quiet, IsDrained}
+use Rattle.kom_links.specs.Talk.{Step, Connects, Asks, Breaks, Flushes, Drains, Closes, first_given, other_given}
+use Rattle.kom_links.specs.Talk.{own_step, steps_of, is_quiet, IsDrained}
 use Rattle.kom_model.specs.State.{State, session_of}
 use Rattle.kom_model.specs.Refusal.{refusal_of}
 use Rattle.kom_model.specs.After.{MayFollow, after}
@@ -24,12 +26,14 @@ use Rattle.hall_desk.specs.Passes.{of_pass}
 use Rattle.hall_desk.specs.Desks.{WasStopped}
 use Rattle.hall_desk.proofs.Starting.{IsStart}
 use Rattle.hall_desk.proofs.Stepping.{AreDrawn, drawn-after}
-use Rattle.hall_desk.proofs.Histories.{or_cases, of_pass-append, state_after-append, given-append, given_before, open_has}
+use Rattle.hall_desk.proofs.Histories.{or_cases, of_pass-append, state_after-append, given-append, given_before}
+use Rattle.hall_desk.proofs.Histories.{open_has}
 use Rattle.kom_server.specs.Runs.{is_call, has_call, GaveAll}
 use Rattle.kom_server.proofs.Histories.{not_both, legal_prefix, legal_tail, owners_prefix, connect_above, connect_of}
 use Rattle.kom_server.proofs.Owning.{IsKept}
 use Rattle.kom_server.proofs.Within.{IsApart}
-use Rattle.kom_server.proofs.Calls.{kept_from, kept_once, calls_own, apart_calls, quiet_calls, done_calls, dropped_ended}
+use Rattle.kom_server.proofs.Calls.{kept_from, kept_once, calls_own, apart_calls, quiet_calls, done_calls}
+use Rattle.kom_server.proofs.Calls.{dropped_ended}
 
 -- ---- what the whole gives goes on
 
@@ -41,7 +45,8 @@ given_along-append state n (made ∷ a) b =
     ∙ sym (append_assoc (given_by state n made) (given_along (after state made) n a)
     (given_along (state_after (after state made) a) n b))
 
-all_given_more : (state : State) (n : ℕ) (a b : List Record) → IsPrefix (all_given state n a) (all_given state n (a ++ b))
+all_given_more : (state : State) (n : ℕ) (a b : List Record) →
+    IsPrefix (all_given state n a) (all_given state n (a ++ b))
 all_given_more state n a b = (
   all_given (state_after state a) n b,
   sym (ap (λ (given : List (List Item)). flat_map (λ items. items) given) (given_along-append state n a b)
@@ -106,7 +111,8 @@ module _ (n pass : ℕ) where
   along-append state [] b = refl
   along-append state (made ∷ a) b =
       ap (λ rest. steps_at state made ++ rest) (along-append (after state made) a b)
-      ∙ sym (append_assoc (steps_at state made) (along (after state made) a) (along (state_after (after state made) a) b))
+      ∙ sym (append_assoc (steps_at state made) (along (after state made) a)
+      (along (state_after (after state made) a) b))
 
   own_then : (own : Bool) (step : Step) (steps : List Step) → own_step own step steps ≡ own_step own step [] ++ steps
   own_then true step steps = refl

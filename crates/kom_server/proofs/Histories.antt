@@ -1,5 +1,6 @@
 -- What holds of legal histories and of the sessions that their records have.
-use Rattle.std.proofs.Common.{◌≡◌, ℕ, ◌+◌, ◌<◌, ◌⊎◌, inl, inr, Bool, true, false, ◌||◌, ◌&&◌, eqb, ◌==◌, List, [], ◌∷◌, ◌++◌, Option, None, refl, ap, ◌∙◌, arith}
+use Rattle.std.proofs.Common.{◌≡◌, ℕ, ◌+◌, ◌<◌, ◌⊎◌, inl, inr, Bool, true, false, ◌||◌, ◌&&◌, eqb, ◌==◌, List, [], ◌∷◌}
+use Rattle.std.proofs.Common.{◌++◌, Option, None, refl, ap, ◌∙◌, arith}
 use Rattle.std.specs.List.{find, AllByRecursion}
 use Rattle.std.specs.Option.{is_some, IsSome}
 use Rattle.std.proofs.lemmas.Bool.{cases_Bool, eqb-true}

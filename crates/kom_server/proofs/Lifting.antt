@@ -1,5 +1,6 @@
 -- What a pass has served stays so in a history that goes on without it.
-use Rattle.std.proofs.Common.{◌≡◌, ℕ, ◌≤◌, inl, inr, List, [], ◌++◌, map, Option, Some, None, refl, sym, ap, subst, ◌∙◌, append-nil}
+use Rattle.std.proofs.Common.{◌≡◌, ℕ, ◌≤◌, inl, inr, List, [], ◌++◌, map, Option, Some, None, refl, sym, ap, subst, ◌∙◌}
+use Rattle.std.proofs.Common.{append-nil}
 use Rattle.std.specs.Option.{IfSome}
 use Rattle.std.specs.List.{AllByRecursion}
 use Rattle.std.proofs.lemmas.List.{append_cancel_left}
@@ -156,7 +157,8 @@ pub served_by : {B E L : Type 0} (made : E → Record) (view : L → LinkView) (
     left.table ≡ desk'.table → HoldsNoTurn left.turn → Serves view desk'.start desk'.pass gate.returned gave →
     AllGivenBack gate → IsDone desk'.start desk'.pass.seen gate →
     HasServed made view start hall number (record { pass = Some left; gate = gate; gave = gave })
-served_by {B} {E} {L} made view start hall number first left desk desk' gate gave is table begins pass on is' table' free
+served_by {B} {E} {L} made view start hall number first left desk desk' gate gave is table begins pass on is' table'
+    free
     serves back done =
     let start' : desk'.start ≡ start = on.start ∙ begins in
     record {

@@ -1,5 +1,7 @@
 -- What the service of a link leaves of those that a pass served.
-use Rattle.std.proofs.Common.{◌≡◌, ◌≢◌, ℕ, ◌^◌, ◌<◌, ◌≤◌, ◌⊎◌, inl, inr, nat_eq, Bool, true, false, not, ◌==◌, eqb, List, [], ◌∷◌, ◌++◌, map, Option, Some, None, refl, sym, ap, subst, ◌∙◌, arith, append-nil, append_assoc}
+use Rattle.std.proofs.Common.{◌≡◌, ◌≢◌, ℕ, ◌^◌, ◌<◌, ◌≤◌, ◌⊎◌, inl, inr, nat_eq, Bool, true, false, not, ◌==◌, eqb}
+use Rattle.std.proofs.Common.{List, [], ◌∷◌, ◌++◌, map, Option, Some, None, refl, sym, ap, subst, ◌∙◌, arith}
+use Rattle.std.proofs.Common.{append-nil, append_assoc}
 use Rattle.std.specs.Option.{IfSome}
 use Rattle.std.specs.Bool.{IsTrue}
 use Rattle.std.specs.List.{find, filter, list_any, AllByRecursion, IsDistinct}
@@ -33,9 +35,11 @@ use Rattle.hall_desk.specs.Desks.{WasOverrun, WasDropped, WasStopped, WasFull, I
 use Rattle.hall_desk.proofs.Starting.{IsStart}
 use Rattle.hall_desk.proofs.Histories.{or_second, of_pass-append, absent_of}
 use Rattle.hall_desk.proofs.TrueFaults.{was_more, stopped_more, full_more}
-use Rattle.kom_server.specs.Runs.{given_of, GaveAll, IsCause, TellsOf, Talks, is_lock_full, sessions_of, IsOfOne, IsFirstReading}
+use Rattle.kom_server.specs.Runs.{given_of, GaveAll, IsCause, TellsOf, Talks, is_lock_full, sessions_of, IsOfOne}
+use Rattle.kom_server.specs.Runs.{IsFirstReading}
 use Rattle.kom_server.specs.Serving.{Serves, KeepsFirst}
-use Rattle.kom_server.proofs.Histories.{or_first, not_both, session_of-connect, connect_more, connect_rear, connect_of, fresh_before, all_of, IsPlain, plain}
+use Rattle.kom_server.proofs.Histories.{or_first, not_both, session_of-connect, connect_more, connect_rear, connect_of}
+use Rattle.kom_server.proofs.Histories.{fresh_before, all_of, IsPlain, plain}
 use Rattle.kom_server.proofs.Within.{IsApart, talk_within}
 use Rattle.kom_server.proofs.Owning.{given_own, given_on}
 use Rattle.kom_server.proofs.Given.{gave_dropped, gave_drained, gave_on}

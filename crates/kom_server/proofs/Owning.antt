@@ -1,6 +1,7 @@
 -- A session is drained by the pass alone that connected it: what the drains of all passes give it along a history
 -- is what those of its own pass give it.
-use Rattle.std.proofs.Common.{◌≡◌, ℕ, ◌<◌, ◌≤◌, ◌⊎◌, inl, inr, Bool, true, false, not, ◌&&◌, eqb, ◌==◌, List, [], ◌∷◌, ◌++◌, Option, None, refl, sym, ap, subst, ◌∙◌, arith, append-nil}
+use Rattle.std.proofs.Common.{◌≡◌, ℕ, ◌<◌, ◌≤◌, ◌⊎◌, inl, inr, Bool, true, false, not, ◌&&◌, eqb, ◌==◌, List, [], ◌∷◌}
+use Rattle.std.proofs.Common.{◌++◌, Option, None, refl, sym, ap, subst, ◌∙◌, arith, append-nil}
 use Rattle.std.specs.List.{find, filter, AllByRecursion}
 use Rattle.std.specs.Option.{is_some, IsSome, IfSome}
 use Rattle.std.proofs.lemmas.Bool.{cases_Bool, eqb-true, eq-eqb}
@@ -17,9 +18,11 @@ use Rattle.kom_model.specs.Out.{given_by, given_along, given_by_pass}
 use Rattle.kom_model.proofs.Finding.{find-removed_same}
 use Rattle.kom_model.proofs.Closing.{IsOver, IsOver-after}
 use Rattle.hall_desk.specs.Passes.{of_pass}
-use Rattle.hall_desk.proofs.Stepping.{AreDrawn, drawn-after, Has, one_owner, has_step, connects_now, stands_drawn, acting_stands}
+use Rattle.hall_desk.proofs.Stepping.{AreDrawn, drawn-after, Has, one_owner, has_step, connects_now, stands_drawn}
+use Rattle.hall_desk.proofs.Stepping.{acting_stands}
 use Rattle.hall_desk.proofs.Histories.{or_cases, of_pass-append, given-append, gives_none}
-use Rattle.kom_server.proofs.Histories.{legal_prefix, legal_tail, owners_prefix, connect_above, connect_of, connect_more}
+use Rattle.kom_server.proofs.Histories.{legal_prefix, legal_tail, owners_prefix, connect_above, connect_of}
+use Rattle.kom_server.proofs.Histories.{connect_more}
 use Rattle.kom_server.proofs.Within.{IsApart}
 
 -- the pass has the session, or it was there and is no more

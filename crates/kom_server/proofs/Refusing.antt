@@ -6,7 +6,8 @@ use Rattle.kom_types.specs.declared.acts.Act.TheVariants as act
 use Rattle.kom_types.specs.declared.acts.Record.{Record}
 use Rattle.kom_types.specs.declared.session_changes.SessionChange.{SessionChange}
 use Rattle.kom_types.specs.Sessions.{Limits, waiting_limits, queued}
-use Rattle.kom_model.specs.After.{acted, after, deliveries, decision_at, moment_of, with_session, queue_all, make_change, make_changes}
+use Rattle.kom_model.specs.After.{acted, after, deliveries, decision_at, moment_of, with_session, queue_all}
+use Rattle.kom_model.specs.After.{make_change, make_changes}
 use Rattle.kom_model.specs.Db.{Db}
 use Rattle.kom_model.specs.Legal.{state_after}
 use Rattle.kom_model.specs.Effects.{apply_all}

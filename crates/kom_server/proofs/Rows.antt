@@ -1,11 +1,13 @@
 -- Rows of workers, and what they have at the same places.
-use Rattle.std.proofs.Common.{◌≡◌, ℕ, zero, suc, ◌+◌, ◌<◌, List, [], ◌∷◌, ◌++◌, length, map, take, drop, Option, Some, None, refl, sym, ap, subst, ◌∙◌, arith, append_assoc}
+use Rattle.std.proofs.Common.{◌≡◌, ℕ, zero, suc, ◌+◌, ◌<◌, List, [], ◌∷◌, ◌++◌, length, map, take, drop, Option, Some}
+use Rattle.std.proofs.Common.{None, refl, sym, ap, subst, ◌∙◌, arith, append_assoc}
 use Rattle.std.specs.Prelude.{slice_index_or, slice_get, IsSome}
 use Rattle.std.specs.Option.{option_to_list}
 use Rattle.std.specs.List.{AllByRecursion}
 use Rattle.std.proofs.Math.Seq.{take-append_seam}
 use Rattle.std.proofs.lemmas.List.{map-append, length_push}
-use Rattle.kom_state_lock.specs.Passes.{HallModel, PassModel, new_pass, AreNewPasses, IsReady, AreReady, AreReadyButLast, IsReadyLast}
+use Rattle.kom_state_lock.specs.Passes.{HallModel, PassModel, new_pass, AreNewPasses, IsReady, AreReady}
+use Rattle.kom_state_lock.specs.Passes.{AreReadyButLast, IsReadyLast}
 use Rattle.kom_state_lock.proofs.Ready.{ready_again as all_ready}
 use Rattle.kom_types.specs.declared.acts.Record.{Record}
 use Rattle.kom_links.specs.Doors.{GateView, IsNewGate}
@@ -13,7 +15,8 @@ use Rattle.kom_links.specs.Outside.{LinkView}
 use Rattle.kom_model.specs.State.{State}
 use Rattle.kom_server.specs.Runs.{IsFirstReading}
 use Rattle.kom_server.specs.Serving.{KeepsFirst}
-use Rattle.kom_server.specs.Workers.{WorkerView, AreIdle, HasServed, HaveServed, gates_of, readings_of, passes_of, KeepFirst}
+use Rattle.kom_server.specs.Workers.{WorkerView, AreIdle, HasServed, HaveServed, gates_of, readings_of, passes_of}
+use Rattle.kom_server.specs.Workers.{KeepFirst}
 
 -- P holds of each element and its place, where the first has this number
 abbrev pub AllFrom : {X : Type 0} → (ℕ → X → Type 0) → ℕ → List X → Type 0

@@ -1,5 +1,6 @@
 -- What the words of a command say of the store that they name.
-use Rattle.std.proofs.Common.{◌≡◌, ◌↔◌, ◌<◌, ℕ, true, inl, inr, List, ◌∷◌, length, Option, Some, None, refl, ap, ◌∙◌, arith}
+use Rattle.std.proofs.Common.{◌≡◌, ◌↔◌, ◌<◌, ℕ, true, inl, inr, List, ◌∷◌, length, Option, Some, None, refl, ap, ◌∙◌}
+use Rattle.std.proofs.Common.{arith}
 use Rattle.std.specs.List.{slice_get}
 use Rattle.kom_commands.specs.declared.numbers.AtPort.{AtPort}
 use Rattle.kom_commands.specs.declared.words.Command.{Command}

@@ -1,5 +1,6 @@
 -- A whole run: one pass served one gate, and the hall was closed.
-use Rattle.std.proofs.Common.{◌≡◌, ℕ, zero, suc, ◌+◌, ◌<◌, ◌≤◌, inl, inr, nat_eq, true, false, eqb, List, [], ◌∷◌, ◌++◌, length, map, All, Option, Some, None, refl, sym, ap, subst, ◌∙◌, arith, append-nil}
+use Rattle.std.proofs.Common.{◌≡◌, ℕ, zero, suc, ◌+◌, ◌<◌, ◌≤◌, inl, inr, nat_eq, true, false, eqb, List, [], ◌∷◌, ◌++◌}
+use Rattle.std.proofs.Common.{length, map, All, Option, Some, None, refl, sym, ap, subst, ◌∙◌, arith, append-nil}
 use Rattle.std.specs.Prelude.{slice_index_or}
 use Rattle.std.specs.Option.{IfSome, option_to_list}
 use Rattle.std.specs.List.{slice_get, AllByRecursion, IsDistinct}
@@ -13,7 +14,8 @@ use Rattle.kom_links.specs.Talk.{IsChosen}
 use Rattle.kom_model.specs.State.{State}
 use Rattle.kom_model.specs.Legal.{IsLegal, AreByOwners}
 use Rattle.kom_state_lock.specs.Views.{entries_of}
-use Rattle.kom_state_lock.specs.Passes.{HallModel, PassModel, new_pass, AreNewPasses, IsPassOf, HoldsNoTurn, IsReady, AreReady, IsClosed}
+use Rattle.kom_state_lock.specs.Passes.{HallModel, PassModel, new_pass, AreNewPasses, IsPassOf, HoldsNoTurn, IsReady}
+use Rattle.kom_state_lock.specs.Passes.{AreReady, IsClosed}
 use Rattle.hall_desk.specs.Acts.{IsLed, IsOpening}
 use Rattle.hall_desk.specs.Passes.{PassView, pass_view, of_pass}
 use Rattle.hall_desk.specs.Desks.{Kept, GoesOn}
@@ -218,7 +220,8 @@ module _ {B E : Type 0} (made : E → Record) (server : B → State) (pass_of : 
       ((number : ℕ) → 2 ≤ number → entries_of pass_of number last.seen ≡ []) → own.number ≡ 1 → own.mine ≡ [] →
       pass_view made first ≡ pass → pass.number ≡ 0 → Serves view (server opening) pass gate.returned gave →
       AllGivenBack gate → IsRun view (server opening) (map made last.seen) last.drawn (gate ∷ []) (gave ∷ [])
-  closed_run view opening value last first own pass gate gave begins led' closed closed' strangers one unused is numbered
+  closed_run view opening value last first own pass gate gave begins led' closed closed' strangers one unused is
+      numbered
       serves back =
       let start : State = server opening in
       let history : List Record = map made last.seen in

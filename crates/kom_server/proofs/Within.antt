@@ -1,5 +1,6 @@
 -- A talk stays one among records of others, before and after.
-use Rattle.std.proofs.Common.{◌≡◌, ℕ, ◌⊎◌, inl, inr, Bool, true, false, ◌&&◌, ◌==◌, eqb, List, [], ◌∷◌, ◌++◌, length, map, take, Some, refl, sym, ap, subst, ◌∙◌, arith, append-nil, append_assoc}
+use Rattle.std.proofs.Common.{◌≡◌, ℕ, ◌⊎◌, inl, inr, Bool, true, false, ◌&&◌, ◌==◌, eqb, List, [], ◌∷◌, ◌++◌, length}
+use Rattle.std.proofs.Common.{map, take, Some, refl, sym, ap, subst, ◌∙◌, arith, append-nil, append_assoc}
 use Rattle.std.specs.List.{filter, list_all, AllByRecursion}
 use Rattle.std.specs.Bool.{IsTrue}
 use Rattle.std.proofs.lemmas.Bool.{eq-eqb}
@@ -14,8 +15,11 @@ use Rattle.kom_types.specs.Reading.{Request, reading_of}
 use Rattle.kom_links.specs.declared.served.SessionEnd.{SessionEnd}
 use Rattle.kom_links.specs.declared.served.SessionEnd.TheVariants as end
 use Rattle.kom_links.specs.DeskCalls.{record_of}
-use Rattle.kom_links.specs.Talk.{Step, Connects, Asks, Breaks, Flushes, Drains, Closes, own_step, steps_of, records_of, requests_in, drains_in, breaks_in, is_quiet, Begins, EndsClosed, Written, Settles, IsDrained, IsBroken, MayBreak, IsSpaced, AtItsEnd, IsTalk}
-use Rattle.kom_session.proofs.Steps.{requests_in-append, drains_in-append, breaks_in-append, append_split, steps-append, steps_push}
+use Rattle.kom_links.specs.Talk.{Step, Connects, Asks, Breaks, Flushes, Drains, Closes, own_step, steps_of, records_of}
+use Rattle.kom_links.specs.Talk.{requests_in, drains_in, breaks_in, is_quiet, Begins, EndsClosed, Written, Settles}
+use Rattle.kom_links.specs.Talk.{IsDrained, IsBroken, MayBreak, IsSpaced, AtItsEnd, IsTalk}
+use Rattle.kom_session.proofs.Steps.{requests_in-append, drains_in-append, breaks_in-append, append_split, steps-append}
+use Rattle.kom_session.proofs.Steps.{steps_push}
 
 -- a record of another session, or without a session a flush
 abbrev pub IsApart : ℕ → Record → Type 0

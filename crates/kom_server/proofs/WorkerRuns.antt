@@ -1,5 +1,6 @@
 -- A whole run of several workers: each served its gate by its pass, and the hall was closed.
-use Rattle.std.proofs.Common.{◌≡◌, ℕ, suc, ◌+◌, ◌<◌, ◌≤◌, inl, inr, nat_eq, nat_lt, true, eqb, List, [], ◌∷◌, ◌++◌, length, map, All, Some, refl, sym, ap, subst, ◌∙◌, arith}
+use Rattle.std.proofs.Common.{◌≡◌, ℕ, suc, ◌+◌, ◌<◌, ◌≤◌, inl, inr, nat_eq, nat_lt, true, eqb, List, [], ◌∷◌, ◌++◌}
+use Rattle.std.proofs.Common.{length, map, All, Some, refl, sym, ap, subst, ◌∙◌, arith}
 use Rattle.std.specs.Prelude.{slice_index_or}
 use Rattle.std.specs.List.{AllByRecursion, IsDistinct}
 use Rattle.std.proofs.lemmas.Bool.{cases_Bool, cases_eq, eq-eqb, ltb-true, ltb-false}
@@ -150,7 +151,8 @@ module _ {B E : Type 0} (made : E → Record) (server : B → State) (pass_of : 
             by_owners = lead.owned;
             numbered = below (length (readings_of workers)) history others;
             workers = workers_from view start history last.drawn 0 workers
-                (from_map Closed (λ k worker. IsWorker view start history last.drawn k worker.gate worker.gave) 0 workers
+                (from_map Closed (λ k worker. IsWorker view start history last.drawn k worker.gate worker.gave) 0
+                workers
                 (λ k worker closed. closed.served) all);
             distinct = all_apart history start lead.legal 0 (gates_of workers) (own_from history 0 workers
                 (from_map Closed (λ k worker. AreOf history k (told_sessions worker.gate)

@@ -1,6 +1,8 @@
 -- What a run leaves that serves gates, one for each of its passes.
-use Rattle.std.specs.Prelude.{◌≡◌, ◌≢◌, ℕ, ◌+◌, ◌^◌, ◌<◌, ◌≤◌, ◌==◌, ◌⊎◌, ◌&&◌, nat_eq, nat_lt, Bool}
-use Rattle.std.specs.Prelude.{true, false, not, IsTrue, List, [], ◌∷◌, length, map, filter, flat_map}
+use Rattle.std.specs.Prelude.{◌≡◌, ◌≢◌, ℕ, ◌+◌, ◌^◌, ◌<◌, ◌≤◌, ◌==◌, ◌⊎◌, ◌&&◌, nat_eq, nat_lt}
+use Rattle.std.specs.Prelude.{Bool}
+use Rattle.std.specs.Prelude.{true, false, not, IsTrue, List, [], ◌∷◌, length, map, filter}
+use Rattle.std.specs.Prelude.{flat_map}
 use Rattle.std.specs.Prelude.{codes, Option, ◌++◌, Some, None, IfSome, zero, suc}
 use Rattle.std.specs.List.{list_any, AllByRecursion, IsDistinct}
 use Rattle.kom_types.specs.declared.acts.Act.{Act}

@@ -1,5 +1,6 @@
 -- What a pass leaves of its gate.
-use Rattle.std.specs.Prelude.{◌≡◌, ℕ, ◌+◌, nat_eq, false, List, [], ◌∷◌, length, map, Option, IfSome}
+use Rattle.std.specs.Prelude.{◌≡◌, ℕ, ◌+◌, nat_eq, false, List, [], ◌∷◌, length, map, Option}
+use Rattle.std.specs.Prelude.{IfSome}
 use Rattle.std.specs.List.{AllByRecursion, IsDistinct}
 use Rattle.kom_links.specs.declared.served.Served.{Served}
 use Rattle.kom_links.specs.Doors.{GateView}

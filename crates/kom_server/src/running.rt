@@ -1,4 +1,5 @@
-ghost use Rattle.std.specs.Prelude.{◌≡◌, ◌≢◌, ◌⊎◌, ◌↔◌, ℕ, [], ◌∷◌, map, length, true, false, codes};
+ghost use Rattle.std.specs.Prelude.{◌≡◌, ◌≢◌, ◌⊎◌, ◌↔◌, ℕ, [], ◌∷◌, map, length, true, false};
+ghost use Rattle.std.specs.Prelude.{codes};
 ghost use Rattle.std.specs.Prelude.{IsTrue, IsNone, IsSome, IfSome, IsSomeAnd, is_some, option_map};
 ghost use Rattle.std.specs.Prelude.{List, Option, None, Some, ◌≤◌};
 ghost use Rattle.std.specs.List.{AllByRecursion, slice_get};
@@ -15,7 +16,8 @@ ghost use Rattle.kom_links.specs.WorldCounts.{with_sink};
 ghost use Rattle.kom_model.specs.Db.{Db};
 ghost use Rattle.kom_model.specs.Initial.{initial};
 ghost use Rattle.kom_model.specs.State.{opening};
-ghost use Rattle.kom_journal.specs.Images.{AreFor, StandsFor, images, images_at, moment as moment_on};
+ghost use Rattle.kom_journal.specs.Images.{AreFor, StandsFor, images, images_at};
+ghost use Rattle.kom_journal.specs.Images.{moment as moment_on};
 ghost use Rattle.store_check.specs.Stores.{IsNoStore, IfFound, IsWrong, IsReported};
 ghost use Rattle.kom_server.specs.Runs.{new_server, usage, Opens, IsHidingRun, IsFirstReading};
 ghost use Rattle.kom_server.specs.Runs.{HasFailed, IsOverAt, gates_at, IsFirstMoment};

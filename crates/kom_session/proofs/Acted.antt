@@ -1,5 +1,7 @@
 -- The acts of a stream's units.
-use Rattle.std.proofs.Common.{◌≡◌, ◌≢◌, ℕ, ◌+◌, ◌<◌, ◌≤◌, ◌⊎◌, Bool, true, false, inl, inr, List, [], ◌∷◌, ◌++◌, length, map, Option, Some, None, Result, Ok, Err, refl, sym, ◌∙◌, ap, subst, subst₂, append-nil, append_assoc, arith}
+use Rattle.std.proofs.Common.{◌≡◌, ◌≢◌, ℕ, ◌+◌, ◌<◌, ◌≤◌, ◌⊎◌, Bool, true, false, inl, inr, List, [], ◌∷◌, ◌++◌, length}
+use Rattle.std.proofs.Common.{map, Option, Some, None, Result, Ok, Err, refl, sym, ◌∙◌, ap, subst, subst₂, append-nil}
+use Rattle.std.proofs.Common.{append_assoc, arith}
 use Rattle.std.specs.Prelude.{⊤}
 use Rattle.std.proofs.lemmas.List.{map-append}
 use Rattle.kom_types.specs.declared.acts.Act.TheVariants as act
@@ -27,9 +29,11 @@ use Rattle.kom_session.specs.declared.flow.UnitDone.TheVariants as done
 use Rattle.kom_session.specs.Course.{IsRecent, IsCourse}
 use Rattle.kom_session.specs.Flows.{done_after}
 use Rattle.kom_session.specs.Known.{Known, Seen, seen, awake, with_line, HasRoom, LeavesOthers}
-use Rattle.kom_session.specs.Serving.{Party, Nobody, Somebody, Past, AreFirst, IsFaultAfter, IsPhase, IsServed, IsServing, IsTaking, IsFaulty, Plans, IsFinal, IsLast, IsOver, IsHeard}
+use Rattle.kom_session.specs.Serving.{Party, Nobody, Somebody, Past, AreFirst, IsFaultAfter, IsPhase, IsServed}
+use Rattle.kom_session.specs.Serving.{IsServing, IsTaking, IsFaulty, Plans, IsFinal, IsLast, IsOver, IsHeard}
 use Rattle.kom_session.proofs.Times.{timed_more}
-use Rattle.kom_session.proofs.Courses.{open_push, open_tail, own_step-same, recent_settled, recent_other, recent_call, course_started, course_called, course_broken}
+use Rattle.kom_session.proofs.Courses.{open_push, open_tail, own_step-same, recent_settled, recent_other, recent_call}
+use Rattle.kom_session.proofs.Courses.{course_started, course_called, course_broken}
 use Rattle.kom_session.proofs.Others.{others_open, act_leaves}
 use Rattle.kom_session.proofs.Served.{Pushes, push, served_still, served_split}
 use Rattle.kom_session.proofs.Stepped.{ok_fault, err_fault, noted_some}

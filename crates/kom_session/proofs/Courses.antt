@@ -1,5 +1,7 @@
 -- The service of a session, one record more at a time.
-use Rattle.std.proofs.Common.{◌≡◌, ◌≢◌, ℕ, ◌+◌, ◌<◌, ◌⊎◌, arith, Bool, true, false, not, ◌&&◌, ◌||◌, IsTrue, ◌==◌, inl, inr, List, [], ◌∷◌, ◌++◌, length, length-append, refl, sym, ◌∙◌, ap, ap₂, subst, subst₂, append-nil, append_assoc, eq-eqb}
+use Rattle.std.proofs.Common.{◌≡◌, ◌≢◌, ℕ, ◌+◌, ◌<◌, ◌⊎◌, arith, Bool, true, false, not, ◌&&◌, ◌||◌, IsTrue, ◌==◌, inl}
+use Rattle.std.proofs.Common.{inr, List, [], ◌∷◌, ◌++◌, length, length-append, refl, sym, ◌∙◌, ap, ap₂, subst, subst₂}
+use Rattle.std.proofs.Common.{append-nil, append_assoc, eq-eqb}
 use Rattle.std.specs.List.{list_all, list_any}
 use Rattle.std.proofs.lemmas.List.Folds.{list_all-append, list_any-append}
 use Rattle.kom_types.specs.declared.acts.Act.TheVariants as act
@@ -9,9 +11,11 @@ use Rattle.kom_types.specs.declared.calls.Call.{Call}
 use Rattle.kom_types.specs.Reading.{Request}
 use Rattle.kom_links.specs.Records.{is_connect, is_close, has_connect, has_close, has_session, IsOpen}
 use Rattle.kom_links.specs.DeskCalls.{record_of}
-use Rattle.kom_links.specs.Talk.{Step, Connects, Asks, Breaks, Flushes, Drains, own_step, steps_of, requests_in, drains_in, breaks_in, Settles, IsSpaced}
+use Rattle.kom_links.specs.Talk.{Step, Connects, Asks, Breaks, Flushes, Drains, own_step, steps_of, requests_in}
+use Rattle.kom_links.specs.Talk.{drains_in, breaks_in, Settles, IsSpaced}
 use Rattle.kom_session.specs.Course.{is_still, IsFlushed, IsSettled, IsRecent, IsAtFault, IsCourse}
-use Rattle.kom_session.proofs.Steps.{requests_in-append, drains_in-append, breaks_in-append, push_split, append_split, steps-append}
+use Rattle.kom_session.proofs.Steps.{requests_in-append, drains_in-append, breaks_in-append, push_split, append_split}
+use Rattle.kom_session.proofs.Steps.{steps-append}
 
 -- ---- tests
 

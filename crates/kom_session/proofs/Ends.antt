@@ -1,5 +1,7 @@
 -- From the end that the loop gives to the end of the service.
-use Rattle.std.proofs.Common.{◌≡◌, ◌≢◌, ℕ, zero, suc, ◌^◌, ◌<◌, ◌⊎◌, ◌==◌, ◌&&◌, ◌||◌, ◌↔◌, not, Bool, true, false, inl, inr, List, [], ◌∷◌, ◌++◌, length, Option, Some, None, Result, Ok, Err, refl, sym, ◌∙◌, ap, ap₂, subst, append-nil, append_assoc, ne_eqb, le-leb, arith}
+use Rattle.std.proofs.Common.{◌≡◌, ◌≢◌, ℕ, zero, suc, ◌^◌, ◌<◌, ◌⊎◌, ◌==◌, ◌&&◌, ◌||◌, ◌↔◌, not, Bool, true, false, inl}
+use Rattle.std.proofs.Common.{inr, List, [], ◌∷◌, ◌++◌, length, Option, Some, None, Result, Ok, Err, refl, sym, ◌∙◌, ap}
+use Rattle.std.proofs.Common.{ap₂, subst, append-nil, append_assoc, ne_eqb, le-leb, arith}
 use Rattle.std.specs.Prelude.{⊤, IfSome, IsSome, IsTrue}
 use Rattle.std.specs.List.{AllByRecursion}
 use Rattle.std.proofs.lemmas.List.Folds.{list_any-append}
@@ -19,17 +21,21 @@ use Rattle.kom_links.specs.declared.served.SessionEnd.TheVariants as end
 use Rattle.kom_links.specs.Outside.{Look, LinkView, Rose, grown, IsNothing}
 use Rattle.kom_links.specs.Doors.{Gains}
 use Rattle.kom_links.specs.Records.{is_connect, is_open, has_connect, has_close, IsOpen}
-use Rattle.kom_links.specs.DeskCalls.{DeskView, record_of, first_fault, is_lock_full, IsLockFault, IsConnectFault, Closes as ClosesOf}
+use Rattle.kom_links.specs.DeskCalls.{DeskView, record_of, first_fault, is_lock_full, IsLockFault, IsConnectFault}
+use Rattle.kom_links.specs.DeskCalls.{Closes as ClosesOf}
 use Rattle.kom_links.specs.Talk.{Step, Closes, steps_of, printed, lines_before, IsPrefix, IsDrained, AreTimed, IsTalk}
 use Rattle.kom_session.specs.declared.flow.Phase.{Phase}
 use Rattle.kom_session.specs.declared.flow.Phase.TheVariants as phase
 use Rattle.kom_session.specs.Course.{IsSettled}
-use Rattle.kom_session.specs.Ends.{IsEndOf, HasCause, TellsFault, IsOwn, IsUntouched, given_to, end_at, ending_of, ending}
+use Rattle.kom_session.specs.Ends.{IsEndOf, HasCause, TellsFault, IsOwn, IsUntouched, given_to, end_at, ending_of}
+use Rattle.kom_session.specs.Ends.{ending}
 use Rattle.kom_session.specs.Known.{Known, Seen, seen, State, IsClosed, LeavesOthers}
-use Rattle.kom_session.specs.Serving.{Party, Nobody, Somebody, Past, owed_to, IsFaultAfter, IsSomebody, IsParty, IsPhase, IsServed, IsBetween, Climbs, Plans, IsHeard, IsOver, IsBegun, ServesLink}
+use Rattle.kom_session.specs.Serving.{Party, Nobody, Somebody, Past, owed_to, IsFaultAfter, IsSomebody, IsParty}
+use Rattle.kom_session.specs.Serving.{IsPhase, IsServed, IsBetween, Climbs, Plans, IsHeard, IsOver, IsBegun, ServesLink}
 use Rattle.kom_session.specs.Waits.{AreAnswered, NoneWaits}
 use Rattle.kom_session.proofs.Times.{timed_none, timed_more, timed_skip}
-use Rattle.kom_session.proofs.Talks.{EndFacts, SilentFacts, settled_drained, settled_closed, talk_closed, talk_open, talk_silent}
+use Rattle.kom_session.proofs.Talks.{EndFacts, SilentFacts, settled_drained, settled_closed, talk_closed, talk_open}
+use Rattle.kom_session.proofs.Talks.{talk_silent}
 use Rattle.kom_session.proofs.Courses.{and_left, or_true, own_step-same}
 use Rattle.kom_session.proofs.Others.{others_trans, others_none, others_open, act_leaves}
 use Rattle.kom_session.proofs.Stepped.{first_nil, ok_fault}

@@ -1,5 +1,6 @@
 -- The loop ends, or goes on, once what waits was sent.
-use Rattle.std.proofs.Common.{◌≡◌, ◌≢◌, ℕ, ◌≤◌, inl, inr, List, [], Option, Some, None, refl, sym, ◌∙◌, ap, subst, arith}
+use Rattle.std.proofs.Common.{◌≡◌, ◌≢◌, ℕ, ◌≤◌, inl, inr, List, [], Option, Some, None, refl, sym, ◌∙◌, ap, subst}
+use Rattle.std.proofs.Common.{arith}
 use Rattle.kom_types.specs.declared.acts.Record.{Record}
 use Rattle.kom_types.specs.Stream.{stream_of}
 use Rattle.kom_framing.specs.declared.units.Unit.{Unit as StreamUnit}
@@ -15,7 +16,8 @@ use Rattle.kom_session.specs.declared.flow.Next.TheVariants as next
 use Rattle.kom_session.specs.declared.flow.Phase.TheVariants as phase
 use Rattle.kom_session.specs.Flows.{ended_by}
 use Rattle.kom_session.specs.Known.{Known, Seen, State, HasRoom, Keeps}
-use Rattle.kom_session.specs.Serving.{Party, Nobody, Somebody, Past, IsParty, IsServed, ServesOn, IsServing, Plans, Climbs, IsHeard, IsOver, IsFinal, IsLast, IsEnded, ServesBatch, GoesOn, Settled}
+use Rattle.kom_session.specs.Serving.{Party, Nobody, Somebody, Past, IsParty, IsServed, ServesOn, IsServing, Plans}
+use Rattle.kom_session.specs.Serving.{Climbs, IsHeard, IsOver, IsFinal, IsLast, IsEnded, ServesBatch, GoesOn, Settled}
 use Rattle.kom_session.proofs.Acted.{heard_fault}
 
 -- ---- faults of a link

@@ -1,5 +1,6 @@
 -- What a service left at its end.
-use Rattle.std.proofs.Common.{◌≡◌, ◌≢◌, ◌^◌, ◌<◌, ◌⊎◌, ◌↔◌, Bool, true, false, inl, inr, Option, Some, None, Result, Ok, Err, refl, sym, ◌∙◌, ap, subst}
+use Rattle.std.proofs.Common.{◌≡◌, ◌≢◌, ◌^◌, ◌<◌, ◌⊎◌, ◌↔◌, Bool, true, false, inl, inr, Option, Some, None, Result, Ok}
+use Rattle.std.proofs.Common.{Err, refl, sym, ◌∙◌, ap, subst}
 use Rattle.std.specs.Prelude.{⊤, IsTrue, IfErr}
 use Rattle.kom_types.specs.declared.answers.Why.TheVariants as why
 use Rattle.kom_links.specs.declared.desk.DeskFault.{DeskFault}

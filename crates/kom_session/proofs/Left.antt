@@ -1,5 +1,7 @@
 -- What the desk tells of its acts, step by step.
-use Rattle.std.proofs.Common.{◌≡◌, ◌≢◌, ℕ, ◌+◌, ◌-◌, ◌^◌, ◌≤◌, ◌⊎◌, inl, inr, Bool, true, false, List, [], ◌∷◌, ◌++◌, Option, Some, None, Err, length, filter, length-append, add-zero, refl, sym, ◌∙◌, ap, subst, arith}
+use Rattle.std.proofs.Common.{◌≡◌, ◌≢◌, ℕ, ◌+◌, ◌-◌, ◌^◌, ◌≤◌, ◌⊎◌, inl, inr, Bool, true, false, List, [], ◌∷◌, ◌++◌}
+use Rattle.std.proofs.Common.{Option, Some, None, Err, length, filter, length-append, add-zero, refl, sym, ◌∙◌, ap}
+use Rattle.std.proofs.Common.{subst, arith}
 use Rattle.std.proofs.lemmas.Bool.Decides.{leb_tells}
 use Rattle.std.proofs.lemmas.List.Elements.{filter-append}
 use Rattle.std.specs.Prelude.{⊤, IfSome, min}
@@ -16,7 +18,8 @@ use Rattle.kom_links.specs.declared.served.SessionEnd.{SessionEnd}
 use Rattle.kom_links.specs.declared.served.SessionEnd.TheVariants as end
 use Rattle.kom_links.specs.WorldCounts.{next_call}
 use Rattle.kom_links.specs.DeskCalls.{first_fault}
-use Rattle.kom_links.specs.DeskTally.{then_fault, then_flush, then_drain, connected, faulted, refused, flushed, drained, asked, is_nothing}
+use Rattle.kom_links.specs.DeskTally.{then_fault, then_flush, then_drain, connected, faulted, refused, flushed, drained}
+use Rattle.kom_links.specs.DeskTally.{asked, is_nothing}
 use Rattle.kom_links.specs.Outside.{Look, LinkView, Reads, is_not_yet}
 use Rattle.kom_session.specs.declared.flow.Flow.{Flow}
 use Rattle.kom_session.specs.declared.flow.Flow.TheVariants as flow
@@ -26,7 +29,9 @@ use Rattle.kom_session.specs.declared.flow.Phase.TheVariants as phase
 use Rattle.kom_session.specs.Ends.{IsUntouched}
 use Rattle.kom_session.specs.Flows.{ended_by, done_after}
 use Rattle.kom_session.specs.Known.{Known, State, ReadsLink, IsSent}
-use Rattle.kom_session.specs.Left.{RoseBy, waits_in, AreAsked, HasRefused, IsSending, IsTold, IsFlushedSince, IsSettledSince, Drained, SettlesSince, Tallies, TalliesReads, Leaves, LeavesNext, LeavesUnit}
+use Rattle.kom_session.specs.Left.{RoseBy, waits_in, AreAsked, HasRefused, IsSending, IsTold, IsFlushedSince}
+use Rattle.kom_session.specs.Left.{IsSettledSince, Drained, SettlesSince, Tallies, TalliesReads, Leaves, LeavesNext}
+use Rattle.kom_session.specs.Left.{LeavesUnit}
 
 -- ---- counts
 

@@ -1,5 +1,6 @@
 -- What the service of a session leaves alone.
-use Rattle.std.proofs.Common.{◌≡◌, ◌≢◌, ℕ, ◌==◌, ◌⊎◌, ◌&&◌, ◌||◌, Bool, true, false, not, inl, inr, List, [], ◌∷◌, ◌++◌, Option, Some, None, Result, Ok, Err, refl, sym, ◌∙◌, ap, ap₂, subst, ne_eqb, arith}
+use Rattle.std.proofs.Common.{◌≡◌, ◌≢◌, ℕ, ◌==◌, ◌⊎◌, ◌&&◌, ◌||◌, Bool, true, false, not, inl, inr, List, [], ◌∷◌, ◌++◌}
+use Rattle.std.proofs.Common.{Option, Some, None, Result, Ok, Err, refl, sym, ◌∙◌, ap, ap₂, subst, ne_eqb, arith}
 use Rattle.std.specs.Prelude.{IsSome, if◌then◌else◌}
 use Rattle.std.proofs.lemmas.List.Folds.{list_any-append}
 use Rattle.kom_types.specs.declared.acts.Act.TheVariants as act
@@ -9,7 +10,8 @@ use Rattle.kom_links.specs.declared.desk.DeskFault.{DeskFault}
 use Rattle.kom_links.specs.declared.desk.DeskFault.TheVariants as fault
 use Rattle.kom_links.specs.Outside.{LinkView}
 use Rattle.kom_links.specs.Records.{is_connect, is_close, has_connect, has_close, is_open}
-use Rattle.kom_links.specs.DeskCalls.{DeskView, record_of, first_fault, first_stop, is_noted, AddsNoneOrShort, NotesAt, Flushes, AsksStopped, NotesEverywhere}
+use Rattle.kom_links.specs.DeskCalls.{DeskView, record_of, first_fault, first_stop, is_noted, AddsNoneOrShort, NotesAt}
+use Rattle.kom_links.specs.DeskCalls.{Flushes, AsksStopped, NotesEverywhere}
 use Rattle.kom_session.specs.Known.{Seen, seen, Puts, LeavesOthers}
 
 -- ---- who is open

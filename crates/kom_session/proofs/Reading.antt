@@ -1,5 +1,6 @@
 -- From one read of a link to the next: what it gave, what waits after it, and where it ends.
-use Rattle.std.proofs.Common.{◌≡◌, ◌≢◌, ℕ, ◌⊎◌, ◌||◌, Bool, true, false, inl, inr, List, [], ◌∷◌, ◌++◌, length, take, Option, Some, None, option_map, refl, sym, ◌∙◌, ap, subst, subst₂, append-nil, is_some}
+use Rattle.std.proofs.Common.{◌≡◌, ◌≢◌, ℕ, ◌⊎◌, ◌||◌, Bool, true, false, inl, inr, List, [], ◌∷◌, ◌++◌, length, take}
+use Rattle.std.proofs.Common.{Option, Some, None, option_map, refl, sym, ◌∙◌, ap, subst, subst₂, append-nil, is_some}
 use Rattle.std.specs.Prelude.{IfSome}
 use Rattle.kom_types.specs.declared.acts.Record.{Record}
 use Rattle.kom_types.specs.declared.items.Item.TheVariants as item
@@ -22,7 +23,9 @@ use Rattle.kom_session.specs.declared.flow.Phase.TheVariants as phase
 use Rattle.kom_session.specs.Course.{IsSettled}
 use Rattle.kom_session.specs.Flows.{ended_by}
 use Rattle.kom_session.specs.Known.{Known, Seen, State, knowing, awake, HasRoom, HasSession, Keeps, ReadsLink, IsSent}
-use Rattle.kom_session.specs.Serving.{Party, Nobody, Somebody, Past, owed_to, AreFirst, IsParty, IsPhase, IsServed, ServesOn, AreCalled, IsServing, IsBetween, HasRead, HasWaited, IsWhole, Plans, Climbs, IsHeard, IsOver, IsLast, IsFaulty, IsEnded}
+use Rattle.kom_session.specs.Serving.{Party, Nobody, Somebody, Past, owed_to, AreFirst, IsParty, IsPhase, IsServed}
+use Rattle.kom_session.specs.Serving.{ServesOn, AreCalled, IsServing, IsBetween, HasRead, HasWaited, IsWhole, Plans}
+use Rattle.kom_session.specs.Serving.{Climbs, IsHeard, IsOver, IsLast, IsFaulty, IsEnded}
 use Rattle.kom_session.specs.Waits.{given_in, IsAnsweredBy, IsAnswered, IsChecked, AreAnswered}
 use Rattle.kom_session.proofs.Acted.{heard_fault}
 use Rattle.kom_session.proofs.Others.{others_trans}
@@ -30,7 +33,8 @@ use Rattle.kom_session.proofs.Served.{grown-append, served_sent, served_open, se
 use Rattle.kom_session.proofs.Courses.{recent_settled}
 use Rattle.kom_session.proofs.Stepped.{first_nil}
 use Rattle.kom_session.proofs.Steps.{given_of, steps_connected}
-use Rattle.kom_session.proofs.Units.{begins, begins_more, first_calls, no_greeting, fault_tail_all, silent_fault, all_sound}
+use Rattle.kom_session.proofs.Units.{begins, begins_more, first_calls, no_greeting, fault_tail_all, silent_fault}
+use Rattle.kom_session.proofs.Units.{all_sound}
 use Rattle.kom_session.proofs.Streams.{fault_none_greeting}
 use Rattle.kom_session.proofs.Finishing.{climbs_risen, climbs_after, some_plan}
 

@@ -1,5 +1,7 @@
 -- The service of a link, one step more at a time.
-use Rattle.std.proofs.Common.{◌≡◌, ◌≢◌, ℕ, ◌==◌, ◌⊎◌, ◌||◌, Bool, true, false, inl, inr, List, [], ◌∷◌, ◌++◌, Option, Some, None, Result, Ok, Err, refl, sym, ◌∙◌, ap, ap₂, subst, append-nil, append_assoc, eq-eqb}
+use Rattle.std.proofs.Common.{◌≡◌, ◌≢◌, ℕ, ◌==◌, ◌⊎◌, ◌||◌, Bool, true, false, inl, inr, List, [], ◌∷◌, ◌++◌, Option}
+use Rattle.std.proofs.Common.{Some, None, Result, Ok, Err, refl, sym, ◌∙◌, ap, ap₂, subst, append-nil, append_assoc}
+use Rattle.std.proofs.Common.{eq-eqb}
 use Rattle.std.specs.Prelude.{IfSome, flat_map}
 use Rattle.std.specs.List.{AllByRecursion}
 use Rattle.std.proofs.lemmas.Grind.{flat_map-append}
@@ -15,7 +17,8 @@ use Rattle.kom_links.specs.declared.desk.DeskFault.TheVariants as fault
 use Rattle.kom_links.specs.Outside.{Look, LinkView, grown}
 use Rattle.kom_links.specs.Doors.{Gains}
 use Rattle.kom_links.specs.Records.{is_open, IsOpen}
-use Rattle.kom_links.specs.DeskCalls.{DeskView, record_of, first_fault, first_stop, is_noted, AddsNoneOrShort, Drains as DrainsOf, Flushes as FlushesOf, AsksStopped}
+use Rattle.kom_links.specs.DeskCalls.{DeskView, record_of, first_fault, first_stop, is_noted, AddsNoneOrShort}
+use Rattle.kom_links.specs.DeskCalls.{Drains as DrainsOf, Flushes as FlushesOf, AsksStopped}
 use Rattle.kom_links.specs.Talk.{Step, Flushes, Drains, steps_of, printed, AreTimed}
 use Rattle.kom_session.specs.declared.flow.Phase.{Phase}
 use Rattle.kom_session.specs.declared.flow.Phase.TheVariants as phase
@@ -26,8 +29,11 @@ use Rattle.kom_session.specs.Serving.{Party, Nobody, Somebody, Past, owed_to, Is
 use Rattle.kom_session.specs.Waits.{AreAnswered}
 use Rattle.kom_session.proofs.Steps.{steps-append}
 use Rattle.kom_session.proofs.Times.{timed_more, timed_skip}
-use Rattle.kom_session.proofs.Courses.{open_push, drain_steps, course_flushed, course_drained, recent_settled, recent_other, flushed_push, flushed_drained, settled_drained, settled_after, settled_settles}
-use Rattle.kom_session.proofs.Others.{others_trans, puts_leaves, stop_leaves, flush_leaves, act_leaves, others_open, noted_here}
+use Rattle.kom_session.proofs.Courses.{open_push, drain_steps, course_flushed, course_drained, recent_settled}
+use Rattle.kom_session.proofs.Courses.{recent_other, flushed_push, flushed_drained, settled_drained, settled_after}
+use Rattle.kom_session.proofs.Courses.{settled_settles}
+use Rattle.kom_session.proofs.Others.{others_trans, puts_leaves, stop_leaves, flush_leaves, act_leaves, others_open}
+use Rattle.kom_session.proofs.Others.{noted_here}
 
 -- ---- what is put
 

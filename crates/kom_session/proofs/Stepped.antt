@@ -1,5 +1,6 @@
 -- What each answer of the desk leaves of a service.
-use Rattle.std.proofs.Common.{◌≡◌, ◌≢◌, ℕ, true, false, List, [], ◌∷◌, ◌++◌, length, Option, Some, None, Ok, Err, refl, subst}
+use Rattle.std.proofs.Common.{◌≡◌, ◌≢◌, ℕ, true, false, List, [], ◌∷◌, ◌++◌, length, Option, Some, None, Ok, Err, refl}
+use Rattle.std.proofs.Common.{subst}
 use Rattle.std.specs.Prelude.{⊤, flat_map}
 use Rattle.kom_types.specs.declared.answers.Why.TheVariants as why
 use Rattle.kom_types.specs.declared.items.Item.{Item}
@@ -7,11 +8,13 @@ use Rattle.kom_types.specs.Printing.{print_of}
 use Rattle.kom_links.specs.declared.desk.DeskFault.{DeskFault}
 use Rattle.kom_links.specs.declared.desk.DeskFault.TheVariants as fault
 use Rattle.kom_links.specs.Doors.{Gains}
-use Rattle.kom_links.specs.DeskCalls.{DeskView, first_fault, first_stop, Drains as DrainsOf, Flushes as FlushesOf, AsksStopped}
+use Rattle.kom_links.specs.DeskCalls.{DeskView, first_fault, first_stop, Drains as DrainsOf, Flushes as FlushesOf}
+use Rattle.kom_links.specs.DeskCalls.{AsksStopped}
 use Rattle.kom_session.specs.declared.flow.Phase.TheVariants as phase
 use Rattle.kom_session.specs.Known.{Known, Seen, seen, awake}
 use Rattle.kom_session.specs.Serving.{Past, IsServed}
-use Rattle.kom_session.proofs.Served.{served_asked, flush_made, flush_refused, drained_some, drained_none, drain_refused}
+use Rattle.kom_session.proofs.Served.{served_asked, flush_made, flush_refused, drained_some, drained_none}
+use Rattle.kom_session.proofs.Served.{drain_refused}
 
 -- ---- the first fault
 

@@ -1,12 +1,16 @@
 -- Where the lines of a stream end, and where its fault stands.
-use Rattle.std.proofs.Common.{◌≡◌, ℕ, suc, ◌+◌, ◌<◌, ◌≤◌, Bool, true, false, cond, nat_lt, List, [], ◌∷◌, ◌++◌, length, map, filter, Option, Some, None, option_map, refl, sym, ◌∙◌, ap, ap₂, subst, lt-ltb, arith}
+use Rattle.std.proofs.Common.{◌≡◌, ℕ, suc, ◌+◌, ◌<◌, ◌≤◌, Bool, true, false, cond, nat_lt, List, [], ◌∷◌, ◌++◌, length}
+use Rattle.std.proofs.Common.{map, filter, Option, Some, None, option_map, refl, sym, ◌∙◌, ap, ap₂, subst, lt-ltb}
+use Rattle.std.proofs.Common.{arith}
 use Rattle.std.specs.Option.{option_or}
 use Rattle.std.proofs.lemmas.List.{length-map}
 use borrow.Author.Tests.{le-ltb}
 use Rattle.kom_types.specs.declared.side.Side.TheVariants as side
 use Rattle.kom_types.specs.Token.{Token}
 use Rattle.kom_types.specs.Grammar.{Form, Prefix, Whole, Unfit, line_form, greeting_form}
-use Rattle.kom_types.specs.Stream.{Line, Fault, Malformed, LineTooLong, Split, Verdict, GoesOn, Ends, Fails, verdict, longest_stream, longest_line, line_verdict, greeting_verdict, with_line, stopped_in, lines_from, greeting_from, stream_of}
+use Rattle.kom_types.specs.Stream.{Line, Fault, Malformed, LineTooLong, Split, Verdict, GoesOn, Ends, Fails, verdict}
+use Rattle.kom_types.specs.Stream.{longest_stream, longest_line, line_verdict, greeting_verdict, with_line, stopped_in}
+use Rattle.kom_types.specs.Stream.{lines_from, greeting_from, stream_of}
 use Rattle.kom_types.specs.Reading.{Request, reading_of, first_malformed, place_of, fault_of}
 use Rattle.kom_links.specs.Talk.{lines_before}
 

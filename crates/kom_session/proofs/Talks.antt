@@ -1,5 +1,7 @@
 -- A session's course with its end is a link's talk.
-use Rattle.std.proofs.Common.{◌≡◌, ◌≢◌, ℕ, ◌+◌, Bool, true, false, IsTrue, ◌==◌, ◌⊎◌, inl, inr, List, [], ◌∷◌, ◌++◌, length, map, filter, take, Some, None, IsSome, refl, sym, ◌∙◌, ap, subst, append-nil, append_assoc, add-zero, eq-eqb, ne_eqb, cond, ◌&&◌, is_some, arith}
+use Rattle.std.proofs.Common.{◌≡◌, ◌≢◌, ℕ, ◌+◌, Bool, true, false, IsTrue, ◌==◌, ◌⊎◌, inl, inr, List, [], ◌∷◌, ◌++◌}
+use Rattle.std.proofs.Common.{length, map, filter, take, Some, None, IsSome, refl, sym, ◌∙◌, ap, subst, append-nil}
+use Rattle.std.proofs.Common.{append_assoc, add-zero, eq-eqb, ne_eqb, cond, ◌&&◌, is_some, arith}
 use Rattle.std.specs.List.{list_all}
 use Rattle.std.proofs.lemmas.List.Folds.{list_all-append}
 use Rattle.std.proofs.lemmas.List.Elements.{filter-append}
@@ -13,10 +15,14 @@ use Rattle.kom_types.specs.Printing.{print_of}
 use Rattle.kom_links.specs.declared.served.SessionEnd.{SessionEnd}
 use Rattle.kom_links.specs.declared.served.SessionEnd.TheVariants as end
 use Rattle.kom_links.specs.DeskCalls.{record_of}
-use Rattle.kom_links.specs.Talk.{Step, Connects, Asks, Breaks, Flushes, Drains, Closes, steps_of, records_of, requests_in, drains_in, breaks_in, Begins, EndsClosed, IsCutShort, lines_before, printed, IsPrefix, is_quiet, IsDrained, IsBroken, MayBreak, Written, AtItsEnd, IsSpaced, IsTalk}
+use Rattle.kom_links.specs.Talk.{Step, Connects, Asks, Breaks, Flushes, Drains, Closes, steps_of, records_of}
+use Rattle.kom_links.specs.Talk.{requests_in, drains_in, breaks_in, Begins, EndsClosed, IsCutShort, lines_before}
+use Rattle.kom_links.specs.Talk.{printed, IsPrefix, is_quiet, IsDrained, IsBroken, MayBreak, Written, AtItsEnd}
+use Rattle.kom_links.specs.Talk.{IsSpaced, IsTalk}
 use Rattle.kom_session.specs.Course.{is_still, IsSettled, IsAtFault, IsConnected, IsCourse}
 use Rattle.kom_session.proofs.Steps.{requests_in-append, drains_in-append, breaks_in-append, append_split, steps_push}
-use Rattle.kom_session.proofs.Courses.{and_left, and_right, both, own_step-same, settled_tail, spaced_other, fault_still}
+use Rattle.kom_session.proofs.Courses.{and_left, and_right, both, own_step-same, settled_tail, spaced_other}
+use Rattle.kom_session.proofs.Courses.{fault_still}
 use Rattle.kom_session.proofs.Streams.{no_lines_before_greeting}
 
 -- What each end says of a session that was connected.

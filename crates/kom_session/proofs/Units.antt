@@ -1,5 +1,7 @@
 -- The units of a stream, and what those that were served say of it.
-use Rattle.std.proofs.Common.{◌≡◌, ℕ, ◌+◌, ◌==◌, ◌≤◌, ◌&&◌, ◌⊎◌, Bool, true, false, nat_le, nat_lt, inl, inr, List, [], ◌∷◌, ◌++◌, length, map, take, take_while, Option, Some, None, refl, sym, ◌∙◌, ap, ap₂, subst, append-nil, append_assoc, arith}
+use Rattle.std.proofs.Common.{◌≡◌, ℕ, ◌+◌, ◌==◌, ◌≤◌, ◌&&◌, ◌⊎◌, Bool, true, false, nat_le, nat_lt, inl, inr, List, []}
+use Rattle.std.proofs.Common.{◌∷◌, ◌++◌, length, map, take, take_while, Option, Some, None, refl, sym, ◌∙◌, ap, ap₂}
+use Rattle.std.proofs.Common.{subst, append-nil, append_assoc, arith}
 use Rattle.std.specs.Prelude.{option_to_list, option_map, IfSome}
 use Rattle.std.proofs.lemmas.List.{length-map}
 use Rattle.std.proofs.lemmas.Bool.{eqb-true, leb-true}
@@ -7,8 +9,11 @@ use Rattle.std.proofs.Math.Seq.{take-append_seam}
 use Rattle.kom_types.specs.declared.side.Side.TheVariants as side
 use Rattle.kom_types.specs.ByteKind.{is_blank, is_digit}
 use Rattle.kom_types.specs.Token.{Token, number_of}
-use Rattle.kom_types.specs.Grammar.{Form, Prefix, Whole, Unfit, drop_while, exactly, is_name_length, name_at, greeting_form}
-use Rattle.kom_types.specs.Stream.{Line, Fault, Malformed, LineTooLong, Split, Verdict, GoesOn, Ends, Fails, verdict, longest_stream, line_verdict, greeting_verdict, with_line, stopped_in, lines_from, greeting_from, stream_of}
+use Rattle.kom_types.specs.Grammar.{Form, Prefix, Whole, Unfit, drop_while, exactly, is_name_length, name_at}
+use Rattle.kom_types.specs.Grammar.{greeting_form}
+use Rattle.kom_types.specs.Stream.{Line, Fault, Malformed, LineTooLong, Split, Verdict, GoesOn, Ends, Fails, verdict}
+use Rattle.kom_types.specs.Stream.{longest_stream, line_verdict, greeting_verdict, with_line, stopped_in, lines_from}
+use Rattle.kom_types.specs.Stream.{greeting_from, stream_of}
 use Rattle.kom_types.specs.Reading.{Request, reading_of, place_of, fault_of}
 use Rattle.kom_framing.specs.declared.units.Unit.{Unit as StreamUnit}
 use Rattle.kom_framing.specs.declared.units.Unit.TheVariants as unit

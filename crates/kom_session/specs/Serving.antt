@@ -1,6 +1,7 @@
 -- How far the service of a link has come.
 use Rattle.std.specs.Prelude.{◌≡◌, ◌≢◌, ℕ, ◌-◌, ◌^◌, ◌<◌, ◌≤◌, ◌⊎◌, Bool, true, false, List, []}
-use Rattle.std.specs.Prelude.{◌∷◌, ◌++◌, length, map, take, Option, Some, None, IsSome, IfSome, IsTrue}
+use Rattle.std.specs.Prelude.{◌∷◌, ◌++◌, length, map, take, Option, Some, None, IsSome, IfSome}
+use Rattle.std.specs.Prelude.{IsTrue}
 use Rattle.std.specs.List.{AllByRecursion}
 use Rattle.kom_types.specs.declared.acts.Record.{Record}
 use Rattle.kom_types.specs.declared.items.Item.{Item}

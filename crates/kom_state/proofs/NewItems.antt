@@ -4,7 +4,8 @@ use Rattle.std.proofs.Common.{length, take, get_or, Option, Some, None, refl, sy
 use Rattle.std.specs.Prelude.{nat_lt, min, if◌then◌else◌}
 use Rattle.std.proofs.lemmas.Bool.{and_parts, ltb-true}
 use Rattle.std.proofs.lemmas.List.{take_more, length-append, length-take-le}
-use Rattle.kom_types.specs.AuxItems.{AuxKind, AuxRefusal, item_of, items_from, code_added, kind_of, fits, may_add, may_stand}
+use Rattle.kom_types.specs.AuxItems.{AuxKind, AuxRefusal, item_of, items_from, code_added, kind_of, fits, may_add}
+use Rattle.kom_types.specs.AuxItems.{may_stand}
 use Rattle.kom_types.specs.AuxItems.{has_wrong_flags, leaves_room, longest_content}
 use Rattle.kom_types.specs.AuxItems.{most_items, refused_added, refused_change}
 use Rattle.kom_types.specs.declared.aux_items.Adder.{Adder}

@@ -1,5 +1,6 @@
 -- The memberships of a person, by their places, are those that have the person.
-use Rattle.std.proofs.Common.{◌≡◌, ℕ, true, eqb, ltb, List, [], ◌∷◌, map, filter, Some, is_some, inl, inr, refl, sym, ap, ◌∙◌}
+use Rattle.std.proofs.Common.{◌≡◌, ℕ, true, eqb, ltb, List, [], ◌∷◌, map, filter, Some, is_some, inl, inr, refl, sym}
+use Rattle.std.proofs.Common.{ap, ◌∙◌}
 use Rattle.std.specs.List.{AllByRecursion, IsDistinct, fold, range_with_len}
 use Rattle.std.proofs.lemmas.Bool.{cases_Bool, cond_both, eq-eqb, true≢false}
 use Rattle.std.proofs.lemmas.Map.Keys.{IsDistinct-head, IsDistinct-tail}

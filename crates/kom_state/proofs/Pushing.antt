@@ -4,7 +4,8 @@ use Rattle.std.proofs.Common.{get_or, Some, None, sym, ap, ◌∙◌, inl, inr, 
 use Rattle.std.specs.List.{slice_get}
 use Rattle.std.proofs.lemmas.List.{take_more, take_all, map-append, append_assoc, append-nil}
 use Rattle.std.proofs.lemmas.List.Elements.{filter-append}
-use Rattle.std.proofs.lemmas.Option.{none-some, slice_get_within, slice_get_cases, slice_get-get_or, get_or_from_slice_get}
+use Rattle.std.proofs.lemmas.Option.{none-some, slice_get_within, slice_get_cases, slice_get-get_or}
+use Rattle.std.proofs.lemmas.Option.{get_or_from_slice_get}
 
 module _ {X Y : Type 0} (make : X → Y) (old : List Y) (xs : List X) where
   -- one more of them

@@ -1,5 +1,6 @@
 -- The pairs of a chain, as pairs of a local number and its text.
-use Rattle.std.proofs.Common.{◌≡◌, ℕ, suc, Bool, true, false, cond, eqb, List, [], ◌∷◌, ◌++◌, map, filter, find, option_map, Some, refl, ap}
+use Rattle.std.proofs.Common.{◌≡◌, ℕ, suc, Bool, true, false, cond, eqb, List, [], ◌∷◌, ◌++◌, map, filter, find}
+use Rattle.std.proofs.Common.{option_map, Some, refl, ap}
 use Rattle.std.specs.List.{AllByRecursion}
 use Rattle.kom_types.specs.declared.texts.LocalText.{LocalText}
 use Rattle.map_chain.specs.Pairs.{Pair}

@@ -1,9 +1,12 @@
 -- The first and the last of some pairs, and those that are taken of them.
-use Rattle.std.proofs.Common.{◌≡◌, ℕ, zero, suc, min, max, ◌+◌, ◌-◌, ◌^◌, ◌<◌, Bool, true, false, cond, leb, ltb, List, [], ◌∷◌, ◌++◌, length, take, drop, reverse, filter, Some, slice_get, refl, sym, ◌∙◌, ap, inl, inr, add-one, arith}
+use Rattle.std.proofs.Common.{◌≡◌, ℕ, zero, suc, min, max, ◌+◌, ◌-◌, ◌^◌, ◌<◌, Bool, true, false, cond, leb, ltb, List}
+use Rattle.std.proofs.Common.{[], ◌∷◌, ◌++◌, length, take, drop, reverse, filter, Some, slice_get, refl, sym, ◌∙◌, ap}
+use Rattle.std.proofs.Common.{inl, inr, add-one, arith}
 use Rattle.std.proofs.lemmas.Bool.{le-leb, ltb-true, cases_lt}
 use Rattle.std.proofs.lemmas.Bool.Decides.{nat_tests}
 use Rattle.std.proofs.lemmas.Option.{same_Some, none-some}
-use Rattle.std.proofs.lemmas.List.{take-append-drop, length-take, length-drop, length-reverse, reverse-append, reverse-reverse, take_all}
+use Rattle.std.proofs.lemmas.List.{take-append-drop, length-take, length-drop, length-reverse, reverse-append}
+use Rattle.std.proofs.lemmas.List.{reverse-reverse, take_all}
 use Rattle.std.proofs.Math.Seq.{take-append_seam}
 use Rattle.kom_types.specs.declared.texts.LocalText.{LocalText}
 use Rattle.kom_types.specs.declared.texts.Block.{Block}

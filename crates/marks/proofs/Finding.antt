@@ -1,5 +1,6 @@
 -- Marks by their places in the lists of their persons and texts.
-use Rattle.std.proofs.Common.{◌≡◌, ℕ, Bool, true, false, ◌&&◌, eqb, List, [], ◌∷◌, map, filter, filter_map, find, Option, Some, option_map, refl, ◌∙◌, ap}
+use Rattle.std.proofs.Common.{◌≡◌, ℕ, Bool, true, false, ◌&&◌, eqb, List, [], ◌∷◌, map, filter, filter_map, find}
+use Rattle.std.proofs.Common.{Option, Some, option_map, refl, ◌∙◌, ap}
 use Rattle.std.specs.List.{cons_option}
 use Rattle.std.specs.Option.{option_flatten}
 use Rattle.std.proofs.lemmas.Bool.{and_parts, eqb-true}

@@ -1,5 +1,6 @@
 -- Lists and their rooms after a change of one list.
-use Rattle.std.proofs.Common.{◌≡◌, ℕ, ◌≤◌, ◌<◌, cond, eqb, true, false, List, Result, Ok, Err, OnErr, inl, inr, sym, subst}
+use Rattle.std.proofs.Common.{◌≡◌, ℕ, ◌≤◌, ◌<◌, cond, eqb, true, false, List, Result, Ok, Err, OnErr, inl, inr, sym}
+use Rattle.std.proofs.Common.{subst}
 use Rattle.std.proofs.lemmas.Bool.{cases_eq, cases_lt, eq-eqb, ne_eqb}
 use Rattle.row_slots.specs.declared.lists.Lists.{Lists}
 use Rattle.row_slots.specs.Lists.{list_of, HasOnlyChanged}

@@ -1,5 +1,6 @@
 -- The marks and the lists of places after a mark is added, after one is changed, and after one is taken out.
-use Rattle.std.proofs.Common.{◌≡◌, ℕ, true, false, cond, not, ◌&&◌, eqb, nat_eq, List, [], ◌∷◌, ◌++◌, length, map, filter, Option, Some, None, refl, sym, ◌∙◌, ap, arith}
+use Rattle.std.proofs.Common.{◌≡◌, ℕ, true, false, cond, not, ◌&&◌, eqb, nat_eq, List, [], ◌∷◌, ◌++◌, length, map}
+use Rattle.std.proofs.Common.{filter, Option, Some, None, refl, sym, ◌∙◌, ap, arith}
 use Rattle.std.specs.Set.{remove_key, is_member}
 use Rattle.std.proofs.lemmas.Bool.{and_parts}
 use Rattle.kom_types.specs.declared.texts.MarkRow.{MarkRow}

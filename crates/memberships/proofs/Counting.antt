@@ -1,5 +1,6 @@
 -- How many rows pass a test of their persons, conferences and kinds, after each change of a table.
-use Rattle.std.proofs.Common.{◌≡◌, ℕ, ◌+◌, ◌-◌, min, Bool, true, false, cond, not, ◌&&◌, eqb, ltb, leb, List, [], ◌∷◌, ◌++◌, length, map, filter, fold, Option, Some, None, refl, sym, ◌∙◌, ap, arith}
+use Rattle.std.proofs.Common.{◌≡◌, ℕ, ◌+◌, ◌-◌, min, Bool, true, false, cond, not, ◌&&◌, eqb, ltb, leb, List, [], ◌∷◌}
+use Rattle.std.proofs.Common.{◌++◌, length, map, filter, fold, Option, Some, None, refl, sym, ◌∙◌, ap, arith}
 use Rattle.std.specs.List.{AllByRecursion, IsDistinct}
 use Rattle.std.proofs.lemmas.Bool.{eqb-true, and_parts}
 use Rattle.std.proofs.lemmas.List.{length-append}
@@ -7,7 +8,9 @@ use Rattle.std.proofs.lemmas.List.Elements.{filter-append}
 use Rattle.std.proofs.lemmas.Map.Keys.{IsDistinct-head, IsDistinct-tail}
 use Rattle.std.proofs.lemmas.Option.{none-some, same_Some}
 use Rattle.kom_types.specs.declared.memberships.MembershipRow.{MembershipRow}
-use Rattle.kom_types.specs.tables.Memberships.{is_membership, membership_of, by_position, memberships_of, count_of, at_place, closed_up, opened, without_membership, with_new, set_again, with_membership}
+use Rattle.kom_types.specs.tables.Memberships.{is_membership, membership_of, by_position, memberships_of, count_of}
+use Rattle.kom_types.specs.tables.Memberships.{at_place, closed_up, opened, without_membership, with_new, set_again}
+use Rattle.kom_types.specs.tables.Memberships.{with_membership}
 use Rattle.read_ranges.specs.Reads.{read_at}
 use Rattle.memberships.specs.Entries.{same_key}
 use Rattle.memberships.specs.Secrets.{one_if}

@@ -1,5 +1,6 @@
 -- What look-ups in a table find: of both, and at a place of a person or of a conference.
-use Rattle.std.proofs.Common.{◌≡◌, ℕ, ◌<◌, ◌≤◌, true, false, eqb, nat_eq, List, [], length, get_or, filter, Option, Some, None, is_some, option_map, unwrap_or, slice_get, position, refl, sym, ◌∙◌, ap}
+use Rattle.std.proofs.Common.{◌≡◌, ℕ, ◌<◌, ◌≤◌, true, false, eqb, nat_eq, List, [], length, get_or, filter, Option}
+use Rattle.std.proofs.Common.{Some, None, is_some, option_map, unwrap_or, slice_get, position, refl, sym, ◌∙◌, ap}
 use Rattle.std.specs.List.{IsDistinct}
 use Rattle.std.specs.Set.{is_member}
 use Rattle.std.proofs.lemmas.Bool.{eqb-true, eq-eqb, true≢false, false≢true}

@@ -1,5 +1,6 @@
 -- The rows of a table after a new membership.
-use Rattle.std.proofs.Common.{◌≡◌, ℕ, min, Bool, true, false, eqb, nat_eq, List, [], ◌∷◌, ◌++◌, length, insert, map, Some, None, option_map, refl, sym, ◌∙◌, ap}
+use Rattle.std.proofs.Common.{◌≡◌, ℕ, min, Bool, true, false, eqb, nat_eq, List, [], ◌∷◌, ◌++◌, length, insert, map}
+use Rattle.std.proofs.Common.{Some, None, option_map, refl, sym, ◌∙◌, ap}
 use Rattle.std.specs.Set.{is_member}
 use Rattle.std.proofs.lemmas.Bool.{eqb-true, eqb-false, false_from_ne_true}
 use Rattle.std.proofs.lemmas.List.{map-append}

@@ -1,5 +1,7 @@
 -- A table after a new membership.
-use Rattle.std.proofs.Common.{◌≡◌, ℕ, ◌+◌, ◌<◌, ◌⊎◌, inl, inr, Bool, true, false, cond, ◌||◌, eqb, nat_eq, List, [], ◌∷◌, ◌++◌, insert, map, filter, Option, Some, None, is_some, option_map, refl, sym, ◌∙◌, ap, subst, arith}
+use Rattle.std.proofs.Common.{◌≡◌, ℕ, ◌+◌, ◌<◌, ◌⊎◌, inl, inr, Bool, true, false, cond, ◌||◌, eqb, nat_eq, List, []}
+use Rattle.std.proofs.Common.{◌∷◌, ◌++◌, insert, map, filter, Option, Some, None, is_some, option_map, refl, sym, ◌∙◌}
+use Rattle.std.proofs.Common.{ap, subst, arith}
 use Rattle.std.specs.List.{IsDistinct}
 use Rattle.std.specs.Map.{keys_of}
 use Rattle.std.specs.Option.{option_or}
@@ -14,7 +16,8 @@ use Rattle.memberships.specs.Entries.{Key, Entry, same_key, in_turn, persons_in,
 use Rattle.memberships.specs.Keeping.{IsTable}
 use Rattle.memberships.proofs.Pairs.{pairwise_push}
 use Rattle.memberships.proofs.Places.{flip_eqb, IsDistinct-insert, is_member-insert}
-use Rattle.memberships.proofs.Turns.{key_decides, key_laws, turn, AreInTurn, one_turn, in_turn_is, all_in_turn, TurnsDiffer, Sets}
+use Rattle.memberships.proofs.Turns.{key_decides, key_laws, turn, AreInTurn, one_turn, in_turn_is, all_in_turn}
+use Rattle.memberships.proofs.Turns.{TurnsDiffer, Sets}
 
 -- the entries fs are es with one more, which has the next turn, and nothing is read in it
 pub record Joins (es fs : List Entry) (next person conference : ℕ) (new : Kept) : Type 0 where

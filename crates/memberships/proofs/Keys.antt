@@ -1,6 +1,7 @@
 -- The memberships of a person and those in a conference, each with its turn, in the order of joining.
 use Rattle.std.proofs.Common.{◌≡◌, ℕ, suc, ◌<◌, ◌≤◌, ◌⊎◌, Bool, true, false, cond, ◌&&◌, ◌||◌, eqb, nat_eq, List, []}
-use Rattle.std.proofs.Common.{◌∷◌, ◌++◌, length, get_or, map, filter, filter_map, Option, Some, None, is_some, option_map}
+use Rattle.std.proofs.Common.{◌∷◌, ◌++◌, length, get_or, map, filter, filter_map, Option, Some, None, is_some}
+use Rattle.std.proofs.Common.{option_map}
 use Rattle.std.proofs.Common.{Decides, refl, sym, ap, subst, ◌∙◌, inl, inr, arith}
 use Rattle.std.specs.List.{AllByRecursion, list_any, cons_option, dedup, dedup_from}
 use Rattle.std.specs.List.Sorted.{IsPermutation, IsNonDecreasingBy}

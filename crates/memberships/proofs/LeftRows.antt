@@ -1,5 +1,6 @@
 -- The rows of a table after a membership is taken out.
-use Rattle.std.proofs.Common.{◌≡◌, ℕ, Bool, true, false, not, ◌&&◌, eqb, nat_eq, List, [], ◌∷◌, map, filter, Some, None, is_some, option_map, inl, inr, refl, sym, ◌∙◌, ap}
+use Rattle.std.proofs.Common.{◌≡◌, ℕ, Bool, true, false, not, ◌&&◌, eqb, nat_eq, List, [], ◌∷◌, map, filter, Some, None}
+use Rattle.std.proofs.Common.{is_some, option_map, inl, inr, refl, sym, ◌∙◌, ap}
 use Rattle.std.specs.Set.{is_member, remove_key}
 use Rattle.std.proofs.lemmas.Bool.{cases_Bool, eqb-true, eqb-false}
 use Rattle.kom_types.specs.tables.Memberships.{is_membership, membership_of, closed_up, without_membership}

@@ -1,5 +1,6 @@
 -- A list in the order of a number: it has the same elements, and there is one such list.
-use Rattle.std.proofs.Common.{◌≡◌, ◌≢◌, ℕ, ◌<◌, ◌≤◌, Bool, true, false, cond, ltb, List, [], ◌∷◌, length, map, fold, find, Option, Some, None, refl, sym, ◌∙◌, ap, subst, zero, suc, ◌+◌, arith, Decides}
+use Rattle.std.proofs.Common.{◌≡◌, ◌≢◌, ℕ, ◌<◌, ◌≤◌, Bool, true, false, cond, ltb, List, [], ◌∷◌, length, map, fold}
+use Rattle.std.proofs.Common.{find, Option, Some, None, refl, sym, ◌∙◌, ap, subst, zero, suc, ◌+◌, arith, Decides}
 use Rattle.std.specs.List.{AllByRecursion, range_with_len}
 use Rattle.std.specs.Option.{option_or}
 use Rattle.std.proofs.lemmas.Bool.{ltb-true, ltb-false, true≢false, false_from_ne_true}

@@ -1,5 +1,6 @@
 -- What was read in each membership: what is found, and what changes leave.
-use Rattle.std.proofs.Common.{◌≡◌, ℕ, Bool, true, false, cond, not, ◌&&◌, ◌||◌, List, [], ◌∷◌, ◌++◌, map, filter, Option, Some, None, is_some, option_map, refl, sym, ◌∙◌, ap}
+use Rattle.std.proofs.Common.{◌≡◌, ℕ, Bool, true, false, cond, not, ◌&&◌, ◌||◌, List, [], ◌∷◌, ◌++◌, map, filter}
+use Rattle.std.proofs.Common.{Option, Some, None, is_some, option_map, refl, sym, ◌∙◌, ap}
 use Rattle.std.specs.List.{All, AllByRecursion, list_any}
 use Rattle.std.proofs.lemmas.List.{map-append}
 use Rattle.std.proofs.lemmas.List.Elements.{All-nil, All-cons}
@@ -11,7 +12,8 @@ use Rattle.read_ranges.specs.Numbers.{ReadSet, AreRanges, ranges_of}
 use Rattle.read_ranges.specs.Reads.{ReadRow, is_read_of, read_of, with_reader, without_reader, with_read, read_at}
 use Rattle.read_ranges.proofs.Sets.{rise_ranges_of}
 use Rattle.memberships.specs.declared.kept.Kept.{Kept}
-use Rattle.memberships.specs.Entries.{Key, Entry, same_key, kept_with_read, row_of, rows_of, in_turn, read_row, reads_of, kept_at}
+use Rattle.memberships.specs.Entries.{Key, Entry, same_key, kept_with_read, row_of, rows_of, in_turn, read_row}
+use Rattle.memberships.specs.Entries.{reads_of, kept_at}
 use Rattle.memberships.specs.Keeping.{IsTable}
 use Rattle.memberships.specs.Table.{IsReadOf}
 use Rattle.memberships.proofs.Pairs.{all_map, all_weaker, map-map, two_maps, filter-map}

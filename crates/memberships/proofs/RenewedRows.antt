@@ -1,14 +1,17 @@
 -- The rows of a table after a membership is set again.
-use Rattle.std.proofs.Common.{◌≡◌, ℕ, ◌+◌, ◌-◌, min, Bool, true, false, cond, ◌&&◌, eqb, ltb, leb, nat_eq, List, [], ◌∷◌, length, insert, map, Some, option_map, refl, sym, ◌∙◌, ap, arith}
+use Rattle.std.proofs.Common.{◌≡◌, ℕ, ◌+◌, ◌-◌, min, Bool, true, false, cond, ◌&&◌, eqb, ltb, leb, nat_eq, List, []}
+use Rattle.std.proofs.Common.{◌∷◌, length, insert, map, Some, option_map, refl, sym, ◌∙◌, ap, arith}
 use Rattle.std.specs.Set.{is_member, remove_key}
 use Rattle.std.proofs.lemmas.Bool.{eqb-true, eqb-false}
 use Rattle.std.proofs.lemmas.Map.Made.{length-remove_key}
 use Rattle.kom_types.specs.declared.memberships.MembershipRow.{MembershipRow}
-use Rattle.kom_types.specs.tables.Memberships.{is_membership, membership_of, count_of, closed_up, opened, replaced_by, with_membership}
+use Rattle.kom_types.specs.tables.Memberships.{is_membership, membership_of, count_of, closed_up, opened, replaced_by}
+use Rattle.kom_types.specs.tables.Memberships.{with_membership}
 use Rattle.memberships.specs.declared.kept.Kept.{Kept}
 use Rattle.memberships.specs.Entries.{Key, Entry, same_key, kept_of, shown, place_of, row_of, in_turn, rows_of}
 use Rattle.memberships.specs.Keeping.{IsTable}
-use Rattle.memberships.proofs.Places.{flip_eqb, opened_place, closed_place, place-insert, place-insert_other, place-remove_key}
+use Rattle.memberships.proofs.Places.{flip_eqb, opened_place, closed_place, place-insert, place-insert_other}
+use Rattle.memberships.proofs.Places.{place-remove_key}
 use Rattle.memberships.proofs.Turns.{key_decides, Sets}
 use Rattle.memberships.proofs.Renewing as renewing
 use Rattle.memberships.proofs.Renewing.{Renews, renewed}

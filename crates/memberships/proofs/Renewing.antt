@@ -1,5 +1,7 @@
 -- A table after a membership is set again.
-use Rattle.std.proofs.Common.{◌≡◌, ℕ, ◌<◌, Bool, true, false, cond, ◌||◌, eqb, nat_eq, List, [], ◌∷◌, insert, map, filter, Option, Some, None, is_some, option_map, inl, inr, refl, sym, ◌∙◌, ap, subst, arith}
+use Rattle.std.proofs.Common.{◌≡◌, ℕ, ◌<◌, Bool, true, false, cond, ◌||◌, eqb, nat_eq, List, [], ◌∷◌, insert, map}
+use Rattle.std.proofs.Common.{filter, Option, Some, None, is_some, option_map, inl, inr, refl, sym, ◌∙◌, ap, subst}
+use Rattle.std.proofs.Common.{arith}
 use Rattle.std.specs.List.{AllByRecursion, IsDistinct}
 use Rattle.std.specs.Map.{keys_of}
 use Rattle.std.specs.Set.{is_member, remove_key}
@@ -9,8 +11,10 @@ use Rattle.memberships.specs.declared.kept.Kept.{Kept}
 use Rattle.memberships.specs.Entries.{Key, Entry, same_key, in_turn, persons_in, kept_at, turn_of}
 use Rattle.memberships.specs.Keeping.{IsTable}
 use Rattle.memberships.proofs.Pairs.{Pairwise, all_map, map-map, map_agree}
-use Rattle.memberships.proofs.Places.{flip_eqb, IsDistinct-insert, IsDistinct-remove_key, is_member-insert, is_member-remove_key}
-use Rattle.memberships.proofs.Turns.{key_decides, turn, KeysDiffer, AreInTurn, one_turn, in_turn_is, all_in_turn, TurnsDiffer, Sets}
+use Rattle.memberships.proofs.Places.{flip_eqb, IsDistinct-insert, IsDistinct-remove_key, is_member-insert}
+use Rattle.memberships.proofs.Places.{is_member-remove_key}
+use Rattle.memberships.proofs.Turns.{key_decides, turn, KeysDiffer, AreInTurn, one_turn, in_turn_is, all_in_turn}
+use Rattle.memberships.proofs.Turns.{TurnsDiffer, Sets}
 
 -- the entries fs are es with another one of the same turn at a key
 pub record Renews (es fs : List Entry) (person conference : ℕ) (old new : Kept) : Type 0 where

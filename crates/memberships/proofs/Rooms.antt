@@ -1,5 +1,6 @@
 -- Lists after a change of one of them.
-use Rattle.std.proofs.Common.{◌≡◌, ℕ, ◌+◌, ◌≤◌, min, Bool, true, false, nat_eq, List, [], ◌∷◌, map, Option, Some, None, is_some, option_map, unwrap_or, MutBor, inl, inr, refl, sym, ap, ◌∙◌, arith}
+use Rattle.std.proofs.Common.{◌≡◌, ℕ, ◌+◌, ◌≤◌, min, Bool, true, false, nat_eq, List, [], ◌∷◌, map, Option, Some, None}
+use Rattle.std.proofs.Common.{is_some, option_map, unwrap_or, MutBor, inl, inr, refl, sym, ap, ◌∙◌, arith}
 use Rattle.std.specs.Map.{lookup}
 use Rattle.std.specs.Option.{option_copied_mut}
 use Rattle.std.proofs.lemmas.Bool.{cases_Bool, eqb-true}

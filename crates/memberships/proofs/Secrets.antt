@@ -1,19 +1,22 @@
 -- The lists of secret memberships: what they tell, and how they follow each change of a table.
-use Rattle.std.proofs.Common.{◌≡◌, ℕ, ◌+◌, ◌<◌, Bool, true, false, ◌&&◌, eqb, nat_eq, List, [], ◌∷◌, map, Some, None, inl, inr, refl, sym, ◌∙◌, ap, subst, arith}
+use Rattle.std.proofs.Common.{◌≡◌, ℕ, ◌+◌, ◌<◌, Bool, true, false, ◌&&◌, eqb, nat_eq, List, [], ◌∷◌, map, Some, None}
+use Rattle.std.proofs.Common.{inl, inr, refl, sym, ◌∙◌, ap, subst, arith}
 use Rattle.std.specs.List.{AllByRecursion, IsDistinct, count_by}
 use Rattle.std.specs.Set.{is_member, remove_key}
 use Rattle.std.proofs.lemmas.Bool.{cases_Bool, cases_eq, eq-eqb, eqb-true, ne_eqb, and_right, false≢true, true≢false}
 use Rattle.std.proofs.lemmas.List.Sums.{length-filter}
 use Rattle.std.proofs.lemmas.Map.Keys.{IsDistinct-head, IsDistinct-tail, IsDistinct-cons}
 use Rattle.kom_types.specs.declared.memberships.MembershipRow.{MembershipRow}
-use Rattle.kom_types.specs.tables.Memberships.{is_secret_membership, membership_of, members_of, memberships_of, without_membership, with_membership}
+use Rattle.kom_types.specs.tables.Memberships.{is_secret_membership, membership_of, members_of, memberships_of}
+use Rattle.kom_types.specs.tables.Memberships.{without_membership, with_membership}
 use Rattle.read_ranges.specs.Reads.{read_at}
 use Rattle.row_slots.specs.declared.lists.Lists.{Lists}
 use Rattle.row_slots.specs.Lists.{list_of, HasOnlyChanged}
 use Rattle.memberships.specs.declared.kept.Kept.{Kept}
 use Rattle.memberships.specs.Entries.{same_key, shown}
 use Rattle.memberships.specs.Secrets.{is_secret_of, is_secret_in, AreSecrets, one_if}
-use Rattle.memberships.proofs.Counting.{passing, passing-cons, passing-filter, passing-memberships_of, passing-new, passing-again, passing-left, passing-read}
+use Rattle.memberships.proofs.Counting.{passing, passing-cons, passing-filter, passing-memberships_of, passing-new}
+use Rattle.memberships.proofs.Counting.{passing-again, passing-left, passing-read}
 
 -- ---- what the lists tell
 

@@ -1,5 +1,6 @@
 -- Entries in the order of joining, as a list that look-ups tell.
-use Rattle.std.proofs.Common.{◌≡◌, ℕ, true, false, cond, List, [], ◌∷◌, Option, Some, None, option_map, Decides, refl, sym, ◌∙◌, ap, subst}
+use Rattle.std.proofs.Common.{◌≡◌, ℕ, true, false, cond, List, [], ◌∷◌, Option, Some, None, option_map, Decides, refl}
+use Rattle.std.proofs.Common.{sym, ◌∙◌, ap, subst}
 use Rattle.std.specs.Cmp.{IsEquivalence, decided}
 use Rattle.std.specs.List.{AllByRecursion, IsDistinct}
 use Rattle.std.specs.Map.{keys_of}
@@ -9,7 +10,8 @@ use Rattle.memberships.specs.declared.kept.Kept.{Kept}
 use Rattle.memberships.specs.Order.{ordered}
 use Rattle.memberships.specs.Entries.{Key, Entry, same_key, in_turn, kept_at, turn_of}
 use Rattle.memberships.proofs.Pairs.{Pairwise}
-use Rattle.memberships.proofs.Order.{Rises, rises_ordered, named, named-ordered, Differ, differ_ordered, apart_from_named, all_from_named, named_has, one_order}
+use Rattle.memberships.proofs.Order.{Rises, rises_ordered, named, named-ordered, Differ, differ_ordered}
+use Rattle.memberships.proofs.Order.{apart_from_named, all_from_named, named_has, one_order}
 
 pub key_decides : (one other : Key) → Decides (same_key one other) (one ≡ other)
 key_decides one other = (

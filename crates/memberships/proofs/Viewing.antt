@@ -1,5 +1,7 @@
 -- What the rows of a table are: of a person, of a conference, and of both.
-use Rattle.std.proofs.Common.{◌≡◌, ℕ, Bool, true, false, cond, ◌&&◌, eqb, ltb, nat_eq, List, [], ◌∷◌, length, map, filter, find, fold, Option, Some, None, is_some, option_map, unwrap_or, inl, inr, refl, sym, ◌∙◌, ap, subst}
+use Rattle.std.proofs.Common.{◌≡◌, ℕ, Bool, true, false, cond, ◌&&◌, eqb, ltb, nat_eq, List, [], ◌∷◌, length, map}
+use Rattle.std.proofs.Common.{filter, find, fold, Option, Some, None, is_some, option_map, unwrap_or, inl, inr, refl}
+use Rattle.std.proofs.Common.{sym, ◌∙◌, ap, subst}
 use Rattle.std.specs.FinSet as set
 use Rattle.std.specs.List.{AllByRecursion, IsDistinct, range_with_len}
 use Rattle.std.specs.Set.{is_member}
@@ -10,14 +12,16 @@ use Rattle.std.proofs.lemmas.Map.Keys.{IsDistinct-head, IsDistinct-tail}
 use Rattle.std.proofs.lemmas.Map.Made.{find_same}
 use Rattle.std.proofs.lemmas.Option.{same_Some, none-some}
 use Rattle.kom_types.specs.declared.memberships.MembershipRow.{MembershipRow}
-use Rattle.kom_types.specs.tables.Memberships.{is_membership, membership_of, members_of, by_position, memberships_of, count_of}
+use Rattle.kom_types.specs.tables.Memberships.{is_membership, membership_of, members_of, by_position, memberships_of}
+use Rattle.kom_types.specs.tables.Memberships.{count_of}
 use Rattle.memberships.specs.declared.kept.Kept.{Kept}
 use Rattle.memberships.specs.Order.{placed, ordered}
 use Rattle.memberships.specs.Entries.{Key, Entry, same_key, place_of, row_of, in_turn, rows_of, kept_at}
 use Rattle.memberships.specs.Keeping.{IsTable}
 use Rattle.memberships.specs.Table.{IsOrderly}
 use Rattle.memberships.proofs.Pairs.{Pairwise, all_map, map-map, filter-map, find-map}
-use Rattle.memberships.proofs.Order.{rises_counted, rises_ordered, length-ordered, named, named-ordered, Differ, differ_ordered, apart_from_named, one_order}
+use Rattle.memberships.proofs.Order.{rises_counted, rises_ordered, length-ordered, named, named-ordered, Differ}
+use Rattle.memberships.proofs.Order.{differ_ordered, apart_from_named, one_order}
 use Rattle.memberships.proofs.Places.{flip_eqb, same_place, places_count_up}
 use Rattle.memberships.proofs.Turns.{key_decides, KeysDiffer, AreInTurn, in_turn_is, distinct_keys}
 

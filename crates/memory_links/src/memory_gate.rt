@@ -77,7 +77,8 @@ impl MemoryGate {
 }
 
 impl Gate for MemoryGate {
-    ghost use Rattle.memory_links.specs.Memories.{gate_view, clients_of, script_of, calls_of, next_failed};
+    ghost use Rattle.memory_links.specs.Memories.{gate_view, clients_of, script_of, calls_of};
+    ghost use Rattle.memory_links.specs.Memories.{next_failed};
     ghost use Rattle.memory_links.specs.Memories.{IsLinkOfFirst, StaysWithNoLink};
 
     type Link = MemoryLink;

@@ -60,12 +60,14 @@ module _ (slots : List (Option TextLink)) (from into : ℕ → Bool → List ℕ
 
 module _ (slots : List (Option TextLink)) (from into : ℕ → Bool → List ℕ) (kept : IsKept slots from into)
     (child parent : ℕ) (footnote : Bool) (places : List ℕ) (are : places ≡ into parent footnote) where
-  same_into : (row : TextLink) → is_link child parent footnote row ≡ (is_into parent footnote row && eqb row.child child)
+  same_into : (row : TextLink) → is_link child parent footnote row
+      ≡ (is_into parent footnote row && eqb row.child child)
   same_into row = and_turned (eqb row.child child) (eqb row.parent parent) (alike row.footnote footnote)
 
   -- the link by what is found of its place among those into its parent
   pub link_found_into : (place : Option ℕ) → place ≡ find (is_child_at slots child) places →
       link_of child parent footnote (rows_in slots) ≡ option_flatten (option_map (row_at slots) place)
   link_found_into place is =
-      found (λ row. eqb row.child child) (is_into parent footnote) (is_link child parent footnote) same_into slots places
+      found (λ row. eqb row.child child) (is_into parent footnote) (is_link child parent footnote) same_into slots
+      places
       (are ∙ kept.listed_into parent footnote) place is

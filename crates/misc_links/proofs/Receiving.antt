@@ -1,6 +1,7 @@
 -- Recipients by their places in the lists of their texts; and the recipients and the lists after one is added, and
 -- after one is taken out.
-use Rattle.std.proofs.Common.{◌≡◌, ℕ, true, cond, not, eqb, nat_eq, List, [], ◌∷◌, ◌++◌, length, filter, find, Option, Some, None, option_map, refl, sym, ◌∙◌, ap, eq-eqb, arith}
+use Rattle.std.proofs.Common.{◌≡◌, ℕ, true, cond, not, eqb, nat_eq, List, [], ◌∷◌, ◌++◌, length, filter, find, Option}
+use Rattle.std.proofs.Common.{Some, None, option_map, refl, sym, ◌∙◌, ap, eq-eqb, arith}
 use Rattle.std.specs.Option.{option_flatten}
 use Rattle.std.specs.Set.{remove_key, is_member}
 use Rattle.std.proofs.lemmas.Bool.{and_parts, and_from, eqb-true}

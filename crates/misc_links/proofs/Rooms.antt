@@ -1,5 +1,6 @@
 -- The rooms of the lists of both kinds.
-use Rattle.std.proofs.Common.{◌≡◌, ℕ, ◌+◌, ◌≤◌, ◌<◌, Bool, true, false, cond, Result, Ok, Err, IsOk, OnErr, inl, inr, arith}
+use Rattle.std.proofs.Common.{◌≡◌, ℕ, ◌+◌, ◌≤◌, ◌<◌, Bool, true, false, cond, Result, Ok, Err, IsOk, OnErr, inl, inr}
+use Rattle.std.proofs.Common.{arith}
 use Rattle.std.proofs.lemmas.Bool.{cases_lt, false≢true}
 use Rattle.row_slots.specs.Lists.{room_in}
 use Rattle.row_slots.proofs.Rooms.{room_in-rooms_of}

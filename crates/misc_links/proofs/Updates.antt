@@ -1,5 +1,6 @@
 -- The links and the lists of places after a link is added, and after one is taken out.
-use Rattle.std.proofs.Common.{◌≡◌, ℕ, Bool, true, cond, not, ◌&&◌, eqb, nat_eq, List, [], ◌∷◌, ◌++◌, length, filter, Option, Some, None, sym, ◌∙◌, ap, arith}
+use Rattle.std.proofs.Common.{◌≡◌, ℕ, Bool, true, cond, not, ◌&&◌, eqb, nat_eq, List, [], ◌∷◌, ◌++◌, length, filter}
+use Rattle.std.proofs.Common.{Option, Some, None, sym, ◌∙◌, ap, arith}
 use Rattle.std.specs.Set.{remove_key, is_member}
 use Rattle.std.proofs.lemmas.Bool.{and_parts, and_from}
 use Rattle.kom_types.specs.Bits.{alike}

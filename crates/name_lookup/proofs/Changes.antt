@@ -1,5 +1,7 @@
 -- What putting a name and taking one out make of the order.
-use Rattle.std.proofs.Common.{◌≡◌, ℕ, ◌+◌, ◌<◌, ◌≤◌, ◌⊎◌, Bool, true, false, cond, not, eqb, List, [], length, get_or, filter, insert, count_by, Option, Some, None, is_some, unwrap_or, is_lt, Ordering, Less, Equal, Greater, refl, sym, ap, ap₂, add-zero, ◌∙◌, inl, inr, true≢false, arith, Contains}
+use Rattle.std.proofs.Common.{◌≡◌, ℕ, ◌+◌, ◌<◌, ◌≤◌, ◌⊎◌, Bool, true, false, cond, not, eqb, List, [], length, get_or}
+use Rattle.std.proofs.Common.{filter, insert, count_by, Option, Some, None, is_some, unwrap_or, is_lt, Ordering, Less}
+use Rattle.std.proofs.Common.{Equal, Greater, refl, sym, ap, ap₂, add-zero, ◌∙◌, inl, inr, true≢false, arith, Contains}
 use Rattle.std.specs.List.Sorted.{IsPartitionPoint}
 use Rattle.std.specs.Map.{lookup}
 use Rattle.std.specs.Ordering.{ordering_reverse}

@@ -1,12 +1,15 @@
 -- Names that clash, among rows by rising number.
-use Rattle.std.proofs.Common.{◌≡◌, ℕ, ◌<◌, ◌⊎◌, Bool, true, false, cond, not, eqb, List, [], ◌∷◌, map, filter, Some, None, refl, sym, ap, subst, ◌∙◌, inl, inr, true≢false, arith}
+use Rattle.std.proofs.Common.{◌≡◌, ℕ, ◌<◌, ◌⊎◌, Bool, true, false, cond, not, eqb, List, [], ◌∷◌, map, filter, Some}
+use Rattle.std.proofs.Common.{None, refl, sym, ap, subst, ◌∙◌, inl, inr, true≢false, arith}
 use Rattle.std.specs.List.{AllByRecursion}
 use Rattle.std.proofs.lemmas.Bool.{eq-eqb, ne_eqb, cases_order, cases_eq, cases_Bool, false_from_ne_true}
 use Rattle.std.proofs.lemmas.Option.{none-some, same_Some}
 use Rattle.std.proofs.lemmas.Slice.Eq.{bytes_eq-Decides}
 use Rattle.kom_types.specs.Names.{fold, clash}
 use Rattle.name_lookup.specs.NamedRows.{Named, with_name, without_name, taken, NoneClash}
-use Rattle.name_lookup.proofs.Rows.{AllAbove, IsRising, name_at, name_at-none, name_at-here, name_at-tail, AllAbove-lower, with_name-at, with_name-before, with_name-after, all_with_name, all_filter}
+use Rattle.name_lookup.proofs.Rows.{AllAbove, IsRising, name_at, name_at-none, name_at-here, name_at-tail}
+use Rattle.name_lookup.proofs.Rows.{AllAbove-lower, with_name-at, with_name-before, with_name-after, all_with_name}
+use Rattle.name_lookup.proofs.Rows.{all_filter}
 
 pub folds_alike : (first second : List ℕ) → clash first second ≡ true → map fold first ≡ map fold second
 folds_alike first second same = (bytes_eq-Decides (map fold first) (map fold second)).0 same

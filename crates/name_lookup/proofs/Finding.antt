@@ -1,5 +1,7 @@
 -- What a walk of the order finds is what the rows have.
-use Rattle.std.proofs.Common.{◌≡◌, ℕ, ◌+◌, ◌<◌, ◌≤◌, ◌⊎◌, true, false, cond, eqb, List, [], ◌∷◌, map, filter, length, get_or, count_by, Option, Some, None, is_some, unwrap_or, refl, sym, ap, ap₂, ◌∙◌, suc, inl, inr, true≢false, arith, Contains, IsPermutation}
+use Rattle.std.proofs.Common.{◌≡◌, ℕ, ◌+◌, ◌<◌, ◌≤◌, ◌⊎◌, true, false, cond, eqb, List, [], ◌∷◌, map, filter, length}
+use Rattle.std.proofs.Common.{get_or, count_by, Option, Some, None, is_some, unwrap_or, refl, sym, ap, ap₂, ◌∙◌, suc}
+use Rattle.std.proofs.Common.{inl, inr, true≢false, arith, Contains, IsPermutation}
 use Rattle.std.specs.List.{AllByRecursion}
 use Rattle.std.specs.List.Sorted.{IsNonDecreasing, IsPartitionPoint}
 use Rattle.std.proofs.lemmas.Bool.{cases_Bool, cases_eq, cases_order, eq-eqb, ne_eqb, false_from_ne_true}
@@ -12,7 +14,8 @@ use Rattle.name_lookup.specs.declared.order.By.TheVariants.{Name}
 use Rattle.std.specs.Map.{lookup}
 use Rattle.name_lookup.specs.NamedRows.{Named, taken, found}
 use Rattle.name_lookup.specs.Order.{name_in, is_below, rows_of, StandsOnce, IsOrder}
-use Rattle.name_lookup.proofs.Lists.{count_by-cons, count_by-hit, count_by-miss, count_by-filter, counted_at, Contains-counted}
+use Rattle.name_lookup.proofs.Lists.{count_by-cons, count_by-hit, count_by-miss, count_by-filter, counted_at}
+use Rattle.name_lookup.proofs.Lists.{Contains-counted}
 use Rattle.name_lookup.proofs.Rows.{AllAbove, IsRising, name_at, name_at-none, name_at-rows_of, IsRising-rows_of}
 use Rattle.name_lookup.proofs.Clashes.{taken_is, taken_none}
 use Rattle.name_lookup.proofs.Orders.{clash_itself, first_alike}

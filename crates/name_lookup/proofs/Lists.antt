@@ -1,5 +1,7 @@
 -- What a test keeps of a list, how many it counts, and lists in order.
-use Rattle.std.proofs.Common.{◌≡◌, ℕ, ◌+◌, ◌-◌, ◌<◌, ◌≤◌, ◌⊎◌, Bool, true, false, cond, not, eqb, List, [], ◌∷◌, length, get_or, filter, insert, remove, count_by, refl, sym, ap, subst, ◌∙◌, suc, zero, inl, inr, arith, All, Contains, IsSortedBy, zero-add}
+use Rattle.std.proofs.Common.{◌≡◌, ℕ, ◌+◌, ◌-◌, ◌<◌, ◌≤◌, ◌⊎◌, Bool, true, false, cond, not, eqb, List, [], ◌∷◌, length}
+use Rattle.std.proofs.Common.{get_or, filter, insert, remove, count_by, refl, sym, ap, subst, ◌∙◌, suc, zero, inl, inr}
+use Rattle.std.proofs.Common.{arith, All, Contains, IsSortedBy, zero-add}
 use Rattle.std.proofs.lemmas.Bool.{cases_Bool, cases_eq, cases_order, eq-eqb, ne_eqb}
 use Rattle.std.proofs.lemmas.List.Edits.{length-insert, get_or-insert_below, get_or-insert_at, get_or-insert_above}
 use Rattle.std.proofs.lemmas.List.Elements.{All-tail, All-nil, All-cons, Contains-get_or}

@@ -1,5 +1,7 @@
 -- The steps of a look at a name, letter by letter.
-use Rattle.std.proofs.Common.{◌≡◌, ◌≢◌, ℕ, ◌≤◌, ◌⊎◌, Bool, true, false, cond, eqb, ltb, List, [], ◌∷◌, ◌++◌, length, take, drop, Option, Some, None, MatchOption, Result, Ok, Err, IfOk, refl, sym, ap, subst, ◌∙◌, zero, suc, inl, inr, arith, append_assoc, take-append-drop}
+use Rattle.std.proofs.Common.{◌≡◌, ◌≢◌, ℕ, ◌≤◌, ◌⊎◌, Bool, true, false, cond, eqb, ltb, List, [], ◌∷◌, ◌++◌, length}
+use Rattle.std.proofs.Common.{take, drop, Option, Some, None, MatchOption, Result, Ok, Err, IfOk, refl, sym, ap, subst}
+use Rattle.std.proofs.Common.{◌∙◌, zero, suc, inl, inr, arith, append_assoc, take-append-drop}
 use Rattle.std.specs.Option.{option_map_or}
 use Rattle.std.proofs.lemmas.Bool.{cases_Bool, eqb-true}
 use Rattle.std.proofs.lemmas.List.{take_all}
@@ -7,7 +9,8 @@ use Rattle.name_lookup.specs.declared.steps.Step.{Step}
 use Rattle.name_lookup.specs.declared.steps.Step.TheVariants.{Found, Seek}
 use Rattle.name_lookup.specs.Letters.{after_word, first_word, ends_word, matches}
 use Rattle.name_lookup.specs.Steps.{Tells, Passes, Bumps}
-use Rattle.name_lookup.proofs.Skips.{Hit, To, Past, over, skip, wrap, bumped, wrap-over, bumped-take, through_word-ended, through_word-all, tells_found, tells_seek, tells_end}
+use Rattle.name_lookup.proofs.Skips.{Hit, To, Past, over, skip, wrap, bumped, wrap-over, bumped-take}
+use Rattle.name_lookup.proofs.Skips.{through_word-ended, through_word-all, tells_found, tells_seek, tells_end}
 
 drop_all : (xs : List ℕ) → drop (length xs) xs ≡ []
 drop_all [] = refl

@@ -1,5 +1,7 @@
 -- The order of names.
-use Rattle.std.proofs.Common.{◌≡◌, ℕ, ◌+◌, ◌<◌, ◌≤◌, ◌⊎◌, Bool, true, false, cond, eqb, List, length, get_or, map, count_by, is_some, is_lt, is_eq, Ordering, Less, Equal, Greater, refl, sym, ap, ◌∙◌, true≢false, inl, inr, arith, IsSortedByKey}
+use Rattle.std.proofs.Common.{◌≡◌, ℕ, ◌+◌, ◌<◌, ◌≤◌, ◌⊎◌, Bool, true, false, cond, eqb, List, length, get_or, map}
+use Rattle.std.proofs.Common.{count_by, is_some, is_lt, is_eq, Ordering, Less, Equal, Greater, refl, sym, ap, ◌∙◌}
+use Rattle.std.proofs.Common.{true≢false, inl, inr, arith, IsSortedByKey}
 use Rattle.std.specs.Cmp.{IsTotalOrder}
 use Rattle.std.specs.List.Sorted.{IsPartitionedBy, IsPartitionPoint, IsNonDecreasingBy}
 use Rattle.std.specs.Map.{lookup}
@@ -12,7 +14,8 @@ use Rattle.kom_types.specs.Names.{fold, clash, outside}
 use Rattle.name_lookup.specs.declared.order.By.{By}
 use Rattle.name_lookup.specs.declared.order.By.TheVariants.{Name, Letters}
 use Rattle.name_lookup.specs.Letters.{letters, letters_of}
-use Rattle.name_lookup.specs.Order.{letters_cmp, name_cmp, compared, name_in, letters_in, is_below, IsByName, StandsOnce}
+use Rattle.name_lookup.specs.Order.{letters_cmp, name_cmp, compared, name_in, letters_in, is_below, IsByName}
+use Rattle.name_lookup.specs.Order.{StandsOnce}
 use Rattle.name_lookup.proofs.Clashes.{folds_alike, clash_back}
 
 pub letters_total : IsTotalOrder letters_cmp

@@ -1,5 +1,6 @@
 -- Where a search through blocks ends.
-use Rattle.std.proofs.Common.{◌≡◌, ℕ, zero, suc, ◌+◌, ◌-◌, ◌<◌, ◌≤◌, ◌⊎◌, Bool, true, false, List, [], ◌∷◌, length, get_or, slice_get, All, sym, ap, ◌∙◌, inl, inr, true≢false, arith}
+use Rattle.std.proofs.Common.{◌≡◌, ℕ, zero, suc, ◌+◌, ◌-◌, ◌<◌, ◌≤◌, ◌⊎◌, Bool, true, false, List, [], ◌∷◌, length}
+use Rattle.std.proofs.Common.{get_or, slice_get, All, sym, ap, ◌∙◌, inl, inr, true≢false, arith}
 use Rattle.std.specs.List.{AllWithin}
 use Rattle.std.specs.List.Sorted.{IsPartitionedBy, IsPartitionPoint}
 use Rattle.std.specs.Option.{option_map_or}
@@ -9,7 +10,8 @@ use Rattle.std.proofs.lemmas.Bool.{cases_lt, false_from_ne_true}
 use Rattle.std.proofs.lemmas.List.{get_or_default}
 use Rattle.std.proofs.lemmas.Option.{slice_get-get_or}
 use Rattle.name_lookup.specs.Blocks.{numbers_in, numbers_at, start_of, IsBlock}
-use Rattle.name_lookup.proofs.BlockLists.{BlockList, numbers_at-get, start_of-next, start_of-end, start_of-rises, start_of-within, get_or-numbers_in, block_some}
+use Rattle.name_lookup.proofs.BlockLists.{BlockList, numbers_at-get, start_of-next, start_of-end, start_of-rises}
+use Rattle.name_lookup.proofs.BlockLists.{start_of-within, get_or-numbers_in, block_some}
 
 module _ (test : ℕ → Bool) where
   -- the test of the last of some numbers, true of none

@@ -1,6 +1,9 @@
 -- Which names a pattern cannot find after one at which it was looked, by letters.
-use Rattle.std.proofs.Common.{◌≡◌, ℕ, ◌<◌, ◌≤◌, ◌⊎◌, Bool, true, false, cond, ◌&&◌, eqb, ltb, List, [], ◌∷◌, ◌++◌, length, take, is_lt, nat_cmp, Less, Equal, Greater, refl, sym, ap, subst, ◌∙◌, zero, suc, inl, inr, true≢false, arith, append_assoc, length-append}
-use Rattle.std.proofs.lemmas.Bool.{and_parts, cases_Bool, cases_order, cases_lt, eqb-true, eq-eqb, ne_eqb, lt-ltb, le-ltb, false_from_ne_true}
+use Rattle.std.proofs.Common.{◌≡◌, ℕ, ◌<◌, ◌≤◌, ◌⊎◌, Bool, true, false, cond, ◌&&◌, eqb, ltb, List, [], ◌∷◌, ◌++◌}
+use Rattle.std.proofs.Common.{length, take, is_lt, nat_cmp, Less, Equal, Greater, refl, sym, ap, subst, ◌∙◌, zero, suc}
+use Rattle.std.proofs.Common.{inl, inr, true≢false, arith, append_assoc, length-append}
+use Rattle.std.proofs.lemmas.Bool.{and_parts, cases_Bool, cases_order, cases_lt, eqb-true, eq-eqb, ne_eqb, lt-ltb}
+use Rattle.std.proofs.lemmas.Bool.{le-ltb, false_from_ne_true}
 use Rattle.std.proofs.lemmas.Cmp.{lists_total, nat_cmp_total, tied_itself}
 use Rattle.name_lookup.specs.Letters.{after_word, first_word, through_word, ends_word, matches}
 use Rattle.std.proofs.lemmas.List.{take_all, take-append-le}

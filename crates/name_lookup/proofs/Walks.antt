@@ -1,5 +1,7 @@
 -- What a test keeps of the first of a list, as more of them are looked at.
-use Rattle.std.proofs.Common.{◌≡◌, ℕ, ◌+◌, ◌<◌, ◌≤◌, Bool, true, false, cond, List, [], ◌∷◌, ◌++◌, length, take, get_or, filter, is_lt, max, refl, sym, ap, ap₂, subst, ◌∙◌, add-zero, append_assoc, ◌⊎◌, inl, inr, zero, suc, arith}
+use Rattle.std.proofs.Common.{◌≡◌, ℕ, ◌+◌, ◌<◌, ◌≤◌, Bool, true, false, cond, List, [], ◌∷◌, ◌++◌, length, take, get_or}
+use Rattle.std.proofs.Common.{filter, is_lt, max, refl, sym, ap, ap₂, subst, ◌∙◌, add-zero, append_assoc, ◌⊎◌, inl, inr}
+use Rattle.std.proofs.Common.{zero, suc, arith}
 use Rattle.std.specs.List.{AllWithin}
 use Rattle.std.proofs.lemmas.Bool.{cases_eq}
 use Rattle.std.proofs.lemmas.List.{append-nil, get_or_default, take_more}

@@ -1,5 +1,7 @@
 -- The letters of a name are those of its words, and a pattern finds by letters what it finds by words.
-use Rattle.std.proofs.Common.{◌≡◌, ℕ, Bool, true, false, cond, ◌&&◌, eqb, List, [], ◌∷◌, ◌++◌, map, refl, sym, ap, ap₂, append-nil, Option, Some, None, MatchOption, is_some, ◌∙◌, true≢false, arith, one-add, add-one, append_assoc}
+use Rattle.std.proofs.Common.{◌≡◌, ℕ, Bool, true, false, cond, ◌&&◌, eqb, List, [], ◌∷◌, ◌++◌, map, refl, sym, ap, ap₂}
+use Rattle.std.proofs.Common.{append-nil, Option, Some, None, MatchOption, is_some, ◌∙◌, true≢false, arith, one-add}
+use Rattle.std.proofs.Common.{add-one, append_assoc}
 use Rattle.std.specs.List.{AllByRecursion, starts_with}
 use Rattle.std.proofs.lemmas.Bool.Decides.{nat_tests}
 use Rattle.kom_types.specs.ByteKind.{is_blank}

@@ -1,5 +1,6 @@
 -- The numbers of messages, and their bits.
-use Rattle.std.proofs.Common.{◌≡◌, ℕ, ◌+◌, ◌*◌, ◌%◌, ◌^◌, ◌<◌, true, false, eqb, ltb, bit_or, List, [], ◌∷◌, length, drop, get_or, add-one, drop-cons, refl, inl, inr, arith}
+use Rattle.std.proofs.Common.{◌≡◌, ℕ, ◌+◌, ◌*◌, ◌%◌, ◌^◌, ◌<◌, true, false, eqb, ltb, bit_or, List, [], ◌∷◌, length}
+use Rattle.std.proofs.Common.{drop, get_or, add-one, drop-cons, refl, inl, inr, arith}
 use Rattle.std.specs.List.{list_all, filter, fold}
 use Rattle.std.proofs.lemmas.Bool.{or_cases, and_parts, eqb-true, ltb-true}
 use Rattle.std.proofs.lemmas.Nat.{one_shl}

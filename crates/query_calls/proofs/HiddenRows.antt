@@ -1,5 +1,7 @@
 -- How many of the first memberships are hidden from who looks: as many as are found among those that may be.
-use Rattle.std.proofs.Common.{◌≡◌, ℕ, zero, suc, ◌+◌, ◌-◌, ◌≤◌, Bool, true, false, cond, not, ◌||◌, ◌&&◌, eqb, ltb, nat_eq, List, [], ◌∷◌, ◌++◌, length, map, filter, take, drop, Option, Some, None, is_some, refl, sym, ap, ◌∙◌, inl, inr, true≢false, arith}
+use Rattle.std.proofs.Common.{◌≡◌, ℕ, zero, suc, ◌+◌, ◌-◌, ◌≤◌, Bool, true, false, cond, not, ◌||◌, ◌&&◌, eqb, ltb}
+use Rattle.std.proofs.Common.{nat_eq, List, [], ◌∷◌, ◌++◌, length, map, filter, take, drop, Option, Some, None, is_some}
+use Rattle.std.proofs.Common.{refl, sym, ap, ◌∙◌, inl, inr, true≢false, arith}
 use Rattle.std.specs.Prelude.{min}
 use Rattle.std.specs.List.{AllByRecursion, IsDistinct, count_by, list_any, range_with_len}
 use Rattle.std.proofs.Math.Seq.{drop-nil, drop-append-add}
@@ -18,9 +20,11 @@ use Rattle.kom_model.specs.Shown.{shows_membership}
 use Rattle.kom_state.specs.Placed.{AreThere, AreInPlace, AreFound}
 use Rattle.kom_state.specs.Secrecy.{is_secret_in}
 use Rattle.kom_state.proofs.TableRows.{all_weaker, all_both}
-use Rattle.query_calls.specs.Hidden.{is_hidden, hidden_members, hidden_memberships, is_before, is_plain_member, is_unseen}
+use Rattle.query_calls.specs.Hidden.{is_hidden, hidden_members, hidden_memberships, is_before, is_plain_member}
+use Rattle.query_calls.specs.Hidden.{is_unseen}
 use Rattle.query_calls.specs.Walks.{LeadsTo}
-use Rattle.query_calls.proofs.ShownToFew.{shows-strong, shows-supervised, shows-plain, sees-plain, are_own, IsKnown, all_known, shown_strong, shown_own}
+use Rattle.query_calls.proofs.ShownToFew.{shows-strong, shows-supervised, shows-plain, sees-plain, are_own, IsKnown}
+use Rattle.query_calls.proofs.ShownToFew.{all_known, shown_strong, shown_own}
 
 -- ---- counts
 abbrev one_if : Bool → ℕ

@@ -1,6 +1,7 @@
 -- What is shown to few: a strong session is shown all memberships, a person its own, and who supervises a conference
 -- those in it; and one that is not secret is shown with its conference.
-use Rattle.std.proofs.Common.{◌≡◌, ℕ, Bool, true, false, not, ◌||◌, ◌&&◌, ◌⊎◌, eqb, List, [], ◌∷◌, filter, Option, Some, None, is_some, option_map, refl, sym, subst, ◌∙◌, inl, inr, true≢false}
+use Rattle.std.proofs.Common.{◌≡◌, ℕ, Bool, true, false, not, ◌||◌, ◌&&◌, ◌⊎◌, eqb, List, [], ◌∷◌, filter, Option, Some}
+use Rattle.std.proofs.Common.{None, is_some, option_map, refl, sym, subst, ◌∙◌, inl, inr, true≢false}
 use Rattle.std.specs.List.{AllByRecursion}
 use Rattle.std.proofs.lemmas.Bool.{cond_both, eqb-true, eq-eqb, or_left, or_right, and_from}
 use Rattle.kom_types.specs.declared.conferences.ConferenceHead.{ConferenceHead}

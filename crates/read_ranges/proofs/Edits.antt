@@ -1,16 +1,20 @@
 -- What one more or one less number does to ranges.
-use Rattle.std.proofs.Common.{◌≡◌, ℕ, suc, ◌+◌, ◌-◌, ◌<◌, ◌≤◌, ◌≢◌, false, ◌||◌, ◌&&◌, eqb, not, List, [], ◌∷◌, ◌++◌, length, get_or, take, drop, set, refl, sym, ap, ◌∙◌, subst, Result, Ok, Err, OnOk, OnErr, arith, append_assoc}
+use Rattle.std.proofs.Common.{◌≡◌, ℕ, suc, ◌+◌, ◌-◌, ◌<◌, ◌≤◌, ◌≢◌, false, ◌||◌, ◌&&◌, eqb, not, List, [], ◌∷◌, ◌++◌}
+use Rattle.std.proofs.Common.{length, get_or, take, drop, set, refl, sym, ap, ◌∙◌, subst, Result, Ok, Err, OnOk, OnErr}
+use Rattle.std.proofs.Common.{arith, append_assoc}
 use Rattle.std.specs.List.{AllByRecursion, insert, remove}
 use Rattle.std.specs.FinSet as finite
 use Rattle.std.specs.Ordering.{nat_cmp}
 use Rattle.std.proofs.lemmas.Bool.Decides.{nat_tests}
-use Rattle.std.proofs.lemmas.List.{take-append-drop, drop_all, set_split, take_more_set, drop-set-lt, take-append-le, take-take, drop_at, length-take-le, length-set}
+use Rattle.std.proofs.lemmas.List.{take-append-drop, drop_all, set_split, take_more_set, drop-set-lt, take-append-le}
+use Rattle.std.proofs.lemmas.List.{take-take, drop_at, length-take-le, length-set}
 use Rattle.std.proofs.lemmas.List.Folds.{list_any-append}
 use Rattle.std.proofs.lemmas.List.Edits.{length-insert}
 use Rattle.kom_types.specs.declared.memberships.ReadRange.{ReadRange}
 use Rattle.read_ranges.specs.Numbers.{range, RiseFrom, AreRanges, greatest, union_of, ranges_of}
 use Rattle.read_ranges.specs.Places.{IsPlaceOf, EndBelow, EndFrom, Marks}
-use Rattle.read_ranges.proofs.Rises.{is_in_range, holds_in, holds_below, held_behind, after, after_below, rise_front, rise_back, rise_join, rise_lower}
+use Rattle.read_ranges.proofs.Rises.{is_in_range, holds_in, holds_below, held_behind, after, after_below, rise_front}
+use Rattle.read_ranges.proofs.Rises.{rise_back, rise_join, rise_lower}
 use Rattle.read_ranges.proofs.Sets.{union_of-marked, union_of-unmarked, ranges_of-union_of}
 use Rattle.read_ranges.proofs.Found.{from_place}
 

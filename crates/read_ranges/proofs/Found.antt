@@ -1,5 +1,7 @@
 -- What stands at the place that a search finds.
-use Rattle.std.proofs.Common.{◌≡◌, ℕ, zero, suc, ◌+◌, ◌<◌, ◌≤◌, true, false, leb, ltb, List, [], ◌∷◌, length, get_or, take, drop, Option, Some, None, SomeIff, MatchOption, IsNone, IfSome, ◌↔◌, refl, sym, ap, ◌∙◌, subst, inl, inr, arith}
+use Rattle.std.proofs.Common.{◌≡◌, ℕ, zero, suc, ◌+◌, ◌<◌, ◌≤◌, true, false, leb, ltb, List, [], ◌∷◌, length, get_or}
+use Rattle.std.proofs.Common.{take, drop, Option, Some, None, SomeIff, MatchOption, IsNone, IfSome, ◌↔◌, refl, sym, ap}
+use Rattle.std.proofs.Common.{◌∙◌, subst, inl, inr, arith}
 use Rattle.std.specs.List.{AllWithin}
 use Rattle.std.specs.List.Sorted.{IsPartitionedBy, IsPartitionPoint, IsNonDecreasingBy}
 use Rattle.std.proofs.lemmas.Bool.{cases_lt, false≢true}
@@ -10,7 +12,8 @@ use Rattle.std.proofs.lemmas.List.Sorted.{IsPartitionedBy-ltb}
 use Rattle.kom_types.specs.declared.memberships.ReadRange.{ReadRange}
 use Rattle.read_ranges.specs.Numbers.{RiseFrom, AreRanges, greatest, union_of, IsReadFrom, IsNextUnread}
 use Rattle.read_ranges.specs.Places.{IsPlaceOf, EndBelow, EndFrom}
-use Rattle.read_ranges.proofs.Rises.{is_in_range, holds_in, holds_below, held_behind, holds_first, holds_gap, after, rise_back}
+use Rattle.read_ranges.proofs.Rises.{is_in_range, holds_in, holds_below, held_behind, holds_first, holds_gap, after}
+use Rattle.read_ranges.proofs.Rises.{rise_back}
 use Rattle.read_ranges.proofs.Sets.{contains-union_of}
 
 -- the list from a place on, by what stands there

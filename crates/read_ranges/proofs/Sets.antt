@@ -1,13 +1,16 @@
 -- The sets of ranges, and the ranges of sets.
-use Rattle.std.proofs.Common.{◌≡◌, ℕ, zero, suc, ◌+◌, ◌-◌, ◌≤◌, Bool, true, false, ◌||◌, ◌&&◌, leb, ltb, eqb, nat_eq, not, cond, filter, List, [], ◌∷◌, refl, sym, ap, ◌∙◌, append-nil, arith}
+use Rattle.std.proofs.Common.{◌≡◌, ℕ, zero, suc, ◌+◌, ◌-◌, ◌≤◌, Bool, true, false, ◌||◌, ◌&&◌, leb, ltb, eqb, nat_eq}
+use Rattle.std.proofs.Common.{not, cond, filter, List, [], ◌∷◌, refl, sym, ap, ◌∙◌, append-nil, arith}
 use Rattle.std.specs.List.{list_any, flat_map}
 use Rattle.std.specs.Ordering.{nat_cmp}
 use Rattle.std.specs.Cmp.{nat_cmp_total, unsigned_tied}
-use Rattle.std.specs.FinSet.{FinSet, empty, contains, insert, remove, from_list, contains-from_list_nat, contains-insert, contains-remove, same_set, nat_cmp-IsAntisymmetric}
+use Rattle.std.specs.FinSet.{FinSet, empty, contains, insert, remove, from_list, contains-from_list_nat}
+use Rattle.std.specs.FinSet.{contains-insert, contains-remove, same_set, nat_cmp-IsAntisymmetric}
 use Rattle.std.proofs.lemmas.Bool.Decides.{nat_tests}
 use Rattle.std.proofs.lemmas.List.Folds.{list_any-append}
 use Rattle.kom_types.specs.declared.memberships.ReadRange.{ReadRange}
-use Rattle.read_ranges.specs.Numbers.{range, RiseFrom, AreRanges, greatest, numbers_from, numbers_in, union_of, with_number, cut, ranges_of, IsWithinBounds}
+use Rattle.read_ranges.specs.Numbers.{range, RiseFrom, AreRanges, greatest, numbers_from, numbers_in, union_of}
+use Rattle.read_ranges.specs.Numbers.{with_number, cut, ranges_of, IsWithinBounds}
 use Rattle.read_ranges.proofs.Rises.{is_in_range, holds_in, held_at_least, held_at_most, one_list, rise_lower}
 
 -- which numbers a run of numbers has

@@ -1,5 +1,6 @@
 -- Slots in blocks: what stands in a slot of a block, and of the blocks one after the other, and after a change of one.
-use Rattle.std.proofs.Common.{◌≡◌, ℕ, zero, suc, false, is_some, List, [], ◌∷◌, length, slice_get, Option, Some, None, refl, sym, ap, ◌∙◌, arith}
+use Rattle.std.proofs.Common.{◌≡◌, ℕ, zero, suc, false, is_some, List, [], ◌∷◌, length, slice_get, Option, Some, None}
+use Rattle.std.proofs.Common.{refl, sym, ap, ◌∙◌, arith}
 use Rattle.std.specs.List.{list_any}
 use Rattle.std.specs.Option.{option_flatten}
 use Rattle.std.specs.Prelude.{replicate}
@@ -36,7 +37,8 @@ module _ {R : Type 0} where
   get-spread [] place = none_at 64 place
   get-spread (slot ∷ slots) place = refl
 
-  pub spread-emptied : (place : ℕ) (slots : List (Option R)) → spread (emptied place slots) ≡ emptied place (spread slots)
+  pub spread-emptied : (place : ℕ) (slots : List (Option R)) →
+      spread (emptied place slots) ≡ emptied place (spread slots)
   spread-emptied place [] = sym (emptied_nones 64 place)
   spread-emptied zero (slot ∷ slots) = refl
   spread-emptied (suc place) (slot ∷ slots) = refl
@@ -63,7 +65,8 @@ module _ {R : Type 0} where
   length-emptied zero (slot ∷ slots) = refl
   length-emptied (suc place) (slot ∷ slots) = ap suc (length-emptied place slots)
 
-  pub length-replaced : (place : ℕ) (row : R) (slots : List (Option R)) → length (replaced place row slots) ≡ length slots
+  pub length-replaced : (place : ℕ) (row : R) (slots : List (Option R)) →
+      length (replaced place row slots) ≡ length slots
   length-replaced place row [] = refl
   length-replaced zero row (None ∷ slots) = refl
   length-replaced zero row (Some first ∷ slots) = refl

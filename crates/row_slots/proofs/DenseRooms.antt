@@ -1,5 +1,6 @@
 -- The lists and the rooms of keys that are numbered one after the other, and those after a change of one list.
-use Rattle.std.proofs.Common.{◌≡◌, ℕ, zero, suc, ◌-◌, ◌/◌, ◌%◌, ◌<◌, ◌≤◌, List, [], ◌∷◌, length, map, slice_get, IsSome, Option, Some, None, option_map, unwrap_or, inl, inr, refl, ◌∙◌, ap, sym, subst, arith}
+use Rattle.std.proofs.Common.{◌≡◌, ℕ, zero, suc, ◌-◌, ◌/◌, ◌%◌, ◌<◌, ◌≤◌, List, [], ◌∷◌, length, map, slice_get, IsSome}
+use Rattle.std.proofs.Common.{Option, Some, None, option_map, unwrap_or, inl, inr, refl, ◌∙◌, ap, sym, subst, arith}
 use Rattle.std.specs.Option.{option_and_then, option_map_or}
 use Rattle.std.specs.declared.alloc.Global.{Global}
 use Rattle.std.specs.declared.vec.Vec.{Vec}
@@ -27,7 +28,8 @@ dense_room_in-dense_rooms lists key =
     ∙ by_page (slice_get lists.near.items (key / 64))
   where
     by_list : (o : Option (SmallVec ℕ)) →
-        unwrap_or (option_map spare o) (room_in (rooms_of lists.far) key) ≡ option_map_or spare o (room_of lists.far key)
+        unwrap_or (option_map spare o) (room_in (rooms_of lists.far) key)
+        ≡ option_map_or spare o (room_of lists.far key)
     by_list None = room_in-rooms_of lists.far key
     by_list (Some list) = refl
 

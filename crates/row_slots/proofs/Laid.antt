@@ -1,5 +1,6 @@
 -- Blocks one after the other, and the last slots after them: what stands in a slot, and after one of them has changed.
-use Rattle.std.proofs.Common.{◌≡◌, ℕ, zero, suc, ◌+◌, ◌*◌, ◌<◌, List, [], ◌∷◌, ◌++◌, length, slice_get, Option, Some, None, refl, sym, ap, subst, ◌∙◌, arith, append_assoc}
+use Rattle.std.proofs.Common.{◌≡◌, ℕ, zero, suc, ◌+◌, ◌*◌, ◌<◌, List, [], ◌∷◌, ◌++◌, length, slice_get, Option, Some}
+use Rattle.std.proofs.Common.{None, refl, sym, ap, subst, ◌∙◌, arith, append_assoc}
 use Rattle.std.specs.List.{AllByRecursion}
 use Rattle.std.proofs.Math.ListN.{set}
 use Rattle.std.proofs.lemmas.List.{length-append}
@@ -28,7 +29,8 @@ module _ {X : Type 0} where
   all-push P [] x all one = (one, all)
   all-push P (first ∷ xs) x all one = (all.0, all-push P xs x all.1 one)
 
-  pub all-at : (P : X → Type 0) (xs : List X) (place : ℕ) (x : X) → AllByRecursion P xs → slice_get xs place ≡ Some x → P x
+  pub all-at : (P : X → Type 0) (xs : List X) (place : ℕ) (x : X) → AllByRecursion P xs → slice_get xs place ≡ Some x →
+      P x
   all-at P [] place x all there = absurd (none-some x there)
   all-at P (first ∷ xs) zero x all there = subst P (same_Some first x there) all.0
   all-at P (first ∷ xs) (suc place) x all there = all-at P xs place x all.1 there
@@ -36,7 +38,8 @@ module _ {X : Type 0} where
 module _ {R : Type 0} where
   -- ---- what stands in a slot
 
-  pub get-laid : (blocks : List (List (Option R))) (last : List (Option R)) (which place : ℕ) (block : List (Option R)) →
+  pub get-laid : (blocks : List (List (Option R))) (last : List (Option R)) (which place : ℕ) (block : List (Option R))
+      →
       AllByRecursion IsBlock blocks → slice_get blocks which ≡ Some block → place < 64 →
       slice_get (laid blocks last) (64 * which + place) ≡ slice_get block place
   get-laid [] last which place block whole there within = absurd (none-some block there)
@@ -50,7 +53,8 @@ module _ {R : Type 0} where
       ∙ get-after first (laid blocks last) (64 * which + place)
       ∙ get-laid blocks last which place block whole.1 there within
 
-  pub get-last : (blocks : List (List (Option R))) (last : List (Option R)) (place : ℕ) → AllByRecursion IsBlock blocks →
+  pub get-last : (blocks : List (List (Option R))) (last : List (Option R)) (place : ℕ) →
+      AllByRecursion IsBlock blocks →
       slice_get (laid blocks last) (64 * length blocks + place) ≡ slice_get last place
   get-last [] last place whole = ap (slice_get last) (omega arith)
   get-last (first ∷ blocks) last place whole =

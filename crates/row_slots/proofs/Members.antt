@@ -1,5 +1,6 @@
 -- Where a number stands in a list, and the list without it.
-use Rattle.std.proofs.Common.{◌≡◌, ℕ, suc, ◌<◌, true, false, ◌||◌, eqb, ltb, nat_eq, List, [], ◌∷◌, length, remove, position, Some, inl, inr, sym, ◌∙◌, ap, refl, lt-ltb, one-add, arith}
+use Rattle.std.proofs.Common.{◌≡◌, ℕ, suc, ◌<◌, true, false, ◌||◌, eqb, ltb, nat_eq, List, [], ◌∷◌, length, remove}
+use Rattle.std.proofs.Common.{position, Some, inl, inr, sym, ◌∙◌, ap, refl, lt-ltb, one-add, arith}
 use Rattle.std.specs.List.{position_or_len}
 use Rattle.std.specs.Set.{remove_key, is_member}
 use Rattle.std.proofs.lemmas.Bool.{cases_Bool, false≢true}

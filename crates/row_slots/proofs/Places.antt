@@ -1,6 +1,7 @@
 -- The places of the rows that pass a test: which rows stand there, and what the places and the rows are after a row is
 -- added and after a slot is emptied.
-use Rattle.std.proofs.Common.{◌≡◌, ℕ, zero, suc, ◌≤◌, Bool, true, false, cond, not, ◌||◌, nat_eq, List, [], ◌∷◌, ◌++◌, length, slice_get, map, filter, Option, Some, None, refl, sym, ap, ◌∙◌, arith, add-one}
+use Rattle.std.proofs.Common.{◌≡◌, ℕ, zero, suc, ◌≤◌, Bool, true, false, cond, not, ◌||◌, nat_eq, List, [], ◌∷◌, ◌++◌}
+use Rattle.std.proofs.Common.{length, slice_get, map, filter, Option, Some, None, refl, sym, ap, ◌∙◌, arith, add-one}
 use Rattle.std.specs.Option.{option_flatten}
 use Rattle.std.specs.Set.{remove_key, is_member}
 use Rattle.std.proofs.Math.Dec.{eqb-suc-zero, eqb-suc-suc}

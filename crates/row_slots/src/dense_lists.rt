@@ -13,10 +13,10 @@ use std::alloc::{AllocError, Global};
 /// A list of numbers for each key: for keys that are numbered one after the other.
 ///
 /// The lists of near keys stand in pages, which are found by the key; a page all of whose lists are
-/// empty takes no memory once a sweep has seen it. A key is far that is more than four times as high
-/// as there were keys before it, and a thousand; from the first far key on all that are in no page
-/// are far. Far ones are hashed, so the memory grows with the keys that are used, however high they
-/// are. A list of up to four numbers takes no further memory of its own.
+/// empty takes no memory once a sweep has seen it. A key is far that is more than four times as
+/// high as there were keys before it, and a thousand; from the first far key on all that are in no
+/// page are far. Far ones are hashed, so the memory grows with the keys that are used, however high
+/// they are. A list of up to four numbers takes no further memory of its own.
 pub struct DenseLists {
     near: Vec<Page>,
     /// How often a near key was in a higher page than all before it.

@@ -10,9 +10,9 @@ use std::mem;
 
 /// Rows in the order of adding. The slot of a row that was taken away stays empty.
 ///
-/// All but `reserve`, `settle`, and a `push` that takes memory, are done in constant time. The slots
-/// stand in blocks, each of which takes no memory once all of it is empty, and those that were added
-/// last by themselves.
+/// All but `reserve`, `settle`, and a `push` that takes memory, are done in constant time. The
+/// slots stand in blocks, each of which takes no memory once all of it is empty, and those that
+/// were added last by themselves.
 pub struct Slots<R> {
     settled: Vec<Block<R>>,
     last: Vec<Option<R>>,

@@ -1,5 +1,6 @@
 -- What a store is that is not opened, and what a check of one comes to.
-use Rattle.std.specs.Prelude.{◌≢◌, ◌⊎◌, ◌||◌, ℕ, Bool, true, false, IsTrue, List, Option, Some, None}
+use Rattle.std.specs.Prelude.{◌≢◌, ◌⊎◌, ◌||◌, ℕ, Bool, true, false, IsTrue, List, Option, Some}
+use Rattle.std.specs.Prelude.{None}
 use Rattle.std.specs.Prelude.{length, IfSome}
 use Rattle.kom_commands.specs.declared.cases.Cases.{Cases}
 use Rattle.kom_commands.specs.Reports.{check_lines, HasText}

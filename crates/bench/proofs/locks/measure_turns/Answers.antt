@@ -9,7 +9,8 @@ close-pass-requires-clause-every g c number low =
     let new = c.take_together.new.passes in
     let rest = drop (length new) c.in-Ok.row.items in
     let long : c.in-Ok.row.len ≡ length new = omega (arith, c.as_mut_slice.ensures.len, c.take_together.auto.passes) in
-    subst (λ l. Contains (map number_of l) number) (sym (ap (λ n. take n (new ++ rest)) long ∙ take-append_seam new rest))
+    subst (λ l. Contains (map number_of l) number)
+    (sym (ap (λ n. take n (new ++ rest)) long ∙ take-append_seam new rest))
     (ready_every c.in-Ok.hall new c.take_together.ensures number low)
 
 pub close-pass-requires-clause-free : goal.close-pass-requires-clause-free

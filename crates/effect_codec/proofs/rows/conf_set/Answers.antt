@@ -22,7 +22,8 @@ pub returns-in_err-part : goal.returns-in_err-part
 returns-in_err-part c =
     let p = err_from_is_err_and c.from_residual-in_err-part.result c.from_residual-in_err-part.ensures.1 in
     rw (p.1, p.2)
-    (subst (λ (r : Read ℕ). Gives {X = Effect} (λ x. x) (and_then r after_number) (Err c.in_err-part.field-0.0) c.setting.new.self)
+    (subst (λ (r : Read ℕ). Gives {X = Effect} (λ x. x) (and_then r after_number) (Err c.in_err-part.field-0.0)
+    c.setting.new.self)
     (sym c.in_ok-number.ensures)
     (stopped setting_of (value_at (OneOf conf_parts) c.number.new.self) (made c.in_ok-number.number)
     c.in_err-part.field-0.0 c.setting.new.self c.in_err-part.ensures.gives))

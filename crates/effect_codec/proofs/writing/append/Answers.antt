@@ -1,5 +1,6 @@
 use Rattle.std.proofs.Common.{length, refl, ap, arith}
-use Rattle.effect_codec.proofs.Puts.{puts_2, puts_3, puts_4, puts_5, put_effect, amount_put, text_put, setting_put, ranges_put, length-read_set}
+use Rattle.effect_codec.proofs.Puts.{puts_2, puts_3, puts_4, puts_5, put_effect, amount_put, text_put, setting_put}
+use Rattle.effect_codec.proofs.Puts.{ranges_put, length-read_set}
 use Rattle.effect_codec.proofs.writing.append.Goals as goal
 
 pub put_ranges-requires-clause-room : goal.put_ranges-requires-clause-room
@@ -26,7 +27,8 @@ returns-in-ConfField-clause-items c =
     put_effect _ _ _ _ c.in-ConfField.is
     (puts_2 _ _ _ _ _ _
     c.put_start-in-ConfField.ensures.items
-    (setting_put _ _ _ _ _ _ c.conf_setting-part.ensures.part c.conf_setting-part.ensures.value c.put_setting.ensures.items)
+    (setting_put _ _ _ _ _ _ c.conf_setting-part.ensures.part c.conf_setting-part.ensures.value
+    c.put_setting.ensures.items)
     refl)
 
 pub returns-in-PersonAdded-clause-items : goal.returns-in-PersonAdded-clause-items
@@ -44,7 +46,8 @@ returns-in-PersonField-clause-items c =
     put_effect _ _ _ _ c.in-PersonField.is
     (puts_2 _ _ _ _ _ _
     c.put_start-in-PersonField.ensures.items
-    (setting_put _ _ _ _ _ _ c.person_setting-part.ensures.part c.person_setting-part.ensures.value c.put_setting-in-PersonField.ensures.items)
+    (setting_put _ _ _ _ _ _ c.person_setting-part.ensures.part c.person_setting-part.ensures.value
+    c.put_setting-in-PersonField.ensures.items)
     refl)
 
 pub returns-in-LoggedIn-clause-items : goal.returns-in-LoggedIn-clause-items

@@ -37,7 +37,8 @@ returns-in-Some-clause-kept g c =
     let was = was_refused c.args.core.now.state c.args.entry c.make_kept.new.self c.in-Ok.kind c.in-Some.refusal
     (sym c.refusal_of.ensures ∙ c.in-Some.is) c.in-Ok.ensures.answered in
     c.in-Ok.ensures.kept
-    ∙ ap (λ (last : Option Record). appended (kept_by c.args.core.now.state last) (g.K.Keeper.pending c.args.keeper.now))
+    ∙ ap (λ (last : Option Record). appended (kept_by c.args.core.now.state last)
+    (g.K.Keeper.pending c.args.keeper.now))
     was.0.last
 
 pub returns-in-Some-clause-rest : goal.returns-in-Some-clause-rest
@@ -59,7 +60,8 @@ returns-in-None-clause-none_taken g c takes = refl
 pub returns-in-None-clause-kept : goal.returns-in-None-clause-kept
 returns-in-None-clause-kept g c =
     c.in-Ok.ensures.kept
-    ∙ ap (λ (last : Option Record). appended (kept_by c.args.core.now.state last) (g.K.Keeper.pending c.args.keeper.now))
+    ∙ ap (λ (last : Option Record). appended (kept_by c.args.core.now.state last)
+    (g.K.Keeper.pending c.args.keeper.now))
     c.hand_out.ensures.made
 
 pub returns-in-None-clause-rest : goal.returns-in-None-clause-rest

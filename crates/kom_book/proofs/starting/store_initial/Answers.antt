@@ -43,7 +43,8 @@ returns-in-Ok-flush-clause-rows g c told stands =
     subst (λ (db : Db). AreFor (images g.D.Disk.images c.flush.new.self.disk) db)
     (first_rows c.args.password.now c.args.moment c.initial_rows.new.keeper.pending is)
     (c.in-Ok-flush.ensures.rows told empty_db
-    (subst (λ (disk : g.row.D.Denot). AreFor (images g.D.Disk.images disk) empty_db) (sym c.initial_rows.ensures.rest.disk)
+    (subst (λ (disk : g.row.D.Denot). AreFor (images g.D.Disk.images disk) empty_db)
+    (sym c.initial_rows.ensures.rest.disk)
     stands) (first_fits effects c.initial_rows.new.keeper.pending is))
 
 pub returns-in-Ok-flush-clause-kept : goal.returns-in-Ok-flush-clause-kept
@@ -52,7 +53,8 @@ returns-in-Ok-flush-clause-kept g c told stands kept =
     let is = first_pending effects c.args.store.now.pending c.initial_rows.new.keeper.pending c.requires.waits
     c.in-Ok.ensures.kept in
     c.flush.ensures.kept told empty_db
-    (subst (λ (disk : g.row.D.Denot). AreFor (images g.D.Disk.images disk) empty_db) (sym c.initial_rows.ensures.rest.disk)
+    (subst (λ (disk : g.row.D.Denot). AreFor (images g.D.Disk.images disk) empty_db)
+    (sym c.initial_rows.ensures.rest.disk)
     stands) (first_fits effects c.initial_rows.new.keeper.pending is)
     (subst (λ (disk : g.row.D.Denot). IsKept (images g.D.Disk.images disk)) (sym c.initial_rows.ensures.rest.disk) kept)
 

@@ -22,7 +22,8 @@ returns-then-not-is_flush-clause-comes g c =
 
 pub returns-then-not-is_flush-clause-stops : goal.returns-then-not-is_flush-clause-stops
 returns-then-not-is_flush-clause-stops g c told =
-    kept_leaves (moment g.D.Disk.moment) (images_at g.D.Disk.images_at) c.make_record.result c.args.core.now c.make_record.new.core
+    kept_leaves (moment g.D.Disk.moment) (images_at g.D.Disk.images_at) c.make_record.result c.args.core.now
+    c.make_record.new.core
     c.args.store.now c.make_record.new.keeper c.args.refused.now c.args.entry
     (λ is. let there : IsTrue c.is_flush.result = c.is_flush.ensures.1 is in cc)
     c.make_record.ensures.comes c.make_record.ensures.kept c.make_record.ensures.rest
@@ -67,7 +68,8 @@ returns-in-Ok-clause-stops g c told =
     c.if-not-is_flush.false in
     let none : c.args.refused.now ≡ None = none_of c.args.refused.now
     (sym c.is_some.ensures ∙ c.if-is_some.false) in
-    taken_leaves (moment g.D.Disk.moment) (images_at g.D.Disk.images_at) (images g.D.Disk.images) c.make_record-in-Ok.result c.args.core.now
+    taken_leaves (moment g.D.Disk.moment) (images_at g.D.Disk.images_at) (images g.D.Disk.images)
+    c.make_record-in-Ok.result c.args.core.now
     c.make_record-in-Ok.new.core c.args.store.now c.flush.new.self c.args.refused.now c.args.entry flush
     (c.requires.marked ∙ ap is_some none) c.make_record-in-Ok.ensures.comes
     (λ disk image. now_on g.D.Disk.moment g.D.Disk.images_at g.D.Disk.images disk
@@ -107,7 +109,8 @@ pub returns-in-Err-clause-stops : goal.returns-in-Err-clause-stops
 returns-in-Err-clause-stops g c told =
     let none : c.args.refused.now ≡ None = none_of c.args.refused.now
     (sym c.is_some.ensures ∙ c.if-is_some.false) in
-    refused_leaves (moment g.D.Disk.moment) (images_at g.D.Disk.images_at) (images g.D.Disk.images) c.args.core.now c.refuse.new.core
+    refused_leaves (moment g.D.Disk.moment) (images_at g.D.Disk.images_at) (images g.D.Disk.images) c.args.core.now
+    c.refuse.new.core
     c.args.store.now c.flush.new.self c.args.refused.now (Some c.in-Err.fault) c.args.entry c.refuse.result
     c.refuse.ensures.made (c.requires.marked ∙ ap is_some none) c.refuse.ensures.state
     (λ disk image. now_on g.D.Disk.moment g.D.Disk.images_at g.D.Disk.images disk

@@ -19,7 +19,8 @@ returns-in-Ok-Some-clause-reading c =
     reads_call c.args.line.now.tokens c.integer.new.self c.integer-2.new.self c.in-Ok.reference c.in-Ok-integer.number
     (rw c.of-arguments.ensures at c.in-Ok.ensures) c.in-Ok-integer.ensures
     ∙ ap (with_reference c.in-Ok.reference)
-    (told_call (pattern_of c.in-Ok-integer.number patterns) c.integer-2.new.self c.call_by_number.new.arguments c.in-Ok-Some.call
+    (told_call (pattern_of c.in-Ok-integer.number patterns) c.integer-2.new.self c.call_by_number.new.arguments
+    c.in-Ok-Some.call
     (rw c.in-Ok-Some.field-0-is at c.in-Ok-Some.ensures))
 
 pub returns-in-Ok-None-clause-reading : goal.returns-in-Ok-None-clause-reading
@@ -56,7 +57,8 @@ returns-in-Err-LongArray-clause-reading c =
 
 pub returns-in-Err-Memory-clause-room : goal.returns-in-Err-Memory-clause-room
 returns-in-Err-Memory-clause-room c =
-    takes_room_of c.args.line.now.tokens c.integer.new.self c.integer-2.new.self c.in-Ok.reference c.in-Ok-integer.number
+    takes_room_of c.args.line.now.tokens c.integer.new.self c.integer-2.new.self c.in-Ok.reference
+    c.in-Ok-integer.number
     (rw c.of-arguments.ensures at c.in-Ok.ensures) c.in-Ok-integer.ensures
     ∙ told_memory c.in-Ok-integer.number c.integer-2.new.self c.call_by_number.new.arguments
     (rw c.in-Err-Memory.field-0-is at c.in-Err-Memory.ensures)

@@ -1,4 +1,5 @@
-use Rattle.std.proofs.Common.{◌≡◌, ℕ, List, [], take, drop, Option, Some, None, Result, Ok, Err, refl, sym, subst, arith, append-nil, inl, inr}
+use Rattle.std.proofs.Common.{◌≡◌, ℕ, List, [], take, drop, Option, Some, None, Result, Ok, Err, refl, sym, subst}
+use Rattle.std.proofs.Common.{arith, append-nil, inl, inr}
 use Rattle.std.specs.Option.{IfSome}
 use Rattle.std.proofs.lemmas.List.{take-append-drop}
 use Rattle.kom_links.specs.Doors.{SinkView, Puts}

@@ -1,6 +1,7 @@
 use Rattle.std.proofs.Common.{sym, subst, ◌∙◌}
 use Rattle.kom_journal.specs.Opened.{IsMadeOf, IsLeftOfFile}
-use Rattle.kom_journal.proofs.Opened.{gate_is, counts_all, sync_fails, read_leaves, read_opens, repair_opens, repair_keeps}
+use Rattle.kom_journal.proofs.Opened.{gate_is, counts_all, sync_fails, read_leaves, read_opens, repair_opens}
+use Rattle.kom_journal.proofs.Opened.{repair_keeps}
 use Rattle.kom_journal.proofs.Opens.{opened_stands, repaired_sound, repaired_stored}
 use Rattle.kom_journal.proofs.Sound.{one_of}
 use Rattle.kom_journal.proofs.opening.open_rows.Goals as goal

@@ -15,7 +15,8 @@ use Rattle.kom_rows.proofs.model.worked_calls.Goals as goal
 
 pub returns : goal.returns
 unfolding items_of next_item_of refused_change inherited
-    conference_head_of membership_kind_of finds is_name password_hash conference_of person_of membership_of memberships_of conferences_of
+    conference_head_of membership_kind_of finds is_name password_hash conference_of person_of membership_of
+    memberships_of conferences_of
     next_conference_of fits made initial supervises sees sha256 digest_bytes hash_after compress rounds schedule
     first_words
 returns c = record {

@@ -3,7 +3,8 @@ use Rattle.std.proofs.Common.{refl}
 use Rattle.read_ranges.specs.Numbers.{numbers_from}
 use Rattle.kom_types.specs.AuxItems.{refused_change, inherited}
 use Rattle.kom_model.specs.Db.{items_of, next_item_of}
-use Rattle.kom_model.specs.Db.{conference_of, person_of, membership_of, memberships_of, members_of, conferences_of, person_flags_of}
+use Rattle.kom_model.specs.Db.{conference_of, person_of, membership_of, memberships_of, members_of, conferences_of}
+use Rattle.kom_model.specs.Db.{person_flags_of}
 use Rattle.kom_model.specs.Db.{conference_head_of, membership_kind_of, read_of, text_of, next_text_of}
 use Rattle.kom_model.specs.Db.{next_local_of, recipient_of, recipients_of, locals_of, first_local_of}
 use Rattle.kom_model.specs.Effects.{fits, made}

@@ -11,7 +11,8 @@ use Rattle.kom_rows.proofs.model.worked_rights.Goals as goal
 
 pub returns : goal.returns
 unfolding items_of next_item_of refused_change inherited
-    conference_head_of membership_kind_of conference_of person_of membership_of memberships_of members_of conferences_of fits made
+    conference_head_of membership_kind_of conference_of person_of membership_of memberships_of members_of conferences_of
+    fits made
     supervises sees reads_conference
 returns c = record {
   all_are_made = refl;

@@ -6,7 +6,8 @@ use Rattle.kom_model.specs.Db.{items_of, next_item_of}
 use Rattle.kom_model.specs.Db.{conference_of, person_of, membership_of, memberships_of, conferences_of}
 use Rattle.kom_model.specs.Db.{conference_head_of, membership_kind_of, text_of, text_author_of, texts_of}
 use Rattle.kom_model.specs.Db.{next_text_of, next_local_of, next_created_of, recipient_of, recipients_of}
-use Rattle.kom_model.specs.Db.{link_of, links_from, links_into, links_of, locals_of, created_by, mark_of, marks_of, marks_on}
+use Rattle.kom_model.specs.Db.{link_of, links_from, links_into, links_of, locals_of, created_by, mark_of, marks_of}
+use Rattle.kom_model.specs.Db.{marks_on}
 use Rattle.kom_model.specs.Effects.{fits, made}
 use Rattle.kom_model.specs.Initial.{initial}
 use Rattle.kom_model.specs.Rights.{supervises, sees, reads_conference, reads, may_submit}

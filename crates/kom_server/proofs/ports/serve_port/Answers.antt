@@ -17,11 +17,13 @@ pub close-server-requires-clause-free : goal.close-server-requires-clause-free
 close-server-requires-clause-free g c =
     ready_free c.in-Ok-make.made.0 c.in-Ok-make.made.1.items c.in-Ok-make.ensures.ready
 
-pub close-server-requires-in_default-open_gates-clause-every : goal.close-server-requires-in_default-open_gates-clause-every
+pub close-server-requires-in_default-open_gates-clause-every :
+    goal.close-server-requires-in_default-open_gates-clause-every
 close-server-requires-in_default-open_gates-clause-every g c =
     ready_every c.in-Ok-make.made.0 c.in-Ok-make.made.1.items c.in-Ok-make.ensures.ready
 
-pub close-server-requires-in_default-open_gates-clause-free : goal.close-server-requires-in_default-open_gates-clause-free
+pub close-server-requires-in_default-open_gates-clause-free :
+    goal.close-server-requires-in_default-open_gates-clause-free
 close-server-requires-in_default-open_gates-clause-free g c =
     ready_free c.in-Ok-make.made.0 c.in-Ok-make.made.1.items c.in-Ok-make.ensures.ready
 
@@ -63,7 +65,8 @@ returns-clause-gates g c =
 
 -- it was asked of all gates whether they failed
 failed : (g : _) (c : goal.After-result-1 g) →
-    (IsTrue c.have_failed-failed.result ↔ HasFailed (map (λ gate. g.W.Gate.Gate.view gate) c.serve_all-server.new.gates.items))
+    (IsTrue c.have_failed-failed.result ↔ HasFailed
+    (map (λ gate. g.W.Gate.Gate.view gate) c.serve_all-server.new.gates.items))
 failed g c =
     subst (λ (gates : List g.row.W-Gate.Denot). IsTrue c.have_failed-failed.result
     ↔ HasFailed (map (λ gate. g.W.Gate.Gate.view gate) gates)) c.as_slice.ensures.value c.have_failed-failed.ensures

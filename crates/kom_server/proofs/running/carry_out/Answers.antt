@@ -3,7 +3,8 @@ use Rattle.std.proofs.lemmas.Bool.{false≢true}
 use Rattle.kom_commands.specs.declared.words.Command.{Command}
 use Rattle.kom_commands.specs.Words.{IsSpelled, serves, names_store}
 use Rattle.kom_server.specs.Statuses.{opens_store}
-use Rattle.kom_server.proofs.Carried.{never_fails, fails_alone, fails_unserved, fails_served, also, neither, rose_from, not_served, not_named, over_none, over_some, same_load, none_there, both_or}
+use Rattle.kom_server.proofs.Carried.{never_fails, fails_alone, fails_unserved, fails_served, also, neither, rose_from}
+use Rattle.kom_server.proofs.Carried.{not_served, not_named, over_none, over_some, same_load, none_there, both_or}
 use Rattle.kom_server.proofs.Spelling.{same_word}
 use Rattle.kom_server.proofs.running.carry_out.Goals as goal
 
@@ -55,7 +56,11 @@ returns-in-OnceOver-clause-gate g c =
 
 pub returns-in-OnceOver-clause-over : goal.returns-in-OnceOver-clause-over
 returns-in-OnceOver-clause-over g c store port at is =
-    rw (over_none port (sym c.in-OnceOver.is ∙ is), same_word c.args.words.now 1 c.word.result.now store c.word.ensures at)
+    rw (
+      over_none port (sym c.in-OnceOver.is ∙ is),
+      same_word c.args.words.now 1 c.word.result.now store c.word.ensures
+          at,
+    )
     c.serve_store.ensures.over
 
 pub returns-in-OnceOver-clause-no_store : goal.returns-in-OnceOver-clause-no_store
@@ -83,7 +88,11 @@ returns-in-Serve-clause-gate g c =
 
 pub returns-in-Serve-clause-over : goal.returns-in-Serve-clause-over
 returns-in-Serve-clause-over g c store port at is =
-    rw (over_some c.in-Serve.at port (sym c.in-Serve.is ∙ is), same_word c.args.words.now 1 c.word-in-Serve.result.now store c.word-in-Serve.ensures at)
+    rw (
+      over_some c.in-Serve.at port (sym c.in-Serve.is ∙ is),
+      same_word c.args.words.now 1 c.word-in-Serve.result.now
+          store c.word-in-Serve.ensures at,
+    )
     c.serve_store-in-Serve.ensures.over
 
 pub returns-in-Serve-clause-no_store : goal.returns-in-Serve-clause-no_store
@@ -150,7 +159,8 @@ returns-in-Check-clause-store g c =
 
 pub returns-in-Check-clause-gate : goal.returns-in-Check-clause-gate
 returns-in-Check-clause-gate g c =
-    neither c.check-disk.result.cases.gate_failed (serves c.args.command) c.check-disk.ensures.gate (ap serves c.in-Check.is)
+    neither c.check-disk.result.cases.gate_failed (serves c.args.command) c.check-disk.ensures.gate
+    (ap serves c.in-Check.is)
 
 pub returns-in-Check-clause-no_store : goal.returns-in-Check-clause-no_store
 returns-in-Check-clause-no_store g c store at opens unfit =
@@ -159,7 +169,8 @@ returns-in-Check-clause-no_store g c store at opens unfit =
 
 pub returns-in-Check-clause-a_store : goal.returns-in-Check-clause-a_store
 returns-in-Check-clause-a_store g c store at opens =
-    rw (same_word c.args.words.now 1 c.word-in-Check.result.now store c.word-in-Check.ensures at) c.check-disk.ensures.exact
+    rw (same_word c.args.words.now 1 c.word-in-Check.result.now store c.word-in-Check.ensures at)
+    c.check-disk.ensures.exact
 
 pub returns-in-Check-clause-check : goal.returns-in-Check-clause-check
 returns-in-Check-clause-check g c store at is =

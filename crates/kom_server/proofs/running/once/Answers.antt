@@ -4,7 +4,8 @@ use Rattle.kom_model.specs.Initial.{initial}
 use Rattle.kom_server.specs.Runs.{new_server}
 use Rattle.kom_server.proofs.WholeRuns.{first_now}
 use Rattle.kom_server.proofs.Hiding.{hiding_run}
-use Rattle.kom_server.proofs.StoreRuns.{some_then, both_some, wrong_or_so, not_true, marked_by, never_refused, unstored, no_disk_failed}
+use Rattle.kom_server.proofs.StoreRuns.{some_then, both_some, wrong_or_so, not_true, marked_by, never_refused, unstored}
+use Rattle.kom_server.proofs.StoreRuns.{no_disk_failed}
 use Rattle.kom_server.proofs.running.once.Goals as goal
 
 pub returns-clause-once : goal.returns-clause-once

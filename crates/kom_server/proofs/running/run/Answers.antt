@@ -7,7 +7,9 @@ use Rattle.kom_links.specs.Doors.{SinkView}
 use Rattle.kom_links.specs.Outside.{Rose}
 use Rattle.store_check.specs.Stores.{IsWrong}
 use Rattle.kom_server.specs.Statuses.{Asks}
-use Rattle.kom_server.proofs.Carried.{some_status, no_refusal, store_status, unfit_status, gate_status, sink_status, memory_status, all_well, some_wrong, fails_served, unserved_end, zero_failed, has_failed, gate_apart}
+use Rattle.kom_server.proofs.Carried.{some_status, no_refusal, store_status, unfit_status, gate_status, sink_status}
+use Rattle.kom_server.proofs.Carried.{memory_status, all_well, some_wrong, fails_served, unserved_end, zero_failed}
+use Rattle.kom_server.proofs.Carried.{has_failed, gate_apart}
 use Rattle.kom_server.proofs.Spelling.{second, third, over_is, served_at, opens_so, opened_at, serves_so, names_so}
 use Rattle.kom_server.proofs.StoreRuns.{some_then}
 use Rattle.kom_server.proofs.running.run.Goals as goal

@@ -10,7 +10,8 @@ use Rattle.store_check.proofs.Causes.{of_content, unopened_wrong, found_so}
 use Rattle.store_check.proofs.Content.{is_store}
 use Rattle.kom_server.specs.Runs.{AsksPlace}
 use Rattle.kom_server.proofs.Carried.{rose_from}
-use Rattle.kom_server.proofs.StoreRuns.{some_then, both_some, opened_from, asks_none, asks_on, store_there, wrong_or_served}
+use Rattle.kom_server.proofs.StoreRuns.{some_then, both_some, opened_from, asks_none, asks_on, store_there}
+use Rattle.kom_server.proofs.StoreRuns.{wrong_or_served}
 use Rattle.kom_server.proofs.store_runs.serve_store.Goals as goal
 
 -- ---- the store was opened

@@ -1,4 +1,5 @@
-use Rattle.std.proofs.Common.{◌≡◌, ◌&&◌, ◌||◌, ℕ, Bool, true, false, not, eqb, take, map, min, sym, ap, ◌∙◌, rules, tests}
+use Rattle.std.proofs.Common.{◌≡◌, ◌&&◌, ◌||◌, ℕ, Bool, true, false, not, eqb, take, map, min, sym, ap, ◌∙◌, rules}
+use Rattle.std.proofs.Common.{tests}
 use Rattle.std.specs.List.{list_any}
 use Rattle.std.proofs.lemmas.Iterator.{YieldsList-from_slice, YieldsList-from_take}
 use Rattle.std.proofs.lemmas.Iterator.Consumers.{YieldsList-at, YieldsList-from_filter, YieldsList-from_first}
@@ -10,9 +11,11 @@ use Rattle.kom_model.specs.Db.{members_of}
 use Rattle.kom_model.specs.Rights.{supervises, sees}
 use Rattle.kom_model.specs.Shown.{shows_membership}
 use Rattle.query_calls.specs.Hidden.{hidden_members}
-use Rattle.query_calls.proofs.HiddenRows.{none_from_strong, none_from_supervisor, all_from_outside, hidden_by_secret, first_made}
+use Rattle.query_calls.proofs.HiddenRows.{none_from_strong, none_from_supervisor, all_from_outside, hidden_by_secret}
+use Rattle.query_calls.proofs.HiddenRows.{first_made}
 use Rattle.query_calls.proofs.hidden.hidden_members.Goals as goal
-use Rattle.query_calls.proofs.hidden.hidden_members.Goals.{then-viewer-via-then-viewer, then-viewer-via-else-viewer+then-supervises}
+use Rattle.query_calls.proofs.hidden.hidden_members.Goals.{then-viewer-via-then-viewer}
+use Rattle.query_calls.proofs.hidden.hidden_members.Goals.{then-viewer-via-else-viewer+then-supervises}
 
 pub returns-then-first-eq0 : goal.returns-then-first-eq0
 returns-then-first-eq0 c =

@@ -8,7 +8,8 @@ use Rattle.kom_model.specs.Db.{memberships_of}
 use Rattle.query_calls.specs.Hidden.{hidden_memberships, is_hidden}
 use Rattle.query_calls.proofs.HiddenRows.{none_if_strong, none_if_own, both_kinds, hidden-short}
 use Rattle.query_calls.proofs.hidden.hidden_memberships.Goals as goal
-use Rattle.query_calls.proofs.hidden.hidden_memberships.Goals.{then-viewer-via-then-viewer, then-viewer-via-else-viewer+then-viewer-person}
+use Rattle.query_calls.proofs.hidden.hidden_memberships.Goals.{then-viewer-via-then-viewer}
+use Rattle.query_calls.proofs.hidden.hidden_memberships.Goals.{then-viewer-via-else-viewer+then-viewer-person}
 
 pub returns-then-first-eq0 : goal.returns-then-first-eq0
 returns-then-first-eq0 c =

@@ -2,7 +2,8 @@ use Rattle.std.proofs.Common.{set, arith}
 use Rattle.std.specs.List.{insert}
 use Rattle.read_ranges.specs.Numbers.{range}
 use Rattle.read_ranges.specs.Places.{Marks}
-use Rattle.read_ranges.proofs.Edits.{mark_end, mark_alone, mark_before, mark_held, one_more, rise_inserted, set_inserted, full_inserted}
+use Rattle.read_ranges.proofs.Edits.{mark_end, mark_alone, mark_before, mark_held, one_more, rise_inserted}
+use Rattle.read_ranges.proofs.Edits.{set_inserted, full_inserted}
 use Rattle.read_ranges.proofs.edit.mark.Goals as goal
 use Rattle.read_ranges.proofs.edit.mark.Goals.{In_default, Then-saturating_sub-gt1, Then-n-first}
 

@@ -2,7 +2,8 @@ use Rattle.std.proofs.Common.{◌+◌, ◌-◌, ◌≤◌, length, set, arith}
 use Rattle.std.specs.List.{insert, remove}
 use Rattle.std.proofs.lemmas.Result.{err_from_is_err_and}
 use Rattle.read_ranges.specs.Numbers.{range, greatest}
-use Rattle.read_ranges.proofs.Edits.{Unmarks, ends_from, ends_within, unmark_end, unmark_absent, unmark_whole, unmark_first, unmark_last, unmark_middle, one_more_split}
+use Rattle.read_ranges.proofs.Edits.{Unmarks, ends_from, ends_within, unmark_end, unmark_absent, unmark_whole}
+use Rattle.read_ranges.proofs.Edits.{unmark_first, unmark_last, unmark_middle, one_more_split}
 use Rattle.read_ranges.proofs.edit.unmark.Goals as goal
 use Rattle.read_ranges.proofs.edit.unmark.Goals.{In-Some, Then-first-last, Then-first-n-2, Then-last-n, Else-last-n}
 

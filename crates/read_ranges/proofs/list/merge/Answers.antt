@@ -3,7 +3,8 @@ use Rattle.std.proofs.lemmas.List.{drop_more}
 use Rattle.read_ranges.specs.Numbers.{range}
 use Rattle.read_ranges.specs.Merged.{merged}
 use Rattle.read_ranges.specs.ListFault.{range_at, EndWithinBelow}
-use Rattle.read_ranges.proofs.Merging.{merge_touching, merge_apart, others_after, others_after_set, ends_first, ends_more}
+use Rattle.read_ranges.proofs.Merging.{merge_touching, merge_apart, others_after, others_after_set, ends_first}
+use Rattle.read_ranges.proofs.Merging.{ends_more}
 use Rattle.read_ranges.proofs.list.merge.Goals as goal
 use Rattle.read_ranges.proofs.list.merge.Goals.{After-touches, then-touches, else-touches}
 

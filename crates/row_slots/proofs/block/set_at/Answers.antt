@@ -10,7 +10,11 @@ returns-then-is_none-clause-slots g c =
 pub index_mut-requires : goal.index_mut-requires
 index_mut-requires g c =
     let there = read_some c.row_at.result c.if-is_none.ensures in
-    omega (arith, within_slots c.args.place c.args.slots.now.items there.0 (sym c.row_at.ensures ∙ there.1), c.args.slots.now.ok.0)
+    omega (
+      arith,
+      within_slots c.args.place c.args.slots.now.items there.0 (sym c.row_at.ensures ∙ there.1),
+      c.args.slots.now.ok.0,
+    )
 
 pub returns-clause-slots : goal.returns-clause-slots
 returns-clause-slots g c =

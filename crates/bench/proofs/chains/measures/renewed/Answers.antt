@@ -5,7 +5,8 @@ use Rattle.bench.proofs.chains.measures.renewed.Goals as goal
 
 pub append-requires : goal.append-requires
 append-requires c =
-    let left = below_without c.loop-local.local (c.loop-local.local / 2) c.loop-local.chain.pairs c.loop-local.invariant in
+    let left = below_without c.loop-local.local (c.loop-local.local / 2) c.loop-local.chain.pairs c.loop-local.invariant
+    in
     record { above = subst (AllBelow c.loop-local.local) (sym c.remove.ensures.pairs) left }
 
 pub loop-local-preserved : goal.loop-local-preserved

@@ -1,4 +1,5 @@
-use Rattle.std.proofs.Common.{◌≡◌, ◌≤◌, ℕ, Bool, true, false, List, length, take, drop, if◌then◌else◌, ◌∙◌, arith, ap, subst}
+use Rattle.std.proofs.Common.{◌≡◌, ◌≤◌, ℕ, Bool, true, false, List, length, take, drop, if◌then◌else◌, ◌∙◌, arith, ap}
+use Rattle.std.proofs.Common.{subst}
 use Rattle.kom_disk.specs.Disk.{overwritten, Torn}
 use Rattle.disk_example.specs.Cell.{content_of}
 use Rattle.disk_example.proofs.Slots.{left_of_other, written_other}

@@ -2,7 +2,8 @@ use Rattle.std.proofs.Common.{true, [], ◌∷◌, ◌++◌, None, Ok, Err, ap, 
 use Rattle.kom_types.specs.declared.acts.Entry.{Entry}
 use Rattle.kom_model.specs.Legal.{HasUser}
 use Rattle.hall_desk.specs.Faults.{FaultTable}
-use Rattle.hall_desk.proofs.Resting.{open_inside, none_served, own_inside, ends_outside, same_outside, faults_outside, stands_outside, rests_joined, rests_refused}
+use Rattle.hall_desk.proofs.Resting.{open_inside, none_served, own_inside, ends_outside, same_outside, faults_outside}
+use Rattle.hall_desk.proofs.Resting.{stands_outside, rests_joined, rests_refused}
 use Rattle.hall_desk.proofs.hall_desk.HallDesk.join.Goals as goal
 
 pub turn-requires-clause-own : goal.turn-requires-clause-own

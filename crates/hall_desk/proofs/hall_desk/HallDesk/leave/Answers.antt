@@ -1,7 +1,8 @@
 use Rattle.std.proofs.Common.{Ok, Err, ap, ◌∙◌}
 use Rattle.kom_types.specs.declared.acts.Act.TheVariants as act
 use Rattle.hall_desk.specs.Faults.{FaultTable, closed_at}
-use Rattle.hall_desk.proofs.Resting.{open_inside, own_inside, ends_outside, same_outside, faults_outside, stands_outside, rests_left, rests_refused}
+use Rattle.hall_desk.proofs.Resting.{open_inside, own_inside, ends_outside, same_outside, faults_outside}
+use Rattle.hall_desk.proofs.Resting.{stands_outside, rests_left, rests_refused}
 use Rattle.hall_desk.proofs.hall_desk.HallDesk.leave.Goals as goal
 
 pub turn-requires-clause-own : goal.turn-requires-clause-own

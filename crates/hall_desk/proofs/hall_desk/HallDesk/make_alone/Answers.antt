@@ -1,4 +1,5 @@
-use Rattle.hall_desk.proofs.Resting.{open_inside, own_inside, ends_outside, same_outside, faults_outside, stands_outside, rests_between}
+use Rattle.hall_desk.proofs.Resting.{open_inside, own_inside, ends_outside, same_outside, faults_outside}
+use Rattle.hall_desk.proofs.Resting.{stands_outside, rests_between}
 use Rattle.hall_desk.proofs.hall_desk.HallDesk.make_alone.Goals as goal
 
 pub turn-requires-clause-own : goal.turn-requires-clause-own

@@ -6,7 +6,8 @@ use Rattle.kom_model.specs.Legal.{HasUser}
 use Rattle.hall_desk.specs.Desks.{desk_view}
 use Rattle.hall_desk.specs.Turns.{IsConnect}
 use Rattle.hall_desk.proofs.Refusals.{IsTurnTold, connect_told}
-use Rattle.hall_desk.proofs.DeskViews.{begins, known_mid, view_prepared, connect_ends, connect_refuses, connects_made, connects_refused}
+use Rattle.hall_desk.proofs.DeskViews.{begins, known_mid, view_prepared, connect_ends, connect_refuses, connects_made}
+use Rattle.hall_desk.proofs.DeskViews.{connects_refused}
 use Rattle.hall_desk.proofs.Telling.{same_then, view_told, tally_told, tally_noted}
 use Rattle.hall_desk.proofs.GoingOn.{on_made, on_told, on_refused, on_prepared}
 use Rattle.hall_desk.proofs.hall_desk.HallDeskDesk.connect.Goals as goal

@@ -8,7 +8,8 @@ use Rattle.kom_model.specs.State.{State}
 use Rattle.hall_desk.specs.Desks.{WasStopped, desk_view}
 use Rattle.hall_desk.specs.Rows.{IsAnswer}
 use Rattle.hall_desk.proofs.Refusals.{IsTurnTold, flush_told}
-use Rattle.hall_desk.proofs.DeskViews.{Refuses, refuses_of, known_mid, short_known, flushes_made, flushes_short, flushes_refused}
+use Rattle.hall_desk.proofs.DeskViews.{Refuses, refuses_of, known_mid, short_known, flushes_made, flushes_short}
+use Rattle.hall_desk.proofs.DeskViews.{flushes_refused}
 use Rattle.hall_desk.proofs.Answering.{answers_made, answers_short, answers_refused}
 use Rattle.hall_desk.proofs.Telling.{view_told, pass_told, tally_told, tally_noted}
 use Rattle.hall_desk.proofs.GoingOn.{flush_denied, on_made, on_told, on_denied}

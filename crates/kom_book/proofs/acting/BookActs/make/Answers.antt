@@ -22,7 +22,8 @@ returns-clause-comes g c =
     subst (λ (old : BookView g.row.D.Denot). IfOk c.make-came.result (BookComes g.D.Disk.faults old c.args.entry new))
     same c.make-came.ensures.comes in
     rw (c.entry_with.ensures)
-    (book_comes (moment g.D.Disk.moment) (images_at g.D.Disk.images_at) g.D.Disk.tells g.D.Disk.faults c.make-came.result
+    (book_comes (moment g.D.Disk.moment) (images_at g.D.Disk.images_at) g.D.Disk.tells g.D.Disk.faults
+    c.make-came.result
     c.store-store.result c.args.self.now new c.args.entry c.requires.own comes
     (λ told. subst (λ (old : BookView g.row.D.Denot).
     IfOk c.make-came.result (StopsCome (moment g.D.Disk.moment) (images_at g.D.Disk.images_at) old new)) same

@@ -39,8 +39,10 @@ returns-in-Ok-store_initial-clause-plain g c =
 
 pub returns-in-Ok-store_initial-clause-stands : goal.returns-in-Ok-store_initial-clause-stands
 returns-in-Ok-store_initial-clause-stands g c told =
-    ok_of c.with_store.result _ (StandsNow (moment g.D.Disk.moment) (images_at g.D.Disk.images_at)) c.with_store.ensures.made
-    (stands_now (moment g.D.Disk.moment) (images_at g.D.Disk.images_at) (images g.D.Disk.images) c.store_initial.new.store.disk
+    ok_of c.with_store.result _ (StandsNow (moment g.D.Disk.moment) (images_at g.D.Disk.images_at))
+    c.with_store.ensures.made
+    (stands_now (moment g.D.Disk.moment) (images_at g.D.Disk.images_at) (images g.D.Disk.images)
+    c.store_initial.new.store.disk
     c.in-Ok-store_initial.core.state.db (λ disk image. now_on g.D.Disk.moment g.D.Disk.images_at g.D.Disk.images disk
     (λ bytes. g.met.D.Disk.images_now disk bytes told) image)
     (subst (λ (db : Db). AreFor (images g.D.Disk.images c.store_initial.new.store.disk) db)

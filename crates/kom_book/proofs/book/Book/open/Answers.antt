@@ -16,7 +16,8 @@ pub with_store-requires-clause-unmarked : goal.with_store-requires-clause-unmark
 with_store-requires-clause-unmarked g c = ap (λ core. core.state.store_refused) c.of.ensures.value
 
 pub returns-in-Ok-clause-store : goal.returns-in-Ok-clause-store
-returns-in-Ok-clause-store g c = ok_of c.with_store.result _ (λ book. IsSome book.journal) c.with_store.ensures.made refl
+returns-in-Ok-clause-store g c =
+    ok_of c.with_store.result _ (λ book. IsSome book.journal) c.with_store.ensures.made refl
 
 pub returns-in-Ok-clause-plain : goal.returns-in-Ok-clause-plain
 returns-in-Ok-clause-plain g c =
@@ -31,13 +32,16 @@ pub returns-in-Ok-clause-was : goal.returns-in-Ok-clause-was
 returns-in-Ok-clause-was g c told =
     ok_of c.with_store.result _ (λ book. StandsFor book.core.state.db (as_read g.D.Disk.bytes c.args.disk))
     c.with_store.ensures.made
-    (subst (λ (db : Db). StandsFor db (as_read g.D.Disk.bytes c.args.disk)) (sym (ap (λ core. core.state.db) c.of.ensures.value))
+    (subst (λ (db : Db). StandsFor db (as_read g.D.Disk.bytes c.args.disk))
+    (sym (ap (λ core. core.state.db) c.of.ensures.value))
     (c.in-Ok.ensures.stands told))
 
 pub returns-in-Ok-clause-stands : goal.returns-in-Ok-clause-stands
 returns-in-Ok-clause-stands g c told =
-    ok_of c.with_store.result _ (StandsNow (moment g.D.Disk.moment) (images_at g.D.Disk.images_at)) c.with_store.ensures.made
-    (stands_now (moment g.D.Disk.moment) (images_at g.D.Disk.images_at) (images g.D.Disk.images) c.in-Ok.store.disk c.of.result.state.db
+    ok_of c.with_store.result _ (StandsNow (moment g.D.Disk.moment) (images_at g.D.Disk.images_at))
+    c.with_store.ensures.made
+    (stands_now (moment g.D.Disk.moment) (images_at g.D.Disk.images_at) (images g.D.Disk.images) c.in-Ok.store.disk
+    c.of.result.state.db
     (λ disk image. now_on g.D.Disk.moment g.D.Disk.images_at g.D.Disk.images disk
     (λ bytes. g.met.D.Disk.images_now disk bytes told) image)
     (subst (λ (db : Db). AreFor (images g.D.Disk.images c.in-Ok.store.disk) db)
@@ -74,7 +78,8 @@ returns-in-Ok-clause-any_moment g c told db stands kept =
     let file = as_read g.D.Disk.bytes c.args.disk in
     let moments = c.in-Ok.ensures.any_moment told db stands kept in
     match_of c.with_store.result _ _
-    (λ book. IfSome (disk_in book) (λ opened. Opens (moment g.D.Disk.moment) (images_at g.D.Disk.images_at) c.args.disk opened
+    (λ book. IfSome (disk_in book) (λ opened. Opens (moment g.D.Disk.moment) (images_at g.D.Disk.images_at) c.args.disk
+    opened
     (images g.D.Disk.images c.args.disk) (IsLeftOf file db)))
     (λ refused. Opens (moment g.D.Disk.moment) (images_at g.D.Disk.images_at) c.args.disk refused.0
     (images g.D.Disk.images c.args.disk) (IsLeftOf file db)) c.with_store.ensures.made c.with_store.ensures.memory

@@ -6,7 +6,8 @@ use Rattle.kom_disk.specs.Steps.{IsImage}
 use Rattle.kom_disk.specs.declared.memory_disk.MemoryDisk.{MemoryDisk}
 use Rattle.kom_disk.specs.declared.step.Step.{Step}
 use Rattle.kom_disk.specs.declared.step.Step.TheVariants.{Write}
-use Rattle.kom_disk.proofs.Replay.{nothing_read, nothing_adds, comes_on, passes_on, wrote, write_by, write_read, passes_more, given_room}
+use Rattle.kom_disk.proofs.Replay.{nothing_read, nothing_adds, comes_on, passes_on, wrote, write_by, write_read}
+use Rattle.kom_disk.proofs.Replay.{passes_more, given_room}
 use Rattle.kom_disk.proofs.memory_disk.MemoryDiskDisk.write_at.Goals as goal
 
 pub invariant_of-self-in-Err-1 : goal.invariant_of-self-in-Err-1

@@ -5,7 +5,8 @@ use Rattle.kom_journal.specs.Opened.{Opens}
 use Rattle.kom_journal.specs.Opening.{IsCauseInFile}
 use Rattle.kom_journal.specs.Pending.{effects_in}
 use Rattle.kom_journal.proofs.Damage.{stands_whole}
-use Rattle.kom_journal.proofs.Images.{stands_on, file_stands, counts_on, cause_on, kept_on, files_kept, for_on, opens_on}
+use Rattle.kom_journal.proofs.Images.{stands_on, file_stands, counts_on, cause_on, kept_on, files_kept, for_on}
+use Rattle.kom_journal.proofs.Images.{opens_on}
 use Rattle.kom_journal.proofs.Spelled.{effects_of_none}
 use Rattle.kom_journal.proofs.Views.{opened_whole}
 use Rattle.kom_journal.proofs.journal.Journal.open.Goals as goal

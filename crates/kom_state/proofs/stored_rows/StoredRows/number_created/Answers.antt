@@ -29,7 +29,8 @@ pub invariant_of-self : goal.invariant_of-self
 unfolding made
 invariant_of-self c =
     IsKept-made (effect.Created c.args.person c.args.local c.args.text) _ _ _ _ c.self.invariant
-    (rw (← c.self.view_is) at c.requires.fits) (rw (c.draw_created.ensures.rows, c.number_created.ensures.rows) refl) refl
+    (rw (← c.self.view_is) at c.requires.fits) (rw (c.draw_created.ensures.rows, c.number_created.ensures.rows) refl)
+    refl
 
 pub returns : goal.returns
 unfolding made

@@ -9,7 +9,8 @@ pub invariant_of-self : goal.invariant_of-self
 unfolding made
 invariant_of-self c =
     IsKept-made (effect.ConfGone c.args.number) _ _ _ _ c.self.invariant
-    (rw (← c.self.view_is) at c.requires.fits) (rw c.remove-2.ensures.rows refl) (ap (λ lookup. lookup.names) c.remove.ensures)
+    (rw (← c.self.view_is) at c.requires.fits) (rw c.remove-2.ensures.rows refl)
+    (ap (λ lookup. lookup.names) c.remove.ensures)
 
 pub returns : goal.returns
 unfolding made

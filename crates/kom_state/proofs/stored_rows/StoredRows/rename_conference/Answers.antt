@@ -18,7 +18,8 @@ pub invariant_of-self : goal.invariant_of-self
 unfolding made
 invariant_of-self c =
     IsKept-made (effect.ConfNamed c.args.number c.args.name) _ _ _ _ c.self.invariant
-    (rw (← c.self.view_is) at c.requires.fits) (rw c.rename.ensures.rows refl) (rw (c.unwrap.ensures, c.as_slice.ensures) at c.put.ensures.ok)
+    (rw (← c.self.view_is) at c.requires.fits) (rw c.rename.ensures.rows refl)
+    (rw (c.unwrap.ensures, c.as_slice.ensures) at c.put.ensures.ok)
 
 pub returns : goal.returns
 unfolding made

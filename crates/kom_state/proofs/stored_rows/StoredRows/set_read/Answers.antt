@@ -14,7 +14,8 @@ pub invariant_of-self : goal.invariant_of-self
 unfolding made
 invariant_of-self c =
     IsKept-made (effect.ReadSet c.args.person c.args.conference c.args.at c.args.ranges) _ _ _ _ c.self.invariant
-    (rw (← c.self.view_is) at c.requires.fits) (rw (c.set_read.ensures.rows, rw c.into_vec.ensures at c.set_read.ensures.reads) refl) refl
+    (rw (← c.self.view_is) at c.requires.fits)
+    (rw (c.set_read.ensures.rows, rw c.into_vec.ensures at c.set_read.ensures.reads) refl) refl
 
 pub set_read-requires : goal.set_read-requires
 unfolding fits

@@ -1,4 +1,5 @@
-use Rattle.std.proofs.Common.{arith, rules, ◌≡◌, ◌||◌, nat_lt, Bool, true, false, Some, length, refl, sym, ap, append-nil}
+use Rattle.std.proofs.Common.{arith, rules, ◌≡◌, ◌||◌, nat_lt, Bool, true, false, Some, length, refl, sym, ap}
+use Rattle.std.proofs.Common.{append-nil}
 use Rattle.std.proofs.lemmas.Bool.{false≢true, lt-ltb, le-ltb}
 use Rattle.memory_links.proofs.Told.{some_same, marks_more, looked}
 use Rattle.memory_links.proofs.memory_link.MemoryLink.hold_read.Goals as goal

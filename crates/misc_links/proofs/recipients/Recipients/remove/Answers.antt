@@ -5,7 +5,8 @@ use Rattle.row_slots.specs.Slots.{rows_in}
 use Rattle.row_slots.proofs.Places.{row_at}
 use Rattle.row_slots.proofs.DenseRooms.{dense_rooms_stay, no_dense_room_falls}
 use Rattle.misc_links.proofs.OneList.{has_changed}
-use Rattle.misc_links.proofs.Receiving.{are_once, recipient_found, row_found, without_none, has_place, rows_left, IsKept-left}
+use Rattle.misc_links.proofs.Receiving.{are_once, recipient_found, row_found, without_none, has_place, rows_left}
+use Rattle.misc_links.proofs.Receiving.{IsKept-left}
 use Rattle.misc_links.proofs.recipients.Recipients.remove.Goals as goal
 
 pub returns-in_err-place-clause-recipient : goal.returns-in_err-place-clause-recipient

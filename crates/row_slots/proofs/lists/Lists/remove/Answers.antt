@@ -21,6 +21,7 @@ returns-clause-list c =
     let place : c.unwrap-place.result ≡ position_or_len (nat_eq c.args.number) list =
     same_Some _ _ (sym c.unwrap-place.ensures ∙ c.position_of.ensures ∙ position-place c.args.number list c.requires) in
     let new : list_of
-    record { map = c.get_mut.follows.lender c.remove.new.self; hand = c.args.self.now.hand } c.args.key ≡ c.remove.new.self.items =
+    record { map = c.get_mut.follows.lender c.remove.new.self; hand = c.args.self.now.hand } c.args.key
+    ≡ c.remove.new.self.items =
     ap (λ o. option_map_or (λ l. l.items) o []) ((c.get_mut.follows.holds c.remove.new.self).3 (ap is_some had)).1 in
     new ∙ c.remove.ensures.items ∙ (λ i. remove (sym old i) (place i)) ∙ remove-place c.args.number list c.requires

@@ -18,14 +18,16 @@ returns-in-Some g c =
     (c.get-in-Some.ensures
     ∙ ap option_flatten (sym
     (ap (slice_get (laid all last)) (omega arith)
-    ∙ get-laid all last (c.args.place / 64) (c.args.place % 64) c.in-Some.block.now c.self.invariant.0 there (omega arith))))
+    ∙ get-laid all last (c.args.place / 64) (c.args.place % 64) c.in-Some.block.now c.self.invariant.0 there
+    (omega arith))))
 
 pub returns-in-None : goal.returns-in-None
 returns-in-None g c =
     let all = c.self.inside.settled.items in
     let last = c.self.inside.last.items in
     let past : c.args.place / 64 < length all → ⊥ =
-    λ within. false≢true (c.in-None.ensures.lookup.2 (omega (arith, c.deref.ensures.len, c.self.inside.settled.ok.0, within))) in
+    λ within. false≢true (c.in-None.ensures.lookup.2
+    (omega (arith, c.deref.ensures.len, c.self.inside.settled.ok.0, within))) in
     let place : c.args.place ≡ 64 * length all + (c.args.place - 64 * c.len.result) =
     omega (arith, past, c.len.ensures, c.self.inside.settled.ok.0) in
     rw (← c.self.view_is)

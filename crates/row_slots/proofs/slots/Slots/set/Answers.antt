@@ -27,7 +27,8 @@ returns-in-Some-clause-slots g c =
     (c.in-Some.ensures.variant.0 refl) c.in-Some.ensures.value in
     rw (← c.self.view_is)
     (ap (λ block. laid (set all (c.args.place / 64) block) last) c.set.ensures
-    ∙ replaced-laid c.args.row all last (c.args.place / 64) (c.args.place % 64) c.in-Some.block.now c.self.invariant.0 there
+    ∙ replaced-laid c.args.row all last (c.args.place / 64) (c.args.place % 64) c.in-Some.block.now c.self.invariant.0
+    there
     (omega arith)
     ∙ ap (λ place. replaced place c.args.row (laid all last)) (omega arith))
 

@@ -30,7 +30,8 @@ returns-in-Some-clause-row g c =
     (c.take.ensures.row
     ∙ ap option_flatten (sym
     (ap (slice_get (laid all last)) (omega arith)
-    ∙ get-laid all last (c.args.place / 64) (c.args.place % 64) c.in-Some.block.now c.self.invariant.0 there (omega arith))))
+    ∙ get-laid all last (c.args.place / 64) (c.args.place % 64) c.in-Some.block.now c.self.invariant.0 there
+    (omega arith))))
 
 pub returns-in-Some-clause-slots : goal.returns-in-Some-clause-slots
 returns-in-Some-clause-slots g c =
@@ -41,7 +42,8 @@ returns-in-Some-clause-slots g c =
     (c.in-Some.ensures.variant.0 refl) c.in-Some.ensures.value in
     rw (← c.self.view_is)
     (ap (λ block. laid (set all (c.args.place / 64) block) last) c.take.ensures.slots
-    ∙ emptied-laid all last (c.args.place / 64) (c.args.place % 64) c.in-Some.block.now c.self.invariant.0 there (omega arith)
+    ∙ emptied-laid all last (c.args.place / 64) (c.args.place % 64) c.in-Some.block.now c.self.invariant.0 there
+    (omega arith)
     ∙ ap (λ place. emptied place (laid all last)) (omega arith))
 
 pub returns-in-None-clause-row : goal.returns-in-None-clause-row
