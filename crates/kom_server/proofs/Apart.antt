@@ -63,7 +63,8 @@ connected_later n pass made history there connected =
     elim (cases_Bool (eqb made.entry.pass pass)) [
       | inl own ↦
           let all : has_connect n (made ∷ of_pass pass history) ≡ true = rw own at connected in
-          elim (or_cases (is_connect made.entry.act && (made.session == n)) (has_connect n (of_pass pass history)) all) [
+          elim (or_cases (is_connect made.entry.act && (made.session == n)) (has_connect n (of_pass pass history))
+          all) [
             | inl here ↦ absurd (not_both _ here there)
             | inr later ↦ later
           ]

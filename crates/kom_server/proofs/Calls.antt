@@ -49,7 +49,8 @@ kept_from n pass state (made ∷ history) drawn legal owned connected =
     elim (cases_Bool (eqb made.entry.pass pass)) [
       | inl here ↦
           let all : has_connect n (made ∷ of_pass pass history) ≡ true = rw here at connected in
-          elim (or_cases (is_connect made.entry.act && (made.session == n)) (has_connect n (of_pass pass history)) all) [
+          elim (or_cases (is_connect made.entry.act && (made.session == n)) (has_connect n (of_pass pass history))
+          all) [
             | inl now ↦ kept_along n pass (after state made) history drawn' legal.1 owned.1
                 (inl (connects_it n pass state made.entry.pass made.entry.moment made.entry.act made.session made.short
                 drawn legal.0 (eqb-true _ _ here) now))

@@ -114,7 +114,8 @@ connect_of n pass (made ∷ history) connected =
     elim (cases_Bool (eqb made.entry.pass pass)) [
       | inl here ↦
           let all : has_connect n (made ∷ of_pass pass history) ≡ true = rw here at connected in
-          elim (or_cases (is_connect made.entry.act && (made.session == n)) (has_connect n (of_pass pass history)) all) [
+          elim (or_cases (is_connect made.entry.act && (made.session == n)) (has_connect n (of_pass pass history))
+          all) [
             | inl now ↦ or_first (is_connect made.entry.act && (made.session == n)) (has_connect n history) now
             | inr later ↦
                 or_second (is_connect made.entry.act && (made.session == n)) (has_connect n history)

@@ -156,7 +156,8 @@ given_own n pass state (made ∷ history) drawn legal owned connected =
       | inl here ↦
           let all : has_connect n (made ∷ of_pass pass history) ≡ true = rw here at connected in
           let rest : given_along (after state made) n history ≡ given_by_pass (after state made) pass n history =
-          elim (or_cases (is_connect made.entry.act && (made.session == n)) (has_connect n (of_pass pass history)) all) [
+          elim (or_cases (is_connect made.entry.act && (made.session == n)) (has_connect n (of_pass pass history))
+          all) [
             | inl now ↦ given_kept n pass (after state made) history drawn' legal.1 owned.1
                 (inl (connects_it n pass state made.entry.pass made.entry.moment made.entry.act made.session made.short
                 drawn legal.0 (eqb-true _ _ here) now))

@@ -17,7 +17,8 @@ use Rattle.kom_session.specs.Ends.{given_to, end_at, ending}
 use Rattle.kom_session.specs.Known.{Known, State, IsClosed}
 use Rattle.kom_session.specs.Left.{HasRefused, IsSentAll, IfSending, IsSending, IsSettledSince, Leaves, LeavesLink}
 use Rattle.kom_session.specs.Serving.{Past, IsOver, Climbs}
-use Rattle.kom_session.proofs.Ends.{Told, IsPlanned, over_planned, over_told, lost_risen, heard_lost, is_zero}
+use Rattle.kom_session.proofs.Causes.{IsPlanned, over_planned, lost_risen, heard_lost}
+use Rattle.kom_session.proofs.Ends.{Told, over_told, is_zero}
 
 -- ---- the ends at which what waits was sent
 

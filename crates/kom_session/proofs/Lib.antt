@@ -1,4 +1,5 @@
 pub mod Acted
+pub mod Causes
 pub mod Courses
 pub mod Ends
 pub mod Finishing
