@@ -12,3 +12,5 @@ mod message_tests;
 mod time_tests;
 #[cfg(test)]
 mod tried;
+#[cfg(test)]
+mod world_tests;
