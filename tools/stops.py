@@ -2,16 +2,19 @@
 """Stops `komd once STORE` after each call of its disk, and has each call fail: stops.py [PROGRAM]
 
 A store of a new server is served to a greeting, a login and a text of one byte, sent in three pieces, and in two of which the second
-has the login and the text. After opening each flush makes four calls: two writes and two syncs. The program is ended by signal 9
-before each of them in turn, by a library that is loaded before the C library. What was answered is compared, and what the store, opened
-again, then holds: a change is there once its flush has made its third call, and may be answered only after the fourth. Then each call
-fails in turn: the status is 3, and nothing is answered after it but what was before.
+has the login and the text; and to the worked stream `evening`, a line a piece, of which nine lines change something. After opening each
+flush makes four calls: two writes and two syncs. The program is ended by signal 9 before each of them in turn, by a library that is
+loaded before the C library. What was answered is compared, and what the store, opened again, then holds: a change is there once its
+flush has made its third call, and may be answered only after the fourth. Then each call fails in turn: the status is 3, and nothing is
+answered after it but what was before.
 
 It needs a C compiler; where there is none it says so, and ends with 0. It prints a count, and a line for each fault, and ends with 1
 if there is one. PROGRAM is crates/komd/out/komd, which `rt ci` leaves there, unless it is named.
 """
+import collections
 import os
 import pathlib
+import re
 import shutil
 import signal
 import subprocess
@@ -46,9 +49,31 @@ int fdatasync(int file) {
     return comes(0) ? -1 : real(file);
 }
 """
-GREETING, LOGIN, TEXT = b"A1Ha\n", b"1 62 5 0H 0\n", b"2 86 1Ha 0 { } 0 { }\n"
-# The pieces, and after how many calls each change is kept.
-CUTTINGS = {"three pieces": ([GREETING, LOGIN, TEXT], (3, 7)), "two pieces": ([GREETING, LOGIN + TEXT], (3, 3))}
+EVENING = ROOT / "tests" / "streams" / "worked_rows" / "evening"
+# Each flush makes so many calls, of which so many have written it.
+CALLS, WRITTEN = 4, 3
+# What a store holds by the report of `check`: batches, conferences, persons and texts.
+NEW = (1, 5, 1, 0)
+MOMENT_0 = b"0 0 0 1 0 70 4 0 0"
+
+# Lines that are sent together, what they are answered, and what their flush adds to the store, or none if they change nothing.
+Piece = collections.namedtuple("Piece", "sent answered adds")
+
+
+def visits():
+    """The pieces of each visit, by its name."""
+    greeting = Piece(b"A1Ha\n", b"LysKOM\n", None)
+    login = Piece(b"1 62 5 0H 0\n", b"=1\n", (1, 0, 0, 0))
+    text = Piece(b"2 86 1Ha 0 { } 0 { }\n", b"=2 1\n", (1, 0, 0, 1))
+    both = Piece(login.sent + text.sent, login.answered + text.answered, text.adds)
+    sent = EVENING.with_suffix(".in").read_bytes().splitlines(keepends=True)
+    answered = EVENING.with_suffix(".out").read_bytes().splitlines(keepends=True)
+    # By the number of a line's call: a login, a conference, a person with its letterbox, a text, a membership, a text that is read and
+    # one that is marked as read.
+    adds = {b"62": (1, 0, 0, 0), b"88": (1, 1, 0, 0), b"89": (1, 1, 1, 0), b"86": (1, 0, 0, 1)}
+    adds |= dict.fromkeys([b"100", b"25", b"27"], (1, 0, 0, 0))
+    evening = [Piece(line, told, adds.get(line.split()[1])) for line, told in zip(sent[1:], answered[1:], strict=True)]
+    return {"three pieces": [greeting, login, text], "two pieces": [greeting, both], "an evening": [greeting, *evening]}
 
 
 def served(program, store, pieces, shim, calls, fails):
@@ -58,9 +83,9 @@ def served(program, store, pieces, shim, calls, fails):
     answered = b""
     try:
         for piece in pieces:
-            process.stdin.write(piece)
+            process.stdin.write(piece.sent)
             process.stdin.flush()
-            for _ in piece.splitlines():
+            for _ in piece.answered.splitlines():
                 answered += process.stdout.readline()
         process.stdin.close()
     except BrokenPipeError:
@@ -70,35 +95,44 @@ def served(program, store, pieces, shim, calls, fails):
 
 
 def held(program, store):
-    """Whether the login and the text are in the store, which is opened and told by a session whose login is no change."""
+    """What the store holds, or None where it is refused."""
     told = subprocess.run([program, "check", store], capture_output=True, check=False)
-    if told.returncode:
-        return None
-    counts = dict(line.split() for line in told.stdout.splitlines())
-    batches, texts = int(counts[b"batches"]), int(counts[b"texts"])
-    return batches, texts
+    return None if told.returncode else tuple(int(line.split()[1]) for line in told.stdout.splitlines())
 
 
-def faults_of(program, folder, shim, name):
-    pieces, (login_at, text_at) = CUTTINGS[name]
-    whole = 8 if text_at == 7 else 4
+def tries_of(pieces):
+    """Of each try: after how many calls, whether the next one fails, what is answered, the status, and what the store then holds."""
+    changes = [piece for piece in pieces if piece.adds]
     for fails in (False, True):
-        for calls in range(whole + (not fails)):
-            store = folder / "store"
-            store.unlink(missing_ok=True)
-            subprocess.run([program, "init", store, ""], check=True, stdout=subprocess.DEVNULL)
-            answered, status = served(program, store, pieces, shim, calls, fails)
-            ends = (3 if fails else -signal.SIGKILL) if calls < whole else 0
-            # Answered is what was flushed by four whole calls.
-            flushed = calls // 4 * 4
-            wanted = b"LysKOM\n" + b"=1\n" * (login_at < flushed) + b"=2 1\n" * (text_at < flushed)
-            # A stop keeps what was written; a third call that fails has not.
-            kept = [at <= calls for at in (login_at, text_at)]
-            batches = 1 + (sum(kept) if whole == 8 else int(kept[0]))
-            found = held(program, store)
-            if (answered, status) != (wanted, ends) or found != (batches, int(kept[1])):
-                how = "a failure" if fails else "a stop"
-                yield f"{name}, {how} after {calls} calls: {answered!r}, status {status}, batches and texts {found}"
+        for calls in range(CALLS * len(changes) + (not fails)):
+            answered, flushes, is_over = b"", 0, False
+            for piece in pieces:
+                flushes += piece.adds is not None
+                is_over = is_over or CALLS * flushes > calls
+                answered += b"" if is_over else piece.answered
+            kept = [piece.adds for at, piece in enumerate(changes) if CALLS * at + WRITTEN <= calls]
+            status = (3 if fails else -signal.SIGKILL) if is_over else 0
+            yield calls, fails, answered, status, tuple(map(sum, zip(NEW, *kept)))
+
+
+def is_as(wanted, answered):
+    """Whether something is answered so: a time of now stands where moment 0 does."""
+    return re.fullmatch(re.escape(wanted).replace(re.escape(MOMENT_0), rb"(?:\d+ ){8}\d+"), answered) is not None
+
+
+def faults_of(program, folder, shim, name, pieces):
+    """The number of tries, and a line for each fault."""
+    tries, faults = list(tries_of(pieces)), []
+    store = folder / "store"
+    for calls, fails, wanted, ends, holds in tries:
+        store.unlink(missing_ok=True)
+        subprocess.run([program, "init", store, ""], check=True, stdout=subprocess.DEVNULL)
+        answered, status = served(program, store, pieces, shim, calls, fails)
+        found = held(program, store)
+        if not is_as(wanted, answered) or (status, found) != (ends, holds):
+            how = "a failure" if fails else "a stop"
+            faults.append(f"{name}, {how} after {calls} calls: {answered!r}, status {status}, and it holds {found}")
+    return len(tries), faults
 
 
 def main(words):
@@ -110,10 +144,11 @@ def main(words):
         folder = pathlib.Path(room)
         (folder / "shim.c").write_text(SHIM_C)
         subprocess.run(["gcc", "-shared", "-fPIC", "-O1", "-o", folder / "shim.so", folder / "shim.c", "-ldl"], check=True)
-        faults = [fault for name in CUTTINGS for fault in faults_of(program, folder, str(folder / "shim.so"), name)]
+        found = [faults_of(program, folder, str(folder / "shim.so"), name, pieces) for name, pieces in visits().items()]
+    faults = [fault for _, ones in found for fault in ones]
     for fault in faults:
         print(fault)
-    print(f"26 runs were stopped, or a call of theirs failed; {len(faults)} are otherwise")
+    print(f"{sum(count for count, _ in found)} runs were stopped, or a call of theirs failed; {len(faults)} are otherwise")
     return 1 if faults else 0
 
 
