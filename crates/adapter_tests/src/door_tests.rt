@@ -82,7 +82,9 @@ fn a_gate_lets_clients_in(rt: HostRuntime) -> Result<(), Fail> {
     check_gates(&rt, rt.alloc(), &mut StdWorld::new(&rt), free_port(&rt)?)
 }
 
-/// A link fails whose client has sent nothing for half a minute, and goes on once it has.
+/// A link fails to which nothing was written for half a minute, whatever its client sent; and one
+/// whose client has sent nothing for half an hour after its greeting was answered. It goes on once
+/// the client has.
 fn check_silent(
     rt: &impl Abort,
     runtime: &FakeRuntime,
@@ -90,13 +92,20 @@ fn check_silent(
     client: &mut impl Write,
 ) -> Result<(), Fail> {
     let mut buffer = [0u8; 8];
+    client.write_all(b"A")?;
+    assert!(rt; link.read(&mut buffer) == Got::Some(1));
     runtime.tell(36);
     assert!(rt; link.read(&mut buffer) == Got::NotYet);
     runtime.tell(37);
     assert!(rt; link.read(&mut buffer) == Got::Failed);
-    client.write_all(b"a")?;
+    assert!(rt; link.write(b"LysKOM\n") == Took::Some(7));
+    runtime.tell(1_836);
+    assert!(rt; link.read(&mut buffer) == Got::NotYet);
+    runtime.tell(1_837);
+    assert!(rt; link.read(&mut buffer) == Got::Failed);
+    client.write_all(b"1")?;
     assert!(rt; link.read(&mut buffer) == Got::Some(1));
-    runtime.tell(1_000);
+    runtime.tell(100_000);
     assert!(rt; link.read(&mut buffer) == Got::NotYet);
     Ok(())
 }
@@ -118,11 +127,11 @@ fn check_stalled(
         }
     }
     assert!(rt; took == Took::NotYet);
-    runtime.tell(1_059);
+    runtime.tell(100_059);
     assert!(rt; link.write(&many) == Took::NotYet);
-    runtime.tell(1_060);
+    runtime.tell(100_060);
     assert!(rt; link.write(&many) == Took::Failed);
-    assert!(rt; link.faults() == 2);
+    assert!(rt; link.faults() == 3);
     Ok(())
 }
 

@@ -11,12 +11,18 @@ use std::net::Shutdown;
 use std::rt::Clock;
 use std::time::Instant;
 
-// How long a call waits if nothing is ready, in milliseconds. A read waits on while nothing is done
-// at the port.
+// How long a call waits if nothing is ready, in milliseconds. A read after the greeting waits on
+// while nothing is done at the port.
 const PAUSE_MILLIS: u64 = 80;
 
-// A socket fails that has sent no byte so long after it was accepted.
-const SILENCE_SECONDS: u64 = 30;
+// A socket fails to which nothing was written so long after it was accepted, whatever came from it.
+const GREETING_SECONDS: u64 = 30;
+
+// A socket fails from which nothing came for so long after its greeting was answered.
+const SILENCE_SECONDS: u64 = 1_800;
+
+// How many bytes answer a greeting. Who sends a call with its greeting is written more at once.
+const WELCOME: usize = b"LysKOM\n".len();
 
 // A socket fails that took no byte for so long while it was written to.
 const STALL_SECONDS: u64 = 60;
@@ -24,16 +30,27 @@ const STALL_SECONDS: u64 = 60;
 // How many pieces are read at most of what a peer still sends as its socket is closed.
 const LAST_READS: u32 = 16;
 
-/// A socket that was accepted, with a watch. If nothing is ready a call waits for it for a pause; a
-/// read waits on until something is done at the port, which may be something to be told to its
-/// peer.
+// How far a peer has come.
+#[derive(Clone, Copy)]
+enum Stage {
+    // It was accepted then, and nothing was written to it.
+    Accepted(Instant),
+    // Its greeting was answered then, and nothing came from it since.
+    Greeted(Instant),
+    // More came than its greeting: it may be idle as long as it likes.
+    Heard,
+}
+
+/// A socket that was accepted, with a watch. If nothing is ready a call waits for it for a pause;
+/// once something was written to it a read waits on until something is done at the port, which may
+/// be something to be told to its peer. It fails if its peer is silent, or takes nothing, for too
+/// long.
 #[derive(Drop)]
 pub(crate) struct AcceptedSocket<C: Clock + Drop> {
     stream: TcpStream,
     watch: Watch,
     clock: C,
-    accepted: Instant,
-    has_sent: bool,
+    stage: Stage,
     // Since when its writes have taken nothing, if the last one took nothing.
     stalled: Option<Instant>,
 }
@@ -53,8 +70,7 @@ impl<C: Clock + Drop> AcceptedSocket<C> {
                 stream,
                 watch,
                 clock,
-                accepted,
-                has_sent: false,
+                stage: Stage::Accepted(accepted),
                 stalled: None,
             }),
             Err(_) => Err(watch),
@@ -65,21 +81,10 @@ impl<C: Clock + Drop> AcceptedSocket<C> {
         requires { 0 < length into.old }
         ensures { GivesWithin (length into.new) result }
     {
-        let got = self.read_soon(into, self.has_sent);
-        match got {
-            Got::Some(_) => {
-                self.has_sent = true;
-                got
-            }
-            Got::NotYet => {
-                if !self.has_sent && self.is_past(self.accepted, SILENCE_SECONDS) {
-                    Got::Failed
-                } else {
-                    Got::NotYet
-                }
-            }
-            Got::End => Got::End,
-            Got::Failed => Got::Failed,
+        match self.stage {
+            Stage::Accepted(since) => self.read_greeting(into, since),
+            Stage::Greeted(since) => self.read_first(into, since),
+            Stage::Heard => self.read_soon(into, true),
         }
     }
 
@@ -93,6 +98,7 @@ impl<C: Clock + Drop> AcceptedSocket<C> {
         match took {
             Took::Some(_) => {
                 self.stalled = None;
+                self.note_written(from.len());
                 took
             }
             Took::NotYet => {
@@ -118,8 +124,7 @@ impl<C: Clock + Drop> AcceptedSocket<C> {
             stream,
             watch,
             clock: _,
-            accepted: _,
-            has_sent: _,
+            stage: _,
             stalled: _,
         } = self;
         drop(stream);
@@ -133,6 +138,51 @@ impl<C: Clock + Drop> AcceptedSocket<C> {
                 Got::Some(_) => {}
                 _ => return,
             }
+        }
+    }
+
+    // Reads while nothing was written to the peer: a greeting, or some of it. A peer that dribbles has
+    // no more time than one that sends nothing.
+    fn read_greeting(&mut self, into: &mut [u8], accepted: Instant) -> Got
+        requires { 0 < length into.old }
+        ensures { GivesWithin (length into.new) result }
+    {
+        if self.is_past(accepted, GREETING_SECONDS) {
+            return Got::Failed;
+        }
+        self.read_soon(into, false)
+    }
+
+    // Reads while nothing came since the greeting was answered.
+    fn read_first(&mut self, into: &mut [u8], greeted: Instant) -> Got
+        requires { 0 < length into.old }
+        ensures { GivesWithin (length into.new) result }
+    {
+        let got = self.read_soon(into, true);
+        match got {
+            Got::Some(_) => {
+                self.stage = Stage::Heard;
+                got
+            }
+            Got::NotYet => {
+                if self.is_past(greeted, SILENCE_SECONDS) {
+                    Got::Failed
+                } else {
+                    Got::NotYet
+                }
+            }
+            Got::End => Got::End,
+            Got::Failed => Got::Failed,
+        }
+    }
+
+    // Notes that something was written of so many bytes that were handed in.
+    fn note_written(&mut self, size: usize) {
+        if let Stage::Accepted(_) = self.stage {
+            self.stage = match Instant::now(&self.clock) {
+                Ok(now) if size <= WELCOME => Stage::Greeted(now),
+                _ => Stage::Heard,
+            };
         }
     }
 

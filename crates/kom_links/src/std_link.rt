@@ -14,8 +14,9 @@ pub(crate) type Host = ArrayString<64>;
 
 /// A link over the process's own input and output, or over a socket that was accepted. It tells
 /// nothing of what it gives and takes. If nothing is ready a call waits for it, for some 20
-/// milliseconds at most; at a socket for 80, and a read until something is done at its port, for
-/// some two seconds at most.
+/// milliseconds at most; at a socket for 80, and a read after the greeting until something is done
+/// at its port, for some two seconds at most. A socket fails whose client is silent, takes nothing,
+/// or has vanished for too long.
 #[derive(Drop)]
 pub struct StdLink<I: Read + Drop, O: Write + Drop, C: Clock + Drop> {
     stream: Stream<I, O, C>,
