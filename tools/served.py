@@ -76,9 +76,10 @@ def is_free(port):
 
 
 class Server:
-    """A store that is served by so many workers, with more in the environment than this process has, if it is given."""
+    """A store that is served by so many workers, with more in the environment than this process has, if it is given, and with what the
+    process is to do before the program begins."""
 
-    def __init__(self, program, store, workers, environment=()):
+    def __init__(self, program, store, workers, environment=(), begin=None):
         # Below the ports that systems give to connections.
         for port in random.sample(range(20_000, 30_000), 5):
             if not is_free(port):
@@ -89,6 +90,7 @@ class Server:
                 stdout=subprocess.PIPE,
                 stderr=subprocess.STDOUT,
                 env={**os.environ, **dict(environment)},
+                preexec_fn=begin,
             )
             if self.is_reached():
                 return

@@ -6,7 +6,7 @@ mod command;
 
 use crate::command::{Command, command_of};
 use kom_client::{TalkEnd, talk};
-use kom_links::{KeysLink, SocketLink, StdWorld, World};
+use kom_links::{KeysLink, SocketLink, StandardDescriptors, StdWorld, World};
 use kom_types::{Memory, Words};
 use std::env;
 use std::io::Input;
@@ -20,6 +20,9 @@ const HOST: &str = "localhost";
 const FAILED: u8 = 1;
 
 fn main(rt: HostRuntime) -> ExitCode {
+    let Ok(_held) = StandardDescriptors::fill(&rt) else {
+        return ExitCode::from(FAILED);
+    };
     let Ok(words) = words(&rt) else {
         return ExitCode::from(FAILED);
     };
