@@ -6,6 +6,7 @@ ghost use Rattle.kom_links.specs.Doors.{IsNewGate};
 use crate::accepted_socket::AcceptedSocket;
 use crate::bells::{Watch, open_watches};
 use crate::gate::Gate;
+use crate::keep_alive::keep_alive;
 use crate::std_gate::StdGate;
 use crate::std_link::Host;
 use arrayvec::ArrayString;
@@ -130,6 +131,7 @@ pub(crate) fn open_port<'a, R: Input + Print + Clock + Net>(
 {
     let mut gates = Vec::with_capacity(alloc, number as usize)?;
     let listener = net::TcpListener::from(bind(rt, port)?);
+    keep_alive(&listener)?;
     let mut watches = open_watches(rt, alloc, number as usize * 2)?;
     for count in 0..number {
         let door = Door::open(rt, &listener, &mut watches)?;

@@ -10,6 +10,7 @@ mod desk;
 mod desk_tally;
 mod doors;
 mod gate;
+mod keep_alive;
 mod link;
 mod rise;
 mod served;
