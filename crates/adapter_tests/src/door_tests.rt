@@ -83,8 +83,8 @@ fn a_gate_lets_clients_in(rt: HostRuntime) -> Result<(), Fail> {
 }
 
 /// A link fails to which nothing was written for half a minute, whatever its client sent; and one
-/// whose client has sent nothing for half an hour after its greeting was answered. It goes on once
-/// the client has.
+/// whose client has sent nothing but a line feed for half an hour after its greeting was answered.
+/// It goes on once the client has.
 fn check_silent(
     rt: &impl Abort,
     runtime: &FakeRuntime,
@@ -99,6 +99,8 @@ fn check_silent(
     runtime.tell(37);
     assert!(rt; link.read(&mut buffer) == Got::Failed);
     assert!(rt; link.write(b"LysKOM\n") == Took::Some(7));
+    client.write_all(b"\n")?;
+    assert!(rt; link.read(&mut buffer) == Got::Some(1));
     runtime.tell(1_836);
     assert!(rt; link.read(&mut buffer) == Got::NotYet);
     runtime.tell(1_837);

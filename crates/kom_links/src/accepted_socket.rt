@@ -18,7 +18,8 @@ const PAUSE_MILLIS: u64 = 80;
 // A socket fails to which nothing was written so long after it was accepted, whatever came from it.
 const GREETING_SECONDS: u64 = 30;
 
-// A socket fails from which nothing came for so long after its greeting was answered.
+// A socket fails from which nothing but line feeds came for so long after its greeting was
+// answered.
 const SILENCE_SECONDS: u64 = 1_800;
 
 // How many bytes answer a greeting. Who sends a call with its greeting is written more at once.
@@ -141,8 +142,8 @@ impl<C: Clock + Drop> AcceptedSocket<C> {
         }
     }
 
-    // Reads while nothing was written to the peer: a greeting, or some of it. A peer that dribbles has
-    // no more time than one that sends nothing.
+    // Reads while nothing was written to the peer: a greeting, or some of it. A peer that dribbles
+    // has no more time than one that sends nothing.
     fn read_greeting(&mut self, into: &mut [u8], accepted: Instant) -> Got
         requires { 0 < length into.old }
         ensures { GivesWithin (length into.new) result }
@@ -153,15 +154,17 @@ impl<C: Clock + Drop> AcceptedSocket<C> {
         self.read_soon(into, false)
     }
 
-    // Reads while nothing came since the greeting was answered.
+    // Reads while nothing came since the greeting was answered but line feeds, which ask nothing.
     fn read_first(&mut self, into: &mut [u8], greeted: Instant) -> Got
         requires { 0 < length into.old }
         ensures { GivesWithin (length into.new) result }
     {
         let got = self.read_soon(into, true);
         match got {
-            Got::Some(_) => {
-                self.stage = Stage::Heard;
+            Got::Some(count) => {
+                if has_more_than_line_feeds(&into[..count]) {
+                    self.stage = Stage::Heard;
+                }
                 got
             }
             Got::NotYet => {
@@ -240,6 +243,11 @@ impl<C: Clock + Drop> AcceptedSocket<C> {
             Err(_) => false,
         }
     }
+}
+
+// Whether some byte is no line feed.
+fn has_more_than_line_feeds(bytes: &[u8]) -> bool {
+    bytes.iter().any(|byte| *byte != b'\n')
 }
 
 // Has the watch look at a socket, whose bytes are sent at once.
