@@ -52,7 +52,7 @@ printf 'komd (%s) unstable; urgency=medium\n\n  * Built from commit %s.\n\n -- %
     "$version" "$(git -C "$root" rev-parse --short HEAD)" "$maintainer" "$date" | gzip -9n >"$documents/changelog.gz"
 {
     printf 'komd and komc are by the Jonkhulei maintainers. Their sources name no licence.\n'
-    for crate in arrayvec circular_buffer indexmap itoa jiff_core mio sha2 smallvec; do
+    for crate in arrayvec indexmap itoa jiff_core mio sha2 smallvec; do
         printf '\nThe programs are built from %s also, which is under this licence:\n\n' "$crate"
         sed 's/^/    /; s/ *$//' "$kit/rattle/$crate/LICENSE-MIT" 2>/dev/null || sed 's/^/    /; s/ *$//' "$kit/rattle/$crate/LICENSE"
     done

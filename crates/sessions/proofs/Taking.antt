@@ -1,8 +1,6 @@
 -- Items that are taken one by one from what waits.
 use Rattle.std.proofs.Common.{◌≡◌, ℕ, ◌+◌, ◌-◌, ◌<◌, ◌≤◌, ◌⊎◌, Bool, nat_lt, true, false, ltb, List, [], ◌∷◌, ◌++◌}
 use Rattle.std.proofs.Common.{length, map, take, drop, refl, sym, ap, ◌∙◌, inl, inr, suc, zero, arith, append_assoc}
-use Rattle.std.proofs.Common.{Some, ap₂}
-use Rattle.std.specs.Prelude.{slice_get}
 use Rattle.std.specs.List.{take_while, prefix_len}
 use Rattle.std.proofs.lemmas.Bool.{lt-ltb, ltb-true}
 use Rattle.std.proofs.lemmas.List.{append-nil, drop-drop, length_push, length-map}
@@ -81,12 +79,8 @@ taken_all bound start waiting given taken done =
     (whole ∙ ap items_of (sym prefix), taken.rest ∙ ap (λ n. drop n start) count)
 
 -- the first item that waits was taken
-pub taken_first : (bound : ℕ) (old new held : List Waiting) (one : Waiting) (item : Item) → held ≡ old →
-    Some one ≡ slice_get held 0 → new ≡ drop 1 held → true ≡ is_below_first bound old → item ≡ one.item →
-    TakesFirstBelow bound old new item
-taken_first bound old new [] one item same got rest below is = cc
-taken_first bound old new (first ∷ waiting) one item same got rest below is =
-    let first_is : first ≡ one = cc in
-    let whole : old ≡ one ∷ new = sym same ∙ ap₂ (λ x xs. x ∷ xs) first_is (sym rest) in
+pub taken_first : (bound : ℕ) (old new : List Waiting) (one : Waiting) (item : Item) → old ≡ one ∷ new →
+    true ≡ is_below_first bound old → item ≡ one.item → TakesFirstBelow bound old new item
+taken_first bound old new one item whole below is =
     let below' : true ≡ nat_lt one.entry bound = rw whole at below in
     (one.entry, rw is whole, ltb-true _ _ (sym below'))

@@ -1,14 +1,13 @@
 -- What waits for a session, in a ring.
 use Rattle.std.specs.Prelude.{◌≡◌, ℕ, ◌<◌, ◌≤◌, Bool, false, nat_lt, List, [], ◌∷◌}
-use Rattle.circular_buffer.specs.Buffer.{Buffer}
 use Rattle.kom_types.specs.declared.items.Item.{Item}
 use Rattle.kom_types.specs.Sessions.{Waiting, waiting_limits, printed_bytes}
 
 -- The ring has a place for each item that may wait; and the bytes that the items print to are
 -- counted, and are no more than may wait.
-pub record IsOutbox (ring : Buffer Waiting) (printed : ℕ) : Type 0 where
-  pub places : ring.capacity ≡ waiting_limits.items
-  pub counted : printed ≡ printed_bytes ring.items
+pub record IsOutbox (waiting : List Waiting) (capacity printed : ℕ) : Type 0 where
+  pub places : capacity ≡ waiting_limits.items
+  pub counted : printed ≡ printed_bytes waiting
   pub bounded : printed ≤ waiting_limits.bytes
 
 -- an item waits, and the first is of an entry below this one

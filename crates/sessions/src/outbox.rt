@@ -1,21 +1,23 @@
 ghost use Rattle.std.specs.Prelude.{◌≡◌, ◌^◌, ◌-◌, ◌++◌, ◌∷◌, [], length, min, map, take, drop};
 ghost use Rattle.std.specs.Prelude.{false, if◌then◌else◌, IfOk, MatchOption, IsTrue, ◌↔◌};
+ghost use Rattle.std.specs.VecDeque.{deque_capacity};
 ghost use Rattle.kom_types.specs.Printing.{print_of};
 ghost use Rattle.kom_types.specs.Sessions.{fits, waiting_limits, drained_count};
 ghost use Rattle.sessions.specs.Outboxes.{is_below_first, TakesFirstBelow};
 
 use crate::queued::Queued;
 use arrayvec::ArrayVec;
-use circular_buffer::HeapCircularBuffer;
 use kom_types::limits::{MOST_WAITING_BYTES, MOST_WAITING_ITEMS};
 use kom_types::{Item, Memory};
 use std::alloc::Global;
+use std::collections::VecDeque;
 use std::marker::Model;
+use std::mem::replace;
 
 /// The items that wait for a session, in the order in which they were queued.
 #[derive(Drop)]
 pub(crate) struct Outbox {
-    ring: HeapCircularBuffer<Queued>,
+    ring: VecDeque<Queued>,
     /// How many bytes they print to.
     printed: u64,
 }
@@ -23,13 +25,15 @@ pub(crate) struct Outbox {
 impl Model for Outbox {
     ghost use Rattle.std.specs.Prelude.{List};
     ghost use Rattle.kom_types.specs.Sessions.{Waiting};
+    ghost use Rattle.std.specs.VecDeque.{deque_capacity};
     ghost use Rattle.sessions.specs.Outboxes.{IsOutbox};
 
     ghost Value = { List Waiting };
 
     ghost view = { λ outbox. outbox.ring.items };
 
-    ghost invariant = { λ outbox. IsOutbox outbox.ring outbox.printed };
+    ghost invariant = { λ outbox.
+        IsOutbox outbox.ring.items (deque_capacity outbox.ring) outbox.printed };
 }
 
 impl Outbox {
@@ -38,7 +42,7 @@ impl Outbox {
         ensures { IfOk result (λ outbox. outbox ≡ []) }
     {
         Ok(Outbox {
-            ring: HeapCircularBuffer::with_capacity(alloc, MOST_WAITING_ITEMS)?,
+            ring: VecDeque::with_capacity(alloc, MOST_WAITING_ITEMS)?,
             printed: 0,
         })
     }
@@ -57,19 +61,15 @@ impl Outbox {
         ensures items { self.new ≡ (if fits waiting_limits self.old item
             then self.old ++ record { item = item; entry = entry } ∷ [] else self.old) }
     {
+        if self.ring.len() >= MOST_WAITING_ITEMS {
+            return false;
+        }
         if len > MOST_WAITING_BYTES - self.printed {
             return false;
         }
-        match self.ring.try_push_back(Queued::new(item, entry, len)) {
-            Ok(()) => {
-                self.printed += len;
-                true
-            }
-            Err(full) => {
-                drop(full);
-                false
-            }
-        }
+        self.ring.push_back_reserved(Queued::new(item, entry, len));
+        self.printed += len;
+        true
     }
 
     /// Moves the first items, 64 at most, of entries below this one into an array.
@@ -97,6 +97,7 @@ impl Outbox {
             return None;
         }
         let one = self.ring.pop_front()?;
+        rewind(&mut self.ring);
         self.printed -= one.printed();
         Some(one.into_item())
     }
@@ -109,5 +110,18 @@ impl Outbox {
             Some(one) => one.entry() < below,
             None => false,
         }
+    }
+}
+
+/// Lets a ring begin anew at its first place once it is empty. So a session that keeps up writes to
+/// the first places alone, and the others take no memory of the machine.
+fn rewind(ring: &mut VecDeque<Queued>)
+    ensures items { ring.new.items ≡ ring.old.items }
+    ensures capacity { deque_capacity ring.new ≡ deque_capacity ring.old }
+{
+    if ring.is_empty() {
+        let alloc = *ring.allocator();
+        let emptied = replace(ring, VecDeque::new(alloc));
+        *ring = VecDeque::from_vec(emptied.into_vec());
     }
 }

@@ -176,6 +176,30 @@ impl Sessions {
         ensures { MatchOption result (find (is_session session) self.now ≡ None)
             (IsAt self.now session) }
     {
+        match self.guess(session) {
+            Some(place) => Some(place),
+            None => self.search_all(session),
+        }
+    }
+
+    /// The place of a session's row, if the rows from the first to it are of all numbers between.
+    fn guess(&self, session: u32) -> Option<usize>
+        ensures { IfSome result (IsAt self.now session) }
+    {
+        let first = self.rows.first()?.seat().number;
+        let place = session.checked_sub(first)? as usize;
+        let row = self.rows.get(place)?;
+        if row.seat().number != session {
+            return None;
+        }
+        Some(place)
+    }
+
+    /// The place of a session's row, if it is there, by a search of all rows.
+    fn search_all(&self, session: u32) -> Option<usize>
+        ensures { MatchOption result (find (is_session session) self.now ≡ None)
+            (IsAt self.now session) }
+    {
         self.rows
             .binary_search_by_key(&session, |row| row.seat().number)
             .ok()

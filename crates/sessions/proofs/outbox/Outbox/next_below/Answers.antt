@@ -1,4 +1,4 @@
-use Rattle.std.proofs.Common.{◌≡◌, true, ap, ◌∙◌, sym}
+use Rattle.std.proofs.Common.{◌≡◌, true, ◌∙◌, sym}
 use Rattle.sessions.specs.Outboxes.{is_below_first}
 use Rattle.sessions.proofs.Taking.{taken_first}
 use Rattle.sessions.proofs.outbox.Outbox.next_below.Goals as goal
@@ -7,6 +7,5 @@ pub returns : goal.returns
 returns c =
     let below : true ≡ is_below_first c.args.below c.args.self.now = sym c.if-not-is_first_below.false
     ∙ c.is_first_below.ensures in
-    let rest = ap (λ ring. ring.items) c.pop_front.ensures.items in
-    taken_first c.args.below c.args.self.now c.pop_front.new.self.items c.self.inside.ring.items c.in_ok-one.one
-    c.into_item.result c.self.view_is c.in_ok-one.ensures.value rest below c.into_item.ensures
+    taken_first c.args.below c.args.self.now c.rewind.new.ring.items c.in_ok-one.one c.into_item.result
+    (rw c.rewind.ensures.items (sym c.self.view_is ∙ c.in_ok-one.ensures.items)) below c.into_item.ensures

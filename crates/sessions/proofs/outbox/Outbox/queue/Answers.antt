@@ -6,5 +6,6 @@ use Rattle.sessions.proofs.outbox.Outbox.queue.Goals as goal
 pub invariant_of-self : goal.invariant_of-self
 invariant_of-self c =
     let whole : c.args.len ≡ length (print_of c.args.item) = omega arith in
-    IsOutbox-push c.self.inside.ring c.try_push_back.new.self c.self.inside.printed c.args.len c.new.result
-    c.self.invariant (rw c.new.ensures whole) c.if-len-self.false c.in-Ok.ensures.ok
+    rw (c.push_back_reserved.ensures.items, c.push_back_reserved.ensures.capacity)
+    (IsOutbox-push c.self.inside.ring.items _ c.self.inside.printed c.args.len c.new.result c.self.invariant
+    (rw c.new.ensures whole) c.if-len-self.false)

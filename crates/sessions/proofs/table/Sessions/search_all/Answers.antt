@@ -1,7 +1,7 @@
 use Rattle.std.proofs.Common.{rules}
 use Rattle.std.proofs.lemmas.List.Sorted.{answers_always}
 use Rattle.sessions.proofs.Searching.{searched}
-use Rattle.sessions.proofs.table.Sessions.search.Goals as goal
+use Rattle.sessions.proofs.table.Sessions.search_all.Goals as goal
 
 -- the closure gives a row's number, and the slice is the rows
 pub returns : goal.returns
