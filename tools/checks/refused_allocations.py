@@ -12,7 +12,7 @@ allocation:
   most the 17 bytes of a store without batches.
 
 It needs a C compiler; where there is none it says so, and ends with 0. It prints a line for what is otherwise, and how many runs there
-were, and ends with 1 if anything was, else with 0.
+were, and ends with 1 if anything was, else with 0. PROGRAM is the built `komd` unless it is named.
 """
 import concurrent.futures
 import os
@@ -22,7 +22,9 @@ import subprocess
 import sys
 import tempfile
 
-ROOT = pathlib.Path(__file__).resolve().parent.parent.parent
+sys.path.insert(0, str(pathlib.Path(__file__).resolve().parents[1] / "shared"))
+from built import ROOT, check_store, compile_c, make_store, program_of, script
+
 ROWS = ROOT / "tests" / "streams" / "worked_rows"
 STREAMS = ["who_am_i", "secret_recipient", "mappings"]
 VISIT = b"A1Ha\n1 62 5 0H 0\n2 86 1Ha 0 { } 0 { }\n"
@@ -72,11 +74,11 @@ class Runs:
     """Runs of a program with the library loaded."""
 
     def __init__(self, program, folder):
-        self.program, self.folder, self.shim = program, folder, str(folder / "shim.so")
+        self.program, self.folder = program, folder
         # How many sessions were answered all, how many were ended, and of how many a call was refused.
         self.whole = self.ended = self.refused = 0
         (folder / "shim.c").write_text(SHIM_C)
-        subprocess.run(["gcc", "-shared", "-fPIC", "-O1", "-o", self.shim, folder / "shim.c", "-ldl"], check=True)
+        self.shim = compile_c(folder / "shim.c", folder / "shim.so", "-shared", "-fPIC")
 
     def run(self, words, given, refused=0):
         """The status, and what is answered."""
@@ -128,19 +130,17 @@ def fault_of_visit(runs, refused):
     store = runs.folder / f"store-{refused}"
     shutil.copyfile(runs.folder / "store", store)
     status, answered = runs.run(["once", str(store)], VISIT, refused)
-    told = runs.run(["check", str(store)], b"")
-    has_text = told[1].endswith(b"texts 1\n")
-    batches = int(told[1].split()[1]) if told[0] == 0 else 0
+    checked, counts = check_store(runs.program, store)
     read = runs.run(["once", str(store)], b"A1Ha\n1 62 5 0H 0\n2 25 1 0 9\n")
     store.unlink()
     if status not in (0, STORE_FAILED, NO_MEMORY) or (status and answered):
         return f"status {status}, answered {answered!r}"
-    if told[0]:
-        return f"check of what it leaves ends with {told[0]}"
-    if read != (0, b"LysKOM\n=1\n" + (b"=2 1Ha\n" if has_text else b"%2 14 1\n")):
+    if checked:
+        return f"check of what it leaves ends with {checked}"
+    if read != (0, b"LysKOM\n=1\n" + (b"=2 1Ha\n" if counts["texts"] else b"%2 14 1\n")):
         return f"what it leaves is answered {read}"
-    if b"=2 1\n" in answered and not has_text or batches not in (1, 2, 3):
-        return f"answered {answered!r}, and left {told[1]!r}"
+    if b"=2 1\n" in answered and not counts["texts"] or counts["batches"] not in (1, 2, 3):
+        return f"answered {answered!r}, and left {counts}"
     allowed = [b"", b"LysKOM\n", b"LysKOM\n=1\n", b"LysKOM\n=1\n=2 1\n", b"LysKOM\n=1\n%2 39 0\n", b"LysKOM\n%1 39 0\n%2 6 0\n"]
     return None if answered in allowed else f"answered {answered!r}"
 
@@ -150,7 +150,7 @@ def fault_of_init(runs, refused):
     store = runs.folder / f"made-{refused}"
     status, answered = runs.run(["init", str(store), ""], b"", refused)
     length = store.stat().st_size if store.exists() else 0
-    checked = runs.run(["check", str(store)], b"")[0]
+    checked, _ = check_store(runs.program, store)
     store.unlink(missing_ok=True)
     if (status, answered, checked) == (0, b"store made\n", 0):
         return None
@@ -163,13 +163,13 @@ def fault_of_init(runs, refused):
 
 
 def main(words):
-    program = str(pathlib.Path(words[0]).resolve() if words else ROOT / "crates" / "komd" / "out" / "komd")
-    if not shutil.which("gcc"):
+    program = program_of(words)
+    if not shutil.which("cc"):
         print("there is no C compiler, so no allocation was refused")
         return 0
     with tempfile.TemporaryDirectory() as room:
         runs = Runs(program, pathlib.Path(room))
-        subprocess.run([program, "init", runs.folder / "store", ""], check=True, stdout=subprocess.DEVNULL)
+        make_store(program, runs.folder / "store")
         tries = []
         for name in STREAMS:
             given = (ROWS / f"{name}.in").read_bytes()
@@ -191,4 +191,4 @@ def main(words):
 
 
 if __name__ == "__main__":
-    sys.exit(main(sys.argv[1:]))
+    script(main, __doc__)

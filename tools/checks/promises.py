@@ -1,0 +1,79 @@
+#!/usr/bin/env python3
+"""Checks the tables of docs/promises.md against the sources: each function stands in the file that is named, its contract has
+each clause that is named, and each edit lies in must-fail/ or tests/edits. Prints what is wrong, and fails if anything is."""
+import glob
+import os
+import pathlib
+import re
+import sys
+
+sys.path.insert(0, str(pathlib.Path(__file__).resolve().parents[1] / "shared"))
+from built import ROOT, script
+
+# The heads of impls and traits, of functions, and of clauses.
+OWNER = re.compile(r"^(?:pub(?:\([a-z]+\))? )?(?:unsafe )?(?:impl|trait)\b(.*)$")
+FUNCTION = re.compile(r"^\s*(?:pub(?:\([a-z]+\))? )?(?:const )?(?:unsafe )?fn (\w+)")
+CLAUSE = re.compile(r"^\s*ensures (\w+ )?\{")
+
+
+def contracts_of(path):
+    """Returns for each function of a file its type's name, or '', its own, and the names of its clauses."""
+    found, owner = [], ""
+    for line in open(path, encoding="utf-8"):
+        if head := OWNER.match(line):
+            owner = head[1]
+        elif line.startswith("}"):
+            owner = ""
+        elif name := FUNCTION.match(line):
+            found.append((owner, name[1], set()))
+        elif (clause := CLAUSE.match(line)) and found:
+            found[-1][2].add((clause[1] or "").strip())
+    return found
+
+
+def rows():
+    """Gives each row of a table of promises, with the number of its line."""
+    for number, line in enumerate(open("docs/promises.md", encoding="utf-8"), 1):
+        cells = [it.strip() for it in re.split(r"(?<!\\)\|", line)[1:-1]]
+        if len(cells) == 4 and cells[0] != "promise" and not set(cells[0]) <= set("-"):
+            yield number, cells
+
+
+def faults_of(cells):
+    """Gives what is wrong with a row."""
+    parts = re.match(r"^(?:law )?`([\w:]+)`(?:: (.*))?$", cells[1])
+    if not parts:
+        yield f"no function is named: {cells[1]}"
+        return
+    *owners, name = parts[1].split("::")
+    path = f"crates/{cells[2].strip('`')}"
+    if not os.path.exists(path):
+        yield f"there is no file {path}"
+        return
+    told = [it for it in contracts_of(path) if it[1] == name and all(re.search(rf"\b{one}\b", it[0]) for one in owners)]
+    if not told:
+        yield f"{path} has no function {parts[1]}"
+        return
+    wanted = re.findall(r"`(\w+)`", parts[2] or "") or [""]
+    for clause in wanted:
+        if not any(clause in it[2] for it in told):
+            yield f"{parts[1]} has no clause {clause or 'without a name'}"
+    for edit in re.findall(r"`(\w+)`", cells[3]):
+        if not glob.glob(f"crates/*/must-fail/{edit}.edit") + glob.glob(f"tests/edits/*/{edit}.edit"):
+            yield f"there is no edit {edit}"
+
+
+def main(_words):
+    os.chdir(ROOT)
+    wrong = count = 0
+    for number, cells in rows():
+        count += 1
+        for fault in faults_of(cells):
+            wrong += 1
+            print(f"docs/promises.md:{number}: {fault}")
+    print(f"{count} promises, {wrong} faults")
+    return 1 if wrong or not count else 0
+
+
+if __name__ == "__main__":
+    script(main, __doc__)

@@ -1,0 +1,172 @@
+#!/usr/bin/env python3
+"""Compares what the built program `komd` answers in a second, served by 64 workers, with a small C server at the same load:
+ratios_of_serve.py [PROGRAM [SECONDS [FOLDER [NAME..]]]]
+
+The C server (fixed_replies.c) answers each line with the reply that `komd` gave to such a line once. The load (load_generator.c)
+comes over loopback from so many connections with so many calls under way at each: 1 and 1, 16 and 1, 64 and 16. The calls:
+who-am-i, get-time, get-text, get-text-stat, local-to-global of 100 texts, create-text, and nine get-text to one create-text; of
+1,000 texts of 500 bytes. Both servers take turns, three times for each row, SECONDS (1) each time; the medians of the three are
+compared. Calls that `komd` stores before it answers them, get-text among them since it counts what was fetched, are compared once
+more with the C server where that makes the same two writes and two syncs, in the same folder.
+
+It prints a row for each: the calls a second by the C server's, the median and the 99th of 100 of the times by the C server's, and
+which part of a core each of the generator's threads took beside `komd` and beside the C server: near 1 it is the limit, and the
+ratio is nearer to 1 than it should be. Last it compares `komd` at 64 and 16 with itself at 1 and 1. It takes six minutes, and
+says nothing unless the machine does nothing else. Stores lie in FOLDER, or in a folder of its own for a while; a folder in memory
+syncs nothing. With names of calls only these are compared. It needs a C compiler. The servers end with it. PROGRAM is the built `komd` unless it is named; with several programs, a comma between two, each has its rows, of the same minutes, so
+that one with another constant can be chosen.
+"""
+import pathlib
+import statistics
+import subprocess
+import sys
+import tempfile
+import time
+
+sys.path.insert(0, str(pathlib.Path(__file__).resolve().parents[1] / "shared"))
+from built import Wrong, compile_c, make_store, program_of, script
+from protocol import string
+from served import Server, Session, limit_seconds, stop
+
+WORKERS = 64
+TEXTS, BODY = 1_000, 500
+TURNS = 3
+LIMIT_SECONDS = 1_800
+# Connections, calls under way at each, threads of the generator.
+SHAPES = ((1, 1, 1), (16, 1, 1), (64, 16, 2))
+GET_TEXT = f"25 ~{TEXTS}~ 0 4294967295"
+CREATE_TEXT = f"86 {string('x' * BODY)} 1 {{ 0 6 }} 0 {{ }}"
+# The calls with their weights, and whether `komd` stores one of them.
+LOADS = {
+    "who-am-i": ([(1, "56")], False),
+    "get-time": ([(1, "35")], False),
+    "get-text": ([(1, GET_TEXT)], True),
+    "get-text-stat": ([(1, f"90 ~{TEXTS}~")], False),
+    "local-to-global": ([(1, f"103 6 ~{TEXTS - 100}~ 100")], False),
+    "create-text": ([(1, CREATE_TEXT)], True),
+    "9 get-text, 1 create-text": ([(9, GET_TEXT), (1, CREATE_TEXT)], True),
+}
+STORED = ("25", "86")
+
+
+def built(folder, name):
+    """A program of C that lies beside this script."""
+    return compile_c(pathlib.Path(__file__).with_name(f"{name}.c"), folder / name)
+
+
+def fill(port):
+    """Makes the texts, and returns a reply to each call by its number."""
+    session = Session(port, "filler").login()
+    session.ask("88 4HOpen 0000 0 { }")
+    for begun in range(0, TEXTS, 100):
+        session.ask_all([CREATE_TEXT] * min(100, TEXTS - begun))
+    replies = {}
+    for calls, _ in LOADS.values():
+        for _, call in calls:
+            number = call.split(" ", 1)[0]
+            result = session.ask(call.replace(f"~{TEXTS}~", str(TEXTS // 2)).replace(f"~{TEXTS - 100}~", str(TEXTS // 2)))
+            replies[number] = f" {result}" if result else ""
+    session.end()
+    return replies
+
+
+class Fixed:
+    """The C server, which stores calls if a store is named."""
+
+    def __init__(self, program, port, replies, store=""):
+        words = [word for number, reply in replies.items()
+                 for word in (number, ("+" if store and number in STORED else "") + reply)]
+        self.port = port
+        self.process = subprocess.Popen([program, str(port), str(LIMIT_SECONDS), store, *words])
+        for _ in range(500):
+            try:
+                Session(port).close()
+                return
+            except OSError:
+                time.sleep(0.02)
+        raise Wrong("the C server does not listen")
+
+    def kill(self):
+        self.process.kill()
+        self.process.wait()
+
+
+def measured(generator, port, shape, seconds, calls):
+    """The calls a second, the median and the 99th of 100 of the times, and how busy the generator was."""
+    connections, under_way, threads = shape
+    words = [str(word) for pair in calls for word in pair]
+    done = subprocess.run([generator, str(port), str(threads), str(connections), str(under_way), str(seconds), *words],
+                          capture_output=True, text=True, timeout=seconds + 60, check=False)
+    if done.returncode != 0:
+        raise Wrong(f"the generator ends with status {done.returncode}: {done.stderr:.200}")
+    return [float(word) for word in done.stdout.split()]
+
+
+def compare(generator, servers, shape, seconds, calls):
+    """The medians of what was measured of each server."""
+    told = [[] for _ in servers]
+    for _ in range(TURNS):
+        for server, found in zip(servers, told):
+            found.append(measured(generator, server.port, shape, seconds, calls))
+    return [[statistics.median(column) for column in zip(*found)] for found in told]
+
+
+def row(name, shape, against, ours, theirs):
+    """Prints what one server makes of what the C server makes."""
+    calls, median, late, busy = ours
+    if calls == 0 or 0 in theirs[:3]:
+        raise Wrong(f"{name}: nothing is answered")
+    print(f"| {name} | {shape[0]} x {shape[1]} | {against} | {calls / theirs[0]:.2f} | {median / theirs[1]:.1f} "
+          f"| {late / theirs[2]:.1f} | {busy:.2f}, {theirs[3]:.2f} |", flush=True)
+
+
+def main(words):
+    programs = [program_of([word]) for word in words[0].split(",")] if words else [program_of([])]
+    seconds, names = float(words[1]) if len(words) > 1 else 1.0, words[3:] or list(LOADS)
+    limit_seconds(LIMIT_SECONDS)
+    with tempfile.TemporaryDirectory(dir=words[2] if len(words) > 2 else None) as name:
+        folder = pathlib.Path(name)
+        generator, fixed = built(folder, "load_generator"), built(folder, "fixed_replies")
+        servers, others = [], []
+        try:
+            for number, program in enumerate(programs):
+                servers.append(Server(program, make_store(program, folder / f"store{number}"), WORKERS))
+                replies = fill(servers[-1].port)
+            port = servers[-1].port
+            others.append(Fixed(fixed, port + 1, replies))
+            others.append(Fixed(fixed, port + 2, replies, str(folder / "other")))
+            print("| calls | connections x under way | against C that | calls a second | median | 99 of 100 | generator busy |")
+            print("|---|---|---|---|---|---|---|")
+            rises = compare_all(generator, servers, others, seconds, names)
+            print(f"calls a second at {SHAPES[-1][0]} x {SHAPES[-1][1]} by those at 1 x 1: {', '.join(rises)}")
+            for server in servers:
+                stop(server).rest()
+                if (status := server.wait()) != 0:
+                    raise Wrong(f"the server ends with status {status}")
+        finally:
+            for server in [*servers, *others]:
+                server.kill()
+    return 0
+
+
+def compare_all(generator, servers, others, seconds, names):
+    """Prints the rows of these calls; how the calls a second rise with the load is returned."""
+    rises = []
+    for load in names:
+        calls, is_stored = LOADS[load]
+        begun = []
+        for shape in SHAPES:
+            told = compare(generator, [*servers, *others[: 1 + is_stored]], shape, seconds, calls)
+            ours, (answers, *stores) = told[: len(servers)], told[len(servers) :]
+            begun = begun or ours
+            called = [load if len(servers) == 1 else f"{load}, {pathlib.Path(server.process.args[0]).name}" for server in servers]
+            for one, told in zip(called, ours):
+                row(one, shape, "answers", told, answers)
+                if is_stored:
+                    row(one, shape, "stores and answers", told, stores[0])
+        rises += [f"{one}: {last[0] / first[0]:.2f}" for one, first, last in zip(called, begun, ours)]
+    return rises
+
+
+if __name__ == "__main__":
+    script(main, __doc__)
