@@ -14,7 +14,7 @@ use kom_model::Viewer;
 use kom_state::{Asked, StoredRows};
 use kom_types::{
     Adder, AuxChange, AuxRow, AuxRows, Boxed, ChangedItems, Decision, Effect, Memory, Message,
-    Sequence,
+    Sequence, async_numbers,
 };
 use std::alloc::Global;
 
@@ -38,7 +38,7 @@ impl<'a> Tells for TextAuxChanged<'a> {
         (items_named one.rows.now.db one.text one.deleted.now) (items_made one.effects.now) };
 
     fn number(&self) -> u32 {
-        22
+        async_numbers::TEXT_AUX_CHANGED
     }
 
     fn told(&self, alloc: Global, viewer: &Viewer) -> Result<Option<Message>, Memory> {

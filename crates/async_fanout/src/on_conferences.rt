@@ -9,7 +9,7 @@ use crate::deliveries::{Delivery, Tells, deliver};
 use access_rights::sees;
 use kom_model::Viewer;
 use kom_state::{Asked, StoredRows};
-use kom_types::{Boxed, Bytes, Memory, Message, NewName as Names};
+use kom_types::{Boxed, Bytes, Memory, Message, NewName as Names, async_numbers};
 use std::alloc::Global;
 
 /// Message 5, new-name: to who sees the conference.
@@ -28,7 +28,7 @@ impl<'a> Tells for NewName<'a> {
         new_name one.rows.now.db one.conference one.old_name.now one.name.now };
 
     fn number(&self) -> u32 {
-        5
+        async_numbers::NEW_NAME
     }
 
     fn told(&self, alloc: Global, viewer: &Viewer) -> Result<Option<Message>, Memory> {
@@ -60,7 +60,7 @@ impl<'a> Tells for NewPresentation<'a> {
         new_presentation one.rows.now.db one.conference one.old_text one.new_text };
 
     fn number(&self) -> u32 {
-        20
+        async_numbers::NEW_PRESENTATION
     }
 
     fn told(&self, _alloc: Global, viewer: &Viewer) -> Result<Option<Message>, Memory> {
@@ -90,7 +90,7 @@ impl<'a> Tells for NewMotd<'a> {
     ghost sending = { λ one. new_motd one.rows.now.db one.conference one.old_text one.new_text };
 
     fn number(&self) -> u32 {
-        21
+        async_numbers::NEW_MOTD
     }
 
     fn told(&self, _alloc: Global, viewer: &Viewer) -> Result<Option<Message>, Memory> {

@@ -9,7 +9,7 @@ ghost use Rattle.async_fanout.specs.Delivered.{all_brought, listed};
 use crate::deliveries::{Delivery, Tells, deliver};
 use kom_model::Viewer;
 use kom_state::Asked;
-use kom_types::{Effect, Memory, Message};
+use kom_types::{Effect, Memory, Message, async_numbers};
 use std::alloc::Global;
 
 /// Message 8, leave-conf: to the person who left.
@@ -25,7 +25,7 @@ impl Tells for LeaveConference {
     ghost sending = { λ one. leave_conference one.person one.conference };
 
     fn number(&self) -> u32 {
-        8
+        async_numbers::LEAVE_CONF
     }
 
     fn told(&self, _alloc: Global, viewer: &Viewer) -> Result<Option<Message>, Memory> {
@@ -51,7 +51,7 @@ impl Tells for NewMembership {
     ghost sending = { λ one. new_membership one.person one.conference };
 
     fn number(&self) -> u32 {
-        18
+        async_numbers::NEW_MEMBERSHIP
     }
 
     fn told(&self, _alloc: Global, viewer: &Viewer) -> Result<Option<Message>, Memory> {

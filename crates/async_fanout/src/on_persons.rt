@@ -8,7 +8,7 @@ ghost use Rattle.async_fanout.specs.Delivered.{all_brought};
 use crate::deliveries::{Delivery, Tells, deliver};
 use kom_model::Viewer;
 use kom_state::Asked;
-use kom_types::{Memory, Message};
+use kom_types::{Memory, Message, async_numbers};
 use std::alloc::Global;
 
 /// Message 19, new-user-area: to the person.
@@ -25,7 +25,7 @@ impl Tells for NewUserArea {
     ghost sending = { λ one. new_user_area one.person one.old_text one.new_text };
 
     fn number(&self) -> u32 {
-        19
+        async_numbers::NEW_USER_AREA
     }
 
     fn told(&self, _alloc: Global, viewer: &Viewer) -> Result<Option<Message>, Memory> {

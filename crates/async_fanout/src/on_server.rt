@@ -8,7 +8,7 @@ ghost use Rattle.async_fanout.specs.Delivered.{all_brought};
 use crate::deliveries::{Delivery, Tells, deliver};
 use kom_model::Viewer;
 use kom_state::Asked;
-use kom_types::{Memory, Message};
+use kom_types::{Memory, Message, async_numbers};
 use std::alloc::Global;
 
 /// Message 7, sync-db: to all.
@@ -21,7 +21,7 @@ impl Tells for SyncDatabase {
     ghost sending = { λ one. sync_database };
 
     fn number(&self) -> u32 {
-        7
+        async_numbers::SYNC_DB
     }
 
     fn told(&self, _alloc: Global, _viewer: &Viewer) -> Result<Option<Message>, Memory> {

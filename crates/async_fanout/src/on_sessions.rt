@@ -9,7 +9,7 @@ use crate::deliveries::{Delivery, Tells, deliver};
 use access_rights::hears;
 use kom_model::Viewer;
 use kom_state::{Asked, StoredRows};
-use kom_types::{Boxed, Bytes, Memory, Message, SentMessage};
+use kom_types::{Boxed, Bytes, Memory, Message, SentMessage, async_numbers};
 use std::alloc::Global;
 
 /// Message 9, login: to all.
@@ -25,7 +25,7 @@ impl Tells for Login {
     ghost sending = { λ one. login one.person one.session };
 
     fn number(&self) -> u32 {
-        9
+        async_numbers::LOGIN
     }
 
     fn told(&self, _alloc: Global, _viewer: &Viewer) -> Result<Option<Message>, Memory> {
@@ -49,7 +49,7 @@ impl Tells for Logout {
     ghost sending = { λ one. logout one.person one.session };
 
     fn number(&self) -> u32 {
-        13
+        async_numbers::LOGOUT
     }
 
     fn told(&self, _alloc: Global, _viewer: &Viewer) -> Result<Option<Message>, Memory> {
@@ -75,7 +75,7 @@ impl<'a> Tells for SendMessage<'a> {
     ghost sending = { λ one. send_message one.rows.now.db one.recipient one.sender one.text.now };
 
     fn number(&self) -> u32 {
-        12
+        async_numbers::SEND_MESSAGE
     }
 
     fn told(&self, alloc: Global, viewer: &Viewer) -> Result<Option<Message>, Memory> {

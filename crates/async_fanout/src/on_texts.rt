@@ -11,7 +11,7 @@ use crate::deliveries::{Delivery, Tells, deliver};
 use access_rights::{gets_text, shown_stat, stat_of, takes};
 use kom_model::{TextHead, Viewer};
 use kom_state::{Asked, StoredRows};
-use kom_types::{Boxed, Effect, Memory, Message, TextRow, lines_of};
+use kom_types::{Boxed, Effect, Memory, Message, TextRow, async_numbers, lines_of};
 use std::alloc::Global;
 
 /// Message 14, deleted-text: to who reads the text and takes the texts of a recipient, with what is
@@ -28,7 +28,7 @@ impl<'a> Tells for DeletedText<'a> {
     ghost sending = { λ one. deleted_text one.rows.now.db one.text.now };
 
     fn number(&self) -> u32 {
-        14
+        async_numbers::DELETED_TEXT
     }
 
     fn told(&self, alloc: Global, viewer: &Viewer) -> Result<Option<Message>, Memory> {
@@ -59,7 +59,7 @@ impl<'a> Tells for NewText<'a> {
         new_text (only_added one.rows.effects.now one.rows.rows.now.db) one.text };
 
     fn number(&self) -> u32 {
-        15
+        async_numbers::NEW_TEXT
     }
 
     fn told(&self, alloc: Global, viewer: &Viewer) -> Result<Option<Message>, Memory> {
@@ -89,7 +89,7 @@ impl<'a> Tells for NewRecipient<'a> {
     ghost sending = { λ one. new_recipient one.rows.now.db one.text one.conference one.kind };
 
     fn number(&self) -> u32 {
-        16
+        async_numbers::NEW_RECIPIENT
     }
 
     fn told(&self, _alloc: Global, viewer: &Viewer) -> Result<Option<Message>, Memory> {
@@ -119,7 +119,7 @@ impl<'a> Tells for SubRecipient<'a> {
     ghost sending = { λ one. sub_recipient one.rows.now.db one.text one.conference one.kind };
 
     fn number(&self) -> u32 {
-        17
+        async_numbers::SUB_RECIPIENT
     }
 
     fn told(&self, _alloc: Global, viewer: &Viewer) -> Result<Option<Message>, Memory> {

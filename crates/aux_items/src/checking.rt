@@ -8,14 +8,10 @@ ghost use Rattle.aux_items.specs.Kinds.{kind_meant};
 use crate::kinds::{AuxKind, kind_of};
 use crate::list::ItemList;
 use crate::standing::{Standing, is_among};
+use kom_types::aux_tags::{CREATING_SOFTWARE, READ_CONFIRM};
 use kom_types::bits::{SECRET_ITEM, WRONG_ITEM_FLAGS};
 use kom_types::limits::LONGEST_CONTENT;
 use kom_types::{Adder, AuxInput, AuxRow, Object, errors};
-
-/// The tags of read-confirm and creating-software.
-const READ_CONFIRM: u32 = 7;
-
-const CREATING_SOFTWARE: u32 = 15;
 
 /// Whether a change of the items of an object passes, or else the code of the first entry that is
 /// refused and its place in its list, counted from 0: deletions come first. Takes no memory.

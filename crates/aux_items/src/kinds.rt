@@ -3,7 +3,7 @@ ghost use Rattle.std.specs.Prelude.{◌≡◌, Some, option_map, is_some};
 ghost use Rattle.kom_types.specs.AuxItems as Items;
 ghost use Rattle.aux_items.specs.Kinds.{places_meant, adding_meant, kind_meant};
 
-use kom_types::Object;
+use kom_types::{Object, aux_tags};
 
 /// On what an item may stand.
 #[derive(Clone, Copy)]
@@ -50,25 +50,23 @@ pub fn is_known(tag: u32) -> bool
     kind_of(tag).is_some()
 }
 
-/// What the server knows of a tag: content-type, fast-reply, cross-reference, no-comments,
-/// personal-comment, request-confirmation, read-confirm, redirect, alternate-name, e-mail-address,
-/// faq-text and creating-software, in their order. (Protocol A, "Predefined Aux-Items".)
+/// What the server knows of a tag. (Protocol A, "Predefined Aux-Items".)
 pub(crate) fn kind_of(tag: u32) -> Option<AuxKind>
     ensures { option_map kind_meant result ≡ Items.kind_of tag }
 {
     match tag {
-        1 => kind(1, Places::Texts, Adding::Owner, Count::One),
-        2 => kind(2, Places::Texts, Adding::Reader, Count::Any),
-        3 => kind(3, Places::All, Adding::ReaderOfText, Count::Any),
-        4 => kind(4, Places::Texts, Adding::Owner, Count::One),
-        5 => kind(5, Places::Texts, Adding::Owner, Count::One),
-        6 => kind(6, Places::Texts, Adding::Owner, Count::One),
-        7 => kind(7, Places::Texts, Adding::Reader, Count::OnePerCreator),
-        8 => kind(8, Places::Letterboxes, Adding::Owner, Count::One),
-        10 => kind(10, Places::Conferences, Adding::Owner, Count::Any),
-        13 => kind(13, Places::Conferences, Adding::Owner, Count::Any),
-        14 => kind(14, Places::Conferences, Adding::Owner, Count::Any),
-        15 => kind(15, Places::Texts, Adding::Owner, Count::One),
+        aux_tags::CONTENT_TYPE => kind(tag, Places::Texts, Adding::Owner, Count::One),
+        aux_tags::FAST_REPLY => kind(tag, Places::Texts, Adding::Reader, Count::Any),
+        aux_tags::CROSS_REFERENCE => kind(tag, Places::All, Adding::ReaderOfText, Count::Any),
+        aux_tags::NO_COMMENTS => kind(tag, Places::Texts, Adding::Owner, Count::One),
+        aux_tags::PERSONAL_COMMENT => kind(tag, Places::Texts, Adding::Owner, Count::One),
+        aux_tags::REQUEST_CONFIRMATION => kind(tag, Places::Texts, Adding::Owner, Count::One),
+        aux_tags::READ_CONFIRM => kind(tag, Places::Texts, Adding::Reader, Count::OnePerCreator),
+        aux_tags::REDIRECT => kind(tag, Places::Letterboxes, Adding::Owner, Count::One),
+        aux_tags::ALTERNATE_NAME => kind(tag, Places::Conferences, Adding::Owner, Count::Any),
+        aux_tags::E_MAIL_ADDRESS => kind(tag, Places::Conferences, Adding::Owner, Count::Any),
+        aux_tags::FAQ_TEXT => kind(tag, Places::Conferences, Adding::Owner, Count::Any),
+        aux_tags::CREATING_SOFTWARE => kind(tag, Places::Texts, Adding::Owner, Count::One),
         _ => None,
     }
 }

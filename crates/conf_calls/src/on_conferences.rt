@@ -1,5 +1,6 @@
 ghost use Rattle.std.specs.Prelude.{◌≡◌, ◌≤◌, false, ◌∷◌, ◌++◌, length, IfOk};
-ghost use Rattle.kom_types.specs.AuxItems.{items_from, most_items};
+ghost use Rattle.kom_types.specs.declared.limits.TheConstants.{MOST_AUX_ITEMS};
+ghost use Rattle.kom_types.specs.AuxItems.{items_from};
 ghost use Rattle.kom_model.specs.Db.{next_conference_of};
 ghost use Rattle.kom_model.specs.calls.AuxItems.{items_added};
 ghost use Rattle.kom_model.specs.calls.Call.{Meets};
@@ -81,7 +82,7 @@ fn made_effects(
     caller: &Viewer,
     given: &NewConference,
 ) -> Result<EffectList, Memory>
-    requires { length given.now.aux_items ≤ most_items }
+    requires { length given.now.aux_items ≤ MOST_AUX_ITEMS }
     ensures { let by = caller.now.person in let number = next_conference_of asked.now.db in
         IfOk result (λ effects. effects ≡ Effect.ConfAdded number given.now.name given.now.kind
         asked.now.moment by by ∷ items_added false number

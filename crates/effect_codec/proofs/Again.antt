@@ -7,6 +7,7 @@ use Rattle.std.specs.List.{AllByRecursion}
 use Rattle.std.proofs.lemmas.Bool.{le-ltb}
 use Rattle.std.proofs.lemmas.List.{take_at, drop_at}
 use Rattle.std.proofs.lemmas.Nat.{from_le_bytes-to_le_bytes_4, from_le_bytes-to_le_bytes_8, from_be_bytes-to_be_bytes_2}
+use Rattle.kom_types.specs.declared.limits.TheConstants.{LAST_MOMENT}
 use Rattle.kom_types.specs.declared.memberships.ReadRange.{ReadRange}
 use Rattle.effect_codec.specs.Fields.{Field, Byte, Half, Flag, Number, Small, Moment, Text, Fixed, Ranges, OneOf, Of}
 use Rattle.effect_codec.specs.Fields.{Setting, IsIn, IsAtMost, IsRange, coded_value, coded_range, coded_ranges, Read}
@@ -14,7 +15,7 @@ use Rattle.effect_codec.specs.Fields.{Whole, Short, Wrong, and_then, bytes_at, n
 use Rattle.effect_codec.specs.Fields.{ranges_of}
 use Rattle.effect_codec.specs.Fields.{so_many_ranges_at, set_at, greatest_of, value_at, Values, AreIn, coded, Makes}
 use Rattle.effect_codec.specs.Fields.{made_of}
-use Rattle.effect_codec.specs.Fields.{made_at, last_moment}
+use Rattle.effect_codec.specs.Fields.{made_at}
 
 -- bytes of a length, before others
 enough : (bytes rest : List ℕ) (many : ℕ) → length bytes ≡ many → ltb (length (bytes ++ rest)) many ≡ false
@@ -126,7 +127,7 @@ value_again Flag true rest is = refl
 value_again Flag false rest is = refl
 value_again Number n rest is = number_again n rest is
 value_again Small n rest is = limited_4_again 255 n rest (omega arith) (omega arith)
-value_again Moment n rest is = limited_8_again last_moment n rest is (omega arith)
+value_again Moment n rest is = limited_8_again LAST_MOMENT n rest is (omega arith)
 value_again (Text most) bytes rest is = text_again most bytes rest is.0 is.1
 value_again (Fixed many) bytes rest is = bytes_again bytes rest many is
 value_again Ranges ranges rest is = ranges_again ranges rest is

@@ -8,6 +8,7 @@ use Rattle.std.specs.Int.{Width, w16, w32, w64, byte_len, to_le_bytes, from_le_b
 use Rattle.std.specs.List.{AllByRecursion, list_all}
 use Rattle.std.proofs.lemmas.Bool.{ltb-true, ltb-false}
 use Rattle.std.proofs.lemmas.List.{take_at, drop_at}
+use Rattle.kom_types.specs.declared.limits.TheConstants.{LAST_MOMENT}
 use Rattle.kom_types.specs.declared.effects.Effect.{Effect}
 use Rattle.kom_types.specs.declared.effects.Effect.TheVariants as effect
 use Rattle.kom_types.specs.declared.memberships.ReadRange.{ReadRange}
@@ -16,7 +17,7 @@ use Rattle.effect_codec.specs.Fields.{IsIn, IsAtMost, IsRange, coded_value, code
 use Rattle.effect_codec.specs.Fields.{Whole, Short, Wrong, and_then, bytes_at, number_at, byte_at, limited_at}
 use Rattle.effect_codec.specs.Fields.{flag_of, ranges_of, so_many_ranges_at, set_at, greatest_of, value_at, Values}
 use Rattle.effect_codec.specs.Fields.{AreIn}
-use Rattle.effect_codec.specs.Fields.{coded, Makes, made_of, made_at, last_moment}
+use Rattle.effect_codec.specs.Fields.{coded, Makes, made_of, made_at}
 use Rattle.effect_codec.specs.Table.{Row, rows, row_of, set}
 use Rattle.effect_codec.specs.Coding.{coded_effect, effect_at, kind_at, IsInRange}
 use Rattle.effect_codec.specs.Laws.{AreBytes, GoesOn}
@@ -204,10 +205,10 @@ small_goes_on bytes are is =
       spelled = both.0;
     }
 
-moment_goes_on : (bytes : List ℕ) → AreBytes bytes → limited_at w64 last_moment bytes ≡ Short
+moment_goes_on : (bytes : List ℕ) → AreBytes bytes → limited_at w64 LAST_MOMENT bytes ≡ Short
     → FieldCompletes Moment bytes
 moment_goes_on bytes are is =
-    let short = limited_short w64 last_moment bytes is in
+    let short = limited_short w64 LAST_MOMENT bytes is in
     let both = filled_8 bytes are short.0 in
     record {
       value = from_le_bytes w64 bytes;

@@ -7,13 +7,14 @@ use Rattle.std.specs.List.{AllByRecursion}
 use Rattle.std.proofs.lemmas.Bool.{ltb-false}
 use Rattle.std.proofs.lemmas.List.{get_or-take, get_or-drop, length-take-le, length-drop, drop-drop}
 use Rattle.std.proofs.lemmas.Nat.{le_bytes_4, le_bytes_8, be_bytes_2}
+use Rattle.kom_types.specs.declared.limits.TheConstants.{LAST_MOMENT}
 use Rattle.kom_types.specs.declared.memberships.ReadRange.{ReadRange}
 use Rattle.effect_codec.specs.Fields.{Field, Byte, Half, Flag, Number, Small, Moment, Text, Fixed, Ranges, OneOf, Of}
 use Rattle.effect_codec.specs.Fields.{Setting, IsIn, IsAtMost, IsRange, bit, coded_value, coded_ranges, Read}
 use Rattle.effect_codec.specs.Fields.{Whole, Short, Wrong, and_then, bytes_at, number_at, half_at, byte_at, limited_at}
 use Rattle.effect_codec.specs.Fields.{flag_of, ranges_of, so_many_ranges_at, set_at, greatest_of, value_at, Values}
 use Rattle.effect_codec.specs.Fields.{AreIn}
-use Rattle.effect_codec.specs.Fields.{coded, Makes, made_of, made_at, last_moment}
+use Rattle.effect_codec.specs.Fields.{coded, Makes, made_of, made_at}
 use Rattle.effect_codec.specs.Laws.{AreBytes}
 use Rattle.effect_codec.proofs.Stays.{read_of, le_same, be_same}
 
@@ -348,8 +349,8 @@ value_spelled Small bytes found rest are is =
     spells_as (to_le_bytes w32 found) ((found ≤ 255) × (found < 2 ^ 32)) (found < 256) bytes rest
     (λ both. omega (arith, both.0)) (limited_4_spelled 255 bytes found rest are is)
 value_spelled Moment bytes found rest are is =
-    spells_as (to_le_bytes w64 found) ((found ≤ last_moment) × (found < 2 ^ 64)) (found ≤ last_moment) bytes rest
-    (λ both. both.0) (limited_8_spelled last_moment bytes found rest are is)
+    spells_as (to_le_bytes w64 found) ((found ≤ LAST_MOMENT) × (found < 2 ^ 64)) (found ≤ LAST_MOMENT) bytes rest
+    (λ both. both.0) (limited_8_spelled LAST_MOMENT bytes found rest are is)
 value_spelled (Text most) bytes found rest are is = text_spelled most bytes found rest are is
 value_spelled (Fixed many) bytes found rest are is = bytes_spelled many bytes found rest are is
 value_spelled Ranges bytes found rest are is = ranges_spelled bytes found rest are is

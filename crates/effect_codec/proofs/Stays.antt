@@ -8,13 +8,14 @@ use Rattle.std.specs.Int.{Width, w16, w32, w64, byte_len, byte_worth, sum_throug
 use Rattle.std.proofs.Math.Nat.{mul-le-mul_right}
 use Rattle.std.proofs.lemmas.Bool.{le-ltb, lt-ltb, ltb-true, ltb-false}
 use Rattle.std.proofs.lemmas.List.{take-append-le, drop-append-le, get_or_append_left, length-drop}
+use Rattle.kom_types.specs.declared.limits.TheConstants.{LAST_MOMENT}
 use Rattle.kom_types.specs.declared.effects.Effect.{Effect}
 use Rattle.kom_types.specs.declared.memberships.ReadRange.{ReadRange}
 use Rattle.effect_codec.specs.Fields.{Field, Byte, Half, Flag, Number, Small, Moment, Text, Fixed, Ranges, OneOf}
 use Rattle.effect_codec.specs.Fields.{Read, Whole, Short, Wrong, and_then, bytes_at, number_at, half_at, byte_at}
 use Rattle.effect_codec.specs.Fields.{limited_at, flag_of, ranges_of, so_many_ranges_at, set_at, greatest_of, value_at}
 use Rattle.effect_codec.specs.Fields.{Makes}
-use Rattle.effect_codec.specs.Fields.{made_at, last_moment}
+use Rattle.effect_codec.specs.Fields.{made_at}
 use Rattle.effect_codec.specs.Table.{Row, row_of}
 use Rattle.effect_codec.specs.Coding.{coded_effect, effect_at, kind_at}
 use Rattle.effect_codec.specs.Laws.{StaysShort, StaysWrong}
@@ -190,7 +191,7 @@ value_stays Flag bytes more = and_then_stays (byte_at bytes) (byte_at (bytes ++ 
     (byte_stays bytes more) (λ value rest. flag_of_stays value rest more)
 value_stays Number bytes more = number_stays bytes more
 value_stays Small bytes more = limited_stays w32 255 bytes more (omega arith)
-value_stays Moment bytes more = limited_stays w64 last_moment bytes more (omega arith)
+value_stays Moment bytes more = limited_stays w64 LAST_MOMENT bytes more (omega arith)
 value_stays (Text most) bytes more = and_then_stays (limited_at w32 most bytes) (limited_at w32 most (bytes ++ more))
     bytes_at more (limited_stays w32 most bytes more (omega arith)) (λ value rest. bytes_stay value rest more)
 value_stays (Fixed many) bytes more = bytes_stay many bytes more

@@ -6,6 +6,7 @@ use Rattle.std.specs.Prelude.{Option, Some, None, if◌then◌else◌}
 use Rattle.std.specs.Int.{Width, w16, w32, w64, byte_len, to_le_bytes, from_le_bytes}
 use Rattle.std.specs.Int.{to_be_bytes, from_be_bytes}
 use Rattle.std.specs.List.{AllByRecursion}
+use Rattle.kom_types.specs.declared.limits.TheConstants.{LAST_MOMENT}
 use Rattle.kom_types.specs.declared.memberships.ReadRange.{ReadRange}
 
 -- What a field is: a byte; two bytes, the higher first; a truth value in one byte; four bytes; four
@@ -47,9 +48,6 @@ abbrev pub greatest_of : ℕ → List ℕ → Option ℕ
 greatest_of zero greatest = None
 greatest_of (suc place) greatest = slice_get greatest place
 
-abbrev pub last_moment : ℕ
-last_moment = 253402300799
-
 -- a range has two numbers
 abbrev pub IsRange : ReadRange → Type 0
 IsRange range = (range.first < 2 ^ 32) × (range.last < 2 ^ 32)
@@ -65,7 +63,7 @@ IsIn Half n = n < 2 ^ 16
 IsIn Flag b = Unit {0}
 IsIn Number n = n < 2 ^ 32
 IsIn Small n = n < 256
-IsIn Moment n = n ≤ last_moment
+IsIn Moment n = n ≤ LAST_MOMENT
 IsIn (Text most) bytes = (length bytes ≤ most) × (length bytes < 2 ^ 32)
 IsIn (Fixed many) bytes = length bytes ≡ many
 IsIn Ranges ranges = (length ranges < 2 ^ 32) × AllByRecursion IsRange ranges
@@ -181,7 +179,7 @@ value_at Half bytes = half_at bytes
 value_at Flag bytes = flag_at bytes
 value_at Number bytes = number_at bytes
 value_at Small bytes = limited_at w32 255 bytes
-value_at Moment bytes = limited_at w64 last_moment bytes
+value_at Moment bytes = limited_at w64 LAST_MOMENT bytes
 value_at (Text most) bytes = and_then (limited_at w32 most bytes) bytes_at
 value_at (Fixed many) bytes = bytes_at many bytes
 value_at Ranges bytes = and_then (number_at bytes) so_many_ranges_at

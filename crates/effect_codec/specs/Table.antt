@@ -1,6 +1,8 @@
 -- The table of effects: the kind of each in one byte, and its fields. Kinds, fields and their order
 -- are the store's own choice.
 use Rattle.std.specs.Prelude.{ℕ, not, ◌==◌, List, [], ◌∷◌, Option, find, if◌then◌else◌}
+use Rattle.kom_types.specs.declared.limits.TheConstants.{LAST_MOMENT, LONGEST_BODY, LONGEST_CONTENT}
+use Rattle.kom_types.specs.declared.limits.TheConstants.{LONGEST_NAME, LONGEST_USER_NAME}
 use Rattle.kom_types.specs.declared.effects.ConfField.{ConfField}
 use Rattle.kom_types.specs.declared.effects.ConfField.TheVariants as field
 use Rattle.kom_types.specs.declared.effects.Counter.{Counter}
@@ -10,21 +12,7 @@ use Rattle.kom_types.specs.declared.effects.Effect.TheVariants as effect
 use Rattle.kom_types.specs.declared.effects.PersonField.{PersonField}
 use Rattle.kom_types.specs.declared.effects.PersonField.TheVariants as person
 use Rattle.effect_codec.specs.Fields.{Field, Byte, Half, Flag, Number, Small, Moment, Text, Fixed}
-use Rattle.effect_codec.specs.Fields.{Ranges, OneOf, Setting, Values, ◌▸◌, Makes, last_moment}
-
--- how many bytes a name, a user name, the body of a text and the contents of an aux-item have at
--- most
-abbrev pub longest_name : ℕ
-longest_name = 60
-
-abbrev pub longest_user_name : ℕ
-longest_user_name = 1024
-
-abbrev pub longest_body : ℕ
-longest_body = 1048576
-
-abbrev pub longest_content : ℕ
-longest_content = 16384
+use Rattle.effect_codec.specs.Fields.{Ranges, OneOf, Setting, Values, ◌▸◌, Makes}
 
 -- the greatest value in two, four and eight bytes
 abbrev pub last_half : ℕ
@@ -41,7 +29,7 @@ last_amount = 18446744073709551615
 abbrev pub conf_parts : List ℕ
 conf_parts =
     last_number ∷ last_number ∷ last_number ∷ last_number ∷ last_number ∷ 255 ∷ last_number
-    ∷ last_number ∷ last_number ∷ last_moment ∷ []
+    ∷ last_number ∷ last_number ∷ LAST_MOMENT ∷ []
 
 abbrev pub set : ℕ → ℕ → Setting
 set part value = record { part = part; value = value }
@@ -123,13 +111,13 @@ row kind fields make = record { kind = kind; fields = fields; make = make }
 -- number, name, type, moment, creator and supervisor
 abbrev pub conf_added : Row
 conf_added =
-    row 1 (Number ∷ Text longest_name ∷ Byte ∷ Moment ∷ Number ∷ Number ∷ []) effect.ConfAdded
+    row 1 (Number ∷ Text LONGEST_NAME ∷ Byte ∷ Moment ∷ Number ∷ Number ∷ []) effect.ConfAdded
 
 abbrev pub conf_gone : Row
 conf_gone = row 2 (Number ∷ []) effect.ConfGone
 
 abbrev pub conf_named : Row
-conf_named = row 3 (Number ∷ Text longest_name ∷ []) effect.ConfNamed
+conf_named = row 3 (Number ∷ Text LONGEST_NAME ∷ []) effect.ConfNamed
 
 abbrev pub conf_set : Row
 conf_set = row 4 (Number ∷ OneOf conf_parts ∷ [])
@@ -151,7 +139,7 @@ password = row 8 (Number ∷ Fixed 32 ∷ []) effect.Password
 
 -- number, moment and user name
 abbrev pub logged_in : Row
-logged_in = row 9 (Number ∷ Moment ∷ Text longest_user_name ∷ []) effect.LoggedIn
+logged_in = row 9 (Number ∷ Moment ∷ Text LONGEST_USER_NAME ∷ []) effect.LoggedIn
 
 abbrev pub counted : Row
 counted = row 10 (Number ∷ OneOf counters ∷ [])
@@ -159,7 +147,7 @@ counted = row 10 (Number ∷ OneOf counters ∷ [])
 
 -- number, author, moment and body
 abbrev pub text_added : Row
-text_added = row 11 (Number ∷ Number ∷ Moment ∷ Text longest_body ∷ []) effect.TextAdded
+text_added = row 11 (Number ∷ Number ∷ Moment ∷ Text LONGEST_BODY ∷ []) effect.TextAdded
 
 abbrev pub text_gone : Row
 text_gone = row 12 (Number ∷ []) effect.TextGone
@@ -219,7 +207,7 @@ mark_gone = row 21 (Number ∷ Number ∷ []) effect.MarkGone
 abbrev pub aux_added : Row
 aux_added =
     row 22 (Flag ∷ Number ∷ Number ∷ Number ∷ Number ∷ Moment ∷ Byte ∷ Number
-    ∷ Text longest_content ∷ [])
+    ∷ Text LONGEST_CONTENT ∷ [])
     (λ on_conference object number tag creator at flags limit content.
     effect.AuxAdded (not on_conference) object (record {
       number = number;

@@ -4,6 +4,7 @@ use Rattle.std.proofs.Common.{[], ◌∷◌, ◌++◌, length, refl, sym, ap, su
 use Rattle.std.specs.Option.{IsSome}
 use Rattle.std.proofs.lemmas.Bool.{cases_Bool, ne_eqb, eqb-true, eq-eqb}
 use Rattle.std.proofs.lemmas.List.Elements.{filter-append}
+use Rattle.kom_types.specs.declared.limits.TheConstants.{MOST_SESSIONS}
 use Rattle.kom_types.specs.declared.acts.Act.{Act}
 use Rattle.kom_types.specs.declared.acts.Act.TheVariants as act
 use Rattle.kom_types.specs.declared.acts.Record.{Record}
@@ -11,7 +12,6 @@ use Rattle.kom_types.specs.declared.items.Item.{Item}
 use Rattle.kom_links.specs.DeskCalls.{record_of}
 use Rattle.kom_links.specs.Records.{is_connect, is_close, has_connect, has_close, has_session, IsOpen}
 use Rattle.kom_model.specs.State.{State, session_of}
-use Rattle.kom_model.specs.Refusal.{most_sessions}
 use Rattle.kom_model.specs.After.{MayFollow, after}
 use Rattle.kom_model.specs.Legal.{IsLegal, AreByOwners, state_after}
 use Rattle.kom_model.specs.Out.{given_by, given_by_pass}
@@ -82,8 +82,8 @@ connects-state_after state (made ∷ history) =
 connects_grow : (state : State) (history : List Record) → state.connects ≤ (state_after state history).connects
 connects_grow state history = omega (arith, connects-state_after state history)
 
-pub connects_within : (state : State) (history : List Record) → IsLegal state history → state.connects ≤ most_sessions →
-    (state_after state history).connects ≤ most_sessions
+pub connects_within : (state : State) (history : List Record) → IsLegal state history → state.connects ≤ MOST_SESSIONS →
+    (state_after state history).connects ≤ MOST_SESSIONS
 connects_within state [] legal within = within
 connects_within state (made ∷ history) legal within =
     connects_within (after state made) history legal.1

@@ -3,6 +3,7 @@ use Rattle.std.proofs.Common.{◌≡◌, ℕ, ◌+◌, ◌^◌, ◌≤◌, ◌�
 use Rattle.std.proofs.Common.{None, refl, sym, ap, subst, ◌∙◌, arith, append-nil}
 use Rattle.std.specs.Prelude.{Err, ⊤}
 use Rattle.std.proofs.lemmas.Bool.{cases_Bool, ltb-false, le-leb}
+use Rattle.kom_types.specs.declared.limits.TheConstants.{MOST_SESSIONS}
 use Rattle.kom_types.specs.declared.acts.Act.TheVariants as act
 use Rattle.kom_types.specs.declared.acts.Entry.{Entry}
 use Rattle.kom_types.specs.declared.acts.Record.{Record}
@@ -17,7 +18,7 @@ use Rattle.kom_links.specs.declared.desk.DeskFault.TheVariants as fault
 use Rattle.kom_links.specs.DeskCalls.{IsConnectFault, IsActFault, IsFlushFault, IsLockFault, is_lock_full}
 use Rattle.kom_links.specs.Records.{IsOpen}
 use Rattle.kom_model.specs.State.{State, session_of}
-use Rattle.kom_model.specs.Refusal.{most_sessions, is_drained, call_refused, drain_refused, close_refused}
+use Rattle.kom_model.specs.Refusal.{is_drained, call_refused, drain_refused, close_refused}
 use Rattle.kom_model.specs.Refusal.{connect_refused, unless_store_refused, refusal_of}
 use Rattle.kom_model.specs.Legal.{IsLegal, state_after}
 use Rattle.hall_desk.specs.Passes.{PassView, connects_in}
@@ -114,17 +115,17 @@ connect_causes : (refused stopped : Bool) (connects : ℕ) (told : Why) →
     (told ≡ why.Stopped) × ((stopped ≡ true) ⊎ (refused ≡ true))
 connect_causes true stopped connects told is = (gone_same _ _ is, inr refl)
 connect_causes false true connects told is = (gone_same _ _ is, inl refl)
-connect_causes false false connects told is = elim (cases_Bool (ltb connects most_sessions)) [
+connect_causes false false connects told is = elim (cases_Bool (ltb connects MOST_SESSIONS)) [
   | inl less ↦ let wrong : None ≡ Some (Gone told) = rw less at is in cc
   | inr more ↦ let wrong : Some (Full connects) ≡ Some (Gone told) = rw more at is in cc
 ]
 
 connect_full : (refused stopped : Bool) (connects number : ℕ) →
     unless_store_refused refused (connect_refused stopped connects) ≡ Some (Full number) →
-    (number ≡ connects) × (most_sessions ≤ connects)
+    (number ≡ connects) × (MOST_SESSIONS ≤ connects)
 connect_full true stopped connects number is = cc
 connect_full false true connects number is = cc
-connect_full false false connects number is = elim (cases_Bool (ltb connects most_sessions)) [
+connect_full false false connects number is = elim (cases_Bool (ltb connects MOST_SESSIONS)) [
   | inl less ↦ let wrong : None ≡ Some (Full number) = rw less at is in cc
   | inr more ↦
       let full : Some (Full connects) ≡ Some (Full number) = rw more at is in
@@ -322,11 +323,11 @@ module _ (start : State) where
   connect_many begins history drawn number legal is =
       let state : State = state_after start history in
       let full = connect_full state.store_refused state.stopped state.connects number is in
-      let within : state.connects ≤ most_sessions =
+      let within : state.connects ≤ MOST_SESSIONS =
       connects_within start history legal (omega (arith, begins.connects)) in
       let counted : state.connects ≡ start.connects + connects_in history = connects-state_after start history in
       let none_yet : start.connects ≡ 0 = begins.connects in
-      let all : number ≡ most_sessions = omega (arith, full.0, full.1) in
+      let all : number ≡ MOST_SESSIONS = omega (arith, full.0, full.1) in
       record {
         may = inl all;
         known = inl (all, omega (arith, full.0, full.1));

@@ -5,6 +5,7 @@ use Rattle.std.specs.List.{find}
 use Rattle.std.specs.Option.{IsSome, IfSome}
 use Rattle.std.proofs.lemmas.Bool.{cases_Bool, eq-eqb, ltb-true}
 use Rattle.std.proofs.lemmas.List.Sums.{sum_by-append}
+use Rattle.kom_types.specs.declared.limits.TheConstants.{MOST_SESSIONS}
 use Rattle.kom_types.specs.declared.acts.Act.{Act}
 use Rattle.kom_types.specs.declared.acts.Act.TheVariants as act
 use Rattle.kom_types.specs.declared.acts.Record.{Record}
@@ -14,7 +15,7 @@ use Rattle.kom_types.specs.Sessions.{Session, waiting_limits, is_session, draine
 use Rattle.kom_links.specs.DeskCalls.{record_of}
 use Rattle.kom_links.specs.Records.{is_connect, is_close}
 use Rattle.kom_model.specs.State.{State, session_of}
-use Rattle.kom_model.specs.Refusal.{most_sessions, call_refused, drain_refused, close_refused, connect_refused}
+use Rattle.kom_model.specs.Refusal.{call_refused, drain_refused, close_refused, connect_refused}
 use Rattle.kom_model.specs.Refusal.{unless_store_refused}
 use Rattle.kom_model.specs.After.{MayFollow, moment_of, decision_at, deliveries, acted, after}
 use Rattle.kom_model.specs.Effects.{apply_all}
@@ -47,11 +48,11 @@ possible_close None possible = cc
 possible_close (Some row) possible = refl
 
 pub possible_connect : (refused stopped : Bool) (connects : ℕ) →
-    unless_store_refused refused (connect_refused stopped connects) ≡ None → connects < most_sessions
+    unless_store_refused refused (connect_refused stopped connects) ≡ None → connects < MOST_SESSIONS
 possible_connect true stopped connects possible = cc
 possible_connect false true connects possible = cc
 possible_connect false false connects possible =
-    elim (cases_Bool (ltb connects most_sessions)) [
+    elim (cases_Bool (ltb connects MOST_SESSIONS)) [
       | inl less ↦ ltb-true _ _ less
       | inr more ↦ let wrong : Some (Full connects) ≡ None = rw more at possible in cc
     ]
@@ -115,10 +116,10 @@ connects_in-append a b = sum_by-append connecting a b
 
 -- a Connect is made while numbers are left
 pub within_step : (state : State) (pass moment : ℕ) (what : Act) (session : ℕ) (short : Bool) →
-    MayFollow state (record_of pass moment what session short) → state.connects ≤ most_sessions →
-    (after state (record_of pass moment what session short)).connects ≤ most_sessions
+    MayFollow state (record_of pass moment what session short) → state.connects ≤ MOST_SESSIONS →
+    (after state (record_of pass moment what session short)).connects ≤ MOST_SESSIONS
 within_step state pass moment (act.Connect user host) session short may within =
-    let less : state.connects < most_sessions =
+    let less : state.connects < MOST_SESSIONS =
     possible_connect state.store_refused state.stopped state.connects may.possible in
     let more = connects-after state (record_of pass moment (act.Connect user host) session short) in
     omega (arith, more)

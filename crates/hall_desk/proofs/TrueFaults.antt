@@ -5,6 +5,7 @@ use Rattle.std.proofs.Common.{if◌then◌else◌}
 use Rattle.std.specs.List.{find, filter, AllByRecursion}
 use Rattle.std.proofs.lemmas.Bool.{cases_Bool, cases_eq, eqb-true, eq-eqb, ne_eqb}
 use Rattle.std.proofs.lemmas.List.Folds.{list_any-append}
+use Rattle.kom_types.specs.declared.limits.TheConstants.{MOST_SESSIONS}
 use Rattle.kom_types.specs.declared.acts.Act.{Act}
 use Rattle.kom_types.specs.declared.acts.Act.TheVariants as act
 use Rattle.kom_types.specs.declared.acts.Record.{Record}
@@ -15,7 +16,6 @@ use Rattle.kom_links.specs.declared.desk.DeskFault.TheVariants as fault
 use Rattle.kom_links.specs.DeskCalls.{record_of}
 use Rattle.kom_links.specs.Records.{is_connect, is_close, has_connect, has_close, has_session, is_open}
 use Rattle.kom_model.specs.State.{State}
-use Rattle.kom_model.specs.Refusal.{most_sessions}
 use Rattle.kom_model.specs.Legal.{IsLegal, state_after}
 use Rattle.hall_desk.specs.declared.faults.Noted.{Noted}
 use Rattle.hall_desk.specs.Passes.{PassView, connects_in}
@@ -123,9 +123,9 @@ open_closed history pass moment session short =
 
 module _ (start : State) where
   pub connects_in_within : IsStart start → (history : List Record) → IsLegal start history →
-      connects_in history ≤ most_sessions
+      connects_in history ≤ MOST_SESSIONS
   connects_in_within begins history legal =
-      let within : (state_after start history).connects ≤ most_sessions =
+      let within : (state_after start history).connects ≤ MOST_SESSIONS =
       connects_within start history legal (omega (arith, begins.connects)) in
       let counted : (state_after start history).connects ≡ start.connects + connects_in history =
       connects-state_after start history in
@@ -142,7 +142,7 @@ module _ (start : State) where
   pub full_more : IsStart start → (number drawn drawn' : ℕ) (a b : List Record) → IsLegal start (a ++ b) →
       drawn ≤ drawn' → WasFull number drawn a → WasFull number drawn' (a ++ b)
   full_more begins number drawn drawn' a b legal more (inl was) =
-      let within : connects_in (a ++ b) ≤ most_sessions = connects_in_within begins (a ++ b) legal in
+      let within : connects_in (a ++ b) ≤ MOST_SESSIONS = connects_in_within begins (a ++ b) legal in
       let parts : connects_in (a ++ b) ≡ connects_in a + connects_in b = connects_in-append a b in
       inl (was.0, omega (arith, was.1))
   full_more begins number drawn drawn' a b legal more (inr was) = inr (was.0, omega (arith, was.1))

@@ -2,6 +2,7 @@
 use Rattle.std.specs.Prelude.{◌≡◌, ◌≢◌, ℕ, ◌^◌, ◌<◌, ◌≤◌, ◌⊎◌, Bool, true, List, [], ◌∷◌, ◌++◌}
 use Rattle.std.specs.Prelude.{Option, Some, None}
 use Rattle.std.specs.List.{AllByRecursion}
+use Rattle.kom_types.specs.declared.limits.TheConstants.{MOST_SESSIONS}
 use Rattle.atomic_table.specs.Seated.{TableId}
 use Rattle.kom_types.specs.declared.acts.Act.TheVariants as act
 use Rattle.kom_types.specs.declared.acts.Record.{Record}
@@ -14,7 +15,7 @@ use Rattle.kom_links.specs.DeskCalls.{DeskView}
 use Rattle.kom_links.specs.declared.desk_tally.DeskTally.{DeskTally}
 use Rattle.kom_links.specs.Records.{is_open, IsOpen}
 use Rattle.kom_model.specs.State.{State, session_of}
-use Rattle.kom_model.specs.Refusal.{most_sessions, refusal_of}
+use Rattle.kom_model.specs.Refusal.{refusal_of}
 use Rattle.kom_model.specs.Legal.{state_after}
 use Rattle.kom_model.specs.Out.{given_by_pass}
 use Rattle.kom_state_lock.specs.Passes.{HallModel, PassModel, IsPassOf, HoldsNoTurn}
@@ -46,7 +47,7 @@ WasStopped start history = (before rest : List Record) × (history ≡ before ++
 -- all numbers of sessions were drawn, or a ticket that has no turn
 abbrev pub WasFull : ℕ → ℕ → List Record → Type 0
 WasFull number drawn history =
-    ((number ≡ most_sessions) × (connects_in history ≡ most_sessions))
+    ((number ≡ MOST_SESSIONS) × (connects_in history ≡ MOST_SESSIONS))
     ⊎ ((2 ^ 62 ≤ number) × (number < drawn))
 
 -- The cause of a fault at a session, in the history that led to it and among the tickets that were

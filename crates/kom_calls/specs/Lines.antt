@@ -1,7 +1,7 @@
 -- What a line is read as.
 use Rattle.std.specs.Prelude.{◌≡◌, ℕ, Bool, false, IsTrue, List, [], ◌∷◌, Option, Some, None}
 use Rattle.std.specs.Prelude.{Result, Ok, Err}
-use Rattle.kom_types.specs.Errors as error
+use Rattle.kom_types.specs.declared.errors.TheConstants as error
 use Rattle.kom_types.specs.declared.calls.Call.{Call}
 use Rattle.kom_types.specs.declared.calls.Call.TheVariants as call
 use Rattle.kom_types.specs.Reading.{Request}
@@ -14,11 +14,11 @@ use Rattle.kom_calls.specs.Reads.{takes_room}
 abbrev pub reading_told : Result (ℕ × Call) CallFault → Option Request
 reading_told (Ok read) = Some (record { reference = read.0; call = read.1 })
 reading_told (Err (fault.Unknown reference)) =
-    Some (record { reference = reference; call = call.Refused error.not_implemented 0 })
+    Some (record { reference = reference; call = call.Refused error.NOT_IMPLEMENTED 0 })
 reading_told (Err (fault.BadBool reference)) =
-    Some (record { reference = reference; call = call.Refused error.bad_bool 0 })
+    Some (record { reference = reference; call = call.Refused error.BAD_BOOL 0 })
 reading_told (Err (fault.LongArray reference)) =
-    Some (record { reference = reference; call = call.Refused error.long_array 0 })
+    Some (record { reference = reference; call = call.Refused error.LONG_ARRAY 0 })
 reading_told (Err fault.Malformed) = None
 reading_told (Err fault.Memory) = None
 

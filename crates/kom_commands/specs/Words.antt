@@ -1,13 +1,10 @@
 -- The words of a command line.
 use Rattle.std.specs.Prelude.{◌≡◌, ◌≢◌, ℕ, ◌≤◌, Bool, true, false, List, [], ◌∷◌, length, codes}
+use Rattle.kom_types.specs.declared.limits.TheConstants.{LONGEST_PASSWORD}
 use Rattle.kom_commands.specs.declared.words.Command.{Command}
 use Rattle.kom_commands.specs.declared.words.Command.TheVariants as command
 use Rattle.kom_commands.specs.Numbers.{SaysServe}
 use Rattle.kom_commands.specs.Loads.{SaysLoad}
-
--- the most bytes of a password
-abbrev pub longest_password : ℕ
-longest_password = 128
 
 -- The words are this command. A store is named by a path that is not empty.
 abbrev pub IsSpelled : List (List ℕ) → Command → Type 0
@@ -17,7 +14,7 @@ IsSpelled words command.OnceOver =
 IsSpelled words (command.Serve at) = SaysServe words at.port at.workers
 IsSpelled words command.Init = (store password : List ℕ)
     × (words ≡ codes "init" ∷ store ∷ password ∷ []) × (store ≢ [])
-    × (length password ≤ longest_password)
+    × (length password ≤ LONGEST_PASSWORD)
 IsSpelled words command.Check =
     (store : List ℕ) × (words ≡ codes "check" ∷ store ∷ []) × (store ≢ [])
 IsSpelled words (command.Load count) = SaysLoad words count

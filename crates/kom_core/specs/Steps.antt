@@ -1,7 +1,7 @@
 -- What a step of the server comes to.
 use Rattle.std.specs.Prelude.{◌≡◌, ℕ, ◌+◌, Bool, true, false, List, [], ◌∷◌, ◌++◌, Option, Some}
 use Rattle.std.specs.Prelude.{None, Result, Ok, Err}
-use Rattle.kom_types.specs.Errors as error
+use Rattle.kom_types.specs.declared.errors.TheConstants as error
 use Rattle.kom_types.specs.declared.acts.Act.{Act}
 use Rattle.kom_types.specs.declared.acts.Act.TheVariants as act
 use Rattle.kom_types.specs.declared.acts.Entry.{Entry}
@@ -81,7 +81,7 @@ CarriesOut old entry reply messages new =
 abbrev pub Answers : State → Entry → ℕ → ℕ → Bool → State → Type 0
 Answers old entry session reference true new = (DecidesFirm old entry → ⊥)
     × (new ≡ queue_all waiting_limits (reply_to session reference (reply.Refused
-    error.out_of_memory 0) ∷ []) old)
+    error.OUT_OF_MEMORY 0) ∷ []) old)
 Answers old entry session reference false new =
     (decision : Decision) × (messages : List Delivery) × ComesTo old entry decision messages
     × (new ≡ queue_all waiting_limits (messages ++ reply_to session reference decision.reply ∷ [])

@@ -5,11 +5,12 @@ use Rattle.std.proofs.Math.Nat.{pow-le-pow_right, pow-succ'}
 use Rattle.std.proofs.lemmas.Bool.{lt-ltb}
 use Rattle.std.proofs.lemmas.List.{append-nil, length-take-le, length-drop, take_more}
 use Rattle.std.proofs.lemmas.List.Sums.{fold-append}
+use Rattle.kom_types.specs.declared.limits.TheConstants.{LONGEST_STREAM}
 use Rattle.kom_types.specs.declared.side.Side.{Side}
 use Rattle.kom_types.specs.declared.byte_kind.ByteKind.TheVariants as kind
 use Rattle.kom_types.specs.ByteKind.{kind_of}
 use Rattle.kom_types.specs.Grammar.{Form, Prefix, Whole, Unfit, greeting_form}
-use Rattle.kom_types.specs.Stream.{Malformed, longest_stream, stopped_in, lines_from, greeting_from}
+use Rattle.kom_types.specs.Stream.{Malformed, stopped_in, lines_from, greeting_from}
 use Rattle.kom_framing.specs.declared.fault.Fault.TheVariants as found
 use Rattle.kom_framing.specs.declared.greeting.Greeting.{Greeting}
 use Rattle.kom_framing.specs.Splitting.{Opening, Length, opening_of}
@@ -102,7 +103,7 @@ module _ (side : Side) where
       (ap (heard side) regrouped ∙ onward-append (Going (opening_of side [])) (text ++ byte ∷ []) bytes) going)
 
   pub greeting_goes_through : (place : ℕ) (text prefix bytes : List ℕ) → IsGoing (heard side (text ++ prefix))
-      → place + length prefix ≤ longest_stream
+      → place + length prefix ≤ LONGEST_STREAM
       → greeting_from side place text (prefix ++ bytes)
       ≡ greeting_from side (place + length prefix) (text ++ prefix) bytes
   greeting_goes_through place text [] bytes going early =
@@ -126,7 +127,7 @@ module _ (side : Side) where
       onward-append (Going (opening_of side [])) text bytes ∙ ap (λ (s : Greets). onward s bytes) e ∙ goes
 
   greeting_to : (place count : ℕ) (text bytes name : List ℕ) (before : Greets) → heard side text ≡ before
-      → HearsTo count before bytes name → place + count ≤ longest_stream
+      → HearsTo count before bytes name → place + count ≤ LONGEST_STREAM
       → greeting_from side place text bytes
       ≡ record (lines_from side (place + count) [] (drop count bytes)) { greeting = Some name }
   greeting_to place count text bytes name before so_far hears early =
@@ -154,7 +155,7 @@ module _ (side : Side) where
       ∙ ap (λ (n : ℕ). record (lines_from side (place + count) [] (drop n bytes)) { greeting = Some name }) (sym back)
 
   greeting_unheard : (place at : ℕ) (text bytes : List ℕ) (before : Greets) → heard side text ≡ before
-      → IsUnheardAt at before bytes → place + at ≤ longest_stream
+      → IsUnheardAt at before bytes → place + at ≤ LONGEST_STREAM
       → (rest : List ℕ) × (greeting_from side place text bytes ≡ stopped_in rest (Some (Malformed (place + at))))
   greeting_unheard place at text bytes before so_far unfit early =
       let inside = unfit.within in
@@ -175,7 +176,7 @@ module _ (side : Side) where
             ∙ ap (λ (p : ℕ). stopped_in (text ++ prefix) (Some (Malformed p))) (omega arith),
       )
 
-  late_at : (place : ℕ) (text bytes : List ℕ) → 0 < length bytes → place ≡ longest_stream
+  late_at : (place : ℕ) (text bytes : List ℕ) → 0 < length bytes → place ≡ LONGEST_STREAM
       → greeting_from side place text bytes ≡ stopped_in text (Some (Malformed place))
   late_at place text [] some late = absurd (omega arith)
   late_at place text (byte ∷ bytes) some late = greeting_late side place text byte bytes (omega arith)
@@ -183,7 +184,7 @@ module _ (side : Side) where
 -- ---- a piece, of which a window was heard
 
 pub greets_on : (place : ℕ) (old new : Greeting) (window piece : List ℕ) → IsWindow window piece
-    → length window ≡ length piece → place + length window ≤ longest_stream
+    → length window ≡ length piece → place + length window ≤ LONGEST_STREAM
     → onward (Going (greeting_kept old)) window ≡ Going (greeting_kept new) → IsGreeting new.phase new.name.items
     → GreetsOn place old piece new
 greets_on place old new window piece w same early goes kept =
@@ -205,7 +206,7 @@ greets_on place old new window piece w same early goes kept =
     }
 
 pub greets_late : (place : ℕ) (old : Greeting) (window piece : List ℕ) (after : Opening) → IsWindow window piece
-    → length window < length piece → place + length window ≡ longest_stream
+    → length window < length piece → place + length window ≡ LONGEST_STREAM
     → onward (Going (greeting_kept old)) window ≡ Going after
     → GreetsFail place old piece (found.Malformed (place + length window))
 greets_late place old window piece after w fewer late goes = record {
@@ -221,7 +222,7 @@ greets_late place old window piece after w fewer late goes = record {
 }
 
 pub greets_to : (count place : ℕ) (old new : Greeting) (window piece : List ℕ) → IsWindow window piece
-    → place + length window ≤ longest_stream → Lengthens old.name.items new.name.items
+    → place + length window ≤ LONGEST_STREAM → Lengthens old.name.items new.name.items
     → HearsTo count (Going (greeting_kept old)) window new.name.items → GreetsTo count place old piece new
 greets_to count place old new window piece w early lengthens hears =
     let within = hears.within in
@@ -242,7 +243,7 @@ greets_to count place old new window piece w early lengthens hears =
     }
 
 pub greets_unfit : (at place : ℕ) (old : Greeting) (window piece : List ℕ) → IsWindow window piece
-    → place + length window ≤ longest_stream → IsUnheardAt at (Going (greeting_kept old)) window
+    → place + length window ≤ LONGEST_STREAM → IsUnheardAt at (Going (greeting_kept old)) window
     → GreetsFail place old piece (found.Malformed (place + at))
 greets_unfit at place old window piece w early unfit =
     let within = unfit.within in

@@ -6,10 +6,11 @@ use Rattle.std.proofs.Math.Seq.{take-add}
 use Rattle.std.proofs.lemmas.List.{append-nil, length-append, length-take, length-take-le, length-drop, take_all}
 use Rattle.std.proofs.lemmas.List.{take-append-drop, drop_more, take_more, take-take, take-append-le}
 use Rattle.std.proofs.lemmas.List.Sums.{fold-append}
+use Rattle.kom_types.specs.declared.limits.TheConstants.{LONGEST_LINE, LONGEST_STREAM}
 use Rattle.kom_types.specs.declared.side.Side.{Side}
 use Rattle.kom_types.specs.Token.{Token}
 use Rattle.kom_types.specs.Grammar.{Form, Prefix, Whole, line_form}
-use Rattle.kom_types.specs.Stream.{Malformed, longest_line, longest_stream, with_line, stopped_in, lines_from}
+use Rattle.kom_types.specs.Stream.{Malformed, with_line, stopped_in, lines_from}
 use Rattle.kom_framing.specs.declared.lexer.Lexer.{Lexer}
 use Rattle.kom_framing.specs.declared.lexer.Step.{Step}
 use Rattle.kom_framing.specs.declared.lexer.Step.TheVariants as step
@@ -104,7 +105,7 @@ module _ (side : Side) where
 
   -- a line that goes on with these bytes
   pub lines_go_on : (place : ℕ) (text prefix bytes : List ℕ) → IsGoing (walk side (text ++ prefix))
-      → length text + length prefix ≤ longest_line → place + length prefix ≤ longest_stream
+      → length text + length prefix ≤ LONGEST_LINE → place + length prefix ≤ LONGEST_STREAM
       → lines_from side place text (prefix ++ bytes) ≡ lines_from side (place + length prefix) (text ++ prefix) bytes
   lines_go_on place text [] bytes going short early =
       let same : place ≡ place + 0 = omega arith in
@@ -124,8 +125,8 @@ module _ (side : Side) where
 
   -- a line that ends with the last of so many bytes
   pub lines_end : (place : ℕ) (text bytes : List ℕ) (count : ℕ) (tokens : List Token) → 1 ≤ count → count ≤ length bytes
-      → walk side (text ++ take count bytes) ≡ Ended tokens → length text + count ≤ longest_line
-      → place + count ≤ longest_stream
+      → walk side (text ++ take count bytes) ≡ Ended tokens → length text + count ≤ LONGEST_LINE
+      → place + count ≤ LONGEST_STREAM
       → lines_from side place text bytes
       ≡ with_line tokens (place + count - 1) (lines_from side (place + count) [] (drop count bytes))
   lines_end place text bytes count tokens some within ended short early =
@@ -154,8 +155,8 @@ module _ (side : Side) where
 
   -- a line that is at fault
   pub lines_unfit : (place : ℕ) (text bytes : List ℕ) (at : ℕ) → IsUnfitAt side text bytes at
-      → length text + at ≤ longest_line
-      → place + at ≤ longest_stream → FailsAt side place text bytes (found.Malformed (place + at))
+      → length text + at ≤ LONGEST_LINE
+      → place + at ≤ LONGEST_STREAM → FailsAt side place text bytes (found.Malformed (place + at))
   lines_unfit place text bytes at unfit short early =
       let inside = unfit.within in
       let prefix : List ℕ = take at bytes in
@@ -304,7 +305,7 @@ module _ (side : Side) where
             line_unfit side place text byte rest (form_is (text ++ byte ∷ []) Stuck unfit.stuck);
       }
 
-  pub fault_late : (place : ℕ) (text rest : List ℕ) → 0 < length rest → longest_stream ≤ place
+  pub fault_late : (place : ℕ) (text rest : List ℕ) → 0 < length rest → LONGEST_STREAM ≤ place
       → FailsAt side place text rest (found.Malformed place)
   fault_late place text [] some late = absurd (omega arith)
   fault_late place text (byte ∷ rest) some late =
@@ -313,7 +314,7 @@ module _ (side : Side) where
   pub fault_long : (s : Step) (place : ℕ) (text rest : List ℕ) (starts : List ℕ) (lexer : Lexer) → 0 < length rest
       → (s ≡ step.Unfit → ⊥) → IsBegun side text starts lexer
       → Does side s lexer (text ++ take 0 (take 1 rest)) (drop 0 (take 1 rest))
-      → place < longest_stream → longest_line ≤ length text
+      → place < LONGEST_STREAM → LONGEST_LINE ≤ length text
       → FailsAt side place text rest (found.LineTooLong place)
   fault_long s place text [] starts lexer some fit begun does early long = absurd (omega arith)
   fault_long s place text (byte ∷ rest) starts lexer some fit begun does early long =
@@ -329,14 +330,14 @@ module _ (side : Side) where
   line_goes line kept = begun_goes line.text.items line.starts.items line.lexer kept.begun
 
   pub scans_on : (place : ℕ) (old new : BegunLine) (window piece : List ℕ) → IsWindow window piece
-      → length window ≡ length piece → place + length window ≤ longest_stream → Grows old new window × IsLine side new
+      → length window ≡ length piece → place + length window ≤ LONGEST_STREAM → Grows old new window × IsLine side new
       → ScansOn side place old piece new
   scans_on place old new window piece w same early taken =
       let all : window ≡ piece = whole_window window piece w same in
       let grows : Grows old new piece = subst (Grows old new) all taken.0 in
       let going : IsGoing (walk side (old.text.items ++ piece)) =
       subst (λ (t : List ℕ). IsGoing (walk side t)) grows.text (line_goes new taken.1) in
-      let short : length old.text.items + length piece ≤ longest_line =
+      let short : length old.text.items + length piece ≤ LONGEST_LINE =
       omega (arith, taken.1.short, ap length grows.text, length-append old.text.items piece) in
       record {
         grows = grows;
@@ -349,14 +350,14 @@ module _ (side : Side) where
       }
 
   pub scans_past : (place : ℕ) (old new : BegunLine) (window piece : List ℕ) (f : CodeFault) → IsWindow window piece
-      → place + length window ≤ longest_stream → Grows old new window × IsLine side new
+      → place + length window ≤ LONGEST_STREAM → Grows old new window × IsLine side new
       → FailsAt side (place + length window) new.text.items (drop (length window) piece) f
       → FailsAt side place old.text.items piece f
   scans_past place old new window piece f w early taken fails =
       let grows = taken.0 in
       let going : IsGoing (walk side (old.text.items ++ window)) =
       subst (λ (t : List ℕ). IsGoing (walk side t)) grows.text (line_goes new taken.1) in
-      let short : length old.text.items + length window ≤ longest_line =
+      let short : length old.text.items + length window ≤ LONGEST_LINE =
       omega (arith, taken.1.short, ap length grows.text, length-append old.text.items window) in
       record {
         rest = fails.rest;
@@ -368,7 +369,7 @@ module _ (side : Side) where
       }
 
   pub scans_to : (count place : ℕ) (old new : BegunLine) (window piece : List ℕ) → IsWindow window piece
-      → place + length window ≤ longest_stream → length old.text.items + length window ≤ longest_line
+      → place + length window ≤ LONGEST_STREAM → length old.text.items + length window ≤ LONGEST_LINE
       → Grows old new (take count window) × EndsIn side old.text.items window new.starts.items count
       → ScansTo side count place old piece new
   scans_to count place old new window piece w early short taken =
@@ -395,7 +396,7 @@ module _ (side : Side) where
       }
 
   pub scans_unfit : (at place : ℕ) (old : BegunLine) (window piece : List ℕ) → IsWindow window piece
-      → place + length window ≤ longest_stream → length old.text.items + length window ≤ longest_line
+      → place + length window ≤ LONGEST_STREAM → length old.text.items + length window ≤ LONGEST_LINE
       → IsUnfitAt side old.text.items window at → FailsAt side place old.text.items piece (found.Malformed (place + at))
   scans_unfit at place old window piece w early short unfit =
       let within = unfit.within in

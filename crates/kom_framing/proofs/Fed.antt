@@ -3,12 +3,13 @@ use Rattle.std.proofs.Common.{◌≡◌, ℕ, ◌+◌, ◌-◌, ◌≤◌, List,
 use Rattle.std.proofs.Common.{sym, ap, ◌∙◌, arith, append_assoc}
 use Rattle.std.specs.Prelude.{option_to_list, option_map}
 use Rattle.std.proofs.lemmas.List.{append-nil, length-append, length-drop, map-append}
+use Rattle.kom_types.specs.declared.limits.TheConstants.{LONGEST_STREAM}
 use Rattle.kom_types.specs.declared.side.Side.{Side}
 use Rattle.kom_types.specs.declared.side.Side.TheVariants as sides
 use Rattle.kom_types.specs.Token.{Token}
 use Rattle.kom_types.specs.Grammar.{Form, Prefix, Whole, Unfit, greeting_form}
 use Rattle.kom_types.specs.Stream.{Line, Fault, Split, Verdict, GoesOn, Ends, Fails, greeting_verdict, stopped_in}
-use Rattle.kom_types.specs.Stream.{longest_stream, lines_from, greeting_from, stream_by}
+use Rattle.kom_types.specs.Stream.{lines_from, greeting_from, stream_by}
 use Rattle.kom_framing.specs.declared.fault.Fault.{Fault as CodeFault}
 use Rattle.kom_framing.specs.declared.greeting.Greeting.{Greeting as CodeGreeting}
 use Rattle.kom_framing.specs.declared.lines.BegunLine.{BegunLine}
@@ -49,7 +50,7 @@ regroup : (taken units ended whole : List StreamUnit)
 regroup taken units ended whole = ap (λ (us : List StreamUnit). taken ++ us) (sym (append_assoc units ended whole))
 
 lines_early : (place count : ℕ) (piece : List ℕ) → count ≤ length piece
-    → place + count + length (drop count piece) ≤ longest_stream → place + length piece ≤ longest_stream
+    → place + count + length (drop count piece) ≤ LONGEST_STREAM → place + length piece ≤ LONGEST_STREAM
 lines_early place count piece within early = omega (arith, early, length-drop count piece)
 
 nameless_units : (split : Split) → split.greeting ≡ None → split.lines ≡ [] → units_of split ≡ []

@@ -6,6 +6,7 @@ use Rattle.std.proofs.lemmas.Bool.{cases_Bool, cases_lt, both_ways, and_right, a
 use Rattle.std.proofs.lemmas.Bool.{lt-ltb, le-ltb, ne_eqb}
 use Rattle.std.proofs.lemmas.List.{append-nil, length-append, length_push}
 use Rattle.std.proofs.lemmas.List.Sums.{fold_push}
+use Rattle.kom_types.specs.declared.limits.TheConstants.{LONGEST_USER_NAME}
 use Rattle.kom_types.specs.declared.side.Side.{Side}
 use Rattle.kom_types.specs.declared.side.Side.TheVariants as sides
 use Rattle.kom_types.specs.declared.byte_kind.ByteKind.{ByteKind}
@@ -130,11 +131,11 @@ run_name first digits byte rest h e =
     (Name (number_of (first ∷ digits)) rest)) (and_from _ _ h e)
 
 is_length : (first : ℕ) (digits : List ℕ) → length (first ∷ digits) ≤ 4
-    → is_name_length (first ∷ digits) ≡ leb (number_of (first ∷ digits)) 1024
+    → is_name_length (first ∷ digits) ≡ leb (number_of (first ∷ digits)) LONGEST_USER_NAME
 is_length first digits short =
-    ap (λ (b : Bool). b && leb (length (first ∷ digits)) 4 && leb (number_of (first ∷ digits)) 1024)
+    ap (λ (b : Bool). b && leb (length (first ∷ digits)) 4 && leb (number_of (first ∷ digits)) LONGEST_USER_NAME)
     (le-leb 1 (length (first ∷ digits)) (omega arith))
-    ∙ ap (λ (b : Bool). b && leb (number_of (first ∷ digits)) 1024) (le-leb (length (first ∷ digits)) 4 short)
+    ∙ ap (λ (b : Bool). b && leb (number_of (first ∷ digits)) LONGEST_USER_NAME) (le-leb (length (first ∷ digits)) 4 short)
 
 -- a run with what is after it, in a greeting that has these digits of it already
 abbrev told_from : List ℕ → List ℕ → Greets
@@ -187,7 +188,7 @@ length_ends : (first : ℕ) (digits : List ℕ) (byte : ℕ) (bytes : List ℕ) 
 length_ends first digits byte bytes short e h d =
     let number = number_of (first ∷ digits) in
     let left = length_kind (first ∷ digits) byte bytes kind.Hollerith e in
-    elim (cases_Bool (leb number 1024)) [
+    elim (cases_Bool (leb number LONGEST_USER_NAME)) [
       | inl found ↦ left ∙ ap (λ (b : Bool). onward (choice b (name_from number []) Stuck) bytes) found
           ∙ name_onward number [] bytes
           ∙ sym (told_from-ended (first ∷ digits) byte bytes d

@@ -2,40 +2,41 @@
 use Rattle.std.proofs.Common.{◌≡◌, ℕ, ◌+◌, ◌<◌, ◌≤◌, Bool, true, false, ltb, List, [], ◌∷◌, ◌++◌, length, Option, Some}
 use Rattle.std.proofs.Common.{None, refl, ap, ◌∙◌, arith}
 use Rattle.std.proofs.lemmas.Bool.{lt-ltb, le-ltb}
+use Rattle.kom_types.specs.declared.limits.TheConstants.{LONGEST_LINE, LONGEST_STREAM}
 use Rattle.kom_types.specs.declared.side.Side.{Side}
 use Rattle.kom_types.specs.Token.{Token}
 use Rattle.kom_types.specs.Grammar.{Form, Prefix, Whole, Unfit, line_form, greeting_form}
-use Rattle.kom_types.specs.Stream.{Fault, Malformed, LineTooLong, Split, longest_line, longest_stream, Verdict, GoesOn}
+use Rattle.kom_types.specs.Stream.{Fault, Malformed, LineTooLong, Split, Verdict, GoesOn}
 use Rattle.kom_types.specs.Stream.{Ends, Fails, verdict, line_verdict, greeting_verdict, with_line, stopped_in}
 use Rattle.kom_types.specs.Stream.{lines_from, greeting_from}
 
 abbrev choice : {X : Type 0} → Bool → X → X → X
 choice b x y = elim b [ true ↦ x | false ↦ y ]
 
-prefix_goes_on : {X : Type 0} (place : ℕ) (form : Form X) → place < longest_stream → form ≡ Prefix
+prefix_goes_on : {X : Type 0} (place : ℕ) (form : Form X) → place < LONGEST_STREAM → form ≡ Prefix
     → verdict place false form ≡ GoesOn
 prefix_goes_on place form early e =
     ap (verdict place false) e
-    ∙ ap (λ (b : Bool). choice b GoesOn (Fails (Malformed place))) (lt-ltb place longest_stream early)
+    ∙ ap (λ (b : Bool). choice b GoesOn (Fails (Malformed place))) (lt-ltb place LONGEST_STREAM early)
 
-whole_ends : {X : Type 0} (place : ℕ) (form : Form X) (x : X) → place < longest_stream → form ≡ Whole x
+whole_ends : {X : Type 0} (place : ℕ) (form : Form X) (x : X) → place < LONGEST_STREAM → form ≡ Whole x
     → verdict place false form ≡ Ends x
 whole_ends place form x early e =
     ap (verdict place false) e
-    ∙ ap (λ (b : Bool). choice b (Ends x) (Fails (Malformed place))) (lt-ltb place longest_stream early)
+    ∙ ap (λ (b : Bool). choice b (Ends x) (Fails (Malformed place))) (lt-ltb place LONGEST_STREAM early)
 
 pub unfit_fails : {X : Type 0} (place : ℕ) (long : Bool) (form : Form X) → form ≡ Unfit
     → verdict place long form ≡ Fails (Malformed place)
 unfit_fails place long form e = ap (verdict place long) e
 
-late_fails : {X : Type 0} (place : ℕ) (long : Bool) (form : Form X) → longest_stream ≤ place
+late_fails : {X : Type 0} (place : ℕ) (long : Bool) (form : Form X) → LONGEST_STREAM ≤ place
     → verdict place long form ≡ Fails (Malformed place)
 late_fails place long Prefix late =
     ap (λ (b : Bool). choice b (choice long (Fails (LineTooLong place)) GoesOn) (Fails (Malformed place)))
-    (le-ltb place longest_stream late)
+    (le-ltb place LONGEST_STREAM late)
 late_fails place long (Whole x) late =
     ap (λ (b : Bool). choice b (choice long (Fails (LineTooLong place)) (Ends x)) (Fails (Malformed place)))
-    (le-ltb place longest_stream late)
+    (le-ltb place LONGEST_STREAM late)
 late_fails place long Unfit late = refl
 
 -- no rule makes these bytes unfit
@@ -44,14 +45,14 @@ Fits Prefix = Unit {0}
 Fits (Whole x) = Unit {0}
 Fits Unfit = ⊥
 
-long_fails : {X : Type 0} (place : ℕ) (form : Form X) → place < longest_stream → Fits form
+long_fails : {X : Type 0} (place : ℕ) (form : Form X) → place < LONGEST_STREAM → Fits form
     → verdict place true form ≡ Fails (LineTooLong place)
 long_fails place Prefix early fits =
     ap (λ (b : Bool). choice b (Fails (LineTooLong place)) (Fails (Malformed place)))
-    (lt-ltb place longest_stream early)
+    (lt-ltb place LONGEST_STREAM early)
 long_fails place (Whole x) early fits =
     ap (λ (b : Bool). choice b (Fails (LineTooLong place)) (Fails (Malformed place)))
-    (lt-ltb place longest_stream early)
+    (lt-ltb place LONGEST_STREAM early)
 long_fails place Unfit early fits = absurd fits
 
 greeting-with_line : (tokens : List Token) (end : ℕ) (split : Split)
@@ -66,7 +67,7 @@ no_prefix_chosen place x true false e = cc
 no_prefix_chosen place x false long e = cc
 
 whole_is_no_prefix : {X : Type 0} (place : ℕ) (long : Bool) (x : X) → verdict place long (Whole x) ≡ GoesOn → ⊥
-whole_is_no_prefix place long x e = no_prefix_chosen place x (ltb place longest_stream) long e
+whole_is_no_prefix place long x e = no_prefix_chosen place x (ltb place LONGEST_STREAM) long e
 
 goes_on_prefix : {X : Type 0} (place : ℕ) (long : Bool) (form : Form X) → verdict place long form ≡ GoesOn
     → form ≡ Prefix
@@ -100,27 +101,27 @@ module _ (side : Side) where
 
   -- ---- the verdict on a byte
 
-  short_line : (place : ℕ) (prefix : List ℕ) → length prefix ≤ longest_line
+  short_line : (place : ℕ) (prefix : List ℕ) → length prefix ≤ LONGEST_LINE
       → line_verdict side place prefix ≡ verdict place false (line_form side prefix)
   short_line place prefix short =
-      ap (λ (b : Bool). verdict place b (line_form side prefix)) (le-ltb longest_line (length prefix) short)
+      ap (λ (b : Bool). verdict place b (line_form side prefix)) (le-ltb LONGEST_LINE (length prefix) short)
 
-  long_line : (place : ℕ) (prefix : List ℕ) → longest_line < length prefix
+  long_line : (place : ℕ) (prefix : List ℕ) → LONGEST_LINE < length prefix
       → line_verdict side place prefix ≡ verdict place true (line_form side prefix)
   long_line place prefix long =
-      ap (λ (b : Bool). verdict place b (line_form side prefix)) (lt-ltb longest_line (length prefix) long)
+      ap (λ (b : Bool). verdict place b (line_form side prefix)) (lt-ltb LONGEST_LINE (length prefix) long)
 
   -- ---- one byte of a line
 
-  pub line_goes_on : (place : ℕ) (text : List ℕ) (byte : ℕ) (bytes : List ℕ) → place < longest_stream
-      → length (text ++ byte ∷ []) ≤ longest_line → line_form side (text ++ byte ∷ []) ≡ Prefix
+  pub line_goes_on : (place : ℕ) (text : List ℕ) (byte : ℕ) (bytes : List ℕ) → place < LONGEST_STREAM
+      → length (text ++ byte ∷ []) ≤ LONGEST_LINE → line_form side (text ++ byte ∷ []) ≡ Prefix
       → lines_from side place text (byte ∷ bytes) ≡ lines_from side (place + 1) (text ++ byte ∷ []) bytes
   line_goes_on place text byte bytes early short e =
       lines-cons place text byte bytes GoesOn
       (short_line place (text ++ byte ∷ []) short ∙ prefix_goes_on place (line_form side (text ++ byte ∷ [])) early e)
 
-  pub line_ends : (place : ℕ) (text : List ℕ) (byte : ℕ) (bytes : List ℕ) (tokens : List Token) → place < longest_stream
-      → length (text ++ byte ∷ []) ≤ longest_line → line_form side (text ++ byte ∷ []) ≡ Whole tokens
+  pub line_ends : (place : ℕ) (text : List ℕ) (byte : ℕ) (bytes : List ℕ) (tokens : List Token) → place < LONGEST_STREAM
+      → length (text ++ byte ∷ []) ≤ LONGEST_LINE → line_form side (text ++ byte ∷ []) ≡ Whole tokens
       → lines_from side place text (byte ∷ bytes) ≡ with_line tokens place (lines_from side (place + 1) [] bytes)
   line_ends place text byte bytes tokens early short e =
       lines-cons place text byte bytes (Ends tokens)
@@ -131,17 +132,17 @@ module _ (side : Side) where
       → lines_from side place text (byte ∷ bytes) ≡ stopped_in text (Some (Malformed place))
   line_unfit place text byte bytes e =
       lines-cons place text byte bytes (Fails (Malformed place))
-      (unfit_fails place (ltb longest_line (length (text ++ byte ∷ []))) (line_form side (text ++ byte ∷ [])) e)
+      (unfit_fails place (ltb LONGEST_LINE (length (text ++ byte ∷ []))) (line_form side (text ++ byte ∷ [])) e)
 
-  pub line_late : (place : ℕ) (text : List ℕ) (byte : ℕ) (bytes : List ℕ) → longest_stream ≤ place
+  pub line_late : (place : ℕ) (text : List ℕ) (byte : ℕ) (bytes : List ℕ) → LONGEST_STREAM ≤ place
       → lines_from side place text (byte ∷ bytes) ≡ stopped_in text (Some (Malformed place))
   line_late place text byte bytes late =
       lines-cons place text byte bytes (Fails (Malformed place))
-      (late_fails place (ltb longest_line (length (text ++ byte ∷ [])))
+      (late_fails place (ltb LONGEST_LINE (length (text ++ byte ∷ [])))
       (line_form side (text ++ byte ∷ [])) late)
 
-  pub line_too_long : (place : ℕ) (text : List ℕ) (byte : ℕ) (bytes : List ℕ) → place < longest_stream
-      → longest_line < length (text ++ byte ∷ []) → Fits (line_form side (text ++ byte ∷ []))
+  pub line_too_long : (place : ℕ) (text : List ℕ) (byte : ℕ) (bytes : List ℕ) → place < LONGEST_STREAM
+      → LONGEST_LINE < length (text ++ byte ∷ []) → Fits (line_form side (text ++ byte ∷ []))
       → lines_from side place text (byte ∷ bytes) ≡ stopped_in text (Some (LineTooLong place))
   line_too_long place text byte bytes early long fits =
       lines-cons place text byte bytes (Fails (LineTooLong place))
@@ -149,13 +150,13 @@ module _ (side : Side) where
 
   -- ---- one byte of a greeting
 
-  pub greeting_goes_on : (place : ℕ) (text : List ℕ) (byte : ℕ) (bytes : List ℕ) → place < longest_stream
+  pub greeting_goes_on : (place : ℕ) (text : List ℕ) (byte : ℕ) (bytes : List ℕ) → place < LONGEST_STREAM
       → greeting_form side (text ++ byte ∷ []) ≡ Prefix
       → greeting_from side place text (byte ∷ bytes) ≡ greeting_from side (place + 1) (text ++ byte ∷ []) bytes
   greeting_goes_on place text byte bytes early e =
       greeting-cons place text byte bytes GoesOn (prefix_goes_on place (greeting_form side (text ++ byte ∷ [])) early e)
 
-  pub greeting_ends : (place : ℕ) (text : List ℕ) (byte : ℕ) (bytes name : List ℕ) → place < longest_stream
+  pub greeting_ends : (place : ℕ) (text : List ℕ) (byte : ℕ) (bytes name : List ℕ) → place < LONGEST_STREAM
       → greeting_form side (text ++ byte ∷ []) ≡ Whole name
       → greeting_from side place text (byte ∷ bytes)
       ≡ record (lines_from side (place + 1) [] bytes) { greeting = Some name }
@@ -170,7 +171,7 @@ module _ (side : Side) where
       greeting-cons place text byte bytes (Fails (Malformed place))
       (unfit_fails place false (greeting_form side (text ++ byte ∷ [])) e)
 
-  pub greeting_late : (place : ℕ) (text : List ℕ) (byte : ℕ) (bytes : List ℕ) → longest_stream ≤ place
+  pub greeting_late : (place : ℕ) (text : List ℕ) (byte : ℕ) (bytes : List ℕ) → LONGEST_STREAM ≤ place
       → greeting_from side place text (byte ∷ bytes) ≡ stopped_in text (Some (Malformed place))
   greeting_late place text byte bytes late =
       greeting-cons place text byte bytes (Fails (Malformed place))

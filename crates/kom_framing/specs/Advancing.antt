@@ -1,6 +1,7 @@
 -- What a splitter keeps of the unit that has begun, and what a piece of the stream makes of it.
 use Rattle.std.specs.Prelude.{◌≡◌, ℕ, ◌+◌, ◌-◌, ◌≤◌, List, [], ◌∷◌, ◌++◌, length, Option, Some}
 use Rattle.std.specs.Prelude.{None, Result, Ok, Err}
+use Rattle.kom_types.specs.declared.limits.TheConstants.{LONGEST_STREAM}
 use Rattle.kom_types.specs.declared.shortage.Memory.{Memory}
 use Rattle.kom_types.specs.declared.side.Side.{Side}
 use Rattle.kom_types.specs.Stream as stream
@@ -90,7 +91,7 @@ Ends side (Some found) units begun place fed taken = Falls side units found fed 
 pub record GoesOn (side : Side) (units : List StreamUnit) (old new : BegunUnit) (place : ℕ)
     (piece : List ℕ) : Type 0 where
   pub kept : IsBegunUnit side new
-  pub early : place + length piece ≤ stream.longest_stream
+  pub early : place + length piece ≤ LONGEST_STREAM
   pub stands : (fed : List ℕ) (taken : List StreamUnit)
       → Stands side units (begun_seen old) place fed taken
       → Stands side units (begun_seen new) (place + length piece) (fed ++ piece) taken
@@ -109,8 +110,8 @@ pub record GoesPast (side : Side) (units : List StreamUnit) (old new : BegunUnit
   pub can_end : CanEnd new
   pub line : IsLine side lines.begun
   pub some : 1 ≤ count
-  pub within : place + count ≤ stream.longest_stream
-  pub early : lines.fault ≡ None → place + length piece ≤ stream.longest_stream
+  pub within : place + count ≤ LONGEST_STREAM
+  pub early : lines.fault ≡ None → place + length piece ≤ LONGEST_STREAM
   pub ends : (fed : List ℕ) (taken : List StreamUnit)
       → Stands side units (begun_seen old) place fed taken
       → Ends side lines.fault (units ++ units_ended new (place + count - 1) ++ lines.whole.items)
@@ -141,7 +142,7 @@ Advances side (Err memory) units old place piece new = IsSame side old new
 abbrev pub Follows : Side → Result (Option Fault) Memory → List StreamUnit → BegunUnit → ℕ
     → List ℕ → List StreamUnit → BegunUnit → Type 0
 Follows side (Ok found) units old place piece units_after new =
-    (found ≡ None → place + length piece ≤ stream.longest_stream)
+    (found ≡ None → place + length piece ≤ LONGEST_STREAM)
     × ((fed : List ℕ) (taken : List StreamUnit) → Stands side units (begun_seen old) place fed taken
     → Ends side found units_after (begun_seen new) (place + length piece) (fed ++ piece) taken)
 Follows side (Err memory) units old place piece units_after new =

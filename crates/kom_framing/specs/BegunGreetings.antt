@@ -1,6 +1,7 @@
 -- A greeting that has begun, and what a piece of the stream makes of it.
 use Rattle.std.specs.Prelude.{◌≡◌, ℕ, ◌+◌, ◌^◌, ◌<◌, ◌≤◌, List, [], ◌++◌, length, take, drop, Some}
 use Rattle.std.specs.Prelude.{None, Result, Ok, Err}
+use Rattle.kom_types.specs.declared.limits.TheConstants.{LONGEST_STREAM}
 use Rattle.kom_types.specs.declared.side.Side.{Side}
 use Rattle.kom_types.specs.declared.shortage.Memory.{Memory}
 use Rattle.kom_types.specs.Grammar.{welcome}
@@ -97,7 +98,7 @@ pub record IsSame (old new : Greeting) : Type 0 where
 -- the greeting takes the whole piece, and goes on
 pub record GreetsOn (place : ℕ) (old : Greeting) (piece : List ℕ) (new : Greeting) : Type 0 where
   pub greeting : IsBegunGreeting new
-  pub early : place + length piece ≤ stream.longest_stream
+  pub early : place + length piece ≤ LONGEST_STREAM
   pub split : (side : Side) (bytes : List ℕ) → heard side bytes ≡ Going (greeting_kept old)
       → stream.greeting_from side place bytes piece ≡ stream.stopped_in (bytes ++ piece) None
   pub heard_more : (side : Side) (bytes : List ℕ) → heard side bytes ≡ Going (greeting_kept old)
@@ -108,7 +109,7 @@ pub record GreetsTo (count place : ℕ) (old : Greeting) (piece : List ℕ) (new
     : Type 0 where
   pub some : 1 ≤ count
   pub within : count ≤ length piece
-  pub early : place + count ≤ stream.longest_stream
+  pub early : place + count ≤ LONGEST_STREAM
   pub lengthens : Lengthens old.name.items new.name.items
   pub split : (side : Side) (bytes : List ℕ) → heard side bytes ≡ Going (greeting_kept old)
       → stream.greeting_from side place bytes piece

@@ -1,6 +1,7 @@
 -- A line that has begun, and what a piece of the stream makes of it.
 use Rattle.std.specs.Prelude.{◌≡◌, ℕ, ◌+◌, ◌-◌, ◌<◌, ◌≤◌, List, [], ◌∷◌, ◌++◌, length, take, drop}
 use Rattle.std.specs.Prelude.{Some, None, Result, Ok, Err}
+use Rattle.kom_types.specs.declared.limits.TheConstants.{LONGEST_LINE, LONGEST_STREAM}
 use Rattle.kom_types.specs.declared.shortage.Memory.{Memory}
 use Rattle.kom_types.specs.declared.side.Side.{Side}
 use Rattle.kom_types.specs.Token.{Token}
@@ -25,7 +26,7 @@ fault_seen (fault.LineTooLong place) = stream.LineTooLong place
 -- what is kept is that of a line that goes on
 pub record IsLine (side : Side) (line : BegunLine) : Type 0 where
   pub begun : IsBegun side line.text.items line.starts.items line.lexer
-  pub short : length line.text.items ≤ stream.longest_line
+  pub short : length line.text.items ≤ LONGEST_LINE
 
 abbrev pub IsGoing : LexerState → Type 0
 IsGoing (Going tokens mode) = Unit {0}
@@ -105,7 +106,7 @@ pub record ScansOn (side : Side) (place : ℕ) (old : BegunLine) (piece : List �
     : Type 0 where
   pub grows : Grows old new piece
   pub line : IsLine side new
-  pub early : place + length piece ≤ stream.longest_stream
+  pub early : place + length piece ≤ LONGEST_STREAM
   pub split : stream.lines_from side place old.text.items piece
       ≡ stream.stopped_in new.text.items None
 
@@ -115,7 +116,7 @@ pub record ScansTo (side : Side) (count place : ℕ) (old : BegunLine) (piece : 
   pub grows : Grows old new (take count piece)
   pub some : 1 ≤ count
   pub within : count ≤ length piece
-  pub early : place + count ≤ stream.longest_stream
+  pub early : place + count ≤ LONGEST_STREAM
   pub whole : AreTokens new.text.items new.starts.items
   pub split : stream.lines_from side place old.text.items piece
       ≡ stream.with_line (tokens_of new.text.items new.starts.items) (place + count - 1)

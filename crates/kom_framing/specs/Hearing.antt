@@ -1,6 +1,7 @@
 -- How a greeting goes on byte by byte.
 use Rattle.std.specs.Prelude.{ℕ, ◌+◌, ◌*◌, ◌-◌, true, false, nat_le, nat_lt, ◌==◌, List, [], ◌∷◌}
 use Rattle.std.specs.Prelude.{◌++◌, length, fold}
+use Rattle.kom_types.specs.declared.limits.TheConstants.{LONGEST_USER_NAME}
 use Rattle.kom_types.specs.declared.byte_kind.ByteKind.{ByteKind}
 use Rattle.kom_types.specs.declared.byte_kind.ByteKind.TheVariants as kind
 use Rattle.kom_types.specs.declared.side.Side.{Side}
@@ -39,7 +40,7 @@ hear_in_length count number byte kind.Digit = elim (nat_lt count 4) [
   | true ↦ Going (Length (count + 1) (10 * number + (byte - 48)))
   | false ↦ Stuck
 ]
-hear_in_length count number byte kind.Hollerith = elim (nat_le number 1024) [
+hear_in_length count number byte kind.Hollerith = elim (nat_le number LONGEST_USER_NAME) [
   | true ↦ name_from number []
   | false ↦ Stuck
 ]

@@ -1,5 +1,6 @@
 -- The lines of a piece that begins with a line.
 use Rattle.std.specs.Prelude.{◌≡◌, ℕ, ◌+◌, ◌≤◌, List, [], ◌++◌, length, map, None, option_map}
+use Rattle.kom_types.specs.declared.limits.TheConstants.{LONGEST_STREAM}
 use Rattle.kom_types.specs.declared.side.Side.{Side}
 use Rattle.kom_types.specs.Stream as stream
 use Rattle.kom_framing.specs.declared.lines.Lines.{Lines}
@@ -14,7 +15,7 @@ pub record AreLines (side : Side) (lines : Lines) (place : ℕ) (piece : List �
   pub rest : lines.fault ≡ None
       → lines.begun.text.items ≡ (stream.lines_from side place [] piece).rest
   pub line : IsLine side lines.begun
-  pub early : lines.fault ≡ None → place + length piece ≤ stream.longest_stream
+  pub early : lines.fault ≡ None → place + length piece ≤ LONGEST_STREAM
 
 -- these units, and then those of what is left, are those of the whole
 pub record Continues (units : List StreamUnit) (more all : stream.Split) : Type 0 where

@@ -1,5 +1,6 @@
 ghost use Rattle.std.specs.Prelude.{◌≡◌, ◌+◌, ◌-◌, ◌≤◌, [], ◌++◌, IfOk, option_to_list};
 ghost use Rattle.std.specs.VecDeque.{deque_len, deque_capacity};
+ghost use Rattle.kom_types.specs.declared.limits.TheConstants.{LONGEST_STREAM};
 ghost use Rattle.kom_types.specs.Stream as stream;
 ghost use Rattle.kom_framing.specs.WholeLines.{AreLines};
 ghost use Rattle.kom_framing.specs.Advancing.{IsBegunUnit, IsMark, Restores, ScansUnit};
@@ -58,7 +59,7 @@ pub fn follow(
     piece: &[u8],
 ) -> Result<Option<Fault>, Memory>
     requires kept { IsBegunUnit side begun.old }
-    requires early { place ≤ stream.longest_stream }
+    requires early { place ≤ LONGEST_STREAM }
     ensures follows { Follows side result units.old.items begun.old place piece.now units.new.items
         begun.new }
     ensures kept { IsBegunUnit side begun.new }
@@ -86,7 +87,7 @@ fn advance(
     piece: &[u8],
 ) -> Result<Advanced, Memory>
     requires kept { IsBegunUnit side begun.old }
-    requires early { place ≤ stream.longest_stream }
+    requires early { place ≤ LONGEST_STREAM }
     ensures advances { Advances side result units.old.items begun.old place piece.now begun.new }
     ensures units { units.new.items ≡ units.old.items }
     ensures room { IfOk result (HasRoom (deque_len units.new) (deque_capacity units.new)) }
@@ -112,7 +113,7 @@ fn lines_after(
     place: u64,
     rest: &[u8],
 ) -> Result<Lines, Memory>
-    requires { place ≤ stream.longest_stream }
+    requires { place ≤ LONGEST_STREAM }
     ensures lines { IfOk result (λ lines. AreLines side lines place rest.now) }
     ensures room { IfOk result (λ lines. HasRoomFor (deque_len units.new) (deque_capacity units.new)
         (deque_len lines.whole) (deque_capacity lines.whole)) }
@@ -160,7 +161,7 @@ impl BegunUnit {
     // Takes the bytes of a piece that belong to the unit.
     fn scan(&mut self, side: Side, place: u64, piece: &[u8]) -> Result<Scan, Memory>
         requires kept { IsBegunUnit side self.old }
-        requires early { place ≤ stream.longest_stream }
+        requires early { place ≤ LONGEST_STREAM }
         ensures { ScansUnit side result place self.old piece.now self.new }
     {
         match self {

@@ -1,7 +1,6 @@
 ghost use Rattle.std.specs.Prelude.{◌≡◌, ◌≢◌, ℕ, ◌+◌, ◌^◌, ◌<◌, ◌≤◌, List, [], Ok, length, take};
 ghost use Rattle.std.specs.Prelude.{get_or};
 ghost use Rattle.kom_types.specs.Grammar.{welcome};
-ghost use Rattle.kom_types.specs.Stream as stream;
 ghost use Rattle.kom_framing.specs.BegunGreetings.{IsBegunGreeting, IsGreeting, greeting_kept};
 ghost use Rattle.kom_framing.specs.BegunGreetings.{Hears, IsLength, Lengthens, ScansGreeting};
 ghost use Rattle.kom_framing.specs.BegunGreetings.{Turns, AreLetters};
@@ -9,7 +8,7 @@ ghost use Rattle.kom_framing.specs.Splitting.{opening_of};
 
 use crate::fault::Fault;
 use crate::lines::Scan;
-use kom_types::limits::LONGEST_STREAM;
+use kom_types::limits::{LONGEST_STREAM, LONGEST_USER_NAME};
 use kom_types::{ByteKind, Memory, Side, kind_of_byte};
 use std::alloc::Global;
 
@@ -72,7 +71,7 @@ impl Greeting {
     /// Takes the bytes of a piece that belong to the greeting.
     pub fn scan(&mut self, place: u64, piece: &[u8]) -> Result<Scan, Memory>
         requires greeting { IsBegunGreeting self.old }
-        requires early { place ≤ stream.longest_stream }
+        requires early { place ≤ LONGEST_STREAM }
         ensures { ScansGreeting result place self.old piece.now self.new }
     {
         let window = window_of(place, piece);
@@ -100,12 +99,12 @@ impl Greeting {
 
 // The bytes at the start of a piece that a stream may have.
 fn window_of(place: u64, piece: &[u8]) -> &[u8]
-    requires { place ≤ stream.longest_stream }
+    requires { place ≤ LONGEST_STREAM }
     ensures prefix { result.now ≡ take (length result.now) piece.now }
     ensures within { length result.now ≤ length piece.now }
-    ensures place { place + length result.now ≤ stream.longest_stream }
+    ensures place { place + length result.now ≤ LONGEST_STREAM }
     ensures full { length result.now ≢ length piece.now
-        → place + length result.now ≡ stream.longest_stream }
+        → place + length result.now ≡ LONGEST_STREAM }
 {
     let left = LONGEST_STREAM - place;
     if left < piece.len() as u64 {
@@ -201,7 +200,7 @@ fn turn_in_length(digits: usize, number: usize, byte: u8) -> Turn
         ByteKind::Hollerith => {
             if number == 0 {
                 Turn::Ends
-            } else if number <= 1024 {
+            } else if number <= LONGEST_USER_NAME {
                 Turn::Goes(Phase::Name { length: number })
             } else {
                 Turn::Unfit

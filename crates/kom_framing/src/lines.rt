@@ -76,7 +76,7 @@ impl BegunLine {
     /// Takes the bytes of a piece that belong to the line.
     pub fn scan(&mut self, side: Side, place: u64, piece: &[u8]) -> Result<Scan, Memory>
         requires line { IsLine side self.old }
-        requires early { place ≤ stream.longest_stream }
+        requires early { place ≤ LONGEST_STREAM }
         ensures { Scans side result place self.old piece.now self.new }
     {
         let window = window_of(self.text.len(), place, piece);
@@ -96,7 +96,7 @@ impl BegunLine {
     // Takes the bytes of a window that belong to the line, or leaves the line as it was.
     fn take(&mut self, side: Side, window: &[u8]) -> Result<Reading, Memory>
         requires line { IsLine side self.old }
-        requires room { length self.old.text.items + length window.now ≤ stream.longest_line }
+        requires room { length self.old.text.items + length window.now ≤ LONGEST_LINE }
         ensures { Takes side result self.old window.now self.new }
     {
         let known = self.starts.len();
@@ -117,7 +117,7 @@ impl BegunLine {
     // Takes the bytes of a window that belong to the line.
     fn try_take(&mut self, side: Side, window: &[u8]) -> Result<Reading, Memory>
         requires line { IsLine side self.old }
-        requires room { length self.old.text.items + length window.now ≤ stream.longest_line }
+        requires room { length self.old.text.items + length window.now ≤ LONGEST_LINE }
         ensures { Tries side result self.old window.now self.new }
     {
         match read_window(
@@ -144,8 +144,8 @@ impl BegunLine {
     fn fault_at(&self, side: Side, place: u64, rest: &[u8]) -> Fault
         requires line { IsLine side self.now }
         requires some { 0 < length rest.now }
-        requires full { place < stream.longest_stream
-            → stream.longest_line ≤ length self.now.text.items }
+        requires full { place < LONGEST_STREAM
+            → LONGEST_LINE ≤ length self.now.text.items }
         ensures { FailsAt side place self.now.text.items rest.now result }
     {
         match self.lexer.step(side, self.text.as_slice(), &rest[..1], 0) {
@@ -171,15 +171,15 @@ impl BegunLine {
 
 // The bytes at the start of a piece that a line of so many bytes may have.
 fn window_of(begun: usize, place: u64, piece: &[u8]) -> &[u8]
-    requires begun { begun ≤ stream.longest_line }
-    requires early { place ≤ stream.longest_stream }
+    requires begun { begun ≤ LONGEST_LINE }
+    requires early { place ≤ LONGEST_STREAM }
     ensures prefix { result.now ≡ take (length result.now) piece.now }
     ensures within { length result.now ≤ length piece.now }
-    ensures short { begun + length result.now ≤ stream.longest_line }
-    ensures place { place + length result.now ≤ stream.longest_stream }
+    ensures short { begun + length result.now ≤ LONGEST_LINE }
+    ensures place { place + length result.now ≤ LONGEST_STREAM }
     ensures full { length result.now ≢ length piece.now
-        → place + length result.now < stream.longest_stream
-        → stream.longest_line ≤ begun + length result.now }
+        → place + length result.now < LONGEST_STREAM
+        → LONGEST_LINE ≤ begun + length result.now }
 {
     let count = piece.len().min(LONGEST_LINE - begun);
     let left = LONGEST_STREAM - place;
@@ -199,7 +199,7 @@ fn read_window(
     starts: &mut LineStarts,
 ) -> Result<Reading, Memory>
     requires begun { IsBegun side text.now starts.old.items lexer }
-    requires room { length text.now + length window.now ≤ stream.longest_line }
+    requires room { length text.now + length window.now ≤ LONGEST_LINE }
     ensures reads { Reads side result text.now window.now starts.new.items }
     ensures extends { Extends starts.old.items starts.new.items }
 {
@@ -246,7 +246,7 @@ pub fn lines_of(
     piece: &[u8],
 ) -> Result<Lines, Memory>
     requires empty { empty.items ≡ [] }
-    requires early { place ≤ stream.longest_stream }
+    requires early { place ≤ LONGEST_STREAM }
     ensures { IfOk result (λ lines. AreLines side lines place piece.now) }
 {
     let alloc = *empty.allocator();

@@ -1,5 +1,6 @@
 ghost use Rattle.std.specs.Prelude.{◌≡◌, ◌↔◌, ℕ, List, [], ◌∷◌, ◌++◌, Err, Some, IsNone, IfNone};
 ghost use Rattle.std.specs.Prelude.{IfSome, MatchOption};
+ghost use Rattle.kom_types.specs.declared.limits.TheConstants.{LONGEST_STREAM};
 ghost use Rattle.kom_types.specs.Stream as stream;
 ghost use Rattle.kom_framing.specs.declared.units.Unit.{Unit as StreamUnit};
 ghost use Rattle.kom_framing.specs.Splitting.{IsAt, IsAtBy, Answers, refusal_at};
@@ -66,7 +67,7 @@ impl Model for Splitter {
       fault = option_map fault_seen s.fault;
     } };
 
-    ghost invariant = { λ s. IsBegunUnit s.side s.begun × (s.place ≤ stream.longest_stream) };
+    ghost invariant = { λ s. IsBegunUnit s.side s.begun × (s.place ≤ LONGEST_STREAM) };
 }
 
 impl Splitter {

@@ -2,6 +2,7 @@
 use Rattle.std.specs.Prelude.{◌≡◌, ◌≢◌, ℕ, ◌≤◌, ◌^◌, ◌==◌, ◌||◌, ◌⊎◌, nat_le, Bool, true, false}
 use Rattle.std.specs.Prelude.{List, [], ◌∷◌, ◌++◌, Option, Some, None, Result, Ok, Err, IfOk, IfErr}
 use Rattle.std.specs.Prelude.{OnOk, OnErr, if◌then◌else◌}
+use Rattle.kom_types.specs.declared.limits.TheConstants.{MOST_SESSIONS}
 use Rattle.kom_types.specs.declared.acts.Act.{Act}
 use Rattle.kom_types.specs.declared.acts.Act.TheVariants as act
 use Rattle.kom_types.specs.declared.acts.Record.{Record}
@@ -62,10 +63,6 @@ is_lock_full (Err (fault.Gone why)) = false
 is_lock_full (Err (fault.Full number)) = nat_le (2 ^ 62) number
 is_lock_full (Err fault.Memory) = false
 
--- how many sessions a run has at most
-abbrev pub most_sessions : ℕ
-most_sessions = 4294967295
-
 -- Why a connect may be refused: the server was shut down or its store refused a flush; the numbers
 -- of sessions are used up, or the turns of the lock; or memory ran out.
 abbrev pub IsConnectFault : DeskFault → Type 0
@@ -73,7 +70,7 @@ IsConnectFault (fault.Gone why.Absent) = ⊥
 IsConnectFault (fault.Gone why.Dropped) = ⊥
 IsConnectFault (fault.Gone why.Overrun) = ⊥
 IsConnectFault (fault.Gone why.Stopped) = Unit {0}
-IsConnectFault (fault.Full number) = (number ≡ most_sessions) ⊎ (2 ^ 62 ≤ number)
+IsConnectFault (fault.Full number) = (number ≡ MOST_SESSIONS) ⊎ (2 ^ 62 ≤ number)
 IsConnectFault fault.Memory = Unit {0}
 
 -- Why an act of an open session may be refused. That the session is not there is no reason.

@@ -1,6 +1,7 @@
 -- What holds of every refusal and of what a definition gives holds of what its call comes to.
 use Rattle.std.proofs.Common.{◌≡◌, ℕ, true, false, cond, List, [], Some, None, refl, length}
 use Rattle.std.specs.Prelude.{nat_le}
+use Rattle.kom_types.specs.declared.limits.TheConstants.{LONGEST_REPLY}
 use Rattle.kom_types.specs.declared.calls.Call.{Call}
 use Rattle.kom_types.specs.declared.decisions.Decision.{Decision}
 use Rattle.kom_types.specs.declared.effects.Effect.{Effect}
@@ -8,7 +9,7 @@ use Rattle.kom_types.specs.declared.items.Item.TheVariants as item
 use Rattle.kom_types.specs.Printing.{print_of}
 use Rattle.kom_model.specs.declared.call_errors.Refused.{Refused}
 use Rattle.kom_model.specs.calls.Call.{Asked, Definition, decided, refuse}
-use Rattle.kom_model.specs.Decide.{definition_of, decision_of, limited, longest_reply}
+use Rattle.kom_model.specs.Decide.{definition_of, decision_of, limited}
 
 module _ (P : Decision → Type 0) (refused : (why : Refused) → P (refuse why)) where
   decided-meets : (definition : Definition) → (definition.early ≡ None → P definition.rest) → P (decided definition)
@@ -19,7 +20,7 @@ module _ (P : Decision → Type 0) (refused : (why : Refused) → P (refuse why)
 
   limited-meets : (reference : ℕ) (decision : Decision) → P decision → P (limited reference decision)
   limited-meets reference decision holds =
-      elim (nat_le (length (print_of (item.Reply reference decision.reply))) longest_reply) as
+      elim (nat_le (length (print_of (item.Reply reference decision.reply))) LONGEST_REPLY) as
       (λ b. P (cond b decision (refuse (record { code = 46; status = 0 }))))
       [ true ↦ holds | false ↦ refused (record { code = 46; status = 0 }) ]
 

@@ -4,6 +4,7 @@ use Rattle.std.proofs.Common.{refl, sym, ap, subst, ◌⊎◌, inl, inr, true≢
 use Rattle.std.specs.Prelude.{map, is_some}
 use Rattle.std.specs.List.{AllByRecursion, list_any, list_all}
 use Rattle.std.proofs.lemmas.Bool.{cases_Bool, cond_both, and_parts, eqb-true}
+use Rattle.kom_types.specs.declared.limits.TheConstants.{LONGEST_USER_NAME}
 use Rattle.kom_types.specs.declared.decisions.Decision.{Decision}
 use Rattle.kom_types.specs.declared.effects.Effect.{Effect}
 use Rattle.kom_types.specs.declared.effects.Effect.TheVariants as effect
@@ -15,7 +16,7 @@ use Rattle.kom_types.specs.Sessions.{Session, is_session, changed_session, chang
 use Rattle.kom_types.specs.tables.Persons as Persons
 use Rattle.kom_types.specs.tables.Persons.{number_of_person, counted, logged_in, with_hash, with_created_drawn}
 use Rattle.kom_model.specs.Db.{Db, person_of}
-use Rattle.kom_model.specs.Effects.{fits, made, apply, apply_all, with_changed_person, longest_user_name}
+use Rattle.kom_model.specs.Effects.{fits, made, apply, apply_all, with_changed_person}
 use Rattle.kom_model.specs.State.{State, IsSeated, AreSeated, seats_of}
 use Rattle.kom_model.specs.After.{make_change, make_changes, carry_out}
 use Rattle.kom_model.proofs.Changing.{make_changes-rows}
@@ -85,7 +86,7 @@ empties number other = false
 -- whether a seat that this change makes is seated
 module _ (db : Db) (moment : ℕ) where
   person-seated : (session person : ℕ) (invisible : Bool) (seat : Seat) →
-      (person == 0 || is_person db person) ≡ true → length seat.user ≤ longest_user_name →
+      (person == 0 || is_person db person) ≡ true → length seat.user ≤ LONGEST_USER_NAME →
       IsSeated db (changed_seat (change.Person session person invisible) moment seat)
   person-seated session person invisible seat there user =
       let seated : Seat = record seat {
@@ -146,11 +147,11 @@ module _ (db : Db) (moment : ℕ) where
   -- who sits there is seated, or will be gone after the changes
   abbrev WillBe : List SessionChange → Session → Type 0
   WillBe changes row = IsSeated db row.seat
-      ⊎ ((length row.seat.user ≤ longest_user_name) × (list_any (empties row.seat.number) changes ≡ true))
+      ⊎ ((length row.seat.user ≤ LONGEST_USER_NAME) × (list_any (empties row.seat.number) changes ≡ true))
 
   -- a change that empties the seat does so
   emptied : (what : SessionChange) (row : Session) → empties row.seat.number what ≡ true →
-      length row.seat.user ≤ longest_user_name → IsSeated db (stepped what row).seat
+      length row.seat.user ≤ LONGEST_USER_NAME → IsSeated db (stepped what row).seat
   emptied (change.Person session person invisible) row is user =
       let parts = and_parts (row.seat.number == session) (person == 0) is in
       rw parts.0 (person-seated session person invisible row.seat (rw parts.1 refl) user)

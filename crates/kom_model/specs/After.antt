@@ -1,7 +1,8 @@
 -- One step of the server.
 use Rattle.std.specs.Prelude.{◌≡◌, ℕ, ◌+◌, ◌≤◌, max, not, ◌||◌, Bool, true, false, List, [], ◌∷◌}
 use Rattle.std.specs.Prelude.{◌++◌, length, map, filter, if◌then◌else◌}
-use Rattle.kom_types.specs.Errors as error
+use Rattle.kom_types.specs.declared.limits.TheConstants.{LONGEST_USER_NAME}
+use Rattle.kom_types.specs.declared.errors.TheConstants as error
 use Rattle.kom_types.specs.declared.acts.Act.{Act}
 use Rattle.kom_types.specs.declared.acts.Act.TheVariants as act
 use Rattle.kom_types.specs.declared.acts.Record.{Record}
@@ -14,7 +15,7 @@ use Rattle.kom_types.specs.declared.session_changes.SessionChange.{SessionChange
 use Rattle.kom_types.specs.Sessions.{Session, Limits, waiting_limits, fresh_session, is_session}
 use Rattle.kom_types.specs.Sessions.{queued, drained, changed_session, changed, is_stop}
 use Rattle.kom_model.specs.State.{State}
-use Rattle.kom_model.specs.Effects.{apply_all, longest_user_name}
+use Rattle.kom_model.specs.Effects.{apply_all}
 use Rattle.kom_model.specs.Decide.{asked_in, decision_of, is_firm}
 use Rattle.kom_model.specs.Refusal.{IsPossible}
 use Rattle.kom_model.specs.Sending.{Delivery}
@@ -48,7 +49,7 @@ MayBeShort state moment (act.Close session) true = ⊥
 
 -- the user of a greeting has at most 1,024 bytes
 abbrev pub HasUser : Act → Type 0
-HasUser (act.Connect user host) = length user ≤ longest_user_name
+HasUser (act.Connect user host) = length user ≤ LONGEST_USER_NAME
 HasUser (act.Call session reference call) = Unit {0}
 HasUser (act.Broken session) = Unit {0}
 HasUser (act.Drain session) = Unit {0}
@@ -87,7 +88,7 @@ reply_to session reference body = record { session = session; item = item.Reply 
 -- the messages of a call, and then its reply; a short one is answered 39 alone, out of memory
 abbrev pub call_deliveries : State → ℕ → ℕ → ℕ → Call → Bool → List Delivery
 call_deliveries state moment session reference call true =
-    reply_to session reference (reply.Refused error.out_of_memory 0) ∷ []
+    reply_to session reference (reply.Refused error.OUT_OF_MEMORY 0) ∷ []
 call_deliveries state moment session reference call false =
     let decision = decision_at state moment session reference call in
     messages_of (asked_in state (moment_of state moment) session reference) call decision

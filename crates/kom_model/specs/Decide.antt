@@ -1,7 +1,8 @@
 -- What a call is answered and changes. (Protocol A, "Protocol Requests".)
 use Rattle.std.specs.Prelude.{ℕ, Bool, true, false, ◌==◌, ◌||◌, ◌&&◌, not, is_some}
 use Rattle.std.specs.Prelude.{length, nat_le, if◌then◌else◌}
-use Rattle.kom_types.specs.Errors as error
+use Rattle.kom_types.specs.declared.limits.TheConstants.{LONGEST_REPLY}
+use Rattle.kom_types.specs.declared.errors.TheConstants as error
 use Rattle.kom_types.specs.declared.calls.Call.{Call}
 use Rattle.kom_types.specs.declared.calls.Call.TheVariants as call
 use Rattle.kom_types.specs.declared.decisions.Decision.{Decision}
@@ -149,15 +150,11 @@ definition_of asked (call.LocalToGlobalReverse conference ceiling count) =
     Texts.local_to_global_reverse asked conference ceiling count
 definition_of asked (call.Refused code status) = refused code status
 
--- how many bytes the line of a reply has at most
-abbrev pub longest_reply : ℕ
-longest_reply = 4194304
-
 -- the last guard of every call: a reply whose line would be longer is refused, and nothing changes
 abbrev pub limited : ℕ → Decision → Decision
 limited reference decision =
-    if nat_le (length (print_of (item.Reply reference decision.reply))) longest_reply then decision
-    else refuse (record { code = error.long_array; status = 0 })
+    if nat_le (length (print_of (item.Reply reference decision.reply))) LONGEST_REPLY then decision
+    else refuse (record { code = error.LONG_ARRAY; status = 0 })
 
 -- What a session's call comes to.
 unfoldable pub decision_of : Asked → Call → Decision

@@ -4,8 +4,13 @@ use Rattle.std.specs.Prelude.{ℕ, ◌+◌, Bool, true, false, ◌==◌, ◌||�
 use Rattle.std.specs.Prelude.{List, [], ◌∷◌, ◌++◌, length, map, Some, None, is_some, is_none}
 use Rattle.std.specs.Prelude.{if◌then◌else◌, IsTrue}
 use Rattle.std.specs.List.{AllByRecursion, list_any}
+use Rattle.kom_types.specs.declared.limits.TheConstants.{LAST_CONFERENCE, LAST_DRAWN, LONGEST_BODY}
+use Rattle.kom_types.specs.declared.limits.TheConstants.{LONGEST_CONTENT, LONGEST_NAME}
+use Rattle.kom_types.specs.declared.limits.TheConstants.{LONGEST_USER_NAME, MOST_AUX_ITEMS}
+use Rattle.kom_types.specs.declared.limits.TheConstants.{MOST_COMMENTS, MOST_FOOTNOTES, MOST_MARKS}
+use Rattle.kom_types.specs.declared.limits.TheConstants.{MOST_MEMBERSHIPS, MOST_RECIPIENTS}
 use Rattle.row_table.specs.Tables.{with_row, without_row, changed_row}
-use Rattle.kom_types.specs.AuxItems.{kind_of, most_items, longest_content}
+use Rattle.kom_types.specs.AuxItems.{kind_of}
 use Rattle.kom_types.specs.declared.aux_items.AuxRow.{AuxRow}
 use Rattle.kom_types.specs.declared.conferences.ConferenceRow.{ConferenceRow}
 use Rattle.kom_types.specs.declared.effects.ConfField.{ConfField}
@@ -40,36 +45,9 @@ use Rattle.kom_model.specs.Db.{recipients_of, link_of}
 use Rattle.kom_model.specs.Db.{links_from, links_into, mark_of, marks_of, marks_on}
 use Rattle.kom_model.specs.Db.{next_local_of, next_created_of, items_of, next_item_of}
 
--- the limits of this server: conferences that are ever made, bytes of a name and of a user name,
--- memberships of a person; texts, and local numbers, that are ever drawn; bytes of a text;
--- recipients of a text; comments in or out of a text, and footnotes; marks of a person
-abbrev pub last_conference : ℕ
-last_conference = 65535
-
-abbrev pub longest_name : ℕ
-longest_name = 60
-
-abbrev pub longest_user_name : ℕ
-longest_user_name = 1024
-
-abbrev pub most_memberships : ℕ
-most_memberships = 2000
-
-abbrev pub last_drawn : ℕ
-last_drawn = 4294967294
-
-abbrev pub longest_body : ℕ
-longest_body = 1048576
-
-abbrev pub most_recipients : ℕ
-most_recipients = 100
-
 abbrev pub most_links : Bool → ℕ
-most_links false = 1000
-most_links true = 100
-
-abbrev pub most_marks : ℕ
-most_marks = 2000
+most_links false = MOST_COMMENTS
+most_links true = MOST_FOOTNOTES
 
 -- no conference but the one of this number has a name that clashes
 abbrev pub is_free : Db → ℕ → List ℕ → Bool
@@ -78,12 +56,12 @@ is_free db number name = not (list_any
 
 -- a name that a conference may have
 abbrev pub may_name : Db → ℕ → List ℕ → Bool
-may_name db number name = nat_le (length name) longest_name && is_free db number name
+may_name db number name = nat_le (length name) LONGEST_NAME && is_free db number name
 
 -- a conference of the number is made: the number was never used
 abbrev pub may_add_conference : Db → ℕ → List ℕ → ℕ → Bool
 may_add_conference db number name kind =
-    nat_le db.next_conference number && nat_le number last_conference
+    nat_le db.next_conference number && nat_le number LAST_CONFERENCE
     && is_none (conference_of db number) && may_name db number name && is_secret_protected kind
 
 -- a field may be set so: a type stays guarded, and a letterbox stays one
@@ -118,13 +96,13 @@ has_letterbox db number = elim (conference_of db number) [
 abbrev pub has_room_to_join : Db → ℕ → ℕ → Bool
 has_room_to_join db person conference =
     is_some (membership_of db person conference)
-    || nat_lt (length (memberships_of db person)) most_memberships
+    || nat_lt (length (memberships_of db person)) MOST_MEMBERSHIPS
 
 -- a text of the number is made: the number was never used
 abbrev pub may_add_text : Db → ℕ → List ℕ → Bool
 may_add_text db number body =
-    nat_le db.next_text number && nat_le number last_drawn && is_none (text_of db number)
-    && nat_le (length body) longest_body
+    nat_le db.next_text number && nat_le number LAST_DRAWN && is_none (text_of db number)
+    && nat_le (length body) LONGEST_BODY
 
 -- nothing is left that hangs on a text
 abbrev pub is_bare : Db → ℕ → Bool
@@ -137,7 +115,7 @@ is_bare db text =
 -- the number is the next one of the conference, or a later one
 abbrev pub may_draw : Db → ℕ → ℕ → Bool
 may_draw db conference local =
-    nat_le (next_local_of db conference) local && nat_le local last_drawn
+    nat_le (next_local_of db conference) local && nat_le local LAST_DRAWN
 
 -- nothing is left that hangs on a conference; and on a person
 abbrev pub is_bare_conference : Db → ℕ → Bool
@@ -159,7 +137,7 @@ may_add_recipient db given =
     is_some (text_of db given.text) && is_some (conference_of db given.conference)
     && is_none (recipient_of db given.text given.conference) && is_recipient_tag given.tag
     && may_draw db given.conference given.local
-    && nat_lt (length (recipients_of db given.text)) most_recipients
+    && nat_lt (length (recipients_of db given.text)) MOST_RECIPIENTS
 
 -- two texts may be linked
 abbrev pub may_link : Db → TextLink → Bool
@@ -172,13 +150,13 @@ may_link db given =
 -- a person has a mark on the text already, or may have one more
 abbrev pub may_mark : Db → ℕ → ℕ → Bool
 may_mark db person text =
-    is_some (mark_of db person text) || nat_lt (length (marks_of db person)) most_marks
+    is_some (mark_of db person text) || nat_lt (length (marks_of db person)) MOST_MARKS
 
 -- a text that has no number among those of its author may get this one
 abbrev pub may_number : Db → ℕ → ℕ → TextRow → Bool
 may_number db person local row =
     row.author == person && row.created_local == 0
-    && nat_le (next_created_of db person) local && nat_le local last_drawn
+    && nat_le (next_created_of db person) local && nat_le local LAST_DRAWN
 
 abbrev pub may_create : Db → ℕ → ℕ → ℕ → Bool
 may_create db person local text = elim (text_of db text) [
@@ -195,9 +173,9 @@ has_object db false object = is_some (conference_of db object)
 abbrev pub may_add_item : Db → Bool → ℕ → AuxRow → Bool
 may_add_item db on_text object item =
     has_object db on_text object && nat_le (next_item_of db on_text object) item.number
-    && nat_le item.number last_drawn && is_some (kind_of item.tag)
-    && nat_lt (length (items_of db on_text object)) most_items
-    && nat_le (length item.content) longest_content
+    && nat_le item.number LAST_DRAWN && is_some (kind_of item.tag)
+    && nat_lt (length (items_of db on_text object)) MOST_AUX_ITEMS
+    && nat_le (length item.content) LONGEST_CONTENT
 
 abbrev pub has_item : Db → Bool → ℕ → ℕ → Bool
 has_item db on_text object number =
@@ -220,7 +198,7 @@ fits (effect.PersonGone number) db =
 fits (effect.PersonField number what) db = is_some (person_of db number)
 fits (effect.Password number hash) db = is_some (person_of db number)
 fits (effect.LoggedIn number at user) db =
-    is_some (person_of db number) && nat_le (length user) longest_user_name
+    is_some (person_of db number) && nat_le (length user) LONGEST_USER_NAME
 fits (effect.Counted number counter by) db = is_some (person_of db number)
 fits (effect.TextAdded number author at body) db = may_add_text db number body
 fits (effect.TextGone number) db = is_some (text_of db number) && is_bare db number

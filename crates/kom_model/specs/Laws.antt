@@ -3,6 +3,7 @@ use Rattle.std.specs.Prelude.{◌≡◌, ℕ, ◌+◌, ◌<◌, ◌≤◌, true,
 use Rattle.std.specs.Prelude.{flat_map}
 use Rattle.std.specs.Prelude.{Some, IsTrue, ◌↔◌}
 use Rattle.std.specs.List.{AllByRecursion}
+use Rattle.kom_types.specs.declared.limits.TheConstants.{MOST_WAITING_BYTES, MOST_WAITING_ITEMS}
 use Rattle.kom_types.specs.declared.acts.Act.TheVariants as act
 use Rattle.kom_types.specs.declared.acts.Record.{Record}
 use Rattle.kom_types.specs.declared.answers.Refusal.TheVariants.{Gone}
@@ -68,12 +69,13 @@ StaysSound =
     (state : State) (history : List Record) → IsSound state → IsLegal state history →
     IsSound (state_after state history)
 
--- An item still fits exactly where it is not the 4,097th that waits, and all of them print to
--- 33,554,432 bytes at most.
+-- An item still fits exactly where fewer items wait than may, and all of them with it print to no
+-- more bytes than may wait.
 abbrev pub FitsWithin : Type 0
 FitsWithin = (waiting : List Waiting) (item : Item) →
     IsTrue (fits waiting_limits waiting item)
-    ↔ ((length waiting < 4096) × (printed_bytes waiting + length (print_of item) ≤ 33554432))
+    ↔ ((length waiting < MOST_WAITING_ITEMS)
+    × (printed_bytes waiting + length (print_of item) ≤ MOST_WAITING_BYTES))
 
 -- What is kept of a record all fits, and makes of the rows what the record makes of them.
 abbrev pub KeptFits : Type 0

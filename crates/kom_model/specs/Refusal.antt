@@ -2,6 +2,7 @@
 use Rattle.std.specs.Prelude.{◌≡◌, ℕ, Bool, true, false, ◌&&◌, nat_lt, [], ◌∷◌, Option, Some, None}
 use Rattle.std.specs.Prelude.{IsSome}
 use Rattle.std.specs.Prelude.{if◌then◌else◌}
+use Rattle.kom_types.specs.declared.limits.TheConstants.{MOST_SESSIONS}
 use Rattle.kom_types.specs.declared.acts.Act.{Act}
 use Rattle.kom_types.specs.declared.acts.Act.TheVariants as act
 use Rattle.kom_types.specs.declared.answers.Refusal.{Refusal}
@@ -9,10 +10,6 @@ use Rattle.kom_types.specs.declared.answers.Refusal.TheVariants.{Gone, Full}
 use Rattle.kom_types.specs.declared.answers.Why.TheVariants.{Dropped, Overrun, Stopped, Absent}
 use Rattle.kom_types.specs.Sessions.{Session}
 use Rattle.kom_model.specs.State.{State, session_of}
-
--- how many sessions a run has at most
-abbrev pub most_sessions : ℕ
-most_sessions = 4294967295
 
 -- nothing waits
 abbrev pub is_drained : Session → Bool
@@ -44,7 +41,7 @@ close_refused (Some session) = None
 abbrev pub connect_refused : Bool → ℕ → Option Refusal
 connect_refused stopped connects =
     if stopped then Some (Gone Stopped)
-    else if nat_lt connects most_sessions then None
+    else if nat_lt connects MOST_SESSIONS then None
     else Some (Full connects)
 
 -- once the store has refused a flush, no act is made but a Close

@@ -2,10 +2,11 @@
 use Rattle.std.specs.Prelude.{ℕ, ◌≤◌, ◌<◌, Bool, false, ◌==◌, ◌||◌, nat_eq, List, [], ◌∷◌, length}
 use Rattle.std.specs.Prelude.{map, find, Option, is_some, IsTrue}
 use Rattle.std.specs.List.{AllByRecursion, IsDistinct}
+use Rattle.kom_types.specs.declared.limits.TheConstants.{LONGEST_USER_NAME}
 use Rattle.kom_types.specs.declared.seats.Seat.{Seat}
 use Rattle.kom_types.specs.Sessions.{Waiting, Session, is_session}
 use Rattle.kom_model.specs.Db.{Db, empty_db, person_of}
-use Rattle.kom_model.specs.Effects.{IsProtected, longest_user_name}
+use Rattle.kom_model.specs.Effects.{IsProtected}
 use Rattle.kom_model.specs.Whole.{IsWhole}
 
 -- The server: its stored rows; its sessions; how many were connected; the stable number; how many
@@ -59,7 +60,7 @@ IsInOrder entries waiting =
 -- who is logged in at a seat is there, and the user's name is not too long
 pub record IsSeated (db : Db) (seat : Seat) : Type 0 where
   pub person : IsTrue (seat.person == 0 || is_some (person_of db seat.person))
-  pub user : length seat.user ≤ longest_user_name
+  pub user : length seat.user ≤ LONGEST_USER_NAME
 
 -- the same of each of these seats
 abbrev pub AreSeated : Db → List Seat → Type 0

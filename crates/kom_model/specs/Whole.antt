@@ -4,8 +4,12 @@
 use Rattle.std.specs.Prelude.{◌≡◌, ℕ, ◌+◌, ◌<◌, ◌≤◌, Bool, true, false, ◌==◌, ◌&&◌, not, nat_lt}
 use Rattle.std.specs.Prelude.{List, [], ◌∷◌, length, map, filter, Some, None, is_some, IsTrue}
 use Rattle.std.specs.List.{AllByRecursion, list_any}
+use Rattle.kom_types.specs.declared.limits.TheConstants.{LAST_CONFERENCE, LAST_DRAWN, LONGEST_BODY}
+use Rattle.kom_types.specs.declared.limits.TheConstants.{LONGEST_CONTENT, LONGEST_NAME}
+use Rattle.kom_types.specs.declared.limits.TheConstants.{MOST_AUX_ITEMS, MOST_MARKS}
+use Rattle.kom_types.specs.declared.limits.TheConstants.{MOST_MEMBERSHIPS, MOST_RECIPIENTS}
 use Rattle.row_table.specs.Tables.{row_of, IsByNumber}
-use Rattle.kom_types.specs.AuxItems.{kind_of, most_items, longest_content}
+use Rattle.kom_types.specs.AuxItems.{kind_of}
 use Rattle.kom_types.specs.declared.aux_items.ItemRow.{ItemRow}
 use Rattle.kom_types.specs.declared.conferences.ConferenceRow.{ConferenceRow}
 use Rattle.kom_types.specs.declared.memberships.MembershipRow.{MembershipRow}
@@ -26,9 +30,8 @@ use Rattle.read_ranges.specs.Reads.{ReadRow}
 use Rattle.kom_types.specs.declared.effects.Effect.{Effect}
 use Rattle.kom_model.specs.Db.{Db, empty_db}
 use Rattle.kom_model.specs.Effects.{fits, made, apply_all}
-use Rattle.kom_model.specs.Effects.{last_conference, longest_name, most_memberships}
-use Rattle.kom_model.specs.Effects.{last_drawn, longest_body, most_recipients, most_links}
-use Rattle.kom_model.specs.Effects.{most_marks, is_recipient_tag}
+use Rattle.kom_model.specs.Effects.{most_links}
+use Rattle.kom_model.specs.Effects.{is_recipient_tag}
 
 -- a conference, a person, or a text, is there
 abbrev pub has_conference : List ConferenceRow → ℕ → Bool
@@ -85,8 +88,8 @@ pub record AreConferences (rows : List ConferenceRow) (next : ℕ) : Type 0 wher
   pub positive : AllByRecursion (λ row. 0 < row.number) rows
   pub drawn : AllByRecursion (λ row. row.number < next) rows
   pub begun : 0 < next
-  pub limited : next ≤ last_conference + 1
-  pub short : AllByRecursion (λ row. length row.name ≤ longest_name) rows
+  pub limited : next ≤ LAST_CONFERENCE + 1
+  pub short : AllByRecursion (λ row. length row.name ≤ LONGEST_NAME) rows
   pub apart : AllByRecursion (λ row. IsTrue (is_apart rows row)) rows
 
 -- The persons: their numbers rise; each has its letterbox.
@@ -108,8 +111,8 @@ is_created person local row = row.author == person && row.created_local == local
 pub record AreTexts (rows : List TextRow) (next : ℕ) (persons : List PersonRow) : Type 0 where
   pub rising : IsByNumber number_of_text rows
   pub drawn : AllByRecursion (λ row. row.number < next) rows
-  pub limited : next ≤ last_drawn + 1
-  pub short : AllByRecursion (λ row. length row.body ≤ longest_body) rows
+  pub limited : next ≤ LAST_DRAWN + 1
+  pub short : AllByRecursion (λ row. length row.body ≤ LONGEST_BODY) rows
   pub numbered : AllByRecursion (IsNumbered persons) rows
   pub created_once : (person local : ℕ) → 0 < local
       → length (filter (is_created person local) rows) ≤ 1
@@ -135,7 +138,7 @@ pub record AreMemberships (rows : List MembershipRow) (reads : List ReadRow)
   pub conference_there : AllByRecursion
       (λ row. IsTrue (has_conference conferences row.conference)) rows
   pub once : (person conference : ℕ) → length (filter (is_membership person conference) rows) ≤ 1
-  pub limited : (person : ℕ) → count_of person rows ≤ most_memberships
+  pub limited : (person : ℕ) → count_of person rows ≤ MOST_MEMBERSHIPS
   pub kept : map read_key_of reads ≡ map key_of rows
   pub ranges : AllByRecursion (λ row. RiseApart 1 row.ranges) reads
 
@@ -150,7 +153,7 @@ pub record AreRecipients (rows : List Recipient) (texts : List TextRow)
   pub once : (text conference : ℕ) → length (filter (is_recipient text conference) rows) ≤ 1
   pub local_once : (conference local : ℕ)
       → length (filter (λ row. row.conference == conference && row.local == local) rows) ≤ 1
-  pub limited : (text : ℕ) → length (recipients_of text rows) ≤ most_recipients
+  pub limited : (text : ℕ) → length (recipients_of text rows) ≤ MOST_RECIPIENTS
 
 -- The links: both texts of each are there; no two texts are linked twice in one way; and no text
 -- has too many of a kind, from it or into it.
@@ -170,7 +173,7 @@ pub record AreMarks (rows : List MarkRow) (persons : List PersonRow) (texts : Li
   pub person_there : AllByRecursion (λ row. IsTrue (has_person persons row.person)) rows
   pub text_there : AllByRecursion (λ row. IsTrue (has_text texts row.text)) rows
   pub once : (person text : ℕ) → length (filter (is_mark person text) rows) ≤ 1
-  pub limited : (person : ℕ) → length (filter (λ row. row.person == person) rows) ≤ most_marks
+  pub limited : (person : ℕ) → length (filter (λ row. row.person == person) rows) ≤ MOST_MARKS
 
 -- the object of an aux-item is there, and has drawn the item's number
 abbrev pub has_drawn_item : List TextRow → List ConferenceRow → Bool → ℕ → ℕ → Bool
@@ -185,11 +188,11 @@ pub record AreItems (rows : List ItemRow) (texts : List TextRow) (conferences : 
   pub drawn : AllByRecursion
       (λ row. IsTrue (has_drawn_item texts conferences row.on_text row.object row.item.number)) rows
   pub known : AllByRecursion (λ row. IsTrue (is_some (kind_of row.item.tag))) rows
-  pub short : AllByRecursion (λ row. length row.item.content ≤ longest_content) rows
+  pub short : AllByRecursion (λ row. length row.item.content ≤ LONGEST_CONTENT) rows
   pub once : (on_text : Bool) (object number : ℕ)
       → length (filter (is_item on_text object number) rows) ≤ 1
   pub limited : (on_text : Bool) (object : ℕ)
-      → length (filter (is_item_of on_text object) rows) ≤ most_items
+      → length (filter (is_item_of on_text object) rows) ≤ MOST_AUX_ITEMS
 
 -- The stored rows are whole.
 pub record IsWhole (db : Db) : Type 0 where

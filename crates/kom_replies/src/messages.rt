@@ -8,6 +8,10 @@ ghost use Rattle.kom_replies.specs.Sinks.{with_words, Keeps};
 use crate::arrays::put_array;
 use crate::sinks::{Sink, put_numbers};
 use crate::spelled::Spelled;
+use kom_types::async_numbers::{
+    DELETED_TEXT, LEAVE_CONF, LOGIN, LOGOUT, NEW_MEMBERSHIP, NEW_MOTD, NEW_NAME, NEW_PRESENTATION,
+    NEW_RECIPIENT, NEW_TEXT, NEW_USER_AREA, SEND_MESSAGE, SUB_RECIPIENT, SYNC_DB, TEXT_AUX_CHANGED,
+};
 use kom_types::{ChangedItems, Message, NewName, SentMessage, TextStat};
 
 /// Puts a message.
@@ -18,41 +22,46 @@ pub(crate) fn put_message<S: Sink>(message: &Message, out: &mut S) -> Result<(),
 {
     match message {
         Message::NewName(of) => put_new_name(of.get(), out),
-        Message::SyncDatabase => put_plain(0, 7, &[], out),
-        Message::LeaveConference { conference } => put_plain(1, 8, &[*conference], out),
-        Message::Login { person, session } => put_plain(2, 9, &[*person, *session], out),
+        Message::SyncDatabase => put_plain(0, SYNC_DB, &[], out),
+        Message::LeaveConference { conference } => put_plain(1, LEAVE_CONF, &[*conference], out),
+        Message::Login { person, session } => put_plain(2, LOGIN, &[*person, *session], out),
         Message::SendMessage(of) => put_sent(of.get(), out),
-        Message::Logout { person, session } => put_plain(2, 13, &[*person, *session], out),
-        Message::DeletedText { text, stat } => put_stat(14, *text, stat.get(), out),
-        Message::NewText { text, stat } => put_stat(15, *text, stat.get(), out),
+        Message::Logout { person, session } => put_plain(2, LOGOUT, &[*person, *session], out),
+        Message::DeletedText { text, stat } => put_stat(DELETED_TEXT, *text, stat.get(), out),
+        Message::NewText { text, stat } => put_stat(NEW_TEXT, *text, stat.get(), out),
         Message::NewRecipient {
             text,
             conference,
             kind,
-        } => put_plain(3, 16, &[*text, *conference, *kind], out),
+        } => put_plain(3, NEW_RECIPIENT, &[*text, *conference, *kind], out),
         Message::SubRecipient {
             text,
             conference,
             kind,
-        } => put_plain(3, 17, &[*text, *conference, *kind], out),
+        } => put_plain(3, SUB_RECIPIENT, &[*text, *conference, *kind], out),
         Message::NewMembership { person, conference } => {
-            put_plain(2, 18, &[*person, *conference], out)
+            put_plain(2, NEW_MEMBERSHIP, &[*person, *conference], out)
         }
         Message::NewUserArea {
             person,
             old_text,
             new_text,
-        } => put_plain(3, 19, &[*person, *old_text, *new_text], out),
+        } => put_plain(3, NEW_USER_AREA, &[*person, *old_text, *new_text], out),
         Message::NewPresentation {
             conference,
             old_text,
             new_text,
-        } => put_plain(3, 20, &[*conference, *old_text, *new_text], out),
+        } => put_plain(
+            3,
+            NEW_PRESENTATION,
+            &[*conference, *old_text, *new_text],
+            out,
+        ),
         Message::NewMotd {
             conference,
             old_text,
             new_text,
-        } => put_plain(3, 21, &[*conference, *old_text, *new_text], out),
+        } => put_plain(3, NEW_MOTD, &[*conference, *old_text, *new_text], out),
         Message::TextAuxChanged(of) => put_changed_items(of.get(), out),
     }
 }
@@ -75,22 +84,22 @@ fn put_plain<S: Sink>(
 
 /// Puts the message of a conference's new name.
 fn put_new_name<S: Sink>(of: &NewName, out: &mut S) -> Result<(), S::Refusal>
-    ensures ok { OnOk result (out.new ≡ with_words S.with_word (message_words 3 5
+    ensures ok { OnOk result (out.new ≡ with_words S.with_word (message_words 3 NEW_NAME
         (number of.now.conference ++ text of.now.old_name ++ text of.now.new_name)) out.old) }
     ensures keeps { Keeps S.begins out.old out.new }
 {
-    put_plain(3, 5, &[of.conference], out)?;
+    put_plain(3, NEW_NAME, &[of.conference], out)?;
     out.text(of.old_name.as_slice())?;
     out.text(of.new_name.as_slice())
 }
 
 /// Puts the message of what somebody says.
 fn put_sent<S: Sink>(of: &SentMessage, out: &mut S) -> Result<(), S::Refusal>
-    ensures ok { OnOk result (out.new ≡ with_words S.with_word (message_words 3 12
+    ensures ok { OnOk result (out.new ≡ with_words S.with_word (message_words 3 SEND_MESSAGE
         (number of.now.recipient ++ number of.now.sender ++ text of.now.text)) out.old) }
     ensures keeps { Keeps S.begins out.old out.new }
 {
-    put_plain(3, 12, &[of.recipient, of.sender], out)?;
+    put_plain(3, SEND_MESSAGE, &[of.recipient, of.sender], out)?;
     out.text(of.text.as_slice())
 }
 
@@ -107,11 +116,11 @@ fn put_stat<S: Sink>(which: u32, of: u32, stat: &TextStat, out: &mut S) -> Resul
 /// Puts the message of aux-items that went and came.
 #[tactic(auto, using(crate::proofs::WrittenWords::with_words_append))]
 fn put_changed_items<S: Sink>(of: &ChangedItems, out: &mut S) -> Result<(), S::Refusal>
-    ensures ok { OnOk result (out.new ≡ with_words S.with_word (message_words 3 22
+    ensures ok { OnOk result (out.new ≡ with_words S.with_word (message_words 3 TEXT_AUX_CHANGED
         (number of.now.text ++ aux_items of.now.deleted ++ aux_items of.now.added)) out.old) }
     ensures keeps { Keeps S.begins out.old out.new }
 {
-    put_plain(3, 22, &[of.text], out)?;
+    put_plain(3, TEXT_AUX_CHANGED, &[of.text], out)?;
     put_array(of.deleted.as_slice(), out)?;
     put_array(of.added.as_slice(), out)
 }

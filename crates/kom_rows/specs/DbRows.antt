@@ -1,6 +1,7 @@
 -- Stored rows, effects and rights whose outcome was worked out by hand.
 use Rattle.std.specs.Prelude.{◌≡◌, ℕ, true, false, List, [], ◌∷◌, ◌++◌, map, codes, replicate, Some}
 use Rattle.std.specs.Prelude.{None, option_map}
+use Rattle.kom_types.specs.declared.limits.TheConstants.{MOST_MEMBERSHIPS}
 use Rattle.kom_types.specs.declared.effects.Counter.TheVariants as counter
 use Rattle.kom_types.specs.declared.effects.ConfField.TheVariants as field
 use Rattle.kom_types.specs.declared.effects.Effect.{Effect}
@@ -11,7 +12,7 @@ use Rattle.kom_types.specs.tables.Memberships.{without_membership}
 use Rattle.kom_rows.specs.Cast.{makes, makes_person, joins, is_invited, person, nobody}
 use Rattle.kom_rows.specs.Cast.{strong_nobody, conferences_in, persons_in, places_of}
 use Rattle.kom_model.specs.Db.{Db, empty_db, conference_of, person_of, membership_of}
-use Rattle.kom_model.specs.Effects.{fits, apply_all, most_memberships, all_fit}
+use Rattle.kom_model.specs.Effects.{fits, apply_all, all_fit}
 use Rattle.kom_model.specs.Rights.{supervises, sees, reads_conference}
 
 -- An open conference 1; persons 5, 6, 7 and 8; a secret conference 9, which the members of the
@@ -263,7 +264,7 @@ pub record DbRows : Type 0 where
   pub taken_out : placed (without_membership 6 6 rows.memberships)
       ≡ (5, 5, 0) ∷ (7, 7, 1) ∷ (8, 8, 0) ∷ (6, 10, 0) ∷ (7, 10, 2) ∷ (8, 9, 1) ∷ (7, 1, 0)
       ∷ (6, 1, 1) ∷ []
-  pub limit_of_memberships : most_memberships ≡ 2000
+  pub limit_of_memberships : MOST_MEMBERSHIPS ≡ 2000
   pub seen_by_its_person : sees alone (person 11) 11 ≡ true
   pub read_by_its_own_person : reads_conference alone (person 11) 11 ≡ true
   pub nobody_is_no_supervisor :

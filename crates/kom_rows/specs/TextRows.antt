@@ -1,6 +1,8 @@
 -- What becomes of texts, and what calls over them come to, worked out by hand.
 use Rattle.std.specs.Prelude.{◌≡◌, ℕ, Bool, true, false, List, [], ◌∷◌, ◌++◌, map, codes, ◌+◌, zero}
 use Rattle.std.specs.Prelude.{suc, replicate, None}
+use Rattle.kom_types.specs.declared.limits.TheConstants.{LAST_DRAWN, LONGEST_BODY, MOST_MARKS}
+use Rattle.kom_types.specs.declared.limits.TheConstants.{MOST_RECIPIENTS}
 use Rattle.kom_types.specs.declared.effects.ConfField.TheVariants as field
 use Rattle.kom_types.specs.declared.effects.Counter.TheVariants as counter
 use Rattle.kom_types.specs.declared.effects.Effect.{Effect}
@@ -18,8 +20,8 @@ use Rattle.kom_rows.specs.Cast.{Cast, cast_over, one_seat, after, makes, makes_p
 use Rattle.kom_rows.specs.Cast.{person, nobody, strong_nobody, sent, sends, link, named}
 use Rattle.kom_model.specs.Db.{Db, next_text_of, next_local_of, next_created_of, locals_of}
 use Rattle.kom_model.specs.Db.{created_by}
-use Rattle.kom_model.specs.Effects.{fits, apply_all, last_drawn, longest_body, all_fit}
-use Rattle.kom_model.specs.Effects.{most_recipients, most_links, most_marks}
+use Rattle.kom_model.specs.Effects.{fits, apply_all, all_fit}
+use Rattle.kom_model.specs.Effects.{most_links}
 use Rattle.kom_model.specs.Initial.{initial}
 use Rattle.kom_model.specs.Rights.{reads, may_submit}
 use Rattle.kom_model.specs.Shown.{shows_recipient}
@@ -287,7 +289,7 @@ pub record TextRows : Type 0 where
       (refuses ∷ refuses_anonymous ∷ [])
       ≡ refusal 45 0 ∷ None ∷ []
   pub limits :
-      longest_body ∷ last_drawn ∷ most_recipients ∷ most_links false ∷ most_links true ∷ most_marks
+      LONGEST_BODY ∷ LAST_DRAWN ∷ MOST_RECIPIENTS ∷ most_links false ∷ most_links true ∷ MOST_MARKS
       ∷ []
       ≡ 1048576 ∷ 4294967294 ∷ 100 ∷ 1000 ∷ 100 ∷ 2000 ∷ []
   pub recipients_at_the_limit :

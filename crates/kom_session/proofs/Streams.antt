@@ -4,12 +4,13 @@ use Rattle.std.proofs.Common.{map, filter, Option, Some, None, option_map, refl,
 use Rattle.std.proofs.Common.{arith}
 use Rattle.std.specs.Option.{option_or}
 use Rattle.std.proofs.lemmas.List.{length-map}
+use Rattle.kom_types.specs.declared.limits.TheConstants.{LONGEST_LINE, LONGEST_STREAM}
 use borrow.Author.Tests.{le-ltb}
 use Rattle.kom_types.specs.declared.side.Side.TheVariants as side
 use Rattle.kom_types.specs.Token.{Token}
 use Rattle.kom_types.specs.Grammar.{Form, Prefix, Whole, Unfit, line_form, greeting_form}
 use Rattle.kom_types.specs.Stream.{Line, Fault, Malformed, LineTooLong, Split, Verdict, GoesOn, Ends, Fails, verdict}
-use Rattle.kom_types.specs.Stream.{longest_stream, longest_line, line_verdict, greeting_verdict, with_line, stopped_in}
+use Rattle.kom_types.specs.Stream.{line_verdict, greeting_verdict, with_line, stopped_in}
 use Rattle.kom_types.specs.Stream.{lines_from, greeting_from, stream_of}
 use Rattle.kom_types.specs.Reading.{Request, reading_of, first_malformed, place_of, fault_of}
 use Rattle.kom_links.specs.Talk.{lines_before}
@@ -53,9 +54,9 @@ verdict_place : {X : Type 0} (place : ℕ) (too_long : Bool) (form : Form X)
     → failed_at place (verdict place too_long form) ≡ place
 verdict_place place too_long Unfit = refl
 verdict_place place too_long Prefix =
-    within_bounds place (nat_lt place longest_stream) too_long GoesOn refl
+    within_bounds place (nat_lt place LONGEST_STREAM) too_long GoesOn refl
 verdict_place place too_long (Whole unit) =
-    within_bounds place (nat_lt place longest_stream) too_long (Ends unit) refl
+    within_bounds place (nat_lt place LONGEST_STREAM) too_long (Ends unit) refl
 
 abbrev IsRising : ℕ → Split → Type 0
 IsRising place split = AreRising place split.lines split.fault
@@ -83,7 +84,7 @@ ends_rise_from place text [] = tt
 ends_rise_from place text (byte ∷ bytes) =
     line_step place text (lines_from side.Client (place + 1) (text ++ byte ∷ []) bytes)
     (lines_from side.Client (place + 1) [] bytes) (line_verdict side.Client place (text ++ byte ∷ []))
-    (verdict_place place (nat_lt longest_line (length (text ++ byte ∷ [])))
+    (verdict_place place (nat_lt LONGEST_LINE (length (text ++ byte ∷ [])))
     (line_form side.Client (text ++ byte ∷ [])))
     (ends_rise_from (place + 1) (text ++ byte ∷ []) bytes) (ends_rise_from (place + 1) [] bytes)
 

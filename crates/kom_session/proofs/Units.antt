@@ -6,13 +6,14 @@ use Rattle.std.specs.Prelude.{option_to_list, option_map, IfSome}
 use Rattle.std.proofs.lemmas.List.{length-map}
 use Rattle.std.proofs.lemmas.Bool.{eqb-true, leb-true}
 use Rattle.std.proofs.Math.Seq.{take-append_seam}
+use Rattle.kom_types.specs.declared.limits.TheConstants.{LONGEST_STREAM}
 use Rattle.kom_types.specs.declared.side.Side.TheVariants as side
 use Rattle.kom_types.specs.ByteKind.{is_blank, is_digit}
 use Rattle.kom_types.specs.Token.{Token, number_of}
 use Rattle.kom_types.specs.Grammar.{Form, Prefix, Whole, Unfit, drop_while, exactly, is_name_length, name_at}
 use Rattle.kom_types.specs.Grammar.{greeting_form}
 use Rattle.kom_types.specs.Stream.{Line, Fault, Malformed, LineTooLong, Split, Verdict, GoesOn, Ends, Fails, verdict}
-use Rattle.kom_types.specs.Stream.{longest_stream, line_verdict, greeting_verdict, with_line, stopped_in, lines_from}
+use Rattle.kom_types.specs.Stream.{line_verdict, greeting_verdict, with_line, stopped_in, lines_from}
 use Rattle.kom_types.specs.Stream.{greeting_from, stream_of}
 use Rattle.kom_types.specs.Reading.{Request, reading_of, place_of, fault_of}
 use Rattle.kom_framing.specs.declared.units.Unit.{Unit as StreamUnit}
@@ -368,9 +369,9 @@ verdict_short : (place : ℕ) (too_long : Bool) (form : Form (List ℕ)) → IsS
     → IsShortVerdict (verdict place too_long form)
 verdict_short place too_long Unfit h = tt
 verdict_short place too_long Prefix h =
-    bounded_short place (nat_lt place longest_stream) too_long GoesOn tt
+    bounded_short place (nat_lt place LONGEST_STREAM) too_long GoesOn tt
 verdict_short place too_long (Whole name) h =
-    bounded_short place (nat_lt place longest_stream) too_long (Ends name) h
+    bounded_short place (nat_lt place LONGEST_STREAM) too_long (Ends name) h
 
 short_step : (text : List ℕ) (found : Verdict (List ℕ)) (on next : Split) → IsShortVerdict found
     → IfSome on.greeting (λ name. length name ≤ 1024) →

@@ -4,10 +4,11 @@ use Rattle.std.proofs.Common.{length, take, get_or, Option, Some, None, refl, sy
 use Rattle.std.specs.Prelude.{nat_lt, min, if◌then◌else◌}
 use Rattle.std.proofs.lemmas.Bool.{and_parts, ltb-true}
 use Rattle.std.proofs.lemmas.List.{take_more, length-append, length-take-le}
+use Rattle.kom_types.specs.declared.limits.TheConstants.{LONGEST_CONTENT, MOST_AUX_ITEMS}
 use Rattle.kom_types.specs.AuxItems.{AuxKind, AuxRefusal, item_of, items_from, code_added, kind_of, fits, may_add}
 use Rattle.kom_types.specs.AuxItems.{may_stand}
-use Rattle.kom_types.specs.AuxItems.{has_wrong_flags, leaves_room, longest_content}
-use Rattle.kom_types.specs.AuxItems.{most_items, refused_added, refused_change}
+use Rattle.kom_types.specs.AuxItems.{has_wrong_flags, leaves_room}
+use Rattle.kom_types.specs.AuxItems.{refused_added, refused_change}
 use Rattle.kom_types.specs.declared.aux_items.Adder.{Adder}
 use Rattle.kom_types.specs.declared.aux_items.Object.{Object}
 use Rattle.kom_model.specs.calls.Guards.{Guard, refusal, new_items_guard}
@@ -54,32 +55,32 @@ module _ (on : Object) (adder : Adder) (items : List AuxRow) (given : AuxInput) 
         else Some 49
   ]
 
-  fit : (known : AuxKind) → fits on items adder.person known given ≡ true → length items < most_items
+  fit : (known : AuxKind) → fits on items adder.person known given ≡ true → length items < MOST_AUX_ITEMS
   fit known is =
-      let before : Bool = known.stands_on on && not (nat_lt longest_content (length given.content)) && not
+      let before : Bool = known.stands_on on && not (nat_lt LONGEST_CONTENT (length given.content)) && not
       (has_wrong_flags given.flags) in
       let stands : may_stand known items adder.person ≡ true =
       (and_parts before (may_stand known items adder.person) is).1 in
-      ltb-true (length items) most_items
-      (and_parts (nat_lt (length items) most_items) (leaves_room known.count items known.tag adder.person) stands).0
+      ltb-true (length items) MOST_AUX_ITEMS
+      (and_parts (nat_lt (length items) MOST_AUX_ITEMS) (leaves_room known.count items known.tag adder.person) stands).0
 
   judged : AuxKind → Bool → Option ℕ
   judged known b =
       if not b then Some 48 else if may_add known.adding on adder.owns then None else Some 49
 
   fitting : (known : AuxKind) (b : Bool) → fits on items adder.person known given ≡ b → judged known b ≡ None →
-      length items < most_items
+      length items < MOST_AUX_ITEMS
   unfolding judged
   fitting known true is passes = fit known is
   fitting known false is passes = cc
 
-  of_kind : (found : Option AuxKind) → told found ≡ None → length items < most_items
+  of_kind : (found : Option AuxKind) → told found ≡ None → length items < MOST_AUX_ITEMS
   unfolding told judged
   of_kind None passes = cc
   of_kind (Some known) passes = fitting known (fits on items adder.person known given) refl passes
 
   -- one more that may stand beside these stands beside less than 100
-  one_more : code_added on adder items given ≡ None → length items < most_items
+  one_more : code_added on adder items given ≡ None → length items < MOST_AUX_ITEMS
   unfolding told
   one_more passes = of_kind (kind_of given.tag) passes
 
@@ -91,8 +92,8 @@ module _ (on : Object) (adder : Adder) (items : List AuxRow) (given : AuxInput) 
   one_longer = length-append items (item_of 0 adder.person 0 given ∷ [])
 
   module _ (index : ℕ) (more : List AuxInput)
-      (rest : refused_added on adder more_items (index + 1) more ≡ None → length more_items ≤ most_items →
-      length more_items + length more ≤ most_items) where
+      (rest : refused_added on adder more_items (index + 1) more ≡ None → length more_items ≤ MOST_AUX_ITEMS →
+      length more_items + length more ≤ MOST_AUX_ITEMS) where
     first_of : Option ℕ → Option AuxRefusal
     first_of code = elim code [
       | Some code ↦ Some (record { code = code; index = index })
@@ -100,19 +101,19 @@ module _ (on : Object) (adder : Adder) (items : List AuxRow) (given : AuxInput) 
     ]
 
     coded : (code : Option ℕ) → code_added on adder items given ≡ code → first_of code ≡ None →
-        length items + length (given ∷ more) ≤ most_items
+        length items + length (given ∷ more) ≤ MOST_AUX_ITEMS
     unfolding first_of
     coded (Some code) is passes = cc
     coded None is passes =
-        let few : length items < most_items = one_more is in
+        let few : length items < MOST_AUX_ITEMS = one_more is in
         let long = one_longer in
         let all = rest passes (omega (arith, few, long)) in omega (arith, all, long)
 
 -- those that may be added beside some
 module _ (on : Object) (adder : Adder) where
   few-beside : (items : List AuxRow) (index : ℕ) (added : List AuxInput) →
-      refused_added on adder items index added ≡ None → length items ≤ most_items →
-      length items + length added ≤ most_items
+      refused_added on adder items index added ≡ None → length items ≤ MOST_AUX_ITEMS →
+      length items + length added ≤ MOST_AUX_ITEMS
   unfolding more_items first_of
   few-beside items index [] passes few = omega (arith, few)
   few-beside items index (given ∷ more) passes few =
@@ -133,7 +134,7 @@ guard_passes (Some refused) is = cc
 
 -- an object is made with 100 aux-items at most
 pub few-new : (on : Object) (maker : ℕ) (added : List AuxInput) → new_items_guard on maker added ≡ None →
-    length added ≤ most_items
+    length added ≤ MOST_AUX_ITEMS
 unfolding refused_change guard_of
 few-new on maker added passes =
     let by : Adder = record { person = maker; owns = true } in

@@ -1,6 +1,6 @@
 ghost use Rattle.std.specs.Prelude.{◌≡◌, ◌+◌, ◌≤◌, length, OnOk};
+ghost use Rattle.kom_types.specs.declared.limits.TheConstants.{LAST_DRAWN};
 ghost use Rattle.kom_model.specs.Db.{next_item_of};
-ghost use Rattle.kom_model.specs.Effects.{last_drawn};
 ghost use Rattle.kom_model.specs.calls.AuxItems as AuxItems;
 ghost use Rattle.kom_model.specs.calls.Guards as Guard;
 ghost use Rattle.kom_model.specs.Viewers.{has_might as has_might_in};
@@ -71,7 +71,7 @@ impl StoredRows {
         ensures refused { Guards
             (AuxItems.numbers_guard self.now.db on_text change.now) result }
         ensures left { OnOk result (next_item_of self.now.db on_text change.now.object
-            + length change.now.add ≤ last_drawn + 1) }
+            + length change.now.add ≤ LAST_DRAWN + 1) }
     {
         let left = u32::MAX - self.next_item(on_text, change.object);
         if change.add.len() <= left as usize {

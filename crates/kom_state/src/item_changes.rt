@@ -1,8 +1,8 @@
 //! What calls make of aux-items.
 ghost use Rattle.std.specs.Prelude.{◌≡◌, ◌+◌, ◌≤◌, ◌++◌, length, map, IfOk};
+ghost use Rattle.kom_types.specs.declared.limits.TheConstants.{LAST_DRAWN};
 ghost use Rattle.kom_types.specs.AuxItems as Items;
 ghost use Rattle.kom_model.specs.Db.{items_of, next_item_of};
-ghost use Rattle.kom_model.specs.Effects.{last_drawn};
 ghost use Rattle.kom_model.specs.calls.AuxItems as AuxItems;
 
 use crate::asked::Asked;
@@ -21,7 +21,7 @@ pub fn new_items(
     creator: u32,
     given: &[AuxInput],
 ) -> Result<AuxRows, Memory>
-    requires { first + length given.now ≤ last_drawn + 1 }
+    requires { first + length given.now ≤ LAST_DRAWN + 1 }
     ensures { IfOk result (λ items. items
         ≡ Items.items_from first creator asked.now.moment given.now) }
 {
@@ -107,7 +107,7 @@ pub fn item_effects(
     change: &AuxChange,
 ) -> Result<EffectList, Memory>
     requires { next_item_of asked.now.db on_text change.now.object + length change.now.add
-        ≤ last_drawn + 1 }
+        ≤ LAST_DRAWN + 1 }
     ensures { IfOk result (λ effects. effects
         ≡ AuxItems.item_effects asked.now on_text by.now change.now) }
 {

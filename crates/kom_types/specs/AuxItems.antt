@@ -6,7 +6,9 @@ use Rattle.std.specs.Prelude.{nat_lt, List, [], ◌∷◌, ◌++◌, length, Opt
 use Rattle.std.specs.Prelude.{if◌then◌else◌}
 use Rattle.std.specs.List.{find, filter, list_any}
 use Rattle.std.specs.Option.{option_or}
-use Rattle.kom_types.specs.Errors as error
+use Rattle.kom_types.specs.declared.limits.TheConstants.{LONGEST_CONTENT, MOST_AUX_ITEMS}
+use Rattle.kom_types.specs.declared.aux_tags.TheConstants as aux
+use Rattle.kom_types.specs.declared.errors.TheConstants as error
 use Rattle.kom_types.specs.Bits.{is_on}
 use Rattle.kom_types.specs.declared.aux_items.Adder.{Adder}
 use Rattle.kom_types.specs.declared.aux_items.AuxInput.{AuxInput}
@@ -59,30 +61,23 @@ on_all any = true
 -- the aux-items that this server knows
 abbrev pub aux_kinds : List AuxKind
 aux_kinds =
-    kind 1 on_texts Owner One
-    ∷ kind 2 on_texts Reader Any
-    ∷ kind 3 on_all ReaderOfText Any
-    ∷ kind 4 on_texts Owner One
-    ∷ kind 5 on_texts Owner One
-    ∷ kind 6 on_texts Owner One
-    ∷ kind 7 on_texts Reader OnePerCreator
-    ∷ kind 8 on_letterboxes Owner One
-    ∷ kind 10 on_conferences Owner Any
-    ∷ kind 13 on_conferences Owner Any
-    ∷ kind 14 on_conferences Owner Any
-    ∷ kind 15 on_texts Owner One
+    kind aux.CONTENT_TYPE on_texts Owner One
+    ∷ kind aux.FAST_REPLY on_texts Reader Any
+    ∷ kind aux.CROSS_REFERENCE on_all ReaderOfText Any
+    ∷ kind aux.NO_COMMENTS on_texts Owner One
+    ∷ kind aux.PERSONAL_COMMENT on_texts Owner One
+    ∷ kind aux.REQUEST_CONFIRMATION on_texts Owner One
+    ∷ kind aux.READ_CONFIRM on_texts Reader OnePerCreator
+    ∷ kind aux.REDIRECT on_letterboxes Owner One
+    ∷ kind aux.ALTERNATE_NAME on_conferences Owner Any
+    ∷ kind aux.E_MAIL_ADDRESS on_conferences Owner Any
+    ∷ kind aux.FAQ_TEXT on_conferences Owner Any
+    ∷ kind aux.CREATING_SOFTWARE on_texts Owner One
     ∷ []
 
 -- what the server knows of a tag
 abbrev pub kind_of : ℕ → Option AuxKind
 kind_of tag = find (λ known. known.tag == tag) aux_kinds
-
--- how many items an object has at most, and how many bytes the contents of one
-abbrev pub most_items : ℕ
-most_items = 100
-
-abbrev pub longest_content : ℕ
-longest_content = 16384
 
 -- the flag deleted or one that is reserved is on: no client may set them
 abbrev pub has_wrong_flags : ℕ → Bool
@@ -104,12 +99,12 @@ leaves_room Any items tag creator = true
 -- the same, and not too many of all tags
 abbrev pub may_stand : AuxKind → List AuxRow → ℕ → Bool
 may_stand known items creator =
-    nat_lt (length items) most_items && leaves_room known.count items known.tag creator
+    nat_lt (length items) MOST_AUX_ITEMS && leaves_room known.count items known.tag creator
 
 -- an item of these contents may stand on an object beside these items
 abbrev pub fits : Object → List AuxRow → ℕ → AuxKind → AuxInput → Bool
 fits on items creator known given =
-    known.stands_on on && not (nat_lt longest_content (length given.content))
+    known.stands_on on && not (nat_lt LONGEST_CONTENT (length given.content))
     && not (has_wrong_flags given.flags) && may_stand known items creator
 
 abbrev pub may_add : Adding → Object → Bool → Bool
@@ -143,11 +138,11 @@ pub record AuxRefusal : Type 0 where
 -- the code with which one more item is refused, or none
 abbrev pub code_added : Object → Adder → List AuxRow → AuxInput → Option ℕ
 code_added on adder items given = elim (kind_of given.tag) [
-  | None ↦ Some error.illegal_aux_item
+  | None ↦ Some error.ILLEGAL_AUX_ITEM
   | Some known ↦
-      if not (fits on items adder.person known given) then Some error.illegal_aux_item
+      if not (fits on items adder.person known given) then Some error.ILLEGAL_AUX_ITEM
       else if may_add known.adding on adder.owns then None
-      else Some error.aux_item_permission
+      else Some error.AUX_ITEM_PERMISSION
 ]
 
 -- the first entry that is refused of those that are to be added, beside these items, or none; the
@@ -165,7 +160,7 @@ is_shown adder item = not (is_secret item.flags) || item.creator == adder.person
 
 -- read-confirm and creating-software stay for good
 abbrev pub stays : ℕ → Bool
-stays tag = tag == 7 || tag == 15
+stays tag = tag == aux.READ_CONFIRM || tag == aux.CREATING_SOFTWARE
 
 abbrev pub is_among : List ℕ → ℕ → Bool
 is_among numbers number = list_any (λ one. one == number) numbers
@@ -174,11 +169,11 @@ is_among numbers number = list_any (λ one. one == number) numbers
 abbrev pub code_deleted : Adder → List AuxRow → List ℕ → ℕ → Option ℕ
 code_deleted adder items earlier number =
     elim (find (λ item. item.number == number && is_shown adder item) items) [
-      | None ↦ Some error.illegal_aux_item
+      | None ↦ Some error.ILLEGAL_AUX_ITEM
       | Some item ↦
-          if is_among earlier number then Some error.illegal_aux_item
+          if is_among earlier number then Some error.ILLEGAL_AUX_ITEM
           else if stays item.tag || not (item.creator == adder.person || adder.owns)
-          then Some error.aux_item_permission
+          then Some error.AUX_ITEM_PERMISSION
           else None
     ]
 

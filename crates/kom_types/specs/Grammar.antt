@@ -1,5 +1,6 @@
 use Rattle.std.specs.Prelude.{ℕ, zero, suc, ◌+◌, Bool, true, false, nat_le, nat_lt, ◌==◌, ◌&&◌}
 use Rattle.std.specs.Prelude.{◌||◌, List, [], ◌∷◌, length, take, drop, take_while, codes}
+use Rattle.kom_types.specs.declared.limits.TheConstants.{LONGEST_USER_NAME}
 use Rattle.kom_types.specs.declared.byte_kind.ByteKind.TheVariants as kind
 use Rattle.kom_types.specs.declared.side.Side.{Side}
 use Rattle.kom_types.specs.declared.side.Side.TheVariants as side
@@ -118,10 +119,11 @@ exactly count bytes = elim (nat_lt (length bytes) count) [
   | false ↦ elim (length bytes == count) [ true ↦ Whole bytes | false ↦ Unfit ]
 ]
 
--- the length of a user name is a run of 1 to 4 digits that spells at most 1,024
+-- the length of a user name is a run of 1 to 4 digits that spells at most the greatest length
 abbrev pub is_name_length : List ℕ → Bool
 is_name_length digits =
-    nat_le 1 (length digits) && nat_le (length digits) 4 && nat_le (number_of digits) 1024
+    nat_le 1 (length digits) && nat_le (length digits) 4
+    && nat_le (number_of digits) LONGEST_USER_NAME
 
 -- the user name, whose length is this run of digits with what is after it
 abbrev pub name_at : List ℕ → List ℕ → Form (List ℕ)

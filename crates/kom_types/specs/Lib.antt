@@ -1,4 +1,3 @@
-pub mod Errors
 pub mod ByteKind
 pub mod Token
 pub mod Grammar

@@ -1,7 +1,7 @@
 use Rattle.std.specs.Prelude.{ℕ, ◌==◌, List, [], ◌∷◌, ◌++◌, Option, Some, None, option_map}
 use Rattle.std.specs.Prelude.{option_and_then, find}
 use Rattle.std.specs.Option.{option_or}
-use Rattle.kom_types.specs.Errors as error
+use Rattle.kom_types.specs.declared.errors.TheConstants as error
 use Rattle.kom_types.specs.declared.calls.Call.{Call}
 use Rattle.kom_types.specs.declared.calls.Call.TheVariants.{Refused}
 use Rattle.kom_types.specs.Token.{Token, integer_of}
@@ -29,14 +29,14 @@ patterns =
 abbrev pub call_told : Taken Call → Option Call
 call_told (Took call tail) = Some call
 call_told (Departs Malformed) = None
-call_told (Departs BadBool) = Some (Refused error.bad_bool 0)
-call_told (Departs LongArray) = Some (Refused error.long_array 0)
+call_told (Departs BadBool) = Some (Refused error.BAD_BOOL 0)
+call_told (Departs LongArray) = Some (Refused error.LONG_ARRAY 0)
 
 -- the call that arguments make by a pattern, if one was found; a number that is not known is
 -- refused with error 2, status 0, whatever follows it
 abbrev pub call_by : Option Pattern → List Token → Option Call
 call_by (Some pattern) arguments = call_told (pattern.reads arguments)
-call_by None arguments = Some (Refused error.not_implemented 0)
+call_by None arguments = Some (Refused error.NOT_IMPLEMENTED 0)
 
 -- the call of a number and its arguments, or none where they depart from its pattern
 unfoldable pub call_of : ℕ → List Token → Option Call

@@ -1,6 +1,7 @@
 -- A session: its seat, which is all that a call may read of it, and what waits for it.
 use Rattle.std.specs.Prelude.{ℕ, ◌+◌, Bool, true, false, ◌==◌, ◌&&◌, nat_le, nat_lt, List, [], ◌∷◌}
 use Rattle.std.specs.Prelude.{◌++◌, length, take, drop, take_while, bit_and, bit_or, if◌then◌else◌}
+use Rattle.kom_types.specs.declared.limits.TheConstants.{MOST_WAITING_BYTES, MOST_WAITING_ITEMS}
 use Rattle.kom_types.specs.declared.items.Item.{Item}
 use Rattle.kom_types.specs.declared.seats.Seat.{Seat}
 use Rattle.kom_types.specs.declared.session_changes.SessionChange.{SessionChange}
@@ -55,7 +56,7 @@ pub record Limits : Type 0 where
   pub bytes : ℕ
 
 abbrev pub waiting_limits : Limits
-waiting_limits = record { items = 4096; bytes = 33554432 }
+waiting_limits = record { items = MOST_WAITING_ITEMS; bytes = MOST_WAITING_BYTES }
 
 -- how many bytes the items print to that wait
 abbrev pub printed_bytes : List Waiting → ℕ

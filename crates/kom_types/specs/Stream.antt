@@ -1,5 +1,6 @@
-use Rattle.std.specs.Prelude.{ℕ, ◌+◌, ◌^◌, Bool, true, false, nat_lt, List, [], ◌∷◌, ◌++◌, length}
+use Rattle.std.specs.Prelude.{ℕ, ◌+◌, Bool, true, false, nat_lt, List, [], ◌∷◌, ◌++◌, length}
 use Rattle.std.specs.Prelude.{Option, Some, None}
+use Rattle.kom_types.specs.declared.limits.TheConstants.{LONGEST_LINE, LONGEST_STREAM}
 use Rattle.kom_types.specs.declared.side.Side.{Side}
 use Rattle.kom_types.specs.declared.side.Side.TheVariants as side
 use Rattle.kom_types.specs.Token.{Token}
@@ -23,14 +24,6 @@ pub record Split : Type 0 where
   pub rest : List ℕ
   pub fault : Option Fault
 
--- how many bytes a line has at most, its line feed counted
-abbrev pub longest_line : ℕ
-longest_line = 2097152
-
--- how many bytes a stream has at most
-abbrev pub longest_stream : ℕ
-longest_stream = 2 ^ 62
-
 -- what the last byte of a prefix makes of the unit that it belongs to
 pub data Verdict (X : Type 0) : Type 0 where
   GoesOn : Verdict X
@@ -41,18 +34,18 @@ pub data Verdict (X : Type 0) : Type 0 where
 -- one too many.
 abbrev pub verdict : {X : Type 0} → ℕ → Bool → Form X → Verdict X
 verdict place too_long Unfit = Fails (Malformed place)
-verdict place too_long Prefix = elim (nat_lt place longest_stream) [
+verdict place too_long Prefix = elim (nat_lt place LONGEST_STREAM) [
   | true ↦ elim too_long [ true ↦ Fails (LineTooLong place) | false ↦ GoesOn ]
   | false ↦ Fails (Malformed place)
 ]
-verdict place too_long (Whole unit) = elim (nat_lt place longest_stream) [
+verdict place too_long (Whole unit) = elim (nat_lt place LONGEST_STREAM) [
   | true ↦ elim too_long [ true ↦ Fails (LineTooLong place) | false ↦ Ends unit ]
   | false ↦ Fails (Malformed place)
 ]
 
 abbrev pub line_verdict : Side → ℕ → List ℕ → Verdict (List Token)
 line_verdict side place prefix =
-    verdict place (nat_lt longest_line (length prefix)) (line_form side prefix)
+    verdict place (nat_lt LONGEST_LINE (length prefix)) (line_form side prefix)
 
 abbrev pub greeting_verdict : Side → ℕ → List ℕ → Verdict (List ℕ)
 greeting_verdict side place prefix = verdict place false (greeting_form side prefix)

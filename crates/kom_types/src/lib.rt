@@ -4,7 +4,9 @@
 
 mod acts;
 mod answers;
+pub mod async_numbers;
 mod aux_items;
+pub mod aux_tags;
 pub mod bits;
 mod boxed;
 mod byte_kind;
@@ -48,7 +50,7 @@ pub use lists::{Bytes, Numbers, Words};
 pub use memberships::{
     Member, Members, Membership, MembershipRow, Memberships, RangesShown, ReadRange, ReadRanges,
 };
-pub use messages::{ChangedItems, MESSAGE_NUMBERS, Message, NewName, SentMessage};
+pub use messages::{ChangedItems, Message, NewName, SentMessage};
 pub use passwords::{LoginPassword, password_hash};
 pub use persons::{NewPerson, PasswordChange, Person, PersonRow};
 pub use replies::Reply;

@@ -69,6 +69,9 @@ pub const MOST_AUX_ITEMS: usize = 100;
 /// How many texts a mapping tells of at most. (docs/protocol.md, guard count.)
 pub const MOST_MAPPED: u32 = 255;
 
+/// How many sessions are opened at most while a server runs. (docs/protocol.md, "Sessions".)
+pub const MOST_SESSIONS: u32 = u32::MAX;
+
 /// How many items wait for a session at most. (docs/protocol.md, "Sessions".)
 pub const MOST_WAITING_ITEMS: usize = 4096;
 

@@ -3,11 +3,6 @@ use crate::boxed::Boxed;
 use crate::lists::Bytes;
 use crate::texts::TextStat;
 
-/// The numbers of messages, rising. (Protocol A, "Asynchronous Messages".)
-pub const MESSAGE_NUMBERS: [u32; 20] = [
-    0, 1, 2, 5, 6, 7, 8, 9, 11, 12, 13, 14, 15, 16, 17, 18, 19, 20, 21, 22,
-];
-
 /// What a session is told without having asked, if it accepts the number. Longer ones stand in a
 /// box. (Protocol A, "Asynchronous Messages".)
 #[derive(Drop)]

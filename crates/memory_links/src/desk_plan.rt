@@ -3,6 +3,7 @@ ghost use Rattle.kom_links.specs.DeskCalls.{IsConnectFault, IsActFault, IsFlushF
 
 use kom_links::DeskFault;
 use kom_types::Why;
+use kom_types::limits::MOST_SESSIONS;
 use std::alloc::Global;
 
 /// The number that says that no turn of the server's lock is left.
@@ -152,7 +153,7 @@ fn may_refuse_connect(fault: DeskFault) -> bool
 {
     match fault {
         DeskFault::Gone(why) => why == Why::Stopped,
-        DeskFault::Full(number) => number == u64::from(u32::MAX) || LOCK_FULL <= number,
+        DeskFault::Full(number) => number == u64::from(MOST_SESSIONS) || LOCK_FULL <= number,
         DeskFault::Memory => true,
     }
 }

@@ -11,6 +11,7 @@ use crate::marks::{Mark, is_lock_full, note_in_open};
 use crate::planned_items::{Drained, PlannedItem, Waiting, put_items, take_waiting};
 use arrayvec::ArrayVec;
 use kom_links::{Desk, DeskFault, DeskTally};
+use kom_types::limits::MOST_SESSIONS;
 use kom_types::{Act, Bytes, Call, Entry, Item, Memory, Moment, Record, Why};
 use std::alloc::Global;
 
@@ -268,7 +269,7 @@ impl Desk for MemoryDesk {
             return Err(self.fault(0, DeskFault::Memory));
         }
         let Ok(number) = u32::try_from(self.marks.len()) else {
-            return Err(self.fault(0, DeskFault::Full(u64::from(u32::MAX))));
+            return Err(self.fault(0, DeskFault::Full(u64::from(MOST_SESSIONS))));
         };
         self.records
             .push_reserved(record_of(self.pass, moment, act, number));

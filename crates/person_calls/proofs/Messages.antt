@@ -5,7 +5,8 @@ use Rattle.std.specs.List.{list_all, filter, fold}
 use Rattle.std.proofs.lemmas.Bool.{or_cases, and_parts, eqb-true, ltb-true}
 use Rattle.std.proofs.lemmas.Nat.{one_shl}
 use Rattle.kom_model.specs.Kinds.{is_among}
-use Rattle.kom_model.specs.calls.Sessions.{message_numbers, is_message}
+use Rattle.kom_types.specs.declared.async_numbers.TheConstants.{MESSAGE_NUMBERS}
+use Rattle.kom_model.specs.calls.Sessions.{is_message}
 
 -- a number that stands in a list is below what all of the list are
 among-below : (limit number : ℕ) (numbers : List ℕ) → list_all (λ one. ltb one limit) numbers ≡ true →
@@ -22,7 +23,7 @@ among-below limit number (one ∷ numbers) all is =
     ]
 
 message-below : (number : ℕ) → is_message number ≡ true → number < 32
-message-below number is = among-below 32 number message_numbers refl is
+message-below number is = among-below 32 number MESSAGE_NUMBERS refl is
 
 -- with the bits of those of some numbers that are of messages
 abbrev pub with_bits : ℕ → List ℕ → ℕ

@@ -1,5 +1,5 @@
 ghost use Rattle.std.specs.Prelude.{◌≡◌, ◌≤◌, length, IfOk};
-ghost use Rattle.kom_types.specs.AuxItems.{most_items};
+ghost use Rattle.kom_types.specs.declared.limits.TheConstants.{MOST_AUX_ITEMS};
 ghost use Rattle.kom_model.specs.calls.Call.{Meets};
 ghost use Rattle.kom_model.specs.calls.Guards.{Guards};
 ghost use Rattle.kom_model.specs.calls.Persons as Persons;
@@ -93,7 +93,7 @@ fn may_make_persons(rows: &StoredRows, person: u32) -> bool
 
 /// A person of this number is made, with a letterbox in which it is a member, and its aux-items.
 fn person_effects(asked: &Asked<'_>, person: u32, given: &NewPerson) -> Result<EffectList, Memory>
-    requires { length given.now.aux_items ≤ most_items }
+    requires { length given.now.aux_items ≤ MOST_AUX_ITEMS }
     ensures { IfOk result (λ effects. effects
         ≡ Persons.person_effects asked.now person given.now) }
 {

@@ -11,10 +11,11 @@ use access_rights::{
 };
 use kom_model::CallError;
 use kom_state::{Asked, StoredRows};
+use kom_types::async_numbers::MESSAGE_NUMBERS;
 use kom_types::limits::LONGEST_NAME;
 use kom_types::{
-    Bytes, ClientVersion, Decision, Effect, LoginPassword, MESSAGE_NUMBERS, Memory, Numbers, Reply,
-    Seat, SessionChange, errors,
+    Bytes, ClientVersion, Decision, Effect, LoginPassword, Memory, Numbers, Reply, Seat,
+    SessionChange, errors,
 };
 
 /// Call 1, logout: whoever is logged in is logged out. It is done also if nobody is.

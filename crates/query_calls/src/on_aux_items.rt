@@ -4,11 +4,24 @@ ghost use Rattle.kom_model.specs.calls.AuxItems as AuxItems;
 
 use kom_model::CallError;
 use kom_state::Asked;
-use kom_types::{Boxed, Decision, Memory, Numbers, Reply, Sequence};
+use kom_types::{Boxed, Decision, Memory, Numbers, Reply, Sequence, aux_tags};
 use std::alloc::Global;
 
 /// The tags that the server knows.
-const KNOWN_TAGS: [u32; 12] = [1, 2, 3, 4, 5, 6, 7, 8, 10, 13, 14, 15];
+const KNOWN_TAGS: [u32; 12] = [
+    aux_tags::CONTENT_TYPE,
+    aux_tags::FAST_REPLY,
+    aux_tags::CROSS_REFERENCE,
+    aux_tags::NO_COMMENTS,
+    aux_tags::PERSONAL_COMMENT,
+    aux_tags::REQUEST_CONFIRMATION,
+    aux_tags::READ_CONFIRM,
+    aux_tags::REDIRECT,
+    aux_tags::ALTERNATE_NAME,
+    aux_tags::E_MAIL_ADDRESS,
+    aux_tags::FAQ_TEXT,
+    aux_tags::CREATING_SOFTWARE,
+];
 
 /// Call 96, query-predefined-aux-items: the tags that the server knows.
 pub fn query_predefined_aux_items(asked: &Asked<'_>) -> Result<Decision, CallError>

@@ -7,10 +7,11 @@ ghost use Rattle.kom_model.specs.calls.Sessions as Sessions;
 use access_rights::{session_guard, working_shown};
 use kom_model::{CallError, Viewer};
 use kom_state::Asked;
+use kom_types::async_numbers::MESSAGE_NUMBERS;
 use kom_types::bits::INVISIBLE_SESSION;
 use kom_types::{
-    Boxed, Bytes, Decision, DynamicSession, DynamicSessions, MESSAGE_NUMBERS, Memory, Moment,
-    Numbers, Reply, Seat, Sequence, StaticSession,
+    Boxed, Bytes, Decision, DynamicSession, DynamicSessions, Memory, Moment, Numbers, Reply, Seat,
+    Sequence, StaticSession,
 };
 use std::alloc::Global;
 

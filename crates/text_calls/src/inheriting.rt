@@ -1,6 +1,7 @@
 //! The aux-items of a text that is made.
 ghost use Rattle.std.specs.Prelude.{◌≡◌, ◌≤◌, true, length, filter, IfOk};
-ghost use Rattle.kom_types.specs.AuxItems.{inherited, most_items};
+ghost use Rattle.kom_types.specs.declared.limits.TheConstants.{MOST_AUX_ITEMS};
+ghost use Rattle.kom_types.specs.AuxItems.{inherited};
 ghost use Rattle.kom_model.specs.Db.{items_of};
 ghost use Rattle.kom_model.specs.calls.NewTexts as NewTexts;
 
@@ -12,7 +13,7 @@ use kom_types::{AuxRows, Memory, MiscInput, NewText};
 /// The items that a text is given, and those that it inherits from each text that it comments. The
 /// time grows with the items of these.
 pub(crate) fn made_items(asked: &Asked<'_>, given: &NewText) -> Result<AuxRows, Memory>
-    requires { length given.now.aux_items ≤ most_items }
+    requires { length given.now.aux_items ≤ MOST_AUX_ITEMS }
     ensures { IfOk result (λ items. items ≡ NewTexts.new_items asked.now given.now) }
 {
     let caller = asked.caller();

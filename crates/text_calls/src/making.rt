@@ -1,7 +1,7 @@
 ghost use Rattle.std.specs.Prelude.{◌≡◌, ◌∷◌, ◌++◌, [], ◌≤◌, length, map, filter, IfOk};
 ghost use Rattle.std.specs.Prelude.{if◌then◌else◌};
 ghost use Rattle.std.specs.List.{list_all};
-ghost use Rattle.kom_types.specs.AuxItems.{most_items};
+ghost use Rattle.kom_types.specs.declared.limits.TheConstants.{MOST_AUX_ITEMS};
 ghost use Rattle.kom_model.specs.Db.{next_text_of};
 ghost use Rattle.kom_model.specs.calls.Call.{Meets};
 ghost use Rattle.kom_model.specs.calls.Guards.{Guards};
@@ -99,7 +99,7 @@ fn text_effects(
     text: u32,
     given: &NewText,
 ) -> Result<EffectList, Memory>
-    requires { length given.now.aux_items ≤ most_items }
+    requires { length given.now.aux_items ≤ MOST_AUX_ITEMS }
     ensures { IfOk result (λ effects. effects
         ≡ NewTexts.text_effects asked.now anonymous text given.now) }
 {

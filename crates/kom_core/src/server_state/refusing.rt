@@ -4,6 +4,7 @@ ghost use Rattle.kom_model.specs.Refusal.{refusal_of, call_refused, drain_refuse
 ghost use Rattle.kom_model.specs.Refusal.{connect_refused, unless_store_refused};
 
 use super::ServerState;
+use kom_types::limits::MOST_SESSIONS;
 use kom_types::{Act, Refusal, Why};
 
 impl ServerState {
@@ -37,7 +38,7 @@ impl ServerState {
     {
         if self.stopped {
             Some(Refusal::Gone(Why::Stopped))
-        } else if self.connects < u32::MAX {
+        } else if self.connects < MOST_SESSIONS {
             None
         } else {
             Some(Refusal::Full(u64::from(self.connects)))

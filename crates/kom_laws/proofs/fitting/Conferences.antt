@@ -3,7 +3,7 @@ use Rattle.std.proofs.Common.{◌≡◌, ℕ, true, false, ◌&&◌, not, List, 
 use Rattle.std.specs.Prelude.{is_some}
 use Rattle.std.proofs.lemmas.Bool.{and_parts, and_from}
 use Rattle.kom_types.specs.Bits.{alike}
-use Rattle.kom_types.specs.Errors as error
+use Rattle.kom_types.specs.declared.errors.TheConstants as error
 use Rattle.kom_types.specs.declared.conferences.ConferenceRow.{ConferenceRow}
 use Rattle.kom_types.specs.declared.effects.ConfField.{ConfField}
 use Rattle.kom_types.specs.declared.effects.ConfField.TheVariants as field
@@ -67,7 +67,7 @@ module _ (asked : Asked) (number : ℕ) where
   unfolding fits
   set_conf_type-fits kind passes =
       let guards : List Guard =
-      unless (may_become asked.db number kind) error.letterbox number ∷ type_guard kind ∷ [] in
+      unless (may_become asked.db number kind) error.LETTERBOX number ∷ type_guard kind ∷ [] in
       let pass = all-pass (owner_guards asked number ++ guards) passes in
       let both = pass-both (owner_guards asked number) guards pass in
       one-fits (effect.ConfField number (field.Kind kind)) asked.db

@@ -6,7 +6,7 @@ use Rattle.std.specs.Prelude.{map, is_some}
 use Rattle.std.specs.List.{AllByRecursion, filter, find, list_any}
 use Rattle.std.proofs.lemmas.Bool.{cases_Bool, and_parts, and_from, and_left, or_parts}
 use Rattle.kom_types.specs.Bits.{alike}
-use Rattle.kom_types.specs.Errors as error
+use Rattle.kom_types.specs.declared.errors.TheConstants as error
 use Rattle.kom_types.specs.declared.aux_items.AuxRow.{AuxRow}
 use Rattle.kom_types.specs.declared.aux_items.ItemRow.{ItemRow}
 use Rattle.kom_types.specs.declared.effects.Effect.{Effect}
@@ -288,5 +288,5 @@ pub delete_text-fits : (asked : Asked) (text : ℕ) → IsWhole asked.db → (de
     all_fit (delete_text asked text).rest.effects asked.db ≡ true
 delete_text-fits asked text whole passes =
     let pass = all-pass (login_guard (caller asked) ∷ text_guard asked.db (caller asked) text
-    ∷ unless (owns_text asked.db (caller asked) text) error.permission_denied text ∷ []) passes in
+    ∷ unless (owns_text asked.db (caller asked) text) error.PERMISSION_DENIED text ∷ []) passes in
     gone_text-fits asked.db whole text (text-there asked.db (caller asked) text pass.1.0)

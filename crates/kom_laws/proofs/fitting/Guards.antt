@@ -4,6 +4,7 @@ use Rattle.std.proofs.Common.{Option, Some, None, refl, sym, inl, inr, true≢fa
 use Rattle.std.specs.Prelude.{is_some, option_map}
 use Rattle.std.specs.List.{find, list_any}
 use Rattle.std.proofs.lemmas.Bool.{cases_Bool, cond_both}
+use Rattle.kom_types.specs.declared.limits.TheConstants.{LONGEST_NAME, LONGEST_REPLY}
 use Rattle.kom_types.specs.declared.conferences.ConferenceRow.{ConferenceRow}
 use Rattle.kom_types.specs.declared.decisions.Decision.{Decision}
 use Rattle.kom_types.specs.declared.effects.Effect.{Effect}
@@ -11,7 +12,7 @@ use Rattle.kom_types.specs.declared.items.Item.TheVariants as item
 use Rattle.kom_types.specs.declared.memberships.MembershipRow.{MembershipRow}
 use Rattle.kom_types.specs.declared.seats.Seat.{Seat}
 use Rattle.kom_types.specs.declared.texts.TextRow.{TextRow}
-use Rattle.kom_types.specs.Errors as error
+use Rattle.kom_types.specs.declared.errors.TheConstants as error
 use Rattle.kom_types.specs.Names.{clash, is_name}
 use Rattle.kom_types.specs.Printing.{print_of}
 use Rattle.kom_types.specs.tables.Conferences.{head_of, is_letterbox}
@@ -19,8 +20,8 @@ use Rattle.kom_model.specs.declared.call_errors.Refused.{Refused}
 use Rattle.kom_model.specs.declared.viewers.Viewer.{Viewer}
 use Rattle.kom_model.specs.Db.{Db, conference_of, conference_head_of, person_of, text_of, text_author_of, membership_of}
 use Rattle.kom_model.specs.Db.{membership_kind_of, conferences_of}
-use Rattle.kom_model.specs.Decide.{limited, longest_reply}
-use Rattle.kom_model.specs.Effects.{fits, is_free, longest_name, all_fit}
+use Rattle.kom_model.specs.Decide.{limited}
+use Rattle.kom_model.specs.Effects.{fits, is_free, all_fit}
 use Rattle.kom_model.specs.Rights.{sees, reads, is_member}
 use Rattle.kom_model.specs.State.{AreSeated}
 use Rattle.kom_model.specs.calls.Call.{Asked, Definition, decided, refuse}
@@ -37,8 +38,8 @@ one-fits what db fit = rw fit refl
 fits-limited : (reference : ℕ) (decision : Decision) (db : Db) → all_fit decision.effects db ≡ true →
     all_fit (limited reference decision).effects db ≡ true
 fits-limited reference decision db fit =
-    cond_both (nat_le (length (print_of (item.Reply reference decision.reply))) longest_reply) decision
-    (refuse (record { code = error.long_array; status = 0 })) (λ (decision : Decision).
+    cond_both (nat_le (length (print_of (item.Reply reference decision.reply))) LONGEST_REPLY) decision
+    (refuse (record { code = error.LONG_ARRAY; status = 0 })) (λ (decision : Decision).
     all_fit decision.effects db ≡ true) (λ _. fit) (λ _. refl)
 
 -- where no early guard refuses, its effects fit
@@ -108,10 +109,10 @@ caller-there asked seated passes = by asked.seats seated
       ]
 
 -- ---- names
-pub name-short : (name : List ℕ) → name_guard name ≡ None → nat_le (length name) longest_name ≡ true
+pub name-short : (name : List ℕ) → name_guard name ≡ None → nat_le (length name) LONGEST_NAME ≡ true
 name-short name passes =
-    let parts = all-pass (size_guard name longest_name ∷ unless (is_name name) error.bad_name 0 ∷ []) passes in
-    passed (nat_le (length name) longest_name) _ _ parts.0
+    let parts = all-pass (size_guard name LONGEST_NAME ∷ unless (is_name name) error.BAD_NAME 0 ∷ []) passes in
+    passed (nat_le (length name) LONGEST_NAME) _ _ parts.0
 
 not-taken : (letterbox : Bool) (code code' : ℕ) → cond letterbox (refusal code 0) (refusal code' 0) ≡ None → ⊥
 not-taken true code code' passes = cc

@@ -9,14 +9,15 @@ use Rattle.std.proofs.lemmas.Bool.{cases_Bool, and_from, and_parts, le-leb, leb-
 use Rattle.std.proofs.lemmas.Bool.{ne_eqb, eqb-false, not-true}
 use Rattle.std.proofs.lemmas.List.{append-nil, map-append}
 use Rattle.std.proofs.lemmas.List.Elements.{filter-append}
+use Rattle.kom_types.specs.declared.limits.TheConstants.{LAST_DRAWN, LONGEST_CONTENT, MOST_AUX_ITEMS}
 use Rattle.row_table.specs.Tables.{row_of, changed_row}
 use Rattle.row_table.proofs.Rows.{row_of-changed_row}
-use Rattle.kom_types.specs.AuxItems.{kind_of, most_items, longest_content, AuxKind, AuxRefusal, code_added}
+use Rattle.kom_types.specs.AuxItems.{kind_of, AuxKind, AuxRefusal, code_added}
 use Rattle.kom_types.specs.AuxItems.{code_deleted}
 use Rattle.kom_types.specs.AuxItems.{refused_added, refused_deleted, refused_change, is_among, left_after, items_from}
 use Rattle.kom_types.specs.AuxItems.{item_of, is_shown, stays, may_add}
 use Rattle.kom_types.specs.AuxItems as AuxItems
-use Rattle.kom_types.specs.Errors as error
+use Rattle.kom_types.specs.declared.errors.TheConstants as error
 use Rattle.kom_types.specs.Bits.{alike}
 use Rattle.kom_types.specs.declared.aux_items.Adder.{Adder}
 use Rattle.kom_types.specs.declared.aux_items.AuxChange.{AuxChange}
@@ -34,7 +35,7 @@ use Rattle.kom_types.specs.tables.Conferences.{number_of_conference}
 use Rattle.kom_types.specs.tables.Texts as Texts
 use Rattle.kom_types.specs.tables.Texts.{number_of_text}
 use Rattle.kom_model.specs.Db.{Db, text_of, conference_of, items_of, next_item_of}
-use Rattle.kom_model.specs.Effects.{fits, made, all_fit, has_object, last_drawn}
+use Rattle.kom_model.specs.Effects.{fits, made, all_fit, has_object}
 use Rattle.kom_model.specs.Shown.{text_adder, conference_adder}
 use Rattle.kom_model.specs.calls.AuxItems.{items_added, item_effects, numbers_guard, changed, object_of}
 use Rattle.kom_model.specs.calls.AuxItems.{modify_text_info, modify_conf_info}
@@ -158,10 +159,10 @@ bears-added false object drawn held db item bears = record {
 -- ---- items that may be added: each gets the next number, and there is room for it
 pub record IsNext (next count : ℕ) (item : AuxRow) : Type 0 where
   pub number : item.number ≡ next
-  pub last : next ≤ last_drawn
+  pub last : next ≤ LAST_DRAWN
   pub known : is_some (kind_of item.tag) ≡ true
-  pub room : count < most_items
-  pub short : length item.content ≤ longest_content
+  pub room : count < MOST_AUX_ITEMS
+  pub short : length item.content ≤ LONGEST_CONTENT
 
 abbrev pub CanAdd : ℕ → ℕ → List AuxRow → Type 0
 CanAdd next count [] = Unit {0}
@@ -179,12 +180,12 @@ unfolding fits
 item-fits on_text object drawn held db item bears next =
     let level : nat_le (next_item_of db on_text object) item.number ≡ true =
     rw bears.next (le-leb drawn item.number (omega (arith, next.number))) in
-    let last : nat_le item.number last_drawn ≡ true =
-    le-leb item.number last_drawn (omega (arith, next.number, next.last)) in
-    let room : nat_lt (length (items_of db on_text object)) most_items ≡ true =
-    rw bears.items (lt-ltb (length held) most_items next.room) in
+    let last : nat_le item.number LAST_DRAWN ≡ true =
+    le-leb item.number LAST_DRAWN (omega (arith, next.number, next.last)) in
+    let room : nat_lt (length (items_of db on_text object)) MOST_AUX_ITEMS ≡ true =
+    rw bears.items (lt-ltb (length held) MOST_AUX_ITEMS next.room) in
     and_from _ _ (and_from _ _ (and_from _ _ (and_from _ _ (and_from _ _ bears.there level) last) next.known) room)
-    (le-leb (length item.content) longest_content next.short)
+    (le-leb (length item.content) LONGEST_CONTENT next.short)
 
 -- what else is known of the rows is kept by an item that is added
 module _ (Also : Db → Type 0) (on_text : Bool) (object : ℕ)
@@ -223,13 +224,13 @@ none-then (Some code) index more none = absurd cc
 -- an item that may be added
 added-passes : (on : Object) (adder : Adder) (held : List AuxRow) (given : AuxInput) →
     code_added on adder held given ≡ None →
-    (is_some (kind_of given.tag) ≡ true) × (length held < most_items) × (length given.content ≤ longest_content)
+    (is_some (kind_of given.tag) ≡ true) × (length held < MOST_AUX_ITEMS) × (length given.content ≤ LONGEST_CONTENT)
 added-passes on adder held given passes = by (kind_of given.tag) passes where
   by : (found : Option AuxKind) → (elim found as (λ _. Option ℕ) [
-    | None ↦ Some error.illegal_aux_item
-    | Some known ↦ cond (not (AuxItems.fits on held adder.person known given)) (Some error.illegal_aux_item)
-        (cond (may_add known.adding on adder.owns) None (Some error.aux_item_permission))
-  ]) ≡ None → (is_some found ≡ true) × (length held < most_items) × (length given.content ≤ longest_content)
+    | None ↦ Some error.ILLEGAL_AUX_ITEM
+    | Some known ↦ cond (not (AuxItems.fits on held adder.person known given)) (Some error.ILLEGAL_AUX_ITEM)
+        (cond (may_add known.adding on adder.owns) None (Some error.AUX_ITEM_PERMISSION))
+  ]) ≡ None → (is_some found ≡ true) × (length held < MOST_AUX_ITEMS) × (length given.content ≤ LONGEST_CONTENT)
   by None none = absurd cc
   by (Some known) none = elim (cases_Bool (AuxItems.fits on held adder.person known given)) [
     | inl fit ↦
@@ -238,15 +239,15 @@ added-passes on adder held given passes = by (kind_of given.tag) passes where
         let short = (and_parts _ _ flags.0).1 in
         let room = (and_parts _ _ stand.1).0 in (
           refl,
-          ltb-true (length held) most_items room,
-          ltb-false longest_content (length given.content) (not-true _ short),
+          ltb-true (length held) MOST_AUX_ITEMS room,
+          ltb-false LONGEST_CONTENT (length given.content) (not-true _ short),
         )
-    | inr unfit ↦ let wrong : Some error.illegal_aux_item ≡ None = rw unfit at none in absurd cc
+    | inr unfit ↦ let wrong : Some error.ILLEGAL_AUX_ITEM ≡ None = rw unfit at none in absurd cc
   ]
 
 pub added-can : (on : Object) (adder : Adder) (held : List AuxRow) (index next creator moment : ℕ)
     (given : List AuxInput) → refused_added on adder held index given ≡ None →
-    next + length given ≤ last_drawn + 1 → CanAdd next (length held) (items_from next creator moment given)
+    next + length given ≤ LAST_DRAWN + 1 → CanAdd next (length held) (items_from next creator moment given)
 added-can on adder held index next creator moment [] none last = tt
 added-can on adder held index next creator moment (one ∷ more) none last =
     let held' : List AuxRow = held ++ item_of 0 adder.person 0 one ∷ [] in
@@ -261,8 +262,8 @@ added-can on adder held index next creator moment (one ∷ more) none last =
 
 -- no more than there is room for
 added-few : (on : Object) (adder : Adder) (held : List AuxRow) (index : ℕ) (given : List AuxInput) →
-    refused_added on adder held index given ≡ None → length held ≤ most_items →
-    length held + length given ≤ most_items
+    refused_added on adder held index given ≡ None → length held ≤ MOST_AUX_ITEMS →
+    length held + length given ≤ MOST_AUX_ITEMS
 added-few on adder held index [] none few = omega (arith, few)
 added-few on adder held index (one ∷ more) none few =
     let held' : List AuxRow = held ++ item_of 0 adder.person 0 one ∷ [] in
@@ -280,14 +281,14 @@ deleted-passes : (adder : Adder) (items : List AuxRow) (earlier : List ℕ) (num
 deleted-passes adder items earlier number passes =
     by (find (λ (item : AuxRow). item.number == number && is_shown adder item) items) passes where
       by : (found : Option AuxRow) → (elim found as (λ _. Option ℕ) [
-        | None ↦ Some error.illegal_aux_item
-        | Some item ↦ cond (is_among earlier number) (Some error.illegal_aux_item)
-            (cond (stays item.tag || not (item.creator == adder.person || adder.owns)) (Some error.aux_item_permission)
+        | None ↦ Some error.ILLEGAL_AUX_ITEM
+        | Some item ↦ cond (is_among earlier number) (Some error.ILLEGAL_AUX_ITEM)
+            (cond (stays item.tag || not (item.creator == adder.person || adder.owns)) (Some error.AUX_ITEM_PERMISSION)
             None)
       ]) ≡ None → (is_some found ≡ true) × (is_among earlier number ≡ false)
       by None none = absurd cc
       by (Some item) none = elim (cases_Bool (is_among earlier number)) [
-        | inl before ↦ let wrong : Some error.illegal_aux_item ≡ None = rw before at none in absurd cc
+        | inl before ↦ let wrong : Some error.ILLEGAL_AUX_ITEM ≡ None = rw before at none in absurd cc
         | inr new ↦ (refl, new)
       ]
 
@@ -430,8 +431,8 @@ changed-fits asked on_text on adder change there =
     with_items-fit (first_refusal guards) (done (item_effects asked on_text adder change) []) asked.db (λ passes.
     let pass = all-pass guards passes in
     let parts = items-pass on adder items change.delete change.add pass.0 in
-    let last = leb-true (next + length change.add) (last_drawn + 1)
-    (passed (nat_le (next + length change.add) (last_drawn + 1)) _ 0 pass.1.0) in
+    let last = leb-true (next + length change.add) (LAST_DRAWN + 1)
+    (passed (nat_le (next + length change.add) (LAST_DRAWN + 1)) _ 0 pass.1.0) in
     gone-fit on_text change.object next adder items (items_added on_text change.object added) change.delete [] 0
     asked.db parts.0 (record { there = there; next = refl; items = sym (left-none items) })
     (λ db bears. items-alone on_text change.object next (left_after change.delete items) added db bears

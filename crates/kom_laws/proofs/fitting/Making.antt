@@ -7,11 +7,12 @@ use Rattle.std.specs.List.{AllByRecursion, filter, find, list_any}
 use Rattle.std.proofs.lemmas.Bool.{cases_Bool, and_from, and_right, or_parts, or_from, or_right, le-leb}
 use Rattle.std.proofs.lemmas.Bool.{lt-ltb, ne_eqb, not-true, not_from_false, false_from_ne_true}
 use Rattle.std.proofs.lemmas.Bool.{and_parts, eqb-true}
+use Rattle.kom_types.specs.declared.limits.TheConstants.{LAST_CONFERENCE, LONGEST_PASSWORD, MOST_MEMBERSHIPS}
 use Rattle.row_table.specs.Tables.{row_of, with_row}
 use Rattle.row_table.proofs.Rows.{row_of-with_row}
 use Rattle.kom_types.specs.AuxItems.{items_from}
 use Rattle.kom_types.specs.Bits.{alike}
-use Rattle.kom_types.specs.Errors as error
+use Rattle.kom_types.specs.declared.errors.TheConstants as error
 use Rattle.kom_types.specs.Names.{clash}
 use Rattle.kom_types.specs.declared.aux_items.AuxRow.{AuxRow}
 use Rattle.kom_types.specs.declared.aux_items.ItemRow.{ItemRow}
@@ -30,7 +31,7 @@ use Rattle.kom_types.specs.tables.Memberships as Memberships
 use Rattle.kom_types.specs.tables.Persons.{number_of_person, fresh_person, with_hash, password_hash}
 use Rattle.kom_model.specs.Db.{Db, conference_of, conferences_of, person_of, memberships_of, items_of}
 use Rattle.kom_model.specs.Db.{next_item_of, next_conference_of}
-use Rattle.kom_model.specs.Effects.{fits, made, all_fit, last_conference, most_memberships}
+use Rattle.kom_model.specs.Effects.{fits, made, all_fit}
 use Rattle.kom_model.specs.State.{AreSeated}
 use Rattle.kom_model.specs.Whole.{IsWhole, has_letterbox, has_person, has_drawn_item}
 use Rattle.kom_model.specs.calls.AuxItems.{items_added}
@@ -39,7 +40,7 @@ use Rattle.kom_model.specs.calls.Conferences.{create_conf, create_conf_guard}
 use Rattle.kom_model.specs.calls.Guards.{caller, login_guard, name_guard, free_guard, type_guard, drawn_guard, unless}
 use Rattle.kom_model.specs.calls.Guards.{size_guard, new_items_guard}
 use Rattle.kom_model.specs.calls.Persons.{create_person, create_person_guard, person_effects, maker, letterbox_type}
-use Rattle.kom_model.specs.calls.Persons.{first_privileges, highest_priority, longest_password}
+use Rattle.kom_model.specs.calls.Persons.{first_privileges, highest_priority}
 use Rattle.kom_model.specs.calls.Sessions.{counts}
 use Rattle.kom_model.proofs.Guards.{all-pass, passed}
 use Rattle.kom_model.proofs.whole.Appended.{alike-same}
@@ -104,7 +105,7 @@ module _ (db : Db) (whole : IsWhole db) where
   unfolding fits conference_of conferences_of next_conference_of
   conf_added-fits name kind at creator supervisor named free protected drawn =
       let level : nat_le next next ≡ true = le-leb next next (omega arith) in
-      let last = passed (nat_le next last_conference) error.temporary_failure 0 drawn in
+      let last = passed (nat_le next LAST_CONFERENCE) error.TEMPORARY_FAILURE 0 drawn in
       let absent : is_none (row_of number_of_conference next db.conferences) ≡ true = ap is_none next-absent in
       let none = not-true _ (name-free db 0 name free) in
       let free' = not_from_false _ (free-of next name db.conferences whole.conferences.positive none) in
@@ -169,7 +170,7 @@ pub create_conf-fits : (asked : Asked) (given : NewConference) → IsWhole asked
 create_conf-fits asked given whole seated passes =
     let by : ℕ = (caller asked).person in
     let pass = all-pass (login_guard (caller asked) ∷ create_conf_guard asked.db (caller asked)
-    ∷ name_guard given.name ∷ unless (not (is_letterbox given.kind)) error.letterbox 0
+    ∷ name_guard given.name ∷ unless (not (is_letterbox given.kind)) error.LETTERBOX 0
     ∷ type_guard given.kind ∷ free_guard asked.db 0 given.name ∷ drawn_guard asked.db ∷ []) passes in
     with_items-fit (new_items_guard object.Conference by given.aux_items) _ asked.db (λ allowed.
     made_conf-fits asked given by whole (caller-there asked seated pass.0) pass.1.1.0 pass.1.1.1.1.1.0
@@ -247,7 +248,7 @@ module _ (db : Db) (whole : IsWhole db) (name : List ℕ) (at by flags : ℕ) (p
       let none = none-joined in
       and_from _ _ (and_from _ _ (person-locked person person-made)
       (ap is_some (given-found db whole name letterbox_type at by person)))
-      (or_right _ _ (lt-ltb (length (Memberships.memberships_of person db.memberships)) most_memberships
+      (or_right _ _ (lt-ltb (length (Memberships.memberships_of person db.memberships)) MOST_MEMBERSHIPS
       (omega (arith, many, none))))
 
   -- whoever was there still is
@@ -301,7 +302,7 @@ pub create_person-fits : (asked : Asked) (given : NewPerson) → IsWhole asked.d
 create_person-fits asked given whole seated passes =
     let number : ℕ = next_conference_of asked.db in
     let pass = all-pass (create_person_guard asked.db (caller asked) ∷ name_guard given.name
-    ∷ size_guard given.password longest_password ∷ free_guard asked.db 0 given.name
+    ∷ size_guard given.password LONGEST_PASSWORD ∷ free_guard asked.db 0 given.name
     ∷ drawn_guard asked.db ∷ []) passes in
     with_items-fit (new_items_guard object.Letterbox (maker (caller asked).person number) given.aux_items) _ asked.db
     (λ allowed. made_person-fits asked given whole seated pass.1.0 pass.1.1.1.0 pass.1.1.1.1.0

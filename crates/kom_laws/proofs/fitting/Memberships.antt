@@ -6,7 +6,8 @@ use Rattle.std.specs.Prelude.{is_some, bit_or, option_map}
 use Rattle.std.specs.List.{AllByRecursion, find}
 use Rattle.std.proofs.lemmas.Bool.{cases_Bool, and_parts, and_from, or_left, or_right, le-leb, eqb-false}
 use Rattle.std.proofs.lemmas.Bool.{not-true}
-use Rattle.kom_types.specs.Errors as error
+use Rattle.kom_types.specs.declared.limits.TheConstants.{MOST_MEMBERSHIPS}
+use Rattle.kom_types.specs.declared.errors.TheConstants as error
 use Rattle.kom_types.specs.declared.effects.Counter.TheVariants as counter
 use Rattle.kom_types.specs.declared.effects.Effect.{Effect}
 use Rattle.kom_types.specs.declared.effects.Effect.TheVariants as effect
@@ -16,7 +17,7 @@ use Rattle.kom_types.specs.tables.Memberships.{is_membership}
 use Rattle.read_ranges.specs.Changed.{rise_after, up_to, unmarked, all_marked, size_of}
 use Rattle.kom_model.specs.declared.viewers.Viewer.{Viewer}
 use Rattle.kom_model.specs.Db.{Db, conference_of, person_of, membership_of, membership_kind_of, memberships_of}
-use Rattle.kom_model.specs.Effects.{fits, made, most_memberships, all_fit}
+use Rattle.kom_model.specs.Effects.{fits, made, all_fit}
 use Rattle.kom_model.specs.Rights.{is_member}
 use Rattle.kom_model.specs.Shown.{shows_membership}
 use Rattle.kom_model.specs.Whole.{IsWhole, RiseApart}
@@ -160,7 +161,7 @@ module _ (asked : Asked) where
   sub_member-fits conference person passes =
       let pass = all-pass (login_guard (caller asked) ∷ conference_guard asked.db (caller asked) conference
       ∷ person_guard asked.db person ∷ row_guard asked.db (caller asked) person conference
-      ∷ unless (may_end asked.db (caller asked) conference person) error.permission_denied conference ∷ []) passes in
+      ∷ unless (may_end asked.db (caller asked) conference person) error.PERMISSION_DENIED conference ∷ []) passes in
       one-fits (effect.MemberGone person conference) asked.db (shown-there asked.db (caller asked) person conference
       (passed (shows_row asked.db (caller asked) person conference) _ conference pass.1.1.1.0))
 
@@ -168,7 +169,7 @@ module _ (asked : Asked) where
   member-fits : (person conference place priority by at kind : ℕ) → is_some (person_of asked.db person) ≡ true →
       is_some (conference_of asked.db conference) ≡ true →
       (is_some (membership_of asked.db person conference)
-      || nat_lt (length (memberships_of asked.db person)) most_memberships) ≡ true →
+      || nat_lt (length (memberships_of asked.db person)) MOST_MEMBERSHIPS) ≡ true →
       all_fit (effect.MemberSet person conference place priority by at kind ∷ []) asked.db ≡ true
   unfolding fits
   member-fits person conference place priority by at kind one other room =
@@ -217,22 +218,22 @@ module _ (asked : Asked) where
       (conference-there asked.db (caller asked) conference pass.1.0) (room pass.1.1.1.1) where
         room : AllPass (joins_guards asked.db (caller asked) person conference) →
             (is_some (membership_of asked.db person conference)
-            || nat_lt (length (memberships_of asked.db person)) most_memberships) ≡ true
+            || nat_lt (length (memberships_of asked.db person)) MOST_MEMBERSHIPS) ≡ true
         room pass = elim (cases_Bool (is_member asked.db person conference)) [
           | inl member ↦ or_left _ _ (member-there asked.db person conference member)
           | inr apart ↦
               let new : AllPass
-              (unless (may_join asked.db (caller asked) person conference) error.access_denied conference
-              ∷ unless (nat_lt (length (memberships_of asked.db person)) most_memberships)
-              error.temporary_failure person
+              (unless (may_join asked.db (caller asked) person conference) error.ACCESS_DENIED conference
+              ∷ unless (nat_lt (length (memberships_of asked.db person)) MOST_MEMBERSHIPS)
+              error.TEMPORARY_FAILURE person
               ∷ []) = rw apart at pass in
-              or_right _ _ (passed (nat_lt (length (memberships_of asked.db person)) most_memberships) _ person new.1.0)
+              or_right _ _ (passed (nat_lt (length (memberships_of asked.db person)) MOST_MEMBERSHIPS) _ person new.1.0)
         ]
 
         by : (found : Option MembershipRow) → membership_of asked.db person conference ≡ found →
             is_some (person_of asked.db person) ≡ true → is_some (conference_of asked.db conference) ≡ true →
             (is_some (membership_of asked.db person conference)
-            || nat_lt (length (memberships_of asked.db person)) most_memberships) ≡ true →
+            || nat_lt (length (memberships_of asked.db person)) MOST_MEMBERSHIPS) ≡ true →
             all_fit (elim found [
               | None ↦ joins asked person conference priority place kind ∷ []
               | Some row ↦ cond (is_near asked.db (caller asked) person) (set_member row priority place kind ∷ []) []

@@ -9,12 +9,14 @@ use Rattle.std.proofs.lemmas.Bool.{le-leb, lt-ltb, ltb-true, ne_eqb, not-true, n
 use Rattle.std.proofs.lemmas.List.{append-nil}
 use Rattle.std.proofs.lemmas.List.Elements.{filter-append}
 use Rattle.std.proofs.lemmas.List.Folds.{find-append, list_any-append}
+use Rattle.kom_types.specs.declared.limits.TheConstants.{LAST_DRAWN, LONGEST_BODY, LONGEST_CONTENT, MOST_AUX_ITEMS}
+use Rattle.kom_types.specs.declared.limits.TheConstants.{MOST_RECIPIENTS}
 use Rattle.row_table.specs.Tables.{row_of, with_row, changed_row}
 use Rattle.row_table.proofs.Rows.{row_of-with_row, row_of-changed_row}
-use Rattle.kom_types.specs.AuxItems.{kind_of, most_items, longest_content, AuxKind, items_from, passes_on, may_stand}
+use Rattle.kom_types.specs.AuxItems.{kind_of, AuxKind, items_from, passes_on, may_stand}
 use Rattle.kom_types.specs.AuxItems.{with_inherited, inherited}
 use Rattle.kom_types.specs.Bits.{alike}
-use Rattle.kom_types.specs.Errors as error
+use Rattle.kom_types.specs.declared.errors.TheConstants as error
 use Rattle.kom_types.specs.declared.aux_items.AuxRow.{AuxRow}
 use Rattle.kom_types.specs.declared.aux_items.ItemRow.{ItemRow}
 use Rattle.kom_types.specs.declared.aux_items.Object.TheVariants as object
@@ -38,7 +40,7 @@ use Rattle.kom_types.specs.tables.Texts as Texts
 use Rattle.kom_types.specs.tables.Texts.{number_of_text, fresh_text, is_recipient, is_link, lines_of}
 use Rattle.kom_model.specs.Db.{Db, conference_of, person_of, text_of, recipient_of, recipients_of, link_of, links_from}
 use Rattle.kom_model.specs.Db.{links_into, next_local_of, next_created_of, next_item_of, items_of, next_text_of}
-use Rattle.kom_model.specs.Effects.{fits, made, all_fit, last_drawn, longest_body, is_recipient_tag, most_recipients}
+use Rattle.kom_model.specs.Effects.{fits, made, all_fit, is_recipient_tag}
 use Rattle.kom_model.specs.Effects.{most_links}
 use Rattle.kom_model.specs.State.{AreSeated}
 use Rattle.kom_model.specs.Whole.{IsWhole, has_text}
@@ -165,7 +167,7 @@ can-more next count (one ∷ items) item can is = (
       (count + 1 + length items) item (omega arith) (omega arith) is),
 )
 
-with_inherited-can : (items : List AuxRow) (item : AuxRow) → CanAdd 1 0 items → length item.content ≤ longest_content →
+with_inherited-can : (items : List AuxRow) (item : AuxRow) → CanAdd 1 0 items → length item.content ≤ LONGEST_CONTENT →
     CanAdd 1 0 (with_inherited items item)
 with_inherited-can items item can short = by (kind_of item.tag) refl where
   by : (found : Option AuxKind) → kind_of item.tag ≡ found → CanAdd 1 0 (elim found as (λ _. List AuxRow) [
@@ -178,7 +180,7 @@ with_inherited-can items item can short = by (kind_of item.tag) refl where
       (items ++ record item { number = length items + 1; limit = item.limit - 1 } ∷ []) items (CanAdd 1 0)
       (λ both.
       let stand = (and_parts (passes_on item) (may_stand known items item.creator) both).1 in
-      let room = ltb-true (length items) most_items (and_parts _ _ stand).0 in
+      let room = ltb-true (length items) MOST_AUX_ITEMS (and_parts _ _ stand).0 in
       can-more 1 0 items (record item { number = length items + 1; limit = item.limit - 1 }) can (record {
         number = omega arith;
         last = omega (arith, room);
@@ -189,22 +191,22 @@ with_inherited-can items item can short = by (kind_of item.tag) refl where
       (λ not. can)
 
 inherited-can : (parent items : List AuxRow) → CanAdd 1 0 items →
-    AllByRecursion (λ item. length item.content ≤ longest_content) parent → CanAdd 1 0 (inherited items parent)
+    AllByRecursion (λ item. length item.content ≤ LONGEST_CONTENT) parent → CanAdd 1 0 (inherited items parent)
 unfolding inherited
 inherited-can [] items can short = can
 inherited-can (item ∷ parent) items can short =
     inherited-can parent (with_inherited items item) (with_inherited-can items item can short.0) short.1
 
-told-short : (rows : List ItemRow) → AllByRecursion (λ row. length row.item.content ≤ longest_content) rows →
-    AllByRecursion (λ item. length item.content ≤ longest_content) (map (λ (row : ItemRow). row.item) rows)
+told-short : (rows : List ItemRow) → AllByRecursion (λ row. length row.item.content ≤ LONGEST_CONTENT) rows →
+    AllByRecursion (λ item. length item.content ≤ LONGEST_CONTENT) (map (λ (row : ItemRow). row.item) rows)
 told-short [] all = tt
 told-short (row ∷ rows) all = (all.0, told-short rows all.1)
 
 items-short : (db : Db) → IsWhole db → (on_text : Bool) (object : ℕ) →
-    AllByRecursion (λ item. length item.content ≤ longest_content) (items_of db on_text object)
+    AllByRecursion (λ item. length item.content ≤ LONGEST_CONTENT) (items_of db on_text object)
 unfolding items_of
 items-short db whole on_text object = told-short (filter (is_item_of on_text object) db.items)
-    (all-kept (λ row. length row.item.content ≤ longest_content) (is_item_of on_text object) db.items whole.items.short)
+    (all-kept (λ row. length row.item.content ≤ LONGEST_CONTENT) (is_item_of on_text object) db.items whole.items.short)
 
 inherited_from-can : (db : Db) → IsWhole db → (named : List MiscInput) (items : List AuxRow) → CanAdd 1 0 items →
     CanAdd 1 0 (inherited_from db items named)
@@ -375,22 +377,22 @@ module _ (asked : Asked) (whole : IsWhole asked.db) (anonymous : Bool) (author :
       unfolding fits text_of conference_of recipient_of recipients_of next_local_of
       recipient-fits links passes is left =
           let pass = all-pass (conference_guard asked.db (caller asked) item.value
-          ∷ unless (is_new names_recipient before item.value) error.already_recipient item.value
+          ∷ unless (is_new names_recipient before item.value) error.ALREADY_RECIPIENT item.value
           ∷ submit_guard asked.db (caller asked) item.value
           ∷ anonymous_guard asked.db anonymous item.value
-          ∷ unless (has_room names_recipient before most_recipients) error.recipient_limit 0 ∷ []) passes in
+          ∷ unless (has_room names_recipient before MOST_RECIPIENTS) error.RECIPIENT_LIMIT 0 ∷ []) passes in
           let there = holds.there item.value (conference-there asked.db (caller asked) item.value pass.0) in
           let new = passed (is_new names_recipient before item.value) _ item.value pass.1.0 in
-          let room = passed (has_room names_recipient before most_recipients) _ 0 pass.1.1.1.1.0 in
+          let room = passed (has_room names_recipient before MOST_RECIPIENTS) _ 0 pass.1.1.1.1.0 in
           let next : (elim (row_of number_of_conference item.value conferences) as (λ _. ℕ)
           [ None ↦ 1 | Some row ↦ row.next_local ]) ≡ given.local =
           ap (λ (found : Option ConferenceRow). elim found as (λ _. ℕ) [ None ↦ 1 | Some row ↦ row.next_local ])
           (holds.same item.value new) in
-          let last : nat_le given.local last_drawn ≡ true =
-          or-rest (names_recipient item) (nat_le given.local last_drawn) left is in
+          let last : nat_le given.local LAST_DRAWN ≡ true =
+          or-rest (names_recipient item) (nat_le given.local LAST_DRAWN) left is in
           and_from _ _ (and_from _ _ (and_from _ _ (and_from _ _ (and_from _ _ (ap is_some text-found) there)
           (ap is_none (holds.unsent item.value new))) is)
-          (and_from _ _ (level _ given.local next) last)) (room-for _ _ most_recipients holds.many room)
+          (and_from _ _ (level _ given.local next) last)) (room-for _ _ MOST_RECIPIENTS holds.many room)
 
     module _ (links : List TextLink) (holds : HoldsBy before links) where
       other-by : ((footnote : Bool) → names_link footnote item ≡ false) → HoldsBy after_item links
@@ -507,7 +509,7 @@ module _ (asked : Asked) (whole : IsWhole asked.db) (anonymous : Bool) (author :
 
       noted : names_recipient item ≡ false → (names_footnote item ≡ true →
           footnote_guard asked anonymous before item.value ≡ None) × (names_footnote item ≡ false →
-          refusal error.illegal_misc (min (length before) 4294967295) ≡ None) →
+          refusal error.ILLEGAL_MISC (min (length before) 4294967295) ≡ None) →
           all_fit (effect.LinkAdded (link before item (names_footnote item)) ∷ rest)
           (placed conferences recipients links) ≡ true
       noted apart guards = elim (cases_Bool (names_footnote item)) [
@@ -515,9 +517,9 @@ module _ (asked : Asked) (whole : IsWhole asked.db) (anonymous : Bool) (author :
         | inl is ↦
             let pass = all-pass (text_guard asked.db (caller asked) item.value
             ∷ author_guard asked.db (caller asked) anonymous item.value
-            ∷ unless (is_new names_footnote before item.value) error.already_footnote item.value
-            ∷ into_guard asked.db item.value true error.footnote_limit item.value
-            ∷ unless (has_room names_footnote before (most_links true)) error.footnote_limit 0 ∷ []) (guards.0 is) in
+            ∷ unless (is_new names_footnote before item.value) error.ALREADY_FOOTNOTE item.value
+            ∷ into_guard asked.db item.value true error.FOOTNOTE_LIMIT item.value
+            ∷ unless (has_room names_footnote before (most_links true)) error.FOOTNOTE_LIMIT 0 ∷ []) (guards.0 is) in
             named true is (link-step true (footnote-links item is) apart
             (text-there asked.db (caller asked) item.value pass.0)
             (passed (is_new names_footnote before item.value) _ item.value pass.1.1.0)
@@ -528,17 +530,17 @@ module _ (asked : Asked) (whole : IsWhole asked.db) (anonymous : Bool) (author :
       linked : names_recipient item ≡ false → (names_comment item ≡ true →
           comment_guard asked before item.value ≡ None) × (names_comment item ≡ false →
           cond (names_footnote item) (footnote_guard asked anonymous before item.value)
-          (refusal error.illegal_misc (min (length before) 4294967295)) ≡ None) →
+          (refusal error.ILLEGAL_MISC (min (length before) 4294967295)) ≡ None) →
           all_fit (effect.LinkAdded (link before item (names_footnote item)) ∷ rest)
           (placed conferences recipients links) ≡ true
       linked apart guards = elim (cases_Bool (names_comment item)) [
         | inr none ↦ noted apart (cond-none (names_footnote item) (footnote_guard asked anonymous before item.value)
-            (refusal error.illegal_misc (min (length before) 4294967295)) (guards.1 none))
+            (refusal error.ILLEGAL_MISC (min (length before) 4294967295)) (guards.1 none))
         | inl is ↦
             let pass = all-pass (text_guard asked.db (caller asked) item.value
-            ∷ unless (is_new names_comment before item.value) error.already_comment item.value
-            ∷ into_guard asked.db item.value false error.comment_limit item.value
-            ∷ unless (has_room names_comment before (most_links false)) error.comment_limit 0 ∷ []) (guards.0 is) in
+            ∷ unless (is_new names_comment before item.value) error.ALREADY_COMMENT item.value
+            ∷ into_guard asked.db item.value false error.COMMENT_LIMIT item.value
+            ∷ unless (has_room names_comment before (most_links false)) error.COMMENT_LIMIT 0 ∷ []) (guards.0 is) in
             named false (comment-links item is true) (link-step false (comment-links item is) apart
             (text-there asked.db (caller asked) item.value pass.0)
             (passed (is_new names_comment before item.value) _ item.value pass.1.0)
@@ -570,10 +572,10 @@ module _ (asked : Asked) (whole : IsWhole asked.db) (anonymous : Bool) (author :
             let to_one = cond-none (names_recipient item) (recipient_guard asked anonymous before item.value) _
             pass.0 in
             let one = all-pass (conference_guard asked.db (caller asked) item.value
-            ∷ unless (is_new names_recipient before item.value) error.already_recipient item.value
+            ∷ unless (is_new names_recipient before item.value) error.ALREADY_RECIPIENT item.value
             ∷ submit_guard asked.db (caller asked) item.value
             ∷ anonymous_guard asked.db anonymous item.value
-            ∷ unless (has_room names_recipient before most_recipients) error.recipient_limit 0 ∷ []) (to_one.0 is) in
+            ∷ unless (has_room names_recipient before MOST_RECIPIENTS) error.RECIPIENT_LIMIT 0 ∷ []) (to_one.0 is) in
             conference-there asked.db (caller asked) item.value one.0,
         named-there items (before ++ item ∷ []) pass.1,
       )
@@ -650,7 +652,7 @@ module _ (asked : Asked) (whole : IsWhole asked.db) (anonymous : Bool) (author :
 
   -- the author counts the text
   created-fits : (db : Db) → Ready db → is_some (person_of base author) ≡ true →
-      nat_le (next_created_of base author) last_drawn ≡ true →
+      nat_le (next_created_of base author) LAST_DRAWN ≡ true →
       fits (effect.Created author (next_created_of base author) text) db ≡ true
   unfolding fits person_of next_created_of
   created-fits db ready there last =
@@ -681,7 +683,7 @@ module _ (asked : Asked) (whole : IsWhole asked.db) (anonymous : Bool) (author :
       (ap (λ (rows : List PersonRow). is_some (row_of number_of_person author rows)) ready.persons ∙ there)
 
   author-fit : (db : Db) → Ready db → is_some (person_of base author) ≡ true →
-      nat_le (next_created_of base author) last_drawn ≡ true →
+      nat_le (next_created_of base author) LAST_DRAWN ≡ true →
       all_fit (effect.Created author (next_created_of base author) text
       ∷ counts author counter.CreatedLines (lines_of body)
       ++ counts author counter.CreatedBytes (length body)) db ≡ true
@@ -694,7 +696,7 @@ module _ (asked : Asked) (whole : IsWhole asked.db) (anonymous : Bool) (author :
       (made (effect.Created author local text) db) (created-there db ready there local)
       (λ db there. counts-fit db author counter.CreatedBytes (length body) there))
 
-  text_added-fits : nat_le text last_drawn ≡ true → nat_le (length body) longest_body ≡ true →
+  text_added-fits : nat_le text LAST_DRAWN ≡ true → nat_le (length body) LONGEST_BODY ≡ true →
       fits (effect.TextAdded text author asked.moment body) base ≡ true
   unfolding fits text_of
   text_added-fits last short =
@@ -705,9 +707,9 @@ in-order : (a b c d : List Effect) → a ++ b ++ c ++ d ≡ a ++ (b ++ (c ++ d))
 in-order a b c d = append_assoc (a ++ b) c d ∙ append_assoc a b (c ++ d)
 
 made_text-fits : (asked : Asked) (anonymous : Bool) (author : ℕ) (given : NewText) (last : List Effect) →
-    (whole : IsWhole asked.db) → nat_le (length given.body) longest_body ≡ true →
+    (whole : IsWhole asked.db) → nat_le (length given.body) LONGEST_BODY ≡ true →
     first_refusal (item_guards asked anonymous [] given.misc_inputs) ≡ None →
-    nat_le (next_text_of asked.db) last_drawn ≡ true → list_all (has_local asked.db) given.misc_inputs ≡ true →
+    nat_le (next_text_of asked.db) LAST_DRAWN ≡ true → list_all (has_local asked.db) given.misc_inputs ≡ true →
     CanAdd 1 0 (new_items asked given) →
     ((db : Db) → Ready asked whole anonymous author given.body db → all_fit last db ≡ true) →
     all_fit (effect.TextAdded (next_text_of asked.db) author asked.moment given.body
@@ -750,10 +752,10 @@ pub new_text-fits : (anonymous : Bool) (asked : Asked) (given : NewText) → IsW
 unfolding next_text_of
 new_text-fits anonymous asked given whole seated passes =
     let person : ℕ = (caller asked).person in
-    let pass = all-pass (login_guard (caller asked) ∷ size_guard given.body longest_body
+    let pass = all-pass (login_guard (caller asked) ∷ size_guard given.body LONGEST_BODY
     ∷ first_refusal (item_guards asked anonymous [] given.misc_inputs)
-    ∷ unless (has_numbers asked.db person anonymous given.misc_inputs) error.temporary_failure 0 ∷ []) passes in
-    let short = passed (nat_le (length given.body) longest_body) _ longest_body pass.1.0 in
+    ∷ unless (has_numbers asked.db person anonymous given.misc_inputs) error.TEMPORARY_FAILURE 0 ∷ []) passes in
+    let short = passed (nat_le (length given.body) LONGEST_BODY) _ LONGEST_BODY pass.1.0 in
     let numbers = and_parts _ _ (passed (has_numbers asked.db person anonymous given.misc_inputs) _ 0 pass.1.1.1.0) in
     let drawn = and_parts _ _ numbers.0 in
     with_items-fit (new_items_guard object.Text person given.aux_items) _ asked.db (λ allowed.
@@ -761,9 +763,9 @@ new_text-fits anonymous asked given whole seated passes =
     (filter names_comment given.misc_inputs) (items_from 1 person asked.moment given.aux_items)
     (new_items-can object.Text person given.aux_items person asked.moment allowed) in
     by anonymous given short pass.1.1.0 drawn.0 drawn.1 numbers.1 can (caller-there asked seated pass.0)) where
-      by : (anonymous : Bool) (given : NewText) → nat_le (length given.body) longest_body ≡ true →
+      by : (anonymous : Bool) (given : NewText) → nat_le (length given.body) LONGEST_BODY ≡ true →
           first_refusal (item_guards asked anonymous [] given.misc_inputs) ≡ None →
-          nat_le (next_text_of asked.db) last_drawn ≡ true → list_all (has_local asked.db) given.misc_inputs ≡ true →
+          nat_le (next_text_of asked.db) LAST_DRAWN ≡ true → list_all (has_local asked.db) given.misc_inputs ≡ true →
           has_created asked.db (caller asked).person anonymous ≡ true → CanAdd 1 0 (new_items asked given) →
           is_some (person_of asked.db (caller asked).person) ≡ true →
           all_fit (text_effects asked anonymous (next_text_of asked.db) given) asked.db ≡ true

@@ -1,6 +1,7 @@
 -- What the calls about persons come to fits.
 use Rattle.std.proofs.Common.{◌≡◌, ℕ, true, List, [], ◌∷◌, None}
 use Rattle.std.specs.Prelude.{is_some}
+use Rattle.kom_types.specs.declared.limits.TheConstants.{LONGEST_PASSWORD}
 use Rattle.kom_types.specs.declared.effects.Effect.TheVariants as effect
 use Rattle.kom_types.specs.declared.effects.PersonField.{PersonField}
 use Rattle.kom_types.specs.declared.effects.PersonField.TheVariants as field
@@ -11,7 +12,7 @@ use Rattle.kom_model.specs.Effects.{fits, all_fit}
 use Rattle.kom_model.specs.calls.Call.{Asked}
 use Rattle.kom_model.specs.calls.Guards.{caller, login_guard, person_guard, strong_guard, supervisor_guard}
 use Rattle.kom_model.specs.calls.Guards.{password_guard, size_guard, text_or_none_guard}
-use Rattle.kom_model.specs.calls.Persons.{set_priv_bits, set_passwd, set_pers_flags, set_user_area, longest_password}
+use Rattle.kom_model.specs.calls.Persons.{set_priv_bits, set_passwd, set_pers_flags, set_user_area}
 use Rattle.kom_laws.proofs.fitting.Guards.{one-fits, all-pass, person-there}
 
 field-fits : (db : Db) (person : ℕ) (what : PersonField) → is_some (person_of db person) ≡ true →
@@ -38,7 +39,7 @@ module _ (asked : Asked) where
       let pass = all-pass (login_guard (caller asked) ∷ person_guard asked.db given.person
       ∷ supervisor_guard asked.db (caller asked) given.person
       ∷ password_guard asked.db (caller asked) (caller asked).person given.old_password
-      ∷ size_guard given.new_password longest_password ∷ []) passes in
+      ∷ size_guard given.new_password LONGEST_PASSWORD ∷ []) passes in
       password-fits asked.db given.person given.new_password (person-there asked.db given.person pass.1.0)
 
   pub set_pers_flags-fits : (person flags : ℕ) → (set_pers_flags asked person flags).early ≡ None →

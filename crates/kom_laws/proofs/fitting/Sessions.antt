@@ -5,6 +5,7 @@ use Rattle.std.specs.Prelude.{is_some}
 use Rattle.std.specs.List.{find}
 use Rattle.std.specs.Option.{IfSome}
 use Rattle.std.proofs.lemmas.Bool.{cases_Bool, and_from, le-leb}
+use Rattle.kom_types.specs.declared.limits.TheConstants.{LONGEST_USER_NAME}
 use Rattle.kom_types.specs.declared.decisions.Decision.{Decision}
 use Rattle.kom_types.specs.declared.effects.Counter.{Counter}
 use Rattle.kom_types.specs.declared.effects.Counter.TheVariants as counter
@@ -13,7 +14,7 @@ use Rattle.kom_types.specs.declared.effects.Effect.TheVariants as effect
 use Rattle.kom_types.specs.declared.seats.Seat.{Seat}
 use Rattle.kom_types.specs.tables.Persons.{number_of_person, counted}
 use Rattle.kom_model.specs.Db.{Db, person_of}
-use Rattle.kom_model.specs.Effects.{fits, made, all_fit, longest_user_name}
+use Rattle.kom_model.specs.Effects.{fits, made, all_fit}
 use Rattle.kom_model.specs.State.{IsSeated, AreSeated}
 use Rattle.kom_model.specs.calls.Guards.{caller, person_guard, password_guard}
 use Rattle.kom_model.specs.calls.Call.{Asked, done}
@@ -50,7 +51,7 @@ seated-found db test (seat ∷ seats) seated = elim (cases_Bool (test seat)) [
 ]
 
 logged_in-fits : (db : Db) (person at : ℕ) (user : List ℕ) → is_some (person_of db person) ≡ true →
-    nat_le (length user) longest_user_name ≡ true → all_fit (effect.LoggedIn person at user ∷ []) db ≡ true
+    nat_le (length user) LONGEST_USER_NAME ≡ true → all_fit (effect.LoggedIn person at user ∷ []) db ≡ true
 unfolding fits
 logged_in-fits db person at user there short = one-fits (effect.LoggedIn person at user) db (and_from _ _ there short)
 
@@ -101,8 +102,8 @@ module _ (asked : Asked) where
   unfolding fits
   after-left person None there seated = logged_in-fits asked.db person asked.moment [] there refl
   after-left person (Some seat) there seated =
-      let short : nat_le (length seat.user) longest_user_name ≡ true =
-      le-leb (length seat.user) longest_user_name seated.user in
+      let short : nat_le (length seat.user) LONGEST_USER_NAME ≡ true =
+      le-leb (length seat.user) LONGEST_USER_NAME seated.user in
       let by : ℕ = asked.moment - seat.login in
       let alone = logged_in-fits asked.db person asked.moment seat.user there short in
       elim (cases_Bool (seat.person == 0)) [

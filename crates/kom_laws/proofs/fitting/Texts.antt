@@ -3,7 +3,8 @@ use Rattle.std.proofs.Common.{◌≡◌, ℕ, Bool, true, false, not, ◌==◌, 
 use Rattle.std.proofs.Common.{Some, None, refl, arith, nat_lt, nat_le}
 use Rattle.std.specs.Prelude.{is_some, is_none}
 use Rattle.std.proofs.lemmas.Bool.{and_from, le-leb}
-use Rattle.kom_types.specs.Errors as error
+use Rattle.kom_types.specs.declared.limits.TheConstants.{LAST_DRAWN, MOST_MARKS, MOST_RECIPIENTS}
+use Rattle.kom_types.specs.declared.errors.TheConstants as error
 use Rattle.kom_types.specs.declared.effects.ConfField.TheVariants as field
 use Rattle.kom_types.specs.declared.effects.Counter.TheVariants as counter
 use Rattle.kom_types.specs.declared.effects.Effect.{Effect}
@@ -14,8 +15,7 @@ use Rattle.kom_model.specs.declared.viewers.Viewer.{Viewer}
 use Rattle.kom_model.specs.Db.{Db, conference_of, text_of, recipient_of, recipients_of, next_local_of}
 use Rattle.kom_model.specs.Db.{link_of}
 use Rattle.kom_model.specs.Db.{links_from, links_into, mark_of, marks_of}
-use Rattle.kom_model.specs.Effects.{fits, made, is_recipient_tag, most_recipients, last_drawn, most_links, all_fit}
-use Rattle.kom_model.specs.Effects.{most_marks}
+use Rattle.kom_model.specs.Effects.{fits, made, is_recipient_tag, most_links, all_fit}
 use Rattle.kom_model.specs.Shown.{shows_recipient}
 use Rattle.kom_model.specs.State.{AreSeated}
 use Rattle.kom_model.specs.calls.Call.{Asked}
@@ -49,7 +49,7 @@ module _ (asked : Asked) where
   unfolding fits
   get_text-fits text start end seated passes =
       let pass = all-pass (login_guard (caller asked) ∷ text_guard asked.db (caller asked) text
-      ∷ unless (nat_le start (length (body_of asked.db text))) error.index_out_of_range start ∷ []) passes in
+      ∷ unless (nat_le start (length (body_of asked.db text))) error.INDEX_OUT_OF_RANGE start ∷ []) passes in
       one-fits (effect.Counted (caller asked).person counter.TextFetches 1) asked.db
       (caller-there asked seated pass.0)
 
@@ -67,16 +67,16 @@ module _ (asked : Asked) where
   unfolding fits
   add_recipient-fits text conference tag passes =
       let pass = all-pass (login_guard (caller asked) ∷ text_guard asked.db (caller asked) text
-      ∷ conference_guard asked.db (caller asked) conference ∷ unless (is_recipient_tag tag) error.illegal_info_type tag
-      ∷ unless (is_none (recipient_of asked.db text conference)) error.already_recipient conference
+      ∷ conference_guard asked.db (caller asked) conference ∷ unless (is_recipient_tag tag) error.ILLEGAL_INFO_TYPE tag
+      ∷ unless (is_none (recipient_of asked.db text conference)) error.ALREADY_RECIPIENT conference
       ∷ submit_guard asked.db (caller asked) conference
-      ∷ unless (nat_lt (length (recipients_of asked.db text)) most_recipients) error.recipient_limit text
+      ∷ unless (nat_lt (length (recipients_of asked.db text)) MOST_RECIPIENTS) error.RECIPIENT_LIMIT text
       ∷ local_guard asked.db conference ∷ []) passes in
       let there = conference-there asked.db (caller asked) conference pass.1.1.0 in
       let tagged = passed (is_recipient_tag tag) _ tag pass.1.1.1.0 in
       let new = passed (is_none (recipient_of asked.db text conference)) _ conference pass.1.1.1.1.0 in
-      let room = passed (nat_lt (length (recipients_of asked.db text)) most_recipients) _ text pass.1.1.1.1.1.1.0 in
-      let left = passed (nat_le (next_local_of asked.db conference) last_drawn) _ 0 pass.1.1.1.1.1.1.1.0 in
+      let room = passed (nat_lt (length (recipients_of asked.db text)) MOST_RECIPIENTS) _ text pass.1.1.1.1.1.1.0 in
+      let left = passed (nat_le (next_local_of asked.db conference) LAST_DRAWN) _ 0 pass.1.1.1.1.1.1.1.0 in
       let next = next_local_of asked.db conference in
       let level : nat_le next next ≡ true = le-leb next next (omega arith) in
       let given : Recipient = new_recipient asked text conference tag (caller asked).person in
@@ -90,9 +90,9 @@ module _ (asked : Asked) where
   unfolding fits
   sub_recipient-fits text conference passes =
       let pass = all-pass (login_guard (caller asked) ∷ text_guard asked.db (caller asked) text
-      ∷ unless (not (conference == 0)) error.conference_zero 0
-      ∷ unless (shows_to asked.db (caller asked) text conference) error.not_recipient conference
-      ∷ unless (may_take asked.db (caller asked) text conference) error.permission_denied text ∷ []) passes in
+      ∷ unless (not (conference == 0)) error.CONFERENCE_ZERO 0
+      ∷ unless (shows_to asked.db (caller asked) text conference) error.NOT_RECIPIENT conference
+      ∷ unless (may_take asked.db (caller asked) text conference) error.PERMISSION_DENIED text ∷ []) passes in
       one-fits (effect.RecipientGone text conference) asked.db (shown-recipient asked.db (caller asked) text conference
       (passed (shows_to asked.db (caller asked) text conference) _ conference pass.1.1.1.0))
 
@@ -110,10 +110,10 @@ module _ (asked : Asked) where
       all_fit (add_comment asked child parent).rest.effects asked.db ≡ true
   add_comment-fits child parent passes =
       let pass = all-pass (login_guard (caller asked) ∷ text_guard asked.db (caller asked) child
-      ∷ text_guard asked.db (caller asked) parent ∷ unless (not (child == parent)) error.permission_denied child
-      ∷ unlinked_guard asked.db child parent false error.already_comment
-      ∷ into_guard asked.db parent false error.comment_limit parent
-      ∷ from_guard asked.db child false error.comment_limit ∷ []) passes in
+      ∷ text_guard asked.db (caller asked) parent ∷ unless (not (child == parent)) error.PERMISSION_DENIED child
+      ∷ unlinked_guard asked.db child parent false error.ALREADY_COMMENT
+      ∷ into_guard asked.db parent false error.COMMENT_LIMIT parent
+      ∷ from_guard asked.db child false error.COMMENT_LIMIT ∷ []) passes in
       linked-fits child parent false (text-there asked.db (caller asked) child pass.1.0)
       (text-there asked.db (caller asked) parent pass.1.1.0)
       (passed (is_none (link_of asked.db child parent false)) _ child pass.1.1.1.1.0)
@@ -124,12 +124,12 @@ module _ (asked : Asked) where
       all_fit (add_footnote asked child parent).rest.effects asked.db ≡ true
   add_footnote-fits child parent passes =
       let pass = all-pass (login_guard (caller asked) ∷ text_guard asked.db (caller asked) child
-      ∷ text_guard asked.db (caller asked) parent ∷ unless (not (child == parent)) error.permission_denied child
-      ∷ unless (made_text asked.db (caller asked) child && made_text asked.db (caller asked) parent) error.not_author
+      ∷ text_guard asked.db (caller asked) parent ∷ unless (not (child == parent)) error.PERMISSION_DENIED child
+      ∷ unless (made_text asked.db (caller asked) child && made_text asked.db (caller asked) parent) error.NOT_AUTHOR
       parent
-      ∷ unlinked_guard asked.db child parent true error.already_footnote
-      ∷ into_guard asked.db parent true error.footnote_limit parent
-      ∷ from_guard asked.db child true error.footnote_limit ∷ []) passes in
+      ∷ unlinked_guard asked.db child parent true error.ALREADY_FOOTNOTE
+      ∷ into_guard asked.db parent true error.FOOTNOTE_LIMIT parent
+      ∷ from_guard asked.db child true error.FOOTNOTE_LIMIT ∷ []) passes in
       linked-fits child parent true (text-there asked.db (caller asked) child pass.1.0)
       (text-there asked.db (caller asked) parent pass.1.1.0)
       (passed (is_none (link_of asked.db child parent true)) _ child pass.1.1.1.1.1.0)
@@ -145,17 +145,17 @@ module _ (asked : Asked) where
       all_fit (sub_comment asked child parent).rest.effects asked.db ≡ true
   sub_comment-fits child parent passes =
       let pass = all-pass (login_guard (caller asked) ∷ text_guard asked.db (caller asked) child
-      ∷ text_guard asked.db (caller asked) parent ∷ linked_guard asked.db child parent false error.not_comment
+      ∷ text_guard asked.db (caller asked) parent ∷ linked_guard asked.db child parent false error.NOT_COMMENT
       ∷ unless (owns_text asked.db (caller asked) child
-      || linker_of asked.db child parent false == (caller asked).person) error.permission_denied child ∷ []) passes in
+      || linker_of asked.db child parent false == (caller asked).person) error.PERMISSION_DENIED child ∷ []) passes in
       unlinked-fits child parent false (passed (is_some (link_of asked.db child parent false)) _ child pass.1.1.1.0)
 
   pub sub_footnote-fits : (child parent : ℕ) → (sub_footnote asked child parent).early ≡ None →
       all_fit (sub_footnote asked child parent).rest.effects asked.db ≡ true
   sub_footnote-fits child parent passes =
       let pass = all-pass (login_guard (caller asked) ∷ text_guard asked.db (caller asked) child
-      ∷ text_guard asked.db (caller asked) parent ∷ linked_guard asked.db child parent true error.not_footnote
-      ∷ unless (made_text asked.db (caller asked) child || (caller asked).strong) error.permission_denied child ∷ [])
+      ∷ text_guard asked.db (caller asked) parent ∷ linked_guard asked.db child parent true error.NOT_FOOTNOTE
+      ∷ unless (made_text asked.db (caller asked) child || (caller asked).strong) error.PERMISSION_DENIED child ∷ [])
       passes in
       unlinked-fits child parent true (passed (is_some (link_of asked.db child parent true)) _ child pass.1.1.1.0)
 
@@ -165,9 +165,9 @@ module _ (asked : Asked) where
   mark_text-fits text kind seated passes =
       let person = (caller asked).person in
       let room : Bool = is_some (mark_of asked.db person text) || nat_lt (length
-      (marks_of asked.db person)) most_marks in
+      (marks_of asked.db person)) MOST_MARKS in
       let pass = all-pass (login_guard (caller asked) ∷ text_guard asked.db (caller asked) text
-      ∷ unless room error.mark_limit 0 ∷ []) passes in
+      ∷ unless room error.MARK_LIMIT 0 ∷ []) passes in
       one-fits (effect.MarkSet person text kind) asked.db (and_from _ _ (and_from _ _
       (caller-there asked seated pass.0) (text-there asked.db (caller asked) text pass.1.0))
       (passed room _ 0 pass.1.1.0))
@@ -177,7 +177,7 @@ module _ (asked : Asked) where
   unfolding fits
   unmark_text-fits text passes =
       let person = (caller asked).person in
-      let pass = all-pass (login_guard (caller asked) ∷ unless (not (text == 0)) error.text_zero 0
-      ∷ unless (is_some (mark_of asked.db person text)) error.not_marked text ∷ []) passes in
+      let pass = all-pass (login_guard (caller asked) ∷ unless (not (text == 0)) error.TEXT_ZERO 0
+      ∷ unless (is_some (mark_of asked.db person text)) error.NOT_MARKED text ∷ []) passes in
       one-fits (effect.MarkGone person text) asked.db
       (passed (is_some (mark_of asked.db person text)) _ text pass.1.1.0)

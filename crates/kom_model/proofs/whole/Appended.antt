@@ -4,7 +4,8 @@ use Rattle.std.proofs.Common.{refl, sym, arith, eqb-true}
 use Rattle.std.specs.Prelude.{is_some, is_none}
 use Rattle.std.specs.List.{AllByRecursion, filter, find}
 use Rattle.std.proofs.lemmas.Bool.{and_parts}
-use Rattle.kom_types.specs.AuxItems.{kind_of, most_items, longest_content}
+use Rattle.kom_types.specs.declared.limits.TheConstants.{LONGEST_CONTENT, MOST_AUX_ITEMS, MOST_RECIPIENTS}
+use Rattle.kom_types.specs.AuxItems.{kind_of}
 use Rattle.kom_types.specs.Bits.{alike}
 use Rattle.kom_types.specs.declared.aux_items.ItemRow.{ItemRow}
 use Rattle.kom_types.specs.declared.conferences.ConferenceRow.{ConferenceRow}
@@ -13,7 +14,7 @@ use Rattle.kom_types.specs.declared.texts.TextLink.{TextLink}
 use Rattle.kom_types.specs.declared.texts.TextRow.{TextRow}
 use Rattle.kom_types.specs.tables.AuxItems.{is_item, is_item_of}
 use Rattle.kom_types.specs.tables.Texts.{is_recipient, recipients_of, is_link, links_from, links_into}
-use Rattle.kom_model.specs.Effects.{is_recipient_tag, most_recipients, most_links}
+use Rattle.kom_model.specs.Effects.{is_recipient_tag, most_links}
 use Rattle.kom_model.specs.Whole.{AreRecipients, AreLinks, AreItems, has_text, has_drawn_local, has_drawn_item}
 use Rattle.kom_model.proofs.whole.Counts.{all-kept, all-more, count-kept, most-more, count-none, none-found}
 
@@ -45,7 +46,7 @@ module _ (texts : List TextRow) (conferences : List ConferenceRow) (rows : List 
     once = λ text conference. fewer (is_recipient text conference) keep 1 rows (whole.once text conference);
     local_once = λ conference local. fewer (λ row. row.conference == conference && row.local == local) keep 1 rows
         (whole.local_once conference local);
-    limited = λ text. fewer (λ row. row.text == text) keep most_recipients rows (whole.limited text);
+    limited = λ text. fewer (λ row. row.text == text) keep MOST_RECIPIENTS rows (whole.limited text);
   }
 
   -- one more, whose local number is new in its conference
@@ -53,7 +54,7 @@ module _ (texts : List TextRow) (conferences : List ConferenceRow) (rows : List 
       has_drawn_local conferences given.conference given.local ≡ true →
       is_none (find (is_recipient given.text given.conference) rows) ≡ true → is_recipient_tag given.tag ≡ true →
       AllByRecursion (λ row. (row.conference == given.conference && row.local == given.local) ≡ false) rows →
-      length (recipients_of given.text rows) < most_recipients →
+      length (recipients_of given.text rows) < MOST_RECIPIENTS →
       AreRecipients (rows ++ given ∷ []) texts conferences
   recipients-more given text drawn absent tag new room = record {
     text_there = all-more _ rows given whole.text_there text;
@@ -71,7 +72,7 @@ module _ (texts : List TextRow) (conferences : List ConferenceRow) (rows : List 
         let parts = and_parts (given.conference == conference) (given.local == local) is in
         rw (← eqb-true given.conference conference parts.0, ← eqb-true given.local local parts.1)
         (none-room (λ row. row.conference == given.conference && row.local == given.local) rows new));
-    limited = λ text. most-more (λ row. row.text == text) most_recipients rows given (whole.limited text)
+    limited = λ text. most-more (λ row. row.text == text) MOST_RECIPIENTS rows given (whole.limited text)
         (λ is. rw (← eqb-true given.text text is) room);
   }
 
@@ -131,15 +132,16 @@ module _ (texts : List TextRow) (conferences : List ConferenceRow) (rows : List 
     short = all-kept _ keep rows whole.short;
     once = λ on_text object number. fewer (is_item on_text object number) keep 1 rows
         (whole.once on_text object number);
-    limited = λ on_text object. fewer (is_item_of on_text object) keep most_items rows (whole.limited on_text object);
+    limited = λ on_text object. fewer (is_item_of on_text object) keep MOST_AUX_ITEMS rows
+        (whole.limited on_text object);
   }
 
   -- one more, whose number is new on its object
   pub items-more : (given : ItemRow) →
       has_drawn_item texts conferences given.on_text given.object given.item.number ≡ true →
-      is_some (kind_of given.item.tag) ≡ true → length given.item.content ≤ longest_content →
+      is_some (kind_of given.item.tag) ≡ true → length given.item.content ≤ LONGEST_CONTENT →
       AllByRecursion (λ row. is_item given.on_text given.object given.item.number row ≡ false) rows →
-      length (filter (is_item_of given.on_text given.object) rows) < most_items →
+      length (filter (is_item_of given.on_text given.object) rows) < MOST_AUX_ITEMS →
       AreItems (rows ++ given ∷ []) texts conferences
   items-more given drawn known short new room = record {
     drawn = all-more _ rows given whole.drawn drawn;
@@ -156,7 +158,7 @@ module _ (texts : List TextRow) (conferences : List ConferenceRow) (rows : List 
           ← eqb-true given.item.number number parts.1,
         )
         (none-room (is_item given.on_text given.object given.item.number) rows new));
-    limited = λ on_text object. most-more (is_item_of on_text object) most_items rows given
+    limited = λ on_text object. most-more (is_item_of on_text object) MOST_AUX_ITEMS rows given
         (whole.limited on_text object)
         (λ is.
         let on = and_parts (alike given.on_text on_text) (given.object == object) is in

@@ -6,12 +6,12 @@ use Rattle.std.specs.List.{AllByRecursion, list_any}
 use Rattle.std.proofs.lemmas.Bool.{cases_Bool, or_parts, or_from, not_from_false, not-true}
 use Rattle.std.proofs.lemmas.Bool.{false_from_ne_true, ne_eqb, eqb-false}
 use Rattle.std.proofs.lemmas.Slice.Eq.{bytes_eq-Decides}
+use Rattle.kom_types.specs.declared.limits.TheConstants.{LAST_CONFERENCE, LONGEST_NAME}
 use Rattle.row_table.specs.Tables.{with_row, without_row, changed_row}
 use Rattle.row_table.proofs.Rows.{IsByNumber-with_row, IsByNumber-without_row, IsByNumber-changed_row}
 use Rattle.kom_types.specs.declared.conferences.ConferenceRow.{ConferenceRow}
 use Rattle.kom_types.specs.Names.{clash, fold}
 use Rattle.kom_types.specs.tables.Conferences.{number_of_conference, with_name}
-use Rattle.kom_model.specs.Effects.{last_conference, longest_name}
 use Rattle.kom_model.specs.Whole.{AreConferences, is_apart}
 use Rattle.kom_model.proofs.whole.Counts.{all-along, all-weaker, all-kept, all-mapped, all-picked, all-with_row}
 
@@ -65,8 +65,8 @@ apart-none rows one apart = none-any (bars one.number one.name) rows (not-true _
 
 module _ (rows : List ConferenceRow) (next : ℕ) (whole : AreConferences rows next) where
   -- a conference of a new number, and of a free name
-  pub conferences-more : (given : ConferenceRow) → next ≤ given.number → given.number ≤ last_conference →
-      length given.name ≤ longest_name → list_any (bars given.number given.name) rows ≡ false →
+  pub conferences-more : (given : ConferenceRow) → next ≤ given.number → given.number ≤ LAST_CONFERENCE →
+      length given.name ≤ LONGEST_NAME → list_any (bars given.number given.name) rows ≡ false →
       AreConferences (with_row number_of_conference given rows) (given.number + 1)
   conferences-more given new last short free =
       let others : AllByRecursion (λ row. bars given.number given.name row ≡ false) rows =
@@ -80,7 +80,7 @@ module _ (rows : List ConferenceRow) (next : ℕ) (whole : AreConferences rows n
             (λ row less. omega (arith, less, new)) rows whole.drawn);
         begun = omega arith;
         limited = omega arith;
-        short = all-with_row number_of_conference (λ row. length row.name ≤ longest_name) given rows short whole.short;
+        short = all-with_row number_of_conference (λ row. length row.name ≤ LONGEST_NAME) given rows short whole.short;
         apart = all-with_row number_of_conference
             (λ one. is_apart (with_row number_of_conference given rows) one ≡ true) given rows
             (apart-from _ given (all-with_row number_of_conference (λ row. bars given.number given.name row ≡ false)
@@ -121,7 +121,7 @@ module _ (rows : List ConferenceRow) (next : ℕ) (whole : AreConferences rows n
         (λ row is less. omega (arith, less, numbers row)) (λ row less. less) rows whole.drawn;
     begun = whole.begun;
     limited = whole.limited;
-    short = all-picked (λ row. length row.name ≤ longest_name) (λ row. length row.name ≤ longest_name)
+    short = all-picked (λ row. length row.name ≤ LONGEST_NAME) (λ row. length row.name ≤ LONGEST_NAME)
         (λ row. row.number == at) change (λ row is less. rw (names row) less) (λ row less. less) rows whole.short;
     apart = all-picked (λ one. is_apart rows one ≡ true)
         (λ one. is_apart (changed_row number_of_conference at change rows) one ≡ true) (λ row. row.number == at) change
@@ -135,7 +135,7 @@ module _ (rows : List ConferenceRow) (next : ℕ) (whole : AreConferences rows n
         (λ row. row.number == at) change (λ row is here. rw (numbers row, names row) here) (λ row here. here) rows none
 
   -- a name that is free but for its conference
-  pub conferences-named : (number : ℕ) (name : List ℕ) → length name ≤ longest_name →
+  pub conferences-named : (number : ℕ) (name : List ℕ) → length name ≤ LONGEST_NAME →
       list_any (bars number name) rows ≡ false →
       AreConferences (changed_row number_of_conference number (with_name name) rows) next
   conferences-named number name short free =
@@ -148,7 +148,7 @@ module _ (rows : List ConferenceRow) (next : ℕ) (whole : AreConferences rows n
             (with_name name) (λ row is less. less) (λ row less. less) rows whole.drawn;
         begun = whole.begun;
         limited = whole.limited;
-        short = all-picked (λ row. length row.name ≤ longest_name) (λ row. length row.name ≤ longest_name)
+        short = all-picked (λ row. length row.name ≤ LONGEST_NAME) (λ row. length row.name ≤ LONGEST_NAME)
             (λ row. row.number == number) (with_name name) (λ row is less. short) (λ row less. less) rows whole.short;
         apart = all-mapped (λ one. (is_apart rows one ≡ true) × (bars number name one ≡ false))
             (λ one. is_apart (changed_row number_of_conference number (with_name name) rows) one ≡ true)

@@ -4,11 +4,11 @@ use Rattle.std.proofs.Common.{length, Option, Some, None, refl, sym, ◌∙◌, 
 use Rattle.std.specs.Prelude.{map, is_some, is_none}
 use Rattle.std.specs.List.{filter}
 use Rattle.std.proofs.lemmas.Bool.{cases_Bool, and_parts, ltb-true}
+use Rattle.kom_types.specs.declared.limits.TheConstants.{MOST_MARKS}
 use Rattle.kom_types.specs.declared.persons.PersonRow.{PersonRow}
 use Rattle.kom_types.specs.declared.texts.MarkRow.{MarkRow}
 use Rattle.kom_types.specs.declared.texts.TextRow.{TextRow}
 use Rattle.kom_types.specs.tables.Texts.{is_mark, mark_of, marks_of, by_text, with_mark, without_mark}
-use Rattle.kom_model.specs.Effects.{most_marks}
 use Rattle.kom_model.specs.Whole.{AreMarks, has_person, has_text}
 use Rattle.kom_model.proofs.whole.Counts.{none-found, count-none, count-placed}
 use Rattle.kom_model.proofs.whole.Pairs.{ArePairs, is_pair, is_of, all-keyed, all-unkeyed, filter-keyed, count-keyed}
@@ -50,7 +50,7 @@ count-marks person rows =
 
 module _ (persons : List PersonRow) (texts : List TextRow) where
   abbrev Pairs : List (ℕ × ℕ) → Type 0
-  Pairs keys = ArePairs keys (has_person persons) (has_text texts) most_marks
+  Pairs keys = ArePairs keys (has_person persons) (has_text texts) MOST_MARKS
 
   pairs-of : (rows : List MarkRow) → AreMarks rows persons texts → Pairs (map mark_key rows)
   pairs-of rows whole = record {
@@ -80,7 +80,7 @@ module _ (persons : List PersonRow) (texts : List TextRow) where
     pub marks-gone : (person text : ℕ) → AreMarks (without_mark person text rows) persons texts
     marks-gone person text = of-pairs (without_mark person text rows)
         (subst Pairs (filter-keyed mark_key (λ key. not (is_pair person text key)) rows)
-        (pairs-kept (has_person persons) (has_text texts) most_marks (λ key. not (is_pair person text key))
+        (pairs-kept (has_person persons) (has_text texts) MOST_MARKS (λ key. not (is_pair person text key))
         (map mark_key rows) (pairs-of rows whole)))
 
     absent-mark : (found : Option MarkRow) → is_some found ≡ false → is_none found ≡ true
@@ -89,13 +89,13 @@ module _ (persons : List PersonRow) (texts : List TextRow) where
 
     pub marks-set : (given : MarkRow) → has_person persons given.person ≡ true → has_text texts given.text ≡ true →
         (is_some (mark_of given.person given.text rows)
-        || nat_lt (length (marks_of given.person rows)) most_marks) ≡ true →
+        || nat_lt (length (marks_of given.person rows)) MOST_MARKS) ≡ true →
         AreMarks (with_mark given rows) persons texts
     marks-set given person text room = elim (cases_Bool (is_some (mark_of given.person given.text rows))) [
       | inl there ↦ rw there (of-pairs _ (subst Pairs (sym (keys-replaced given rows)) (pairs-of rows whole)))
       | inr apart ↦
-          let few : nat_lt (length (marks_of given.person rows)) most_marks ≡ true = rw apart at room in
-          let free : length (filter (is_of given.person) (map mark_key rows)) < most_marks =
+          let few : nat_lt (length (marks_of given.person rows)) MOST_MARKS ≡ true = rw apart at room in
+          let free : length (filter (is_of given.person) (map mark_key rows)) < MOST_MARKS =
           let less = ltb-true _ _ few in let same = count-marks given.person rows in
           let keyed = count-keyed mark_key (is_of given.person) rows in
           omega (arith, less, same, keyed) in
@@ -104,6 +104,6 @@ module _ (persons : List PersonRow) (texts : List TextRow) where
           ∙ count-none (is_mark given.person given.text) rows (none-found (is_mark given.person given.text) rows
           (absent-mark (mark_of given.person given.text rows) apart)) in
           rw apart (of-pairs (rows ++ given ∷ []) (subst Pairs (sym (keyed-more mark_key rows given))
-          (pairs-more (has_person persons) (has_text texts) most_marks given.person given.text (map mark_key rows)
+          (pairs-more (has_person persons) (has_text texts) MOST_MARKS given.person given.text (map mark_key rows)
           person text none free (pairs-of rows whole))))
     ]

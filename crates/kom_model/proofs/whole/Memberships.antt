@@ -5,6 +5,7 @@ use Rattle.std.proofs.Common.{eqb-true, true≢false}
 use Rattle.std.specs.Prelude.{map, min, is_some, is_none, nat_le}
 use Rattle.std.specs.List.{AllByRecursion, filter, find, list_any}
 use Rattle.std.proofs.lemmas.Bool.{cases_Bool, and_parts, ltb-true}
+use Rattle.kom_types.specs.declared.limits.TheConstants.{MOST_MEMBERSHIPS}
 use Rattle.kom_types.specs.declared.conferences.ConferenceRow.{ConferenceRow}
 use Rattle.kom_types.specs.declared.memberships.MembershipRow.{MembershipRow}
 use Rattle.kom_types.specs.declared.memberships.ReadRange.{ReadRange}
@@ -13,7 +14,6 @@ use Rattle.kom_types.specs.tables.Memberships.{is_membership, membership_of, clo
 use Rattle.kom_types.specs.tables.Memberships.{memberships_of, count_of, with_membership, without_membership}
 use Rattle.kom_types.specs.tables.Memberships.{with_new, set_again, replaced_by}
 use Rattle.read_ranges.specs.Reads.{ReadRow, is_read_of, with_reader, without_reader, with_read, read_at}
-use Rattle.kom_model.specs.Effects.{most_memberships}
 use Rattle.kom_model.specs.Whole.{AreMemberships, RiseApart, key_of, read_key_of, has_person, has_conference}
 use Rattle.kom_model.proofs.whole.Counts.{all-kept, all-more, all-picked, none-found, count-none, count-placed}
 use Rattle.kom_model.proofs.whole.Pairs.{ArePairs, is_pair, is_of, all-keyed, all-unkeyed, filter-keyed, count-keyed}
@@ -98,7 +98,7 @@ count-memberships person rows =
 
 module _ (persons : List PersonRow) (conferences : List ConferenceRow) where
   abbrev Pairs : List (ℕ × ℕ) → Type 0
-  Pairs keys = ArePairs keys (has_person persons) (has_conference conferences) most_memberships
+  Pairs keys = ArePairs keys (has_person persons) (has_conference conferences) MOST_MEMBERSHIPS
 
   pairs-of : (rows : List MembershipRow) (reads : List ReadRow) → AreMemberships rows reads persons conferences →
       Pairs (map key_of rows)
@@ -182,7 +182,7 @@ module _ (persons : List PersonRow) (conferences : List ConferenceRow) where
             keys-closed person row.position _
             ∙ sym (filter-keyed key_of (λ key. not (is_pair person conference key)) rows) in
             of-pairs _ _ (subst Pairs (sym keys) (pairs-kept (has_person persons) (has_conference conferences)
-            most_memberships (λ key. not (is_pair person conference key)) (map key_of rows)
+            MOST_MEMBERSHIPS (λ key. not (is_pair person conference key)) (map key_of rows)
             (pairs-of rows reads whole)))
             (sym (filter-keyed read_key_of (λ key. not (is_pair person conference key)) reads)
             ∙ ap (filter (λ key. not (is_pair person conference key))) whole.kept ∙ sym keys)
@@ -192,7 +192,7 @@ module _ (persons : List PersonRow) (conferences : List ConferenceRow) where
     pub memberships-set : (given : MembershipRow) → has_person persons given.person ≡ true →
         has_conference conferences given.conference ≡ true →
         (is_some (membership_of given.person given.conference rows)
-        || nat_lt (length (memberships_of given.person rows)) most_memberships) ≡ true →
+        || nat_lt (length (memberships_of given.person rows)) MOST_MEMBERSHIPS) ≡ true →
         AreMemberships (with_membership given rows) (with_reader given.person given.conference reads) persons
         conferences
     memberships-set given person conference room =
@@ -209,9 +209,9 @@ module _ (persons : List PersonRow) (conferences : List ConferenceRow) where
             count-keyed key_of (is_pair given.person given.conference) rows
             ∙ count-none (is_membership given.person given.conference) rows
             (none-found (is_membership given.person given.conference) rows (none-some _ found)) in
-            let few : nat_lt (length (memberships_of given.person rows)) most_memberships ≡ true =
+            let few : nat_lt (length (memberships_of given.person rows)) MOST_MEMBERSHIPS ≡ true =
             rw found at room in
-            let free : length (filter (is_of given.person) (map key_of rows)) < most_memberships =
+            let free : length (filter (is_of given.person) (map key_of rows)) < MOST_MEMBERSHIPS =
             let less = ltb-true _ _ few in let same = count-memberships given.person rows in
             let keyed = count-keyed key_of (is_of given.person) rows in
             omega (arith, less, same, keyed) in
@@ -219,7 +219,7 @@ module _ (persons : List PersonRow) (conferences : List ConferenceRow) where
             keyed-more key_of (opened given.person place rows) (at_place place given)
             ∙ ap (λ keys. keys ++ (given.person, given.conference) ∷ []) (keys-opened given.person place rows) in
             rw none (of-pairs _ _ (subst Pairs (sym keys) (pairs-more (has_person persons) (has_conference conferences)
-            most_memberships given.person given.conference (map key_of rows) person conference apart free
+            MOST_MEMBERSHIPS given.person given.conference (map key_of rows) person conference apart free
             (pairs-of rows reads whole)))
             (keyed-more read_key_of reads _ ∙ ap (λ keys. keys ++ (given.person, given.conference) ∷ []) whole.kept
             ∙ sym keys)

@@ -7,8 +7,8 @@ use Rattle.std.specs.Prelude.{map}
 use Rattle.std.specs.List.{AllByRecursion, filter}
 use Rattle.std.proofs.lemmas.Bool.{cases_Bool, and_parts, ltb-true, leb-true, ne_eqb, and_left, and_right}
 use Rattle.std.proofs.lemmas.Bool.{not_from_false}
+use Rattle.kom_types.specs.declared.limits.TheConstants.{MOST_AUX_ITEMS}
 use Rattle.row_table.specs.Tables.{row_of, changed_row, with_row, without_row}
-use Rattle.kom_types.specs.AuxItems.{most_items}
 use Rattle.kom_types.specs.Bits.{alike}
 use Rattle.kom_types.specs.declared.aux_items.AuxRow.{AuxRow}
 use Rattle.kom_types.specs.declared.aux_items.ItemRow.{ItemRow}
@@ -278,8 +278,8 @@ module _ (db : Db) (whole : IsWhole db) where
   ]
 
   few : (on_text : Bool) (object : ℕ) →
-      nat_lt (length (map (λ (row : ItemRow). row.item) (filter (is_item_of on_text object) db.items))) most_items
-      ≡ true → length (filter (is_item_of on_text object) db.items) < most_items
+      nat_lt (length (map (λ (row : ItemRow). row.item) (filter (is_item_of on_text object) db.items))) MOST_AUX_ITEMS
+      ≡ true → length (filter (is_item_of on_text object) db.items) < MOST_AUX_ITEMS
   few on_text object is =
       let less = ltb-true _ _ is in
       let same = told-length (λ (row : ItemRow). row.item) (filter (is_item_of on_text object) db.items) in

@@ -4,6 +4,7 @@ use Rattle.std.proofs.Common.{refl, sym, ◌∙◌, arith, inl, inr, eqb-true, t
 use Rattle.std.specs.Prelude.{map}
 use Rattle.std.specs.List.{AllByRecursion, filter}
 use Rattle.std.proofs.lemmas.Bool.{cases_Bool, and_parts, and_right, ne_eqb}
+use Rattle.kom_types.specs.declared.limits.TheConstants.{LAST_DRAWN, LONGEST_BODY}
 use Rattle.row_table.specs.Tables.{with_row, without_row, changed_row, IsByNumber}
 use Rattle.row_table.proofs.Rows.{IsByNumber-with_row, IsByNumber-without_row, IsByNumber-changed_row}
 use Rattle.kom_types.specs.declared.conferences.ConferenceRow.{ConferenceRow}
@@ -11,7 +12,7 @@ use Rattle.kom_types.specs.declared.persons.PersonRow.{PersonRow}
 use Rattle.kom_types.specs.declared.texts.TextRow.{TextRow}
 use Rattle.kom_types.specs.tables.Persons.{number_of_person}
 use Rattle.kom_types.specs.tables.Texts.{number_of_text, with_created_local}
-use Rattle.kom_model.specs.Effects.{last_drawn, longest_body, without_number}
+use Rattle.kom_model.specs.Effects.{without_number}
 use Rattle.kom_model.specs.Whole.{ArePersons, AreTexts, IsNumbered, has_letterbox, has_drawn_created, is_created}
 use Rattle.kom_model.proofs.whole.Counts.{all-along, all-weaker, all-kept, all-mapped, all-picked, all-with_row}
 use Rattle.kom_model.proofs.whole.Counts.{rising-mapped, count-kept, count-mapped, count-with_row, count-none}
@@ -45,8 +46,8 @@ module _ (rows : List PersonRow) (conferences : List ConferenceRow) (whole : Are
 -- ---- texts
 module _ (rows : List TextRow) (next : ℕ) (persons : List PersonRow) (whole : AreTexts rows next persons) where
   -- a text of a new number
-  pub texts-more : (given : TextRow) → next ≤ given.number → given.number ≤ last_drawn →
-      length given.body ≤ longest_body → given.created_local ≡ 0 →
+  pub texts-more : (given : TextRow) → next ≤ given.number → given.number ≤ LAST_DRAWN →
+      length given.body ≤ LONGEST_BODY → given.created_local ≡ 0 →
       AreTexts (with_row number_of_text given rows) (given.number + 1) persons
   texts-more given new last short none = record {
     rising = IsByNumber-with_row number_of_text given rows whole.rising;
@@ -54,7 +55,7 @@ module _ (rows : List TextRow) (next : ℕ) (persons : List PersonRow) (whole : 
         (all-weaker (λ row. row.number < next) (λ row. row.number < given.number + 1)
         (λ row less. omega (arith, less, new)) rows whole.drawn);
     limited = omega arith;
-    short = all-with_row number_of_text (λ row. length row.body ≤ longest_body) given rows short whole.short;
+    short = all-with_row number_of_text (λ row. length row.body ≤ LONGEST_BODY) given rows short whole.short;
     numbered = all-with_row number_of_text (IsNumbered persons) given rows
         (λ some. absurd (omega (arith, some, none))) whole.numbered;
     created_once = λ person local some.
@@ -88,7 +89,7 @@ module _ (rows : List TextRow) (next : ℕ) (persons : List PersonRow) (whole : 
     drawn = all-picked (λ row. row.number < next) (λ row. row.number < next) (λ row. row.number == at) change
         (λ row is less. omega (arith, less, numbers row)) (λ row less. less) rows whole.drawn;
     limited = whole.limited;
-    short = all-picked (λ row. length row.body ≤ longest_body) (λ row. length row.body ≤ longest_body)
+    short = all-picked (λ row. length row.body ≤ LONGEST_BODY) (λ row. length row.body ≤ LONGEST_BODY)
         (λ row. row.number == at) change (λ row is less. rw (bodies row) less) (λ row less. less) rows whole.short;
     numbered = all-picked (IsNumbered persons) (IsNumbered persons) (λ row. row.number == at) change
         (λ row is here. rw (locals row, authors row) here) (λ row here. here) rows whole.numbered;
@@ -149,7 +150,7 @@ module _ (rows : List TextRow) (next : ℕ) (persons : List PersonRow) (whole : 
     drawn = all-mapped (λ row. row.number < next) (λ row. row.number < next) (without_number gone)
         (λ row less. omega (arith, less, left-number row)) rows whole.drawn;
     limited = whole.limited;
-    short = all-mapped (λ row. length row.body ≤ longest_body) (λ row. length row.body ≤ longest_body)
+    short = all-mapped (λ row. length row.body ≤ LONGEST_BODY) (λ row. length row.body ≤ LONGEST_BODY)
         (without_number gone) (λ row less. rw (left-body row) less) rows whole.short;
     numbered = all-mapped (IsNumbered persons) (IsNumbered left) (without_number gone) left-numbered rows
         whole.numbered;
@@ -219,7 +220,7 @@ module _ (rows : List TextRow) (next : ℕ) (persons : List PersonRow) (whole : 
     drawn = all-picked (λ row. row.number < next) (λ row. row.number < next) (λ row. row.number == text)
         (with_created_local local) (λ row is less. less) (λ row less. less) rows whole.drawn;
     limited = whole.limited;
-    short = all-picked (λ row. length row.body ≤ longest_body) (λ row. length row.body ≤ longest_body)
+    short = all-picked (λ row. length row.body ≤ LONGEST_BODY) (λ row. length row.body ≤ LONGEST_BODY)
         (λ row. row.number == text) (with_created_local local) (λ row is less. less) (λ row less. less) rows
         whole.short;
     numbered = all-mapped (λ row. IsNumbered persons row × ((row.number == text) ≡ true → row.author ≡ person))

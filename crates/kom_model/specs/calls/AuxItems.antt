@@ -1,8 +1,9 @@
 -- The calls about aux-items. (Protocol A, "Auxiliary Information".)
 use Rattle.std.specs.Prelude.{ℕ, ◌+◌, Bool, true, false, nat_le, List, [], ◌∷◌, ◌++◌}
 use Rattle.std.specs.Prelude.{length, map, if◌then◌else◌}
-use Rattle.kom_types.specs.Errors as error
-use Rattle.kom_types.specs.AuxItems.{items_from}
+use Rattle.kom_types.specs.declared.limits.TheConstants.{LAST_DRAWN}
+use Rattle.kom_types.specs.declared.errors.TheConstants as error
+use Rattle.kom_types.specs.AuxItems.{aux_kinds, items_from}
 use Rattle.kom_types.specs.declared.aux_items.Adder.{Adder}
 use Rattle.kom_types.specs.declared.aux_items.AuxChange.{AuxChange}
 use Rattle.kom_types.specs.declared.aux_items.AuxRow.{AuxRow}
@@ -13,7 +14,7 @@ use Rattle.kom_types.specs.declared.effects.Effect.{Effect}
 use Rattle.kom_types.specs.declared.effects.Effect.TheVariants as effect
 use Rattle.kom_types.specs.declared.replies.Reply.TheVariants as reply
 use Rattle.kom_model.specs.Db.{Db, items_of, next_item_of}
-use Rattle.kom_model.specs.Effects.{last_drawn, has_letterbox}
+use Rattle.kom_model.specs.Effects.{has_letterbox}
 use Rattle.kom_model.specs.Shown.{text_adder, conference_adder}
 use Rattle.kom_model.specs.calls.Call.{Asked, Definition, answer, done, unguarded}
 use Rattle.kom_model.specs.calls.Guards.{Guard, guarded, first_refusal, unless, caller}
@@ -22,7 +23,7 @@ use Rattle.kom_model.specs.calls.Guards.{with_items}
 
 -- the tags that the server knows
 abbrev pub known_tags : List ℕ
-known_tags = 1 ∷ 2 ∷ 3 ∷ 4 ∷ 5 ∷ 6 ∷ 7 ∷ 8 ∷ 10 ∷ 13 ∷ 14 ∷ 15 ∷ []
+known_tags = map (λ known. known.tag) aux_kinds
 
 -- call 96, query-predefined-aux-items
 abbrev pub query_predefined_aux_items : Definition
@@ -40,8 +41,8 @@ items_added on_text number items = map (λ item. effect.AuxAdded on_text number 
 -- a number is left for each item that is added
 abbrev pub numbers_guard : Db → Bool → AuxChange → Guard
 numbers_guard db on_text change =
-    unless (nat_le (next_item_of db on_text change.object + length change.add) (last_drawn + 1))
-    error.temporary_failure 0
+    unless (nat_le (next_item_of db on_text change.object + length change.add) (LAST_DRAWN + 1))
+    error.TEMPORARY_FAILURE 0
 
 -- the effects of a change: items go, and others are added with the next numbers
 abbrev pub item_effects : Asked → Bool → Adder → AuxChange → List Effect

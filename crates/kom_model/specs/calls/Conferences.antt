@@ -3,7 +3,8 @@ use Rattle.std.specs.Prelude.{ℕ, ◌-◌, Bool, false, ◌==◌, ◌||◌, ◌
 use Rattle.std.specs.Prelude.{List, [], ◌∷◌, ◌++◌, map, filter, find, reverse, Option, Some, None}
 use Rattle.std.specs.Prelude.{if◌then◌else◌}
 use Rattle.std.specs.List.{range_with_len, filter_map}
-use Rattle.kom_types.specs.Errors as error
+use Rattle.kom_types.specs.declared.limits.TheConstants.{LONGEST_NAME}
+use Rattle.kom_types.specs.declared.errors.TheConstants as error
 use Rattle.kom_types.specs.AuxItems.{items_from}
 use Rattle.kom_types.specs.Bits.{alike}
 use Rattle.kom_types.specs.declared.aux_items.Object.TheVariants as object
@@ -28,7 +29,6 @@ use Rattle.kom_model.specs.Db.{Db, conference_of, person_of, conferences_of, nex
 use Rattle.kom_model.specs.Db.{next_local_of, locals_of, marks_of, memberships_at, items_of}
 use Rattle.kom_model.specs.Rights.{sees}
 use Rattle.kom_model.specs.Shown.{conference_told}
-use Rattle.kom_model.specs.Effects.{longest_name}
 use Rattle.kom_model.specs.calls.AuxItems.{items_added}
 use Rattle.kom_model.specs.calls.Call.{Asked, Definition, answer, done, unguarded}
 use Rattle.kom_model.specs.calls.Guards.{Guard, guarded, refusal, unless, caller}
@@ -91,7 +91,7 @@ may_become db number kind = elim (conference_of db number) [
 -- call 21, set-conf-type
 abbrev pub set_conf_type : Asked → ℕ → ℕ → Definition
 set_conf_type asked number kind = set_field asked number
-    (unless (may_become asked.db number kind) error.letterbox number ∷ type_guard kind
+    (unless (may_become asked.db number kind) error.LETTERBOX number ∷ type_guard kind
     ∷ []) (field.Kind kind)
 
 -- call 22, set-garb-nice; call 97, set-expire; and call 105, set-keep-commented: days
@@ -142,7 +142,7 @@ may_make_conferences db person = elim (person_of db person) [
 
 abbrev pub create_conf_guard : Db → Viewer → Guard
 create_conf_guard db caller =
-    unless (may_make_conferences db caller.person || caller.strong) error.permission_denied 0
+    unless (may_make_conferences db caller.person || caller.strong) error.PERMISSION_DENIED 0
 
 -- call 88, create-conf: no letterbox is made so
 abbrev pub create_conf : Asked → NewConference → Definition
@@ -151,7 +151,7 @@ create_conf asked given =
     let by = (caller asked).person in
     guarded
     (login_guard (caller asked) ∷ create_conf_guard asked.db (caller asked)
-    ∷ name_guard given.name ∷ unless (not (is_letterbox given.kind)) error.letterbox 0
+    ∷ name_guard given.name ∷ unless (not (is_letterbox given.kind)) error.LETTERBOX 0
     ∷ type_guard given.kind ∷ free_guard asked.db 0 given.name ∷ drawn_guard asked.db ∷ [])
     (with_items (new_items_guard object.Conference by given.aux_items) (record {
       reply = reply.Number number;
@@ -173,7 +173,7 @@ name_of row = record { name = row.name; kind = bit_and row.kind 240; number = ro
 -- call 76, lookup-z-name
 abbrev pub lookup_z_name : Asked → List ℕ → Bool → Bool → Definition
 lookup_z_name asked pattern persons conferences = guarded
-    (size_guard pattern longest_name ∷ [])
+    (size_guard pattern LONGEST_NAME ∷ [])
     (answer (reply.ConferenceNames (map name_of (filter
     (λ row. finds pattern row.name && is_wanted persons conferences row
     && sees asked.db (caller asked) row.number)
@@ -182,7 +182,7 @@ lookup_z_name asked pattern persons conferences = guarded
 -- what a conference is said to be to most clients
 abbrev pub uconference_of : Db → ℕ → Reply
 uconference_of db number = elim (conference_of db number) [
-  | None ↦ reply.Refused error.undefined_conference number
+  | None ↦ reply.Refused error.UNDEFINED_CONFERENCE number
   | Some row ↦ reply.UConference (record {
     name = row.name;
     kind = row.kind;
@@ -204,7 +204,7 @@ get_collate_table = unguarded (answer (reply.Text (map fold (range_with_len 0 25
 -- what is replied of a conference
 abbrev pub conference_reply : Db → Viewer → ℕ → Reply
 conference_reply db caller number = elim (conference_of db number) [
-  | None ↦ reply.Refused error.undefined_conference number
+  | None ↦ reply.Refused error.UNDEFINED_CONFERENCE number
   | Some row ↦ reply.Conference (conference_told db caller row)
 ]
 
@@ -226,7 +226,7 @@ first_seen asked test rows =
 -- a number is answered, or that there is none
 abbrev pub nearest : Asked → ℕ → Option ConferenceRow → Definition
 nearest asked start None =
-    guarded (login_guard (caller asked) ∷ refusal error.undefined_conference start
+    guarded (login_guard (caller asked) ∷ refusal error.UNDEFINED_CONFERENCE start
     ∷ []) (answer reply.Done)
 nearest asked start (Some row) =
     guarded (login_guard (caller asked) ∷ []) (answer (reply.Number row.number))

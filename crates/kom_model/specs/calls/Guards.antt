@@ -4,7 +4,8 @@ use Rattle.std.specs.Prelude.{◌≡◌, ℕ, Bool, true, false, ◌==◌, ◌||
 use Rattle.std.specs.Prelude.{bytes_eq}
 use Rattle.std.specs.Prelude.{List, [], ◌∷◌, length, find, Option, Some, None, is_some}
 use Rattle.std.specs.Prelude.{if◌then◌else◌, Result, Ok, Err}
-use Rattle.kom_types.specs.Errors as error
+use Rattle.kom_types.specs.declared.limits.TheConstants.{LAST_CONFERENCE, LONGEST_NAME}
+use Rattle.kom_types.specs.declared.errors.TheConstants as error
 use Rattle.kom_types.specs.AuxItems.{refused_change}
 use Rattle.kom_types.specs.declared.aux_items.Adder.{Adder}
 use Rattle.kom_types.specs.declared.aux_items.AuxInput.{AuxInput}
@@ -19,7 +20,6 @@ use Rattle.kom_types.specs.tables.Persons.{password_hash}
 use Rattle.kom_model.specs.declared.call_errors.Refused.{Refused}
 use Rattle.kom_model.specs.declared.viewers.Viewer.{Viewer}
 use Rattle.kom_model.specs.Db.{Db, person_of, conferences_of, next_conference_of}
-use Rattle.kom_model.specs.Effects.{longest_name, last_conference}
 use Rattle.kom_model.specs.Viewers.{viewer_of}
 use Rattle.kom_model.specs.Rights.{sees, supervises, reads, reads_conference, may_submit}
 use Rattle.kom_model.specs.calls.Call.{Asked, Definition, seat_of, refuse}
@@ -60,19 +60,19 @@ caller asked = viewer_at asked.db (seat_of asked)
 
 -- somebody is logged in
 abbrev pub login_guard : Viewer → Guard
-login_guard caller = unless (not (caller.person == 0)) error.login_first 0
+login_guard caller = unless (not (caller.person == 0)) error.LOGIN_FIRST 0
 
 -- the conference is there and seen
 abbrev pub conference_guard : Db → Viewer → ℕ → Guard
 conference_guard db caller number =
-    if number == 0 then refusal error.conference_zero 0
-    else unless (sees db caller number) error.undefined_conference number
+    if number == 0 then refusal error.CONFERENCE_ZERO 0
+    else unless (sees db caller number) error.UNDEFINED_CONFERENCE number
 
 -- the text is there and read
 abbrev pub text_guard : Db → Viewer → ℕ → Guard
 text_guard db caller number =
-    if number == 0 then refusal error.text_zero 0
-    else unless (reads db caller number) error.no_such_text number
+    if number == 0 then refusal error.TEXT_ZERO 0
+    else unless (reads db caller number) error.NO_SUCH_TEXT number
 
 -- the same of one that a call may name, or 0 for none
 abbrev pub conference_or_none_guard : Db → Viewer → ℕ → Guard
@@ -85,26 +85,26 @@ text_or_none_guard db caller number = if number == 0 then None else text_guard d
 -- the texts of the conference are shown to the caller; and the caller may send some to it
 abbrev pub reads_guard : Db → Viewer → ℕ → Guard
 reads_guard db caller conference =
-    unless (reads_conference db caller conference) error.access_denied conference
+    unless (reads_conference db caller conference) error.ACCESS_DENIED conference
 
 abbrev pub submit_guard : Db → Viewer → ℕ → Guard
 submit_guard db caller conference =
-    unless (may_submit db caller conference) error.access_denied conference
+    unless (may_submit db caller conference) error.ACCESS_DENIED conference
 
 -- the person is there
 abbrev pub person_guard : Db → ℕ → Guard
 person_guard db number =
-    if number == 0 then refusal error.conference_zero 0
-    else unless (is_some (person_of db number)) error.undefined_person number
+    if number == 0 then refusal error.CONFERENCE_ZERO 0
+    else unless (is_some (person_of db number)) error.UNDEFINED_PERSON number
 
 -- the caller's session is strong
 abbrev pub strong_guard : Viewer → Guard
-strong_guard caller = unless caller.strong error.permission_denied 0
+strong_guard caller = unless caller.strong error.PERMISSION_DENIED 0
 
 -- the caller supervises the conference
 abbrev pub supervisor_guard : Db → Viewer → ℕ → Guard
 supervisor_guard db caller number =
-    unless (supervises db caller.person number || caller.strong) error.permission_denied number
+    unless (supervises db caller.person number || caller.strong) error.PERMISSION_DENIED number
 
 -- the seat of a session
 abbrev pub seat_at : List Seat → ℕ → Option Seat
@@ -113,24 +113,24 @@ seat_at seats number = find (λ seat. seat.number == number) seats
 -- the session is there, and no call has ended it
 abbrev pub session_guard : List Seat → ℕ → Guard
 session_guard seats number = elim (seat_at seats number) [
-  | None ↦ refusal error.undefined_session number
-  | Some seat ↦ unless (not seat.ended) error.undefined_session number
+  | None ↦ refusal error.UNDEFINED_SESSION number
+  | Some seat ↦ unless (not seat.ended) error.UNDEFINED_SESSION number
 ]
 
 -- there are not too many bytes
 abbrev pub size_guard : List ℕ → ℕ → Guard
-size_guard bytes most = unless (nat_le (length bytes) most) error.string_too_long most
+size_guard bytes most = unless (nat_le (length bytes) most) error.STRING_TOO_LONG most
 
 -- the name is no longer than a name may be, and the bytes may be a name
 abbrev pub name_guard : List ℕ → Guard
 name_guard name =
-    first_refusal (size_guard name longest_name ∷ unless (is_name name) error.bad_name 0 ∷ [])
+    first_refusal (size_guard name LONGEST_NAME ∷ unless (is_name name) error.BAD_NAME 0 ∷ [])
 
 -- another conference than this one has a name that clashes: a letterbox, or another
 abbrev pub taken_by : ConferenceRow → Guard
 taken_by row =
-    if is_letterbox row.kind then refusal error.person_exists 0
-    else refusal error.conference_exists 0
+    if is_letterbox row.kind then refusal error.PERSON_EXISTS 0
+    else refusal error.CONFERENCE_EXISTS 0
 
 -- no conference but the one of this number, or 0, has a name that clashes
 abbrev pub free_guard : Db → ℕ → List ℕ → Guard
@@ -142,11 +142,11 @@ free_guard db number name =
 
 -- a secret conference is read-protected too
 abbrev pub type_guard : ℕ → Guard
-type_guard kind = unless (is_secret_protected kind) error.secret_public 0
+type_guard kind = unless (is_secret_protected kind) error.SECRET_PUBLIC 0
 
 -- a conference's number is left
 abbrev pub drawn_guard : Db → Guard
-drawn_guard db = unless (nat_le (next_conference_of db) last_conference) error.temporary_failure 0
+drawn_guard db = unless (nat_le (next_conference_of db) LAST_CONFERENCE) error.TEMPORARY_FAILURE 0
 
 -- a person has this password, or the caller's session is strong
 abbrev pub agrees : Db → ℕ → List ℕ → Bool
@@ -157,7 +157,7 @@ agrees db person password = elim (person_of db person) [
 
 abbrev pub password_guard : Db → Viewer → ℕ → List ℕ → Guard
 password_guard db caller person password =
-    unless (agrees db person password || caller.strong) error.invalid_password person
+    unless (agrees db person password || caller.strong) error.INVALID_PASSWORD person
 
 -- A change of the aux-items of an object passes, or is refused for the first entry that may not be:
 -- its place in its list is the status, which stops at 4294967295.

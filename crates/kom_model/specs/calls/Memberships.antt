@@ -2,7 +2,8 @@
 use Rattle.std.specs.Prelude.{ℕ, ◌+◌, ◌-◌, Bool, false, ◌==◌, ◌||◌, ◌&&◌, not, nat_le, nat_lt}
 use Rattle.std.specs.Prelude.{List, [], ◌∷◌, ◌++◌, length, map, filter, take, drop, min, bit_or}
 use Rattle.std.specs.Prelude.{Some, None, if◌then◌else◌}
-use Rattle.kom_types.specs.Errors as error
+use Rattle.kom_types.specs.declared.limits.TheConstants.{MOST_MEMBERSHIPS}
+use Rattle.kom_types.specs.declared.errors.TheConstants as error
 use Rattle.kom_types.specs.declared.effects.Counter.TheVariants as counter
 use Rattle.kom_types.specs.declared.effects.Effect.{Effect}
 use Rattle.kom_types.specs.declared.effects.Effect.TheVariants as effect
@@ -22,7 +23,6 @@ use Rattle.read_ranges.specs.Changed.{size_of, all_marked, unmarked, up_to, has_
 use Rattle.kom_model.specs.declared.viewers.Viewer.{Viewer}
 use Rattle.kom_model.specs.Db.{Db, conference_of, membership_of, membership_kind_of}
 use Rattle.kom_model.specs.Db.{memberships_of, read_of, next_local_of, first_local_of}
-use Rattle.kom_model.specs.Effects.{most_memberships}
 use Rattle.kom_model.specs.Rights.{is_member, supervises, reads_conference}
 use Rattle.kom_model.specs.Shown.{shows_membership}
 use Rattle.kom_types.specs.tables.Memberships.{is_passive, is_secret_membership, member_of}
@@ -36,7 +36,7 @@ use Rattle.kom_model.specs.calls.Sessions.{counts}
 -- the person has a membership in the conference
 abbrev pub member_guard : Db → ℕ → ℕ → Guard
 member_guard db person conference =
-    unless (is_member db person conference) error.not_member conference
+    unless (is_member db person conference) error.NOT_MEMBER conference
 
 -- the membership of a person in a conference is there and shown to the caller
 abbrev pub shows_row : Db → Viewer → ℕ → ℕ → Bool
@@ -47,7 +47,7 @@ shows_row db caller person conference = elim (membership_kind_of db person confe
 
 abbrev pub row_guard : Db → Viewer → ℕ → ℕ → Guard
 row_guard db caller person conference =
-    unless (shows_row db caller person conference) error.not_member conference
+    unless (shows_row db caller person conference) error.NOT_MEMBER conference
 
 -- the highest local number that was drawn in a conference: 0 if none was
 abbrev pub highest_of : Db → ℕ → ℕ
@@ -55,11 +55,11 @@ highest_of db conference = next_local_of db conference - 1
 
 -- the local number was drawn; and it is one
 abbrev pub drawn_local_guard : ℕ → ℕ → Guard
-drawn_local_guard highest local = unless (nat_le local highest) error.no_such_local_text local
+drawn_local_guard highest local = unless (nat_le local highest) error.NO_SUCH_LOCAL_TEXT local
 
 abbrev pub local_guards : ℕ → ℕ → List Guard
 local_guards highest local =
-    unless (not (local == 0)) error.local_text_zero 0 ∷ drawn_local_guard highest local ∷ []
+    unless (not (local == 0)) error.LOCAL_TEXT_ZERO 0 ∷ drawn_local_guard highest local ∷ []
 
 -- the guards of every call by which the caller tells what it has read of a conference
 abbrev pub reader_guards : Asked → ℕ → List Guard
@@ -118,8 +118,8 @@ set_last_read asked conference local = guarded
 abbrev pub range_guards : ℕ → ℕ → ℕ → ReadRange → List Guard
 range_guards highest place end one =
     unless (not (one.first == 0) && nat_le one.first one.last)
-    error.invalid_range (min place 4294967295)
-    ∷ unless (nat_lt end one.first) error.invalid_range_list (min place 4294967295)
+    error.INVALID_RANGE (min place 4294967295)
+    ∷ unless (nat_lt end one.first) error.INVALID_RANGE_LIST (min place 4294967295)
     ∷ drawn_local_guard highest one.last ∷ []
 
 abbrev pub ranges_guards : ℕ → ℕ → ℕ → List ReadRange → List Guard
@@ -166,7 +166,7 @@ sub_member asked conference person = guarded
     (login_guard (caller asked) ∷ conference_guard asked.db (caller asked) conference
     ∷ person_guard asked.db person ∷ row_guard asked.db (caller asked) person conference
     ∷ unless (may_end asked.db (caller asked) conference person)
-    error.permission_denied conference ∷ [])
+    error.PERMISSION_DENIED conference ∷ [])
     (done (effect.MemberGone person conference ∷ []) (left_by person conference asked.seats))
 
 -- a conference takes no secret memberships
@@ -179,7 +179,7 @@ refuses_secret db conference = elim (conference_of db conference) [
 abbrev pub secret_guard : Db → ℕ → ℕ → Guard
 secret_guard db conference kind =
     unless (not (is_secret_membership kind && refuses_secret db conference))
-    error.invalid_membership_type 0
+    error.INVALID_MEMBERSHIP_TYPE 0
 
 -- the caller is near a person: it is the person, supervises it, or its session is strong
 abbrev pub is_near : Db → Viewer → ℕ → Bool
@@ -209,9 +209,9 @@ may_join db caller person conference =
 -- a membership that is not there may begin, and there is room for it
 abbrev pub joins_guards : Db → Viewer → ℕ → ℕ → List Guard
 joins_guards db caller person conference = if is_member db person conference then [] else
-    unless (may_join db caller person conference) error.access_denied conference
-    ∷ unless (nat_lt (length (memberships_of db person)) most_memberships)
-    error.temporary_failure person ∷ []
+    unless (may_join db caller person conference) error.ACCESS_DENIED conference
+    ∷ unless (nat_lt (length (memberships_of db person)) MOST_MEMBERSHIPS)
+    error.TEMPORARY_FAILURE person ∷ []
 
 -- what is set of a membership with another priority, place and type, and of a new one: a caller who
 -- is not near makes an invitation
@@ -273,7 +273,7 @@ get_unread_confs asked person = guarded
     (login_guard (caller asked) ∷ person_guard asked.db person
     ∷ unless (not (is_reserved asked.db person)
     || supervises asked.db (caller asked).person person || (caller asked).strong)
-    error.permission_denied person ∷ [])
+    error.PERMISSION_DENIED person ∷ [])
     (answer (reply.Numbers (map (λ row. row.conference) (filter
     (λ row. is_shown asked row && not (is_passive row.kind) && is_unread asked.db row)
     (memberships_of asked.db person)))))
@@ -284,7 +284,7 @@ part first count rows = take count (drop first rows)
 
 abbrev pub place_guard : {A : Type 0} → ℕ → List A → Guard
 place_guard first rows =
-    unless (first == 0 || nat_lt first (length rows)) error.index_out_of_range first
+    unless (first == 0 || nat_lt first (length rows)) error.INDEX_OUT_OF_RANGE first
 
 -- the members of a conference, and the memberships of a person, that are shown to the caller
 abbrev pub shown_members : Asked → ℕ → List MembershipRow
@@ -337,7 +337,7 @@ place_of asked row =
 abbrev pub told_reply : Asked → ℕ → ℕ → Bool → ℕ → Reply
 told_reply asked person conference want_ranges most =
     elim (membership_of asked.db person conference) [
-      | None ↦ reply.Refused error.not_member conference
+      | None ↦ reply.Refused error.NOT_MEMBER conference
       | Some row ↦
           reply.Membership (membership_told asked want_ranges most (place_of asked row) row)
     ]

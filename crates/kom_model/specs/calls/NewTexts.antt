@@ -3,7 +3,8 @@ use Rattle.std.specs.Prelude.{ℕ, Bool, true, false, ◌==◌, ◌||◌, ◌&&�
 use Rattle.std.specs.Prelude.{List, [], ◌∷◌, ◌++◌, length, map, filter, fold, count_by, Some, None}
 use Rattle.std.specs.Prelude.{if◌then◌else◌}
 use Rattle.std.specs.List.{list_any, list_all}
-use Rattle.kom_types.specs.Errors as error
+use Rattle.kom_types.specs.declared.limits.TheConstants.{LAST_DRAWN, LONGEST_BODY, MOST_RECIPIENTS}
+use Rattle.kom_types.specs.declared.errors.TheConstants as error
 use Rattle.kom_types.specs.AuxItems.{items_from, inherited}
 use Rattle.kom_types.specs.declared.aux_items.AuxRow.{AuxRow}
 use Rattle.kom_types.specs.declared.aux_items.Object.TheVariants as object
@@ -18,7 +19,7 @@ use Rattle.kom_types.specs.tables.Texts.{lines_of}
 use Rattle.kom_model.specs.declared.viewers.Viewer.{Viewer}
 use Rattle.kom_model.specs.Db.{Db, conference_head_of, next_text_of, next_local_of}
 use Rattle.kom_model.specs.Db.{next_created_of, items_of}
-use Rattle.kom_model.specs.Effects.{last_drawn, longest_body, is_recipient_tag, most_recipients}
+use Rattle.kom_model.specs.Effects.{is_recipient_tag}
 use Rattle.kom_model.specs.Effects.{most_links}
 use Rattle.kom_model.specs.calls.AuxItems.{items_added}
 use Rattle.kom_model.specs.calls.Call.{Asked, Definition}
@@ -60,38 +61,38 @@ takes_anonymous db conference = elim (conference_head_of db conference) [
 -- a text without an author is taken by the conference
 abbrev pub anonymous_guard : Db → Bool → ℕ → Guard
 anonymous_guard db anonymous conference =
-    unless (not anonymous || takes_anonymous db conference) error.anonymous_rejected conference
+    unless (not anonymous || takes_anonymous db conference) error.ANONYMOUS_REJECTED conference
 
 -- the caller made the text that gets a footnote, and makes this one not without an author
 abbrev pub author_guard : Db → Viewer → Bool → ℕ → Guard
 author_guard db caller anonymous text =
-    unless (not anonymous && made_text db caller text) error.not_author text
+    unless (not anonymous && made_text db caller text) error.NOT_AUTHOR text
 
 -- the guards of an item that names a recipient, after these items
 abbrev pub recipient_guard : Asked → Bool → List MiscInput → ℕ → Guard
 recipient_guard asked anonymous before conference = first_refusal
     (conference_guard asked.db (caller asked) conference
-    ∷ unless (is_new names_recipient before conference) error.already_recipient conference
+    ∷ unless (is_new names_recipient before conference) error.ALREADY_RECIPIENT conference
     ∷ submit_guard asked.db (caller asked) conference
     ∷ anonymous_guard asked.db anonymous conference
-    ∷ unless (has_room names_recipient before most_recipients) error.recipient_limit 0 ∷ [])
+    ∷ unless (has_room names_recipient before MOST_RECIPIENTS) error.RECIPIENT_LIMIT 0 ∷ [])
 
 -- the guards of an item that names a text that is commented
 abbrev pub comment_guard : Asked → List MiscInput → ℕ → Guard
 comment_guard asked before text = first_refusal
     (text_guard asked.db (caller asked) text
-    ∷ unless (is_new names_comment before text) error.already_comment text
-    ∷ into_guard asked.db text false error.comment_limit text
-    ∷ unless (has_room names_comment before (most_links false)) error.comment_limit 0 ∷ [])
+    ∷ unless (is_new names_comment before text) error.ALREADY_COMMENT text
+    ∷ into_guard asked.db text false error.COMMENT_LIMIT text
+    ∷ unless (has_room names_comment before (most_links false)) error.COMMENT_LIMIT 0 ∷ [])
 
 -- the guards of an item that names a text that gets a footnote: its author makes it
 abbrev pub footnote_guard : Asked → Bool → List MiscInput → ℕ → Guard
 footnote_guard asked anonymous before text = first_refusal
     (text_guard asked.db (caller asked) text
     ∷ author_guard asked.db (caller asked) anonymous text
-    ∷ unless (is_new names_footnote before text) error.already_footnote text
-    ∷ into_guard asked.db text true error.footnote_limit text
-    ∷ unless (has_room names_footnote before (most_links true)) error.footnote_limit 0 ∷ [])
+    ∷ unless (is_new names_footnote before text) error.ALREADY_FOOTNOTE text
+    ∷ into_guard asked.db text true error.FOOTNOTE_LIMIT text
+    ∷ unless (has_room names_footnote before (most_links true)) error.FOOTNOTE_LIMIT 0 ∷ [])
 
 -- the guards of an item, after these items; of other tags none is taken. A status stops at
 -- 4294967295.
@@ -100,7 +101,7 @@ item_guard asked anonymous before item =
     if names_recipient item then recipient_guard asked anonymous before item.value
     else if names_comment item then comment_guard asked before item.value
     else if names_footnote item then footnote_guard asked anonymous before item.value
-    else refusal error.illegal_misc (min (length before) 4294967295)
+    else refusal error.ILLEGAL_MISC (min (length before) 4294967295)
 
 -- the guards of each item in turn
 abbrev pub item_guards : Asked → Bool → List MiscInput → List MiscInput → List Guard
@@ -111,16 +112,16 @@ item_guards asked anonymous before (item ∷ items) =
 
 -- a local number of the conference that an item names is left
 abbrev pub has_local : Db → MiscInput → Bool
-has_local db item = not (names_recipient item) || nat_le (next_local_of db item.value) last_drawn
+has_local db item = not (names_recipient item) || nat_le (next_local_of db item.value) LAST_DRAWN
 
 -- a number among the texts of an author is left, where there is one
 abbrev pub has_created : Db → ℕ → Bool → Bool
-has_created db person anonymous = anonymous || nat_le (next_created_of db person) last_drawn
+has_created db person anonymous = anonymous || nat_le (next_created_of db person) LAST_DRAWN
 
 -- the next number of a text is left, one in each conference, and one among the author's texts
 abbrev pub has_numbers : Db → ℕ → Bool → List MiscInput → Bool
 has_numbers db person anonymous items =
-    nat_le (next_text_of db) last_drawn && list_all (has_local db) items
+    nat_le (next_text_of db) LAST_DRAWN && list_all (has_local db) items
     && has_created db person anonymous
 
 -- what an item makes of a text that is made: a recipient; or a comment, or a footnote, to a text
@@ -170,10 +171,10 @@ text_effects asked anonymous text given =
 -- a text is made, by the caller or without an author
 abbrev pub new_text : Bool → Asked → NewText → Definition
 new_text anonymous asked given = let number = next_text_of asked.db in guarded
-    (login_guard (caller asked) ∷ size_guard given.body longest_body
+    (login_guard (caller asked) ∷ size_guard given.body LONGEST_BODY
     ∷ first_refusal (item_guards asked anonymous [] given.misc_inputs)
     ∷ unless (has_numbers asked.db (caller asked).person anonymous given.misc_inputs)
-    error.temporary_failure 0 ∷ [])
+    error.TEMPORARY_FAILURE 0 ∷ [])
     (with_items (new_items_guard object.Text (caller asked).person given.aux_items) (record {
       reply = reply.Number number;
       effects = text_effects asked anonymous number given;

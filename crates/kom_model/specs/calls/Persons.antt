@@ -1,7 +1,8 @@
 -- The calls about persons. (Protocol A, "Protocol Requests".)
 use Rattle.std.specs.Prelude.{ℕ, Bool, false, ◌==◌, ◌||◌, List, [], ◌∷◌, ◌++◌, Some, None}
 use Rattle.std.specs.Prelude.{if◌then◌else◌}
-use Rattle.kom_types.specs.Errors as error
+use Rattle.kom_types.specs.declared.limits.TheConstants.{LONGEST_PASSWORD}
+use Rattle.kom_types.specs.declared.errors.TheConstants as error
 use Rattle.kom_types.specs.AuxItems.{items_from}
 use Rattle.kom_types.specs.declared.aux_items.Object.TheVariants as object
 use Rattle.kom_types.specs.declared.effects.Counter.TheVariants as counter
@@ -25,10 +26,6 @@ use Rattle.kom_model.specs.calls.Guards.{name_guard, free_guard, drawn_guard, pa
 use Rattle.kom_model.specs.calls.Guards.{new_items_guard, with_items}
 use Rattle.kom_model.specs.calls.Sessions.{counts}
 
--- how many bytes a password has at most
-abbrev pub longest_password : ℕ
-longest_password = 128
-
 -- call 7, set-priv-bits
 abbrev pub set_priv_bits : Asked → ℕ → ℕ → Definition
 set_priv_bits asked person privileges = guarded
@@ -41,7 +38,7 @@ set_passwd asked given = guarded
     (login_guard (caller asked) ∷ person_guard asked.db given.person
     ∷ supervisor_guard asked.db (caller asked) given.person
     ∷ password_guard asked.db (caller asked) (caller asked).person given.old_password
-    ∷ size_guard given.new_password longest_password ∷ [])
+    ∷ size_guard given.new_password LONGEST_PASSWORD ∷ [])
     (done (effect.Password given.person (password_hash given.person given.new_password) ∷ []) [])
 
 -- call 106, set-pers-flags
@@ -62,7 +59,7 @@ set_user_area asked person text = guarded
 -- what is replied of a person
 abbrev pub person_reply : Db → Viewer → ℕ → Reply
 person_reply db caller number = elim (person_of db number) [
-  | None ↦ reply.Refused error.undefined_person number
+  | None ↦ reply.Refused error.UNDEFINED_PERSON number
   | Some row ↦ reply.Person (person_told db caller row)
 ]
 
@@ -81,7 +78,7 @@ may_make_persons db person = elim (person_of db person) [
 
 abbrev pub create_person_guard : Db → Viewer → Guard
 create_person_guard db caller =
-    unless (may_make_persons db caller.person || caller.strong) error.permission_denied 0
+    unless (may_make_persons db caller.person || caller.strong) error.PERMISSION_DENIED 0
 
 -- the type of a letterbox that is made, and the privileges of a person that is
 abbrev pub letterbox_type : ℕ
@@ -114,7 +111,7 @@ create_person asked given =
     let number = next_conference_of asked.db in
     guarded
     (create_person_guard asked.db (caller asked) ∷ name_guard given.name
-    ∷ size_guard given.password longest_password ∷ free_guard asked.db 0 given.name
+    ∷ size_guard given.password LONGEST_PASSWORD ∷ free_guard asked.db 0 given.name
     ∷ drawn_guard asked.db ∷ [])
     (with_items
     (new_items_guard object.Letterbox (maker (caller asked).person number) given.aux_items)

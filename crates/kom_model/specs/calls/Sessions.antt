@@ -3,7 +3,9 @@ use Rattle.std.specs.Prelude.{ℕ, ◌-◌, ◌^◌, Bool, false, ◌==◌, ◌|
 use Rattle.std.specs.Prelude.{List, [], ◌∷◌, ◌++◌, length, map}
 use Rattle.std.specs.Prelude.{Option, Some, None, find, filter, fold, bit_or, if◌then◌else◌}
 use Rattle.std.specs.List.{flat_map}
-use Rattle.kom_types.specs.Errors as error
+use Rattle.kom_types.specs.declared.limits.TheConstants.{LONGEST_MESSAGE, LONGEST_NAME}
+use Rattle.kom_types.specs.declared.async_numbers.TheConstants.{MESSAGE_NUMBERS}
+use Rattle.kom_types.specs.declared.errors.TheConstants as error
 use Rattle.kom_types.specs.declared.effects.Counter.{Counter}
 use Rattle.kom_types.specs.declared.effects.Counter.TheVariants as counter
 use Rattle.kom_types.specs.declared.effects.Effect.{Effect}
@@ -19,7 +21,6 @@ use Rattle.kom_types.specs.declared.sessions.StaticSession.{StaticSession}
 use Rattle.kom_types.specs.Bits.{is_on}
 use Rattle.kom_types.specs.declared.decisions.Decision.{Decision}
 use Rattle.kom_types.specs.tables.Persons.{last_count}
-use Rattle.kom_model.specs.Effects.{longest_name}
 use Rattle.kom_model.specs.Kinds.{is_among}
 use Rattle.kom_model.specs.Messages.{send_message}
 use Rattle.kom_model.specs.Rights.{supervises}
@@ -34,13 +35,8 @@ use Rattle.kom_model.specs.calls.Guards.{conference_or_none_guard}
 abbrev pub who_am_i : Asked → Definition
 who_am_i asked = unguarded (answer (reply.Number asked.session))
 
--- the numbers of messages, rising
-abbrev pub message_numbers : List ℕ
-message_numbers =
-    0 ∷ 1 ∷ 2 ∷ 5 ∷ 6 ∷ 7 ∷ 8 ∷ 9 ∷ 11 ∷ 12 ∷ 13 ∷ 14 ∷ 15 ∷ 16 ∷ 17 ∷ 18 ∷ 19 ∷ 20 ∷ 21 ∷ 22 ∷ []
-
 abbrev pub is_message : ℕ → Bool
-is_message number = is_among message_numbers number
+is_message number = is_among MESSAGE_NUMBERS number
 
 -- the numbers of messages in a list, as a bit for each
 abbrev pub accepted_bits : List ℕ → ℕ
@@ -48,7 +44,7 @@ accepted_bits numbers = fold (λ bits number. bit_or bits (2 ^ number)) 0 (filte
 
 -- refused for the first number that is of no message
 abbrev pub accept_reply : Option ℕ → Reply
-accept_reply (Some number) = reply.Refused error.unknown_async number
+accept_reply (Some number) = reply.Refused error.UNKNOWN_ASYNC number
 accept_reply None = reply.Done
 
 -- call 80, accept-async: the session accepts the messages of these numbers, also where the call is
@@ -63,7 +59,7 @@ accept_async asked numbers = unguarded (record {
 -- the messages that the caller's session accepts
 abbrev pub accepted_of : Asked → List ℕ
 accepted_of asked = elim (seat_of asked) [
-  | Some seat ↦ filter (λ number. accepts number seat) message_numbers
+  | Some seat ↦ filter (λ number. accepts number seat) MESSAGE_NUMBERS
   | None ↦ []
 ]
 
@@ -74,7 +70,7 @@ query_async asked = unguarded (answer (reply.Numbers (accepted_of asked)))
 -- call 4, change-what-i-am-doing
 abbrev pub change_what_i_am_doing : Asked → List ℕ → Definition
 change_what_i_am_doing asked doing = guarded
-    (size_guard doing longest_name ∷ [])
+    (size_guard doing LONGEST_NAME ∷ [])
     (done [] (change.Doing asked.session doing ∷ []))
 
 -- call 42, enable
@@ -90,8 +86,8 @@ has_told asked = elim (seat_of asked) [ None ↦ false | Some seat ↦ seat.clie
 -- call 69, set-client-version: a client tells it once
 abbrev pub set_client_version : Asked → ClientVersion → Definition
 set_client_version asked given = guarded
-    (size_guard given.name longest_name ∷ size_guard given.version longest_name
-    ∷ unless (not (has_told asked)) error.client_is_crazy 0 ∷ [])
+    (size_guard given.name LONGEST_NAME ∷ size_guard given.version LONGEST_NAME
+    ∷ unless (not (has_told asked)) error.CLIENT_IS_CRAZY 0 ∷ [])
     (done [] (change.Client asked.session given.name given.version ∷ []))
 
 -- call 70, get-client-name, and call 71, get-client-version: empty where none was told
@@ -152,10 +148,6 @@ login asked person password invisible = guarded
     (leaving_effects asked ++ effect.LoggedIn person asked.moment (user_of asked) ∷ [])
     (leaving_changes asked ++ change.Person asked.session person invisible ∷ []))
 
--- the most bytes of a message that a session sends
-abbrev pub longest_message : ℕ
-longest_message = 10000
-
 -- a session gets the message
 abbrev pub is_sent : Asked → ℕ → List ℕ → Bool
 is_sent asked recipient text = not (length (delivered_to asked.db asked.seats
@@ -164,9 +156,9 @@ is_sent asked recipient text = not (length (delivered_to asked.db asked.seats
 -- call 53, send-message: somebody gets it
 abbrev pub send_message_to : Asked → ℕ → List ℕ → Definition
 send_message_to asked recipient text = guarded
-    (login_guard (caller asked) ∷ size_guard text longest_message
+    (login_guard (caller asked) ∷ size_guard text LONGEST_MESSAGE
     ∷ conference_or_none_guard asked.db (caller asked) recipient
-    ∷ unless (is_sent asked recipient text) error.message_not_sent recipient ∷ [])
+    ∷ unless (is_sent asked recipient text) error.MESSAGE_NOT_SENT recipient ∷ [])
     (done [] [])
 
 -- the session that a number means: the caller's own with 0
@@ -189,7 +181,7 @@ ended asked seat = done (seat_left asked seat) (seat_leaves seat ++ change.Ended
 abbrev pub disconnect : Asked → ℕ → Definition
 disconnect asked number = let session = session_meant asked number in guarded
     (session_guard asked.seats session
-    ∷ unless (may_disconnect asked session) error.permission_denied session ∷ [])
+    ∷ unless (may_disconnect asked session) error.PERMISSION_DENIED session ∷ [])
     (elim (seat_at asked.seats session) [ None ↦ done [] [] | Some seat ↦ ended asked seat ])
 
 -- for how many seconds a person has done nothing

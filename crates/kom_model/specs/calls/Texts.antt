@@ -2,7 +2,9 @@
 use Rattle.std.specs.Prelude.{ℕ, ◌+◌, ◌-◌, Bool, true, false, ◌==◌, ◌||◌, ◌&&◌, not, nat_le, nat_lt}
 use Rattle.std.specs.Prelude.{List, [], ◌∷◌, ◌++◌, length, map, filter, find, take, drop, reverse}
 use Rattle.std.specs.Prelude.{Option, Some, None, is_some, is_none}
-use Rattle.kom_types.specs.Errors as error
+use Rattle.kom_types.specs.declared.limits.TheConstants.{LAST_DRAWN, MOST_MAPPED, MOST_MARKS}
+use Rattle.kom_types.specs.declared.limits.TheConstants.{MOST_RECIPIENTS}
+use Rattle.kom_types.specs.declared.errors.TheConstants as error
 use Rattle.kom_types.specs.declared.effects.ConfField.TheVariants as field
 use Rattle.kom_types.specs.declared.effects.Counter.TheVariants as counter
 use Rattle.kom_types.specs.declared.effects.Effect.{Effect}
@@ -19,8 +21,7 @@ use Rattle.kom_model.specs.Db.{Db, text_of, texts_of, text_author_of, next_text_
 use Rattle.kom_model.specs.Db.{recipient_of, recipients_of, items_of}
 use Rattle.kom_model.specs.Db.{link_of, links_from, links_into, links_of, locals_of, created_by}
 use Rattle.kom_model.specs.Db.{next_local_of, next_created_of, mark_of, marks_of, marks_on}
-use Rattle.kom_model.specs.Effects.{last_drawn, is_recipient_tag, most_recipients, most_links}
-use Rattle.kom_model.specs.Effects.{most_marks}
+use Rattle.kom_model.specs.Effects.{is_recipient_tag, most_links}
 use Rattle.kom_model.specs.Rights.{supervises, reads, is_author}
 use Rattle.kom_model.specs.Shown.{shows_recipient, shown_stat}
 use Rattle.kom_model.specs.calls.Call.{Asked, Definition, answer, done, unguarded}
@@ -51,7 +52,7 @@ cut start end bytes = take (end + 1 - start) (drop start bytes)
 abbrev pub get_text : Asked → ℕ → ℕ → ℕ → Definition
 get_text asked text start end = guarded
     (login_guard (caller asked) ∷ text_guard asked.db (caller asked) text
-    ∷ unless (nat_le start (length (body_of asked.db text))) error.index_out_of_range start ∷ [])
+    ∷ unless (nat_le start (length (body_of asked.db text))) error.INDEX_OUT_OF_RANGE start ∷ [])
     (record {
       reply = reply.Text (cut start end (body_of asked.db text));
       effects = effect.Counted (caller asked).person counter.TextFetches 1 ∷ [];
@@ -61,7 +62,7 @@ get_text asked text start end = guarded
 -- what is replied of a text
 abbrev pub text_reply : Db → Viewer → ℕ → Reply
 text_reply db caller number = elim (text_of db number) [
-  | None ↦ reply.Refused error.no_such_text number
+  | None ↦ reply.Refused error.NO_SUCH_TEXT number
   | Some row ↦ reply.TextStat (shown_stat db caller row)
 ]
 
@@ -84,13 +85,13 @@ gone_text db text =
 abbrev pub delete_text : Asked → ℕ → Definition
 delete_text asked text = guarded
     (login_guard (caller asked) ∷ text_guard asked.db (caller asked) text
-    ∷ unless (owns_text asked.db (caller asked) text) error.permission_denied text ∷ [])
+    ∷ unless (owns_text asked.db (caller asked) text) error.PERMISSION_DENIED text ∷ [])
     (done (gone_text asked.db text) [])
 
 -- a local number of the conference is left
 abbrev pub local_guard : Db → ℕ → Guard
 local_guard db conference =
-    unless (nat_le (next_local_of db conference) last_drawn) error.temporary_failure 0
+    unless (nat_le (next_local_of db conference) LAST_DRAWN) error.TEMPORARY_FAILURE 0
 
 -- a recipient that is added now, by whom: 0 if the text is made with it
 abbrev pub new_recipient : Asked → ℕ → ℕ → ℕ → ℕ → Recipient
@@ -112,11 +113,11 @@ abbrev pub add_recipient : Asked → ℕ → ℕ → ℕ → Definition
 add_recipient asked text conference tag = guarded
     (login_guard (caller asked) ∷ text_guard asked.db (caller asked) text
     ∷ conference_guard asked.db (caller asked) conference
-    ∷ unless (is_recipient_tag tag) error.illegal_info_type tag
-    ∷ unless (is_none (recipient_of asked.db text conference)) error.already_recipient conference
+    ∷ unless (is_recipient_tag tag) error.ILLEGAL_INFO_TYPE tag
+    ∷ unless (is_none (recipient_of asked.db text conference)) error.ALREADY_RECIPIENT conference
     ∷ submit_guard asked.db (caller asked) conference
-    ∷ unless (nat_lt (length (recipients_of asked.db text)) most_recipients)
-    error.recipient_limit text
+    ∷ unless (nat_lt (length (recipients_of asked.db text)) MOST_RECIPIENTS)
+    error.RECIPIENT_LIMIT text
     ∷ local_guard asked.db conference ∷ [])
     (done
     (effect.RecipientAdded (new_recipient asked text conference tag (caller asked).person)
@@ -148,9 +149,9 @@ may_take db caller text conference =
 abbrev pub sub_recipient : Asked → ℕ → ℕ → Definition
 sub_recipient asked text conference = guarded
     (login_guard (caller asked) ∷ text_guard asked.db (caller asked) text
-    ∷ unless (not (conference == 0)) error.conference_zero 0
-    ∷ unless (shows_to asked.db (caller asked) text conference) error.not_recipient conference
-    ∷ unless (may_take asked.db (caller asked) text conference) error.permission_denied text ∷ [])
+    ∷ unless (not (conference == 0)) error.CONFERENCE_ZERO 0
+    ∷ unless (shows_to asked.db (caller asked) text conference) error.NOT_RECIPIENT conference
+    ∷ unless (may_take asked.db (caller asked) text conference) error.PERMISSION_DENIED text ∷ [])
     (done (effect.RecipientGone text conference ∷ []) [])
 
 -- a comment, or a footnote, that is linked to a text now
@@ -182,10 +183,10 @@ abbrev pub add_comment : Asked → ℕ → ℕ → Definition
 add_comment asked child parent = guarded
     (login_guard (caller asked) ∷ text_guard asked.db (caller asked) child
     ∷ text_guard asked.db (caller asked) parent
-    ∷ unless (not (child == parent)) error.permission_denied child
-    ∷ unlinked_guard asked.db child parent false error.already_comment
-    ∷ into_guard asked.db parent false error.comment_limit parent
-    ∷ from_guard asked.db child false error.comment_limit ∷ [])
+    ∷ unless (not (child == parent)) error.PERMISSION_DENIED child
+    ∷ unlinked_guard asked.db child parent false error.ALREADY_COMMENT
+    ∷ into_guard asked.db parent false error.COMMENT_LIMIT parent
+    ∷ from_guard asked.db child false error.COMMENT_LIMIT ∷ [])
     (done (linked asked child parent false ∷ []) [])
 
 -- two texts are linked so
@@ -198,10 +199,10 @@ abbrev pub sub_comment : Asked → ℕ → ℕ → Definition
 sub_comment asked child parent = guarded
     (login_guard (caller asked) ∷ text_guard asked.db (caller asked) child
     ∷ text_guard asked.db (caller asked) parent
-    ∷ linked_guard asked.db child parent false error.not_comment
+    ∷ linked_guard asked.db child parent false error.NOT_COMMENT
     ∷ unless (owns_text asked.db (caller asked) child
     || linker_of asked.db child parent false == (caller asked).person)
-    error.permission_denied child ∷ [])
+    error.PERMISSION_DENIED child ∷ [])
     (done (effect.LinkGone child parent false ∷ []) [])
 
 -- call 37, add-footnote
@@ -209,12 +210,12 @@ abbrev pub add_footnote : Asked → ℕ → ℕ → Definition
 add_footnote asked child parent = guarded
     (login_guard (caller asked) ∷ text_guard asked.db (caller asked) child
     ∷ text_guard asked.db (caller asked) parent
-    ∷ unless (not (child == parent)) error.permission_denied child
+    ∷ unless (not (child == parent)) error.PERMISSION_DENIED child
     ∷ unless (made_text asked.db (caller asked) child && made_text asked.db (caller asked) parent)
-    error.not_author parent
-    ∷ unlinked_guard asked.db child parent true error.already_footnote
-    ∷ into_guard asked.db parent true error.footnote_limit parent
-    ∷ from_guard asked.db child true error.footnote_limit ∷ [])
+    error.NOT_AUTHOR parent
+    ∷ unlinked_guard asked.db child parent true error.ALREADY_FOOTNOTE
+    ∷ into_guard asked.db parent true error.FOOTNOTE_LIMIT parent
+    ∷ from_guard asked.db child true error.FOOTNOTE_LIMIT ∷ [])
     (done (linked asked child parent true ∷ []) [])
 
 -- call 38, sub-footnote
@@ -222,9 +223,9 @@ abbrev pub sub_footnote : Asked → ℕ → ℕ → Definition
 sub_footnote asked child parent = guarded
     (login_guard (caller asked) ∷ text_guard asked.db (caller asked) child
     ∷ text_guard asked.db (caller asked) parent
-    ∷ linked_guard asked.db child parent true error.not_footnote
+    ∷ linked_guard asked.db child parent true error.NOT_FOOTNOTE
     ∷ unless (made_text asked.db (caller asked) child || (caller asked).strong)
-    error.permission_denied child ∷ [])
+    error.PERMISSION_DENIED child ∷ [])
     (done (effect.LinkGone child parent true ∷ []) [])
 
 -- call 72, mark-text: the mark may be there already
@@ -232,14 +233,14 @@ abbrev pub mark_text : Asked → ℕ → ℕ → Definition
 mark_text asked text kind = let person = (caller asked).person in guarded
     (login_guard (caller asked) ∷ text_guard asked.db (caller asked) text
     ∷ unless (is_some (mark_of asked.db person text)
-    || nat_lt (length (marks_of asked.db person)) most_marks) error.mark_limit 0 ∷ [])
+    || nat_lt (length (marks_of asked.db person)) MOST_MARKS) error.MARK_LIMIT 0 ∷ [])
     (done (effect.MarkSet person text kind ∷ []) [])
 
 -- call 73, unmark-text: also of a text that is not read any more
 abbrev pub unmark_text : Asked → ℕ → Definition
 unmark_text asked text = let person = (caller asked).person in guarded
-    (login_guard (caller asked) ∷ unless (not (text == 0)) error.text_zero 0
-    ∷ unless (is_some (mark_of asked.db person text)) error.not_marked text ∷ [])
+    (login_guard (caller asked) ∷ unless (not (text == 0)) error.TEXT_ZERO 0
+    ∷ unless (is_some (mark_of asked.db person text)) error.NOT_MARKED text ∷ [])
     (done (effect.MarkGone person text ∷ []) [])
 
 -- call 23, get-marks
@@ -259,7 +260,7 @@ first_read asked test rows = find (λ row. test row && reads asked.db (caller as
 -- a text's number is answered, or that there is none
 abbrev pub nearest_text : Asked → ℕ → Option TextRow → Definition
 nearest_text asked start None =
-    guarded (login_guard (caller asked) ∷ refusal error.no_such_text start ∷ []) (answer reply.Done)
+    guarded (login_guard (caller asked) ∷ refusal error.NO_SUCH_TEXT start ∷ []) (answer reply.Done)
 nearest_text asked start (Some row) =
     guarded (login_guard (caller asked) ∷ []) (answer (reply.Number row.number))
 
@@ -273,16 +274,12 @@ abbrev pub find_previous_text_no : Asked → ℕ → Definition
 find_previous_text_no asked start = nearest_text asked start
     (first_read asked (λ row. nat_lt row.number start) (reverse (texts_of asked.db)))
 
--- how many texts a mapping tells of at most
-abbrev pub most_mapped : ℕ
-most_mapped = 255
-
 -- local numbers begin at 1; and not too many are asked for
 abbrev pub first_guard : ℕ → Guard
-first_guard first = unless (not (first == 0)) error.local_text_zero 0
+first_guard first = unless (not (first == 0)) error.LOCAL_TEXT_ZERO 0
 
 abbrev pub count_guard : ℕ → Guard
-count_guard count = unless (nat_le count most_mapped) error.index_out_of_range count
+count_guard count = unless (nat_le count MOST_MAPPED) error.INDEX_OUT_OF_RANGE count
 
 -- call 103, local-to-global
 abbrev pub local_to_global : Asked → ℕ → ℕ → ℕ → Definition

@@ -2,6 +2,7 @@
 use Rattle.std.specs.Prelude.{ℕ, zero, suc, ◌+◌, ◌-◌, ◌*◌, Bool, true, false, ◌==◌, ◌||◌, ◌&&◌}
 use Rattle.std.specs.Prelude.{nat_le, List, [], ◌∷◌, length, fold, Some, None}
 use Rattle.std.specs.List.{list_all, list_any}
+use Rattle.kom_types.specs.declared.limits.TheConstants.{LONGEST_ARRAY}
 use Rattle.kom_types.specs.declared.aux_items.AuxInput.{AuxInput}
 use Rattle.kom_types.specs.declared.memberships.ReadRange.{ReadRange}
 use Rattle.kom_types.specs.declared.texts.MiscInput.{MiscInput}
@@ -107,14 +108,10 @@ array_of element count (Star ∷ tail) =
     elim count [ zero ↦ Took [] tail | suc more ↦ Departs Malformed ]
 array_of element count (Signed sign digits ∷ tail) = Departs Malformed
 
--- how many elements an array has at most
-abbrev pub longest_array : ℕ
-longest_array = 2048
-
 -- an array: its length and its elements; of one that is too long nothing more is looked at
 abbrev pub array : {X : Type 0} → (List Token → Taken X) → List Token → Taken (List X)
 array element tokens = then (integer tokens) (λ count tail.
-    elim (nat_le count longest_array) [
+    elim (nat_le count LONGEST_ARRAY) [
       | true ↦ array_of element count tail
       | false ↦ Departs LongArray
     ])

@@ -3,7 +3,7 @@
 -- person 9 Di, who asks.
 use Rattle.std.specs.Prelude.{ℕ, ◌&&◌, not, nat_le, nat_lt, List, [], ◌∷◌}
 use Rattle.std.specs.Prelude.{◌++◌, length, map, filter, fold, codes, if◌then◌else◌}
-use Rattle.kom_types.specs.Errors as error
+use Rattle.kom_types.specs.declared.errors.TheConstants as error
 use Rattle.kom_types.specs.declared.effects.Effect.{Effect}
 use Rattle.kom_types.specs.declared.effects.Effect.TheVariants as effect
 use Rattle.kom_types.specs.declared.replies.Reply.TheVariants as reply
@@ -62,7 +62,7 @@ di_asks = record {
 abbrev pub stat_by_body : Asked → ℕ → Definition
 stat_by_body asked text = guarded
     (login_guard (caller asked)
-    ∷ unless (nat_le (length (body_of asked.db text)) 4) error.string_too_long 4
+    ∷ unless (nat_le (length (body_of asked.db text)) 4) error.STRING_TOO_LONG 4
     ∷ text_guard asked.db (caller asked) text ∷ [])
     (answer (text_reply asked.db (caller asked) text))
 
@@ -83,7 +83,7 @@ any_uconf_stat asked number =
 abbrev pub text_by_range : Asked → ℕ → ℕ → ℕ → Definition
 text_by_range asked text start end = guarded
     (login_guard (caller asked)
-    ∷ unless (nat_le start (length (body_of asked.db text))) error.index_out_of_range start
+    ∷ unless (nat_le start (length (body_of asked.db text))) error.INDEX_OUT_OF_RANGE start
     ∷ text_guard asked.db (caller asked) text ∷ [])
     (answer (reply.Text (cut start end (body_of asked.db text))))
 

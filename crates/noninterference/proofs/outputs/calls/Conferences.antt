@@ -5,7 +5,7 @@ use Rattle.std.proofs.Common.{refl, sym, ap, ap₂, ◌∙◌}
 use Rattle.std.specs.Prelude.{map, option_map, reverse}
 use Rattle.std.specs.List.{filter, filter_map}
 use Rattle.kom_types.specs.Bits.{alike}
-use Rattle.kom_types.specs.Errors as error
+use Rattle.kom_types.specs.declared.errors.TheConstants as error
 use Rattle.kom_types.specs.declared.conferences.Conference.{Conference}
 use Rattle.kom_types.specs.declared.conferences.ConferenceName.{ConferenceName}
 use Rattle.kom_types.specs.declared.conferences.ConferenceRow.{ConferenceRow}
@@ -169,7 +169,7 @@ module _ (asked : Asked) (one : Db) (alike_to : IsAlikeTo (caller asked) one ask
   uconference-same : (number : ℕ) → HasSameConference number one asked.db →
       uconference_of one number ≡ uconference_of asked.db number
   uconference-same number all = ap₂ (λ (found : Option ConferenceRow) (next : ℕ).
-      told (reply.Refused error.undefined_conference number) (λ row. reply.UConference (record {
+      told (reply.Refused error.UNDEFINED_CONFERENCE number) (λ row. reply.UConference (record {
         name = row.name;
         kind = row.kind;
         highest_local = next - 1;
@@ -184,7 +184,7 @@ module _ (asked : Asked) (one : Db) (alike_to : IsAlikeTo (caller asked) one ask
   reply-same : (number : ℕ) → sees asked.db (caller asked) number ≡ true →
       conference_reply one (caller asked) number ≡ conference_reply asked.db (caller asked) number
   reply-same number seen =
-      let none : Reply = reply.Refused error.undefined_conference number in
+      let none : Reply = reply.Refused error.UNDEFINED_CONFERENCE number in
       let tell : Conference → Reply = λ told. reply.Conference told in
       replied-same none tell (conference_told one (caller asked)) (conference_told asked.db (caller asked))
       (conference_of one number) (conference_of asked.db number) (alike_to.shown.conference number seen)

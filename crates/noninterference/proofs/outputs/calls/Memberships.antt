@@ -6,7 +6,7 @@ use Rattle.std.specs.Prelude.{map, is_some, bit_or}
 use Rattle.std.specs.List.{filter, AllByRecursion}
 use Rattle.std.proofs.lemmas.Bool.{and_parts}
 use Rattle.std.proofs.Common.{eqb-true, subst, sym}
-use Rattle.kom_types.specs.Errors as error
+use Rattle.kom_types.specs.declared.errors.TheConstants as error
 use Rattle.kom_types.specs.declared.effects.Effect.TheVariants as effect
 use Rattle.kom_types.specs.declared.memberships.Membership.{Membership}
 use Rattle.kom_types.specs.declared.memberships.MembershipRow.{MembershipRow}
@@ -221,7 +221,7 @@ module _ (asked : Asked) (one : Db) (alike : IsAlikeTo (caller asked) one asked.
       told_reply rest person conference want_ranges most ≡ told_reply asked person conference want_ranges most
   unfolding membership_of
   told_reply-same person conference want_ranges most seen =
-      let none : Reply = reply.Refused error.not_member conference in
+      let none : Reply = reply.Refused error.NOT_MEMBER conference in
       let tell : Asked → MembershipRow → Reply = λ asked row.
       reply.Membership (membership_told asked want_ranges most (place_of asked row) row) in
       ap (told_of none (tell rest)) ((alike.conference conference seen).membership person)

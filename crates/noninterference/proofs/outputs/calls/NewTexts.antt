@@ -4,7 +4,7 @@ use Rattle.std.proofs.Common.{◌∙◌, None, Some, eqb-true, subst, length, in
 use Rattle.std.specs.Prelude.{map, min}
 use Rattle.std.specs.List.{filter, list_all, AllByRecursion}
 use Rattle.std.proofs.lemmas.Bool.{cases_Bool, cond-true, cond-false}
-use Rattle.kom_types.specs.Errors as error
+use Rattle.kom_types.specs.declared.errors.TheConstants as error
 use Rattle.kom_types.specs.AuxItems.{inherited, items_from}
 use Rattle.kom_types.specs.declared.aux_items.AuxRow.{AuxRow}
 use Rattle.kom_types.specs.declared.effects.Effect.{Effect}
@@ -90,7 +90,7 @@ module _ (asked : Asked) (one : Db) (alike : IsAlikeTo (caller asked) one asked.
         footnote_guard-same anonymous before item.value in
         λ i. cond (names_recipient item) (recipient i) (cond (names_comment item) (comment i)
         (cond (names_footnote item) (footnote i)
-        (refusal error.illegal_misc (min (length before) 4294967295))))
+        (refusal error.ILLEGAL_MISC (min (length before) 4294967295))))
 
     item_guards-same : (anonymous : Bool) (before items : List MiscInput) →
         item_guards part anonymous before items ≡ item_guards asked anonymous before items

@@ -1,7 +1,7 @@
 -- The calls about persons come to the same over two sets of stored rows that are alike to the caller.
 use Rattle.std.proofs.Common.{◌≡◌, ℕ, ◌==◌, [], None, refl, ap}
 use Rattle.std.specs.Prelude.{is_some}
-use Rattle.kom_types.specs.Errors as error
+use Rattle.kom_types.specs.declared.errors.TheConstants as error
 use Rattle.kom_types.specs.declared.persons.NewPerson.{NewPerson}
 use Rattle.kom_types.specs.declared.persons.PasswordChange.{PasswordChange}
 use Rattle.kom_types.specs.declared.persons.Person.{Person}
@@ -54,7 +54,7 @@ module _ (asked : Asked) (one : Db) (alike : IsAlikeTo (caller asked) one asked.
   reply-same : login_guard (caller asked) ≡ None → (person : ℕ) →
       person_reply one (caller asked) person ≡ person_reply asked.db (caller asked) person
   reply-same login person =
-      let none : Reply = reply.Refused error.undefined_person person in
+      let none : Reply = reply.Refused error.UNDEFINED_PERSON person in
       let tell : Person → Reply = λ told. reply.Person told in
       replied-same none tell (person_told one (caller asked)) (person_told asked.db (caller asked))
       (person_of one person) (person_of asked.db person) ((alike.told login).person person)

@@ -1,7 +1,7 @@
 -- The calls about sessions come to the same over two sets of stored rows that are alike to the caller.
 use Rattle.std.proofs.Common.{◌≡◌, ℕ, Bool, false, not, ◌==◌, ◌||◌, ◌&&◌, List, refl, ap, ◌∙◌}
 use Rattle.std.specs.List.{filter}
-use Rattle.kom_types.specs.Errors as error
+use Rattle.kom_types.specs.declared.errors.TheConstants as error
 use Rattle.kom_types.specs.declared.replies.Reply.TheVariants as reply
 use Rattle.kom_types.specs.declared.seats.Seat.{Seat}
 use Rattle.kom_types.specs.declared.sessions.DynamicSession.{DynamicSession}
@@ -77,7 +77,7 @@ module _ (asked : Asked) (one : Db) (alike : IsAlikeTo (caller asked) one asked.
 
   pub disconnect-same : (number : ℕ) → ComesToSame (disconnect part number) (disconnect asked number)
   disconnect-same number = simp by-guard (passing refl (λ there.
-      passing (ap (λ may. unless may error.permission_denied (session_meant asked number))
+      passing (ap (λ may. unless may error.PERMISSION_DENIED (session_meant asked number))
       (may_disconnect-same (session_meant asked number))) (λ may. ended refl)))
 
   dynamic-same : (seat : Seat) → dynamic_of part seat ≡ dynamic_of asked seat

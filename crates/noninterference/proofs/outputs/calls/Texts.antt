@@ -1,7 +1,7 @@
 -- The calls about texts come to the same over two sets of stored rows that are alike to the caller.
 use Rattle.std.proofs.Common.{◌≡◌, ℕ, Bool, true, false, ◌&&◌, nat_lt, List, [], Option, Some, None, refl, ap, sym, ◌∙◌}
 use Rattle.std.specs.Prelude.{map, option_map, reverse, is_some}
-use Rattle.kom_types.specs.Errors as error
+use Rattle.kom_types.specs.declared.errors.TheConstants as error
 use Rattle.kom_types.specs.declared.replies.Reply.{Reply}
 use Rattle.kom_types.specs.declared.replies.Reply.TheVariants as reply
 use Rattle.kom_types.specs.declared.texts.Recipient.{Recipient}
@@ -56,7 +56,7 @@ module _ (asked : Asked) (one : Db) (alike : IsAlikeTo (caller asked) one asked.
   reply-same : login_guard (caller asked) ≡ None → (text : ℕ) → reads asked.db (caller asked) text ≡ true →
       text_reply one (caller asked) text ≡ text_reply asked.db (caller asked) text
   reply-same login text read =
-      let none : Reply = reply.Refused error.no_such_text text in
+      let none : Reply = reply.Refused error.NO_SUCH_TEXT text in
       let tell : TextStat → Reply = λ stat. reply.TextStat stat in
       replied-same none tell (shown_stat one (caller asked)) (shown_stat asked.db (caller asked))
       (text_of one text) (text_of asked.db text) ((alike.told login).text text read)
