@@ -1,3 +1,6 @@
+ghost use Rattle.std.specs.Prelude.{◌≡◌};
+ghost use Rattle.kom_types.specs.calls.Numbers.{number_of_call};
+
 use crate::aux_items::AuxChange;
 use crate::boxed::Boxed;
 use crate::conferences::NewConference;
@@ -354,4 +357,96 @@ pub enum Call {
     QueryPredefinedAuxItems,
     /// What the reader refused, with the error's code and status.
     Refused(u32, u32),
+}
+
+impl Call {
+    /// The number of a call; of what the reader refused, 0. (Protocol A, "Protocol Requests".)
+    pub fn number(&self) -> u32
+        ensures { result ≡ number_of_call self.now }
+    {
+        match self {
+            Call::Logout => 1,
+            Call::ChangeConference { .. } => 2,
+            Call::ChangeName { .. } => 3,
+            Call::ChangeWhatIAmDoing { .. } => 4,
+            Call::SetPrivBits { .. } => 7,
+            Call::SetPasswd(_) => 8,
+            Call::DeleteConf { .. } => 11,
+            Call::SubMember { .. } => 15,
+            Call::SetPresentation { .. } => 16,
+            Call::SetEtcMotd { .. } => 17,
+            Call::SetSupervisor { .. } => 18,
+            Call::SetPermittedSubmitters { .. } => 19,
+            Call::SetSuperConf { .. } => 20,
+            Call::SetConfType { .. } => 21,
+            Call::SetGarbNice { .. } => 22,
+            Call::GetMarks => 23,
+            Call::GetText { .. } => 25,
+            Call::MarkAsRead { .. } => 27,
+            Call::DeleteText { .. } => 29,
+            Call::AddRecipient { .. } => 30,
+            Call::SubRecipient { .. } => 31,
+            Call::AddComment { .. } => 32,
+            Call::SubComment { .. } => 33,
+            Call::GetTime => 35,
+            Call::AddFootnote { .. } => 37,
+            Call::SubFootnote { .. } => 38,
+            Call::SetUnread { .. } => 40,
+            Call::Enable { .. } => 42,
+            Call::SyncKom => 43,
+            Call::ShutdownKom { .. } => 44,
+            Call::GetPersonStat { .. } => 49,
+            Call::GetUnreadConfs { .. } => 52,
+            Call::SendMessage { .. } => 53,
+            Call::Disconnect { .. } => 55,
+            Call::WhoAmI => 56,
+            Call::SetUserArea { .. } => 57,
+            Call::FindNextTextNo { .. } => 60,
+            Call::FindPreviousTextNo { .. } => 61,
+            Call::Login { .. } => 62,
+            Call::SetClientVersion(_) => 69,
+            Call::GetClientName { .. } => 70,
+            Call::GetClientVersion { .. } => 71,
+            Call::MarkText { .. } => 72,
+            Call::UnmarkText { .. } => 73,
+            Call::GetVersionInfo => 75,
+            Call::LookupZName { .. } => 76,
+            Call::SetLastRead { .. } => 77,
+            Call::GetUconfStat { .. } => 78,
+            Call::AcceptAsync { .. } => 80,
+            Call::QueryAsync => 81,
+            Call::UserActive => 82,
+            Call::WhoIsOnDynamic { .. } => 83,
+            Call::GetStaticSessionInfo { .. } => 84,
+            Call::GetCollateTable => 85,
+            Call::CreateText(_) => 86,
+            Call::CreateAnonymousText(_) => 87,
+            Call::CreateConf(_) => 88,
+            Call::CreatePerson(_) => 89,
+            Call::GetTextStat { .. } => 90,
+            Call::GetConfStat { .. } => 91,
+            Call::ModifyTextInfo(_) => 92,
+            Call::ModifyConfInfo(_) => 93,
+            Call::GetInfo => 94,
+            Call::QueryPredefinedAuxItems => 96,
+            Call::SetExpire { .. } => 97,
+            Call::AddMember { .. } => 100,
+            Call::GetMembers { .. } => 101,
+            Call::SetMembershipType { .. } => 102,
+            Call::LocalToGlobal { .. } => 103,
+            Call::MapCreatedTexts { .. } => 104,
+            Call::SetKeepCommented { .. } => 105,
+            Call::SetPersFlags { .. } => 106,
+            Call::QueryReadTexts { .. } => 107,
+            Call::GetMembership { .. } => 108,
+            Call::MarkAsUnread { .. } => 109,
+            Call::SetReadRanges { .. } => 110,
+            Call::FirstUnusedConfNo => 114,
+            Call::FirstUnusedTextNo => 115,
+            Call::FindNextConfNo { .. } => 116,
+            Call::FindPreviousConfNo { .. } => 117,
+            Call::LocalToGlobalReverse { .. } => 121,
+            Call::Refused(_, _) => 0,
+        }
+    }
 }
