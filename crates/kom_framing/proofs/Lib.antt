@@ -13,3 +13,5 @@ pub mod BegunGreetings
 pub mod Fed
 pub mod Advancing
 pub mod Feeds
+pub mod Decimals
+pub mod Places

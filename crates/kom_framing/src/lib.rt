@@ -8,6 +8,7 @@ mod greeting;
 mod lexer;
 mod line;
 mod lines;
+mod placing;
 mod splitter;
 mod token;
 mod units;

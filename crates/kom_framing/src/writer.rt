@@ -1,11 +1,10 @@
-ghost use Rattle.std.specs.Prelude.{◌≡◌, ◌-◌, ◌≤◌, if◌then◌else◌, true, [], ◌∷◌, ◌++◌, length};
-ghost use Rattle.std.specs.Prelude.{take, OnOk, OnErr};
+ghost use Rattle.std.specs.Prelude.{◌≡◌, ◌-◌, ◌≤◌, true, [], ◌∷◌, length, take, OnOk, OnErr};
 ghost use Rattle.std.specs.Fmt.{decimal};
 ghost use Rattle.kom_types.specs.spellings.Words.{bit_string, hollerith};
 ghost use Rattle.kom_types.specs.ByteKind.{is_sign};
 ghost use Rattle.kom_framing.specs.Writing.{put, put_word, end_line};
 
-use itoa::Buffer;
+use crate::placing::{make_room, place_byte, place_mark, place_number, place_string, place_word};
 use kom_types::Memory;
 use std::alloc::Global;
 use std::marker::Model;
@@ -22,15 +21,19 @@ pub struct Place {
 #[derive(Debug, Drop)]
 pub struct Writer {
     out: Vec<u8>,
+    used: usize,
     joined: bool,
 }
 
 impl Model for Writer {
+    ghost use Rattle.std.specs.Prelude.{◌≤◌, take, length};
     ghost use Rattle.kom_framing.specs.Writing.{Written};
 
     ghost Value = { Written };
 
-    ghost view = { λ w. record { bytes = w.out.items; joined = w.joined } };
+    ghost view = { λ w. record { bytes = take w.used w.out.items; joined = w.joined } };
+
+    ghost invariant = { λ w. w.used ≤ length w.out.items };
 }
 
 impl Writer {
@@ -40,6 +43,7 @@ impl Writer {
     {
         Writer {
             out: Vec::new(alloc),
+            used: 0,
             joined: true,
         }
     }
@@ -49,7 +53,10 @@ impl Writer {
         ensures ok { OnOk result (self.new ≡ put_word (decimal n) self.old) }
         ensures err { OnErr result (self.new ≡ self.old) }
     {
-        self.word(Buffer::new().format(n).as_bytes())
+        make_room(&mut self.out, self.used, 11)?;
+        self.used = place_number(self.out.as_mut_slice(), self.used, self.joined, n);
+        self.joined = false;
+        Ok(())
     }
 
     /// Writes the last `width` bits of a number, the highest first.
@@ -68,9 +75,8 @@ impl Writer {
         ensures ok { OnOk result (self.new ≡ put_word (hollerith text.now) self.old) }
         ensures err { OnErr result (self.new ≡ self.old) }
     {
-        let mut buffer = Buffer::new();
-        let length = buffer.format(text.len()).as_bytes();
-        append_string(&mut self.out, self.joined, length, text)?;
+        make_room(&mut self.out, self.used, text.len() + 22)?;
+        self.used = place_string(self.out.as_mut_slice(), self.used, self.joined, text);
         self.joined = false;
         Ok(())
     }
@@ -80,7 +86,8 @@ impl Writer {
         ensures ok { OnOk result (self.new ≡ put (byte ∷ []) (is_sign byte) self.old) }
         ensures err { OnErr result (self.new ≡ self.old) }
     {
-        append(&mut self.out, self.joined, &[byte])?;
+        make_room(&mut self.out, self.used, 2)?;
+        self.used = place_mark(self.out.as_mut_slice(), self.used, self.joined, byte);
         self.joined = byte == b'=' || byte == b'%' || byte == b':';
         Ok(())
     }
@@ -90,7 +97,8 @@ impl Writer {
         ensures ok { OnOk result (self.new ≡ put_word word.now self.old) }
         ensures err { OnErr result (self.new ≡ self.old) }
     {
-        append(&mut self.out, self.joined, word)?;
+        make_room(&mut self.out, self.used, word.len() + 1)?;
+        self.used = place_word(self.out.as_mut_slice(), self.used, self.joined, word);
         self.joined = false;
         Ok(())
     }
@@ -100,7 +108,8 @@ impl Writer {
         ensures ok { OnOk result (self.new ≡ end_line self.old) }
         ensures err { OnErr result (self.new ≡ self.old) }
     {
-        self.out.push(b'\n')?;
+        make_room(&mut self.out, self.used, 1)?;
+        self.used = place_byte(self.out.as_mut_slice(), self.used, b'\n');
         self.joined = true;
         Ok(())
     }
@@ -118,7 +127,7 @@ impl Writer {
         ensures joined { result.joined ≡ self.now.joined }
     {
         Place {
-            length: self.out.len(),
+            length: self.used,
             joined: self.joined,
         }
     }
@@ -128,7 +137,7 @@ impl Writer {
         ensures { self.new
             ≡ record { bytes = take place.length self.old.bytes; joined = place.joined } }
     {
-        self.out.truncate(place.length);
+        self.used = self.used.min(place.length);
         self.joined = place.joined;
     }
 
@@ -136,14 +145,14 @@ impl Writer {
     pub fn bytes(&self) -> &[u8]
         ensures { result.now ≡ self.now.bytes }
     {
-        self.out.as_slice()
+        &self.out.as_slice()[..self.used]
     }
 
     /// Forgets what was written, and keeps the memory for what comes.
     pub fn clear(&mut self)
         ensures { self.new ≡ record { bytes = []; joined = true } }
     {
-        self.out.clear();
+        self.used = 0;
         self.joined = true;
     }
 }
@@ -159,48 +168,4 @@ fn digits_of(bits: u16, width: u8) -> [u8; 16]
         digits[place as usize] = b'0' + bit as u8;
     }
     digits
-}
-
-// Adds a word at the end, with a space before it unless it is joined, or nothing.
-fn append(out: &mut Vec<u8>, joined: bool, word: &[u8]) -> Result<(), Memory>
-    ensures ok { OnOk result
-        (out.new.items ≡ out.old.items ++ (if joined then [] else 32 ∷ []) ++ word.now) }
-    ensures err { OnErr result (out.new.items ≡ out.old.items) }
-{
-    if joined {
-        out.extend_from_slice(word)?;
-        Ok(())
-    } else {
-        append_after(out, b' ', word)
-    }
-}
-
-// Adds a byte and a word at the end, or nothing.
-fn append_after(out: &mut Vec<u8>, byte: u8, word: &[u8]) -> Result<(), Memory>
-    ensures ok { OnOk result (out.new.items ≡ out.old.items ++ byte ∷ word.now) }
-    ensures err { OnErr result (out.new.items ≡ out.old.items) }
-{
-    let start = out.len();
-    out.push(byte)?;
-    if out.extend_from_slice(word).is_err() {
-        out.truncate(start);
-        return Err(Memory);
-    }
-    Ok(())
-}
-
-// Adds the length of a string, an `H` and its bytes at the end, with a space before unless they are
-// joined, or nothing.
-fn append_string(out: &mut Vec<u8>, joined: bool, length: &[u8], text: &[u8]) -> Result<(), Memory>
-    ensures ok { OnOk result (out.new.items
-        ≡ out.old.items ++ (if joined then [] else 32 ∷ []) ++ (length.now ++ 72 ∷ text.now)) }
-    ensures err { OnErr result (out.new.items ≡ out.old.items) }
-{
-    let start = out.len();
-    append(out, joined, length)?;
-    if append_after(out, b'H', text).is_err() {
-        out.truncate(start);
-        return Err(Memory);
-    }
-    Ok(())
 }
