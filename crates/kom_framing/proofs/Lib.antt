@@ -15,3 +15,4 @@ pub mod Advancing
 pub mod Feeds
 pub mod Decimals
 pub mod Places
+pub mod WholeTokens

@@ -1,6 +1,6 @@
 -- A line that has begun, and what a piece of the stream makes of it.
 use Rattle.std.specs.Prelude.{◌≡◌, ℕ, ◌+◌, ◌-◌, ◌<◌, ◌≤◌, List, [], ◌∷◌, ◌++◌, length, take, drop}
-use Rattle.std.specs.Prelude.{Some, None, Result, Ok, Err}
+use Rattle.std.specs.Prelude.{Option, Some, None, Result, Ok, Err}
 use Rattle.kom_types.specs.declared.limits.TheConstants.{LONGEST_LINE, LONGEST_STREAM}
 use Rattle.kom_types.specs.declared.shortage.Memory.{Memory}
 use Rattle.kom_types.specs.declared.side.Side.{Side}
@@ -85,6 +85,13 @@ Tries side (Ok (reading.Ends count)) old window new =
 Tries side (Ok (reading.Unfit at)) old window new =
     Adds old new × IsUnfitAt side old.text.items window at
 Tries side (Err memory) old window new = Adds old new
+
+-- how the line that a window begins with was taken, where an error may leave places that were added
+abbrev pub TakesWhole : Side → Result (Option ℕ) Memory → BegunLine → List ℕ → BegunLine → Type 0
+TakesWhole side (Ok (Some count)) old window new =
+    Grows old new (take count window) × EndsIn side old.text.items window new.starts.items count
+TakesWhole side (Ok None) old window new = IsSame old new
+TakesWhole side (Err memory) old window new = Adds old new
 
 -- how a window was taken
 abbrev pub Takes : Side → Result Reading Memory → BegunLine → List ℕ → BegunLine → Type 0

@@ -9,4 +9,5 @@ pub mod Scanning
 pub mod Spans
 pub mod Splitting
 pub mod WholeLines
+pub mod WholeTokens
 pub mod Writing

@@ -12,6 +12,7 @@ mod placing;
 mod splitter;
 mod token;
 mod units;
+mod whole;
 mod writer;
 
 pub use line::Line;

@@ -4,13 +4,14 @@ ghost use Rattle.kom_types.specs.Stream as stream;
 ghost use Rattle.kom_framing.specs.Spans.{tokens_of, AreTokens};
 ghost use Rattle.kom_framing.specs.Scanning.{IsBegun};
 ghost use Rattle.kom_framing.specs.BegunLines.{IsLine, Extends, Reads, Tries, Takes, FailsAt};
-ghost use Rattle.kom_framing.specs.BegunLines.{Scans, units_at};
+ghost use Rattle.kom_framing.specs.BegunLines.{Scans, TakesWhole, units_at};
 ghost use Rattle.kom_framing.specs.WholeLines.{AreLines};
 
 use crate::fault::Fault;
 use crate::lexer::{Lexer, Step};
 use crate::line::Line;
 use crate::units::Unit;
+use crate::whole::whole_line;
 use kom_types::limits::{LONGEST_LINE, LONGEST_STREAM};
 use kom_types::{Memory, Side};
 use smallvec::SmallVec;
@@ -116,6 +117,41 @@ impl BegunLine {
 
     // Takes the bytes of a window that belong to the line.
     fn try_take(&mut self, side: Side, window: &[u8]) -> Result<Reading, Memory>
+        requires line { IsLine side self.old }
+        requires room { length self.old.text.items + length window.now ≤ LONGEST_LINE }
+        ensures { Tries side result self.old window.now self.new }
+    {
+        match self.take_whole(side, window)? {
+            Some(count) => Ok(Reading::Ends(count)),
+            None => self.take_further(side, window),
+        }
+    }
+
+    // Takes the line that a window begins with, if nothing has come of it and it is whole there.
+    #[inline(always)]
+    fn take_whole(&mut self, side: Side, window: &[u8]) -> Result<Option<usize>, Memory>
+        requires line { IsLine side self.old }
+        requires room { length self.old.text.items + length window.now ≤ LONGEST_LINE }
+        ensures { TakesWhole side result self.old window.now self.new }
+    {
+        if !self.text.is_empty() {
+            return Ok(None);
+        }
+        match whole_line(window, &mut self.starts)? {
+            Some(count) => {
+                self.text.extend_from_slice(&window[..count])?;
+                Ok(Some(count))
+            }
+            None => {
+                self.starts.clear();
+                Ok(None)
+            }
+        }
+    }
+
+    // Takes the bytes of a window that belong to the line, one after the other.
+    #[inline(never)]
+    fn take_further(&mut self, side: Side, window: &[u8]) -> Result<Reading, Memory>
         requires line { IsLine side self.old }
         requires room { length self.old.text.items + length window.now ≤ LONGEST_LINE }
         ensures { Tries side result self.old window.now self.new }

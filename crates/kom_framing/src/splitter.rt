@@ -52,7 +52,7 @@ pub struct Splitter {
 
 impl Model for Splitter {
     ghost use Rattle.std.specs.Prelude.{◌≤◌, option_map};
-    ghost use Rattle.kom_types.specs.Stream as stream;
+    ghost use Rattle.kom_types.specs.declared.limits.TheConstants.{LONGEST_STREAM};
     ghost use Rattle.kom_framing.specs.Splitting.{Splitting};
     ghost use Rattle.kom_framing.specs.BegunLines.{fault_seen};
     ghost use Rattle.kom_framing.specs.Advancing.{begun_seen, IsBegunUnit};
