@@ -1,6 +1,6 @@
 -- The sets of ranges, and the ranges of sets.
 use Rattle.std.proofs.Common.{◌≡◌, ℕ, zero, suc, ◌+◌, ◌-◌, ◌≤◌, Bool, true, false, ◌||◌, ◌&&◌, leb, ltb, eqb, nat_eq}
-use Rattle.std.proofs.Common.{not, cond, filter, List, [], ◌∷◌, refl, sym, ap, ◌∙◌, append-nil, arith}
+use Rattle.std.proofs.Common.{not, cond, filter, List, [], ◌∷◌, refl, sym, ap, ◌∙◌, arith}
 use Rattle.std.specs.List.{list_any, flat_map}
 use Rattle.std.specs.Ordering.{nat_cmp}
 use Rattle.std.specs.Cmp.{nat_cmp_total, unsigned_tied}
@@ -144,12 +144,3 @@ pub union_of-unmarked : (xs ys : List ReadRange) (n : ℕ) →
 union_of-unmarked xs ys n held = same_numbers _ _ (λ m.
     contains-union_of ys m ∙ held m ∙ sym (contains-remove nat_cmp_total (union_of xs) n m
     ∙ rw (unsigned_tied m n, contains-union_of xs m) (grind (arith, nat_tests))))
-
--- one range from 1 on has the numbers up to its end, and no range none
-pub union_of-one : (n : ℕ) → union_of ((range 1 n) ∷ []) ≡ from_list (numbers_from 1 n)
-unfolding union_of
-union_of-one n = rw append-nil (ap (λ count. from_list (numbers_from 1 count)) {x = n + 1 - 1} (omega arith))
-
-pub union_of-none : union_of [] ≡ from_list (numbers_from 1 0)
-unfolding union_of numbers_from
-union_of-none = refl

@@ -10,7 +10,7 @@ ghost use Rattle.std.specs.Ordering.{nat_cmp};
 ghost use Rattle.std.specs.FinSet as set;
 ghost use Rattle.kom_types.specs.declared.memberships.ReadRange.{ReadRange};
 ghost use Rattle.read_ranges.specs.Numbers.{AreRanges, AreRangesOf, union_of, ranges_of};
-ghost use Rattle.read_ranges.specs.Numbers.{numbers_from, count_of, made_by, IsWithinBounds};
+ghost use Rattle.read_ranges.specs.Numbers.{count_of, made_by, IsWithinBounds};
 ghost use Rattle.read_ranges.specs.Numbers.{IsNextUnread, IsReadFrom};
 ghost use Rattle.read_ranges.specs.ListFault.{IsFaultless, IsErrExactlyAt};
 ghost use Rattle.read_ranges.specs.ListFault.{IsFirstInvalid, IsFirstOutOfOrder};
@@ -204,15 +204,6 @@ impl Ranges {
         self.kept.reserve(list::merged_count(list))?;
         list::refill(&mut self.kept, list);
         Ok(())
-    }
-
-    /// Makes the set 1 to n, and empty at 0. It takes no memory.
-    pub fn cut_to(&mut self, n: u32)
-        ensures numbers { self.new.numbers ≡ set.from_list (numbers_from 1 n) }
-        ensures spare { self.new.spare ≡ self.old.spare }
-    {
-        let whole = ReadRange { first: 1, last: n };
-        self.kept.keep_only(if n == 0 { None } else { Some(whole) });
     }
 
     /// Makes room for so many ranges in all.

@@ -41,7 +41,7 @@ fn a_list_becomes_a_set_and_comes_back(rt: HostRuntime) -> Result<(), Fail> {
     let list = read.into_list().ok().ok_or("no memory")?;
     assert_eq!(rt; list.as_slice(), [range(1, 6)].as_slice());
     let mut one = Ranges::new(rt.alloc());
-    one.cut_to(7);
+    one.mark(7)?;
     let list = one.clone()?.into_list().ok().ok_or("no memory")?;
     assert_eq!(rt; list.as_slice(), one.ranges());
     Ok(())
