@@ -1,5 +1,5 @@
 -- What the parts of a step come to.
-use Rattle.std.proofs.Common.{◌≡◌, ℕ, Bool, true, false, Some, Result, Ok, refl, sym, subst}
+use Rattle.std.proofs.Common.{◌≡◌, ℕ, Bool, true, false, Some, Result, Ok, refl, sym, ap, ◌∙◌, subst}
 use Rattle.kom_types.specs.declared.acts.Act.{Act}
 use Rattle.kom_types.specs.declared.acts.Act.TheVariants as act
 use Rattle.kom_types.specs.declared.acts.Entry.{Entry}
@@ -9,7 +9,8 @@ use Rattle.kom_model.specs.State.{State, IsSound}
 use Rattle.kom_model.specs.After.{MayBeShort, HasUser}
 use Rattle.kom_model.proofs.Soundness.{IsSound-after}
 use Rattle.kom_core.specs.declared.server_state.Made.{Made}
-use Rattle.kom_core.specs.Acts.{Kinded}
+use Rattle.kom_laws.proofs.Refusing.{refused-keeps}
+use Rattle.kom_core.specs.Acts.{Kinded, KeepsRowsIfRefused}
 use Rattle.kom_core.specs.Steps.{Changes, ChangesBy, Steps, IsShort, Tells, made_of}
 
 -- the act of an entry, whatever its pass and moment
@@ -77,3 +78,10 @@ Kinded-made old new entry came made is user steps =
         },
       ),
     )
+
+-- a call that was refused left the stored rows as they were
+pub rows-kept : (old new : State) (entry : Entry) (came : Result Made Refusal) (made : Made) → came ≡ Ok made →
+    Steps old entry new came → KeepsRowsIfRefused old (record { state = new; last = Some (kept entry made) })
+rows-kept old new entry came made is steps code status told =
+    ap (λ (state : State). state.db) (stepped old new entry came made is steps).2
+    ∙ refused-keeps old (made_of old entry made.short) code status told

@@ -1,5 +1,5 @@
 -- What an act does to a core.
-use Rattle.std.specs.Prelude.{◌≡◌, ℕ, ◌+◌, true, false, List, [], Option, Some, None}
+use Rattle.std.specs.Prelude.{◌≡◌, ℕ, ◌+◌, true, false, List, [], Option, Some, None, IfSome}
 use Rattle.arrayvec.specs.ArrayVec.{ArrayVec}
 use Rattle.kom_types.specs.declared.acts.Act.{Act}
 use Rattle.kom_types.specs.declared.acts.Act.TheVariants as act
@@ -11,9 +11,10 @@ use Rattle.kom_types.specs.declared.items.Item.{Item}
 use Rattle.kom_core.specs.declared.answer_kind.AnswerKind.{AnswerKind}
 use Rattle.kom_core.specs.declared.answer_kind.AnswerKind.TheVariants as kind
 use Rattle.kom_types.specs.declared.answers.Refusal.TheVariants.{Gone, Full}
+use Rattle.kom_types.specs.declared.replies.Reply.TheVariants as reply
 use Rattle.kom_model.specs.State.{State}
 use Rattle.kom_model.specs.Refusal.{refusal_of}
-use Rattle.kom_model.specs.After.{MayFollow, after}
+use Rattle.kom_model.specs.After.{MayFollow, after, reply_in}
 use Rattle.kom_model.specs.Out.{taken_by}
 
 -- what a core holds: the state, and the record of its last act until that is handed out
@@ -51,6 +52,11 @@ pub record IsMade (old : State) (entry : Entry) (new : Held) (made : Record) : T
   pub flushed : made.entry.act ≡ act.Flush → made.short ≡ false
   pub handed : new.last ≡ Some made
   pub state : new.state ≡ after old made
+
+-- a call that was refused left the stored rows as they were
+abbrev pub KeepsRowsIfRefused : State → Held → Type 0
+KeepsRowsIfRefused old new = IfSome new.last (λ made. (code status : ℕ)
+    → reply_in old made ≡ Some (reply.Refused code status) → new.state.db ≡ old.db)
 
 -- nothing was made
 pub record IsUnchanged (old : State) (new : Held) : Type 0 where

@@ -12,6 +12,7 @@ ghost use Rattle.kom_types.specs.declared.acts.Act.TheVariants as act;
 ghost use Rattle.kom_state.specs.Keepers.{appended};
 ghost use Rattle.kom_core.specs.Keeping.{kept_by};
 ghost use Rattle.kom_core.specs.Acts.{Answered, Kinded, IsUnchanged, refused_flush};
+ghost use Rattle.kom_core.specs.Acts.{KeepsRowsIfRefused};
 ghost use Rattle.kom_core.specs.Worlds.{IsConsistent, RespectsGroups};
 
 mod reading;
@@ -143,6 +144,7 @@ impl Core {
         requires room { self.old.state.entries < 2 ^ 62 }
         requires user { HasUser entry.act }
         ensures answered { IfOk result (Kinded self.old.state entry self.new) }
+        ensures refused { OnOk result (KeepsRowsIfRefused self.old.state self.new) }
         ensures given { items.new.items ≡ taken_by self.old.state entry.act }
         ensures kept { OnOk result (K.pending keeper.new
             ≡ appended (kept_by self.old.state self.new.last) (K.pending keeper.old)) }

@@ -8,4 +8,5 @@ pub mod Added
 pub mod Sent
 pub mod fitting
 pub mod Kept
+pub mod Refusing
 pub mod Viewers

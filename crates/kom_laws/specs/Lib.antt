@@ -3,3 +3,4 @@ pub mod Groups
 pub mod Erasing
 pub mod Laws
 pub mod Fitting
+pub mod Refusing

@@ -1,5 +1,6 @@
 ghost use Rattle.kom_laws.specs.Fitting.{DecidedFit, SoundFit, KeptIsDecided};
 ghost use Rattle.kom_laws.specs.Laws.{StandErased};
+ghost use Rattle.kom_laws.specs.Refusing.{RefusedChangesNothing, RefusedKeepsRows};
 ghost use Rattle.kom_laws.specs.masking.Laws.{StandMasked};
 
 /// A law alone: effects make the same of the stored rows but for what a mask hides, whether that
@@ -20,4 +21,11 @@ pub fn decided_effects_fit()
     ensures decided { DecidedFit }
     ensures sound { SoundFit }
     ensures kept { KeptIsDecided }
+{}
+
+/// A law alone: a refused call changes nothing; but accept-async, refused for a number of no
+/// message, has its session accept the messages of the others.
+pub fn refused_calls_change_nothing()
+    ensures decided { RefusedChangesNothing }
+    ensures rows { RefusedKeepsRows }
 {}

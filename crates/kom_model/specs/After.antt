@@ -1,6 +1,6 @@
 -- One step of the server.
 use Rattle.std.specs.Prelude.{◌≡◌, ℕ, ◌+◌, ◌≤◌, max, not, ◌||◌, Bool, true, false, List, [], ◌∷◌}
-use Rattle.std.specs.Prelude.{◌++◌, length, map, filter, if◌then◌else◌}
+use Rattle.std.specs.Prelude.{◌++◌, length, map, filter, Option, Some, None, if◌then◌else◌}
 use Rattle.kom_types.specs.declared.limits.TheConstants.{LONGEST_USER_NAME}
 use Rattle.kom_types.specs.declared.errors.TheConstants as error
 use Rattle.kom_types.specs.declared.acts.Act.{Act}
@@ -93,6 +93,19 @@ call_deliveries state moment session reference call false =
     let decision = decision_at state moment session reference call in
     messages_of (asked_in state (moment_of state moment) session reference) call decision
     ++ reply_to session reference decision.reply ∷ []
+
+-- The reply to the call of a record: what the call comes to, or 39, out of memory, if the record is
+-- short; another act has none.
+abbrev pub reply_in : State → Record → Option Reply
+reply_in state made = elim made.entry.act [
+  | act.Connect user host ↦ None
+  | act.Call session reference call ↦ Some (if made.short then reply.Refused error.OUT_OF_MEMORY 0
+      else (decision_at state made.entry.moment session reference call).reply)
+  | act.Broken session ↦ None
+  | act.Drain session ↦ None
+  | act.Flush ↦ None
+  | act.Close session ↦ None
+]
 
 -- What an act sends, in order.
 abbrev pub deliveries : State → Record → List Delivery

@@ -1,7 +1,6 @@
 pub mod outputs
 pub mod steps
 pub mod respect
-pub mod Accepting
 pub mod Silent
 pub mod Seats
 pub mod Outside

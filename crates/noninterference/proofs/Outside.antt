@@ -32,7 +32,7 @@ use Rattle.noninterference.proofs.steps.Calls.{calls-erased, asked-same}
 use Rattle.noninterference.specs.respect.Calls.{later}
 use Rattle.noninterference.specs.respect.Vanishing.{is_masked}
 use Rattle.noninterference.proofs.respect.Calls.{calls-vanish}
-use Rattle.noninterference.proofs.Accepting.{is_none_of, none-of, is_idle, accepts_async, refused-spares}
+use Rattle.kom_laws.proofs.Refusing.{is_none_of, none-of, is_idle, accepts_async, refused-spares}
 use Rattle.noninterference.proofs.Silent.{is_public, idle-silent}
 
 -- ---- the calls that hang on nothing that is ever hidden come to the same without it, whoever makes them

@@ -51,7 +51,7 @@ use Rattle.kom_laws.specs.Groups.{Group, IsOfGroup}
 use Rattle.noninterference.specs.steps.Same.{AreOfGroup}
 use Rattle.noninterference.proofs.steps.Queueing.{rows-filled, seat-row, items_for}
 use Rattle.noninterference.specs.respect.Quiet.{IsQuiet, logs_in_own}
-use Rattle.noninterference.proofs.Accepting.{refused-idle, accepted-rest}
+use Rattle.kom_laws.proofs.Refusing.{refused-idle, accepted-rest}
 
 -- who logs in at a session of the group is of it
 own-login : (among refused nobody own : Bool) → refused ≡ false → (not (among && not refused) || own) ≡ true →

@@ -25,7 +25,7 @@ use Rattle.kom_model.specs.calls.Call.{Asked, done}
 use Rattle.kom_model.specs.calls.Guards.{Guard, caller, with_items}
 use Rattle.kom_model.specs.calls.Memberships.{joins, set_member, is_near}
 use Rattle.noninterference.specs.outputs.Brought.{brought_to}
-use Rattle.noninterference.proofs.Accepting.{accepted-rest}
+use Rattle.kom_laws.proofs.Refusing.{accepted-rest}
 
 -- calls that send though they change nothing, and 80: what they come to hangs on nothing that is ever hidden
 abbrev pub is_public : Call → Bool

@@ -1,7 +1,11 @@
 -- What a call changes that is refused, and what one comes to that is not.
 use Rattle.std.proofs.Common.{◌≡◌, ℕ, Bool, true, false, not, ◌||◌, ◌&&◌, List, [], ◌∷◌, Option, Some, None, refl, sym}
-use Rattle.std.proofs.Common.{true≢false, ap, ◌∙◌}
+use Rattle.std.proofs.Common.{cond, true≢false, ap, ◌∙◌}
 use Rattle.std.proofs.lemmas.Bool.{or_right, and_parts}
+use Rattle.kom_types.specs.declared.errors.TheConstants as error
+use Rattle.kom_types.specs.declared.acts.Act.{Act}
+use Rattle.kom_types.specs.declared.acts.Act.TheVariants as act
+use Rattle.kom_types.specs.declared.acts.Record.{Record}
 use Rattle.kom_types.specs.declared.aux_items.Adder.{Adder}
 use Rattle.kom_types.specs.declared.aux_items.AuxChange.{AuxChange}
 use Rattle.kom_types.specs.declared.aux_items.Object.{Object}
@@ -10,25 +14,33 @@ use Rattle.kom_types.specs.declared.calls.Call.{Call}
 use Rattle.kom_types.specs.declared.calls.Call.TheVariants as call
 use Rattle.kom_types.specs.declared.conferences.ConferenceRow.{ConferenceRow}
 use Rattle.kom_types.specs.declared.decisions.Decision.{Decision}
+use Rattle.kom_types.specs.declared.effects.Effect.{Effect}
 use Rattle.kom_types.specs.declared.replies.Reply.{Reply}
 use Rattle.kom_types.specs.declared.replies.Reply.TheVariants as reply
 use Rattle.kom_types.specs.declared.seats.Seat.{Seat}
+use Rattle.kom_types.specs.declared.session_changes.SessionChange.TheVariants as change
 use Rattle.kom_types.specs.declared.texts.NewText.{NewText}
 use Rattle.kom_types.specs.declared.texts.TextRow.{TextRow}
 use Rattle.kom_model.specs.Db.{next_conference_of, items_of}
-use Rattle.kom_model.specs.Decide.{decision_of, definition_of}
+use Rattle.kom_model.specs.After.{moment_of, reply_in}
+use Rattle.kom_model.specs.Decide.{asked_in, decision_of, definition_of}
+use Rattle.kom_model.specs.Effects.{apply_all, fitting}
+use Rattle.kom_model.specs.Kept.{kept_of}
 use Rattle.kom_model.specs.Shown.{text_adder, conference_adder}
+use Rattle.kom_model.specs.State.{State}
 use Rattle.kom_model.specs.ToWhom.{is_refused}
 use Rattle.kom_model.specs.calls.AuxItems.{item_effects, changed, object_of, numbers_guard}
-use Rattle.kom_model.specs.calls.Call.{Asked, answer, done}
+use Rattle.kom_model.specs.calls.Call.{Asked, answer, done, refuse}
 use Rattle.kom_model.specs.calls.Conferences.{nearest}
 use Rattle.kom_model.specs.calls.Guards.{Guard, with_items, caller, first_refusal, items_guard, new_items_guard}
 use Rattle.kom_model.specs.calls.Guards.{seat_at}
 use Rattle.kom_model.specs.calls.NewTexts.{new_text}
 use Rattle.kom_model.specs.calls.Persons.{maker}
-use Rattle.kom_model.specs.calls.Sessions.{session_meant, ended, static_of}
+use Rattle.kom_model.specs.calls.Sessions.{accept_reply, accepted_bits, session_meant, ended, static_of}
 use Rattle.kom_model.specs.calls.Texts.{nearest_text}
 use Rattle.kom_model.proofs.Deciding.{decision-meets}
+use Rattle.kom_model.proofs.Kept.{kept_makes}
+use Rattle.kom_laws.specs.Refusing.{refused_changes, RefusedChangesNothing, RefusedKeepsRows}
 
 -- nothing stands in a list
 abbrev pub is_none_of : {X : Type 0} → List X → Bool
@@ -140,6 +152,66 @@ refused-idle asked what other refused =
     let parts =
     and_parts (is_none_of (decision_of asked what).effects) (is_none_of (decision_of asked what).changes) idle in
     (none-of _ parts.0, none-of _ parts.1)
+
+-- ---- and but for accept-async, which is refused for a number of no message though it makes its change
+abbrev code_of : Reply → ℕ
+code_of (reply.Refused code status) = code
+code_of other = 0
+
+accepting-changes : (asked : Asked) (numbers : List ℕ) (found : Option ℕ) (fits : Bool) (code status : ℕ) →
+    let accepting : Decision = record {
+      reply = accept_reply found;
+      effects = [];
+      changes = change.Accept asked.session (accepted_bits numbers) ∷ [];
+    } in
+    let decision : Decision = cond fits accepting (refuse (record { code = error.LONG_ARRAY; status = 0 })) in
+    decision.reply ≡ reply.Refused code status →
+    (decision.effects ≡ []) × (decision.changes ≡ refused_changes asked (call.AcceptAsync numbers) code)
+accepting-changes asked numbers (Some number) true code status is =
+    (refl, ap (λ (n : ℕ). refused_changes asked (call.AcceptAsync numbers) n) (ap code_of is))
+accepting-changes asked numbers None true code status is = absurd (true≢false (sym (ap is_refused is)))
+accepting-changes asked numbers found false code status is =
+    (refl, ap (λ (n : ℕ). refused_changes asked (call.AcceptAsync numbers) n) (ap code_of is))
+
+async-changes : (asked : Asked) (numbers : List ℕ) (code status : ℕ) →
+    (decision_of asked (call.AcceptAsync numbers)).reply ≡ reply.Refused code status →
+    ((decision_of asked (call.AcceptAsync numbers)).effects ≡ [])
+    × ((decision_of asked (call.AcceptAsync numbers)).changes ≡ refused_changes asked (call.AcceptAsync numbers) code)
+unfolding decision_of
+async-changes asked numbers code status is = accepting-changes asked numbers _ _ code status is
+
+pub refused-changes : RefusedChangesNothing
+refused-changes asked (call.AcceptAsync numbers) code status is = async-changes asked numbers code status is
+refused-changes asked what code status is = refused-idle asked what refl (ap is_refused is)
+
+-- ---- so the stored rows stay
+abbrev told : Option Reply → Reply
+told (Some reply) = reply
+told None = reply.Done
+
+replied-keeps : (state : State) (pass moment : ℕ) (what : Act) (session : ℕ) (short : Bool) (code status : ℕ) →
+    let made : Record = record {
+      entry = record { pass = pass; moment = moment; act = what };
+      session = session;
+      short = short;
+    } in
+    reply_in state made ≡ Some (reply.Refused code status) → kept_of state made ≡ []
+replied-keeps state pass moment (act.Call number reference call) session true code status is = refl
+replied-keeps state pass moment (act.Call number reference call) session false code status is =
+    ap (λ (effects : List Effect). fitting effects state.db)
+    (refused-changes (asked_in state (moment_of state moment) number reference) call code status
+    (ap told is)).0
+replied-keeps state pass moment (act.Connect user host) session short code status is = cc
+replied-keeps state pass moment (act.Broken number) session short code status is = cc
+replied-keeps state pass moment (act.Drain number) session short code status is = cc
+replied-keeps state pass moment act.Flush session short code status is = cc
+replied-keeps state pass moment (act.Close number) session short code status is = cc
+
+pub refused-keeps : RefusedKeepsRows
+refused-keeps state made code status is =
+    sym (kept_makes state made)
+    ∙ ap (λ (effects : List Effect). apply_all effects state.db)
+    (replied-keeps state made.entry.pass made.entry.moment made.entry.act made.session made.short code status is)
 
 -- ---- what is not refused is what the definition gives
 pub accepted-rest : (asked : Asked) (what : Call) → is_refused (decision_of asked what).reply ≡ false →
