@@ -10,6 +10,7 @@ use crate::on_sessions::{Login, Logout};
 use crate::{
     on_aux_items, on_conferences, on_memberships, on_persons, on_server, on_sessions, on_texts,
 };
+use kom_model::SENDING_NUMBERS;
 use kom_state::Asked;
 use kom_types::{Call, Decision, Memory, Reply, SessionChange};
 
@@ -189,22 +190,5 @@ fn push_sent(
 fn may_send(call: &Call) -> bool
     ensures { result ≡ may_send_call call.now }
 {
-    matches!(
-        call,
-        Call::ChangeName { .. }
-            | Call::DeleteConf { .. }
-            | Call::SubMember { .. }
-            | Call::SetPresentation { .. }
-            | Call::SetEtcMotd { .. }
-            | Call::DeleteText { .. }
-            | Call::AddRecipient { .. }
-            | Call::SubRecipient { .. }
-            | Call::SyncKom
-            | Call::SendMessage { .. }
-            | Call::SetUserArea { .. }
-            | Call::CreateText(_)
-            | Call::CreateAnonymousText(_)
-            | Call::ModifyTextInfo(_)
-            | Call::AddMember { .. }
-    )
+    SENDING_NUMBERS.contains(&call.number())
 }

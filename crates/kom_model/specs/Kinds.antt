@@ -6,11 +6,6 @@ use Rattle.std.specs.List.{list_any}
 abbrev pub firm_numbers : List ℕ
 firm_numbers = 35 ∷ 56 ∷ 60 ∷ 61 ∷ 114 ∷ 115 ∷ 116 ∷ 117 ∷ []
 
--- the calls that may send something beside who logs out and in
-abbrev pub sending_numbers : List ℕ
-sending_numbers =
-    3 ∷ 11 ∷ 15 ∷ 16 ∷ 17 ∷ 29 ∷ 30 ∷ 31 ∷ 43 ∷ 53 ∷ 57 ∷ 86 ∷ 87 ∷ 92 ∷ 100 ∷ []
-
 -- accept-async, which makes a change though it is refused
 abbrev pub accept_async : ℕ
 accept_async = 80

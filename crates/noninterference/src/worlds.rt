@@ -6,96 +6,17 @@ ghost use Rattle.noninterference.specs.Hiding.{AreSameAlong, StandAlike};
 
 use crate::group::Group;
 use call_equality::are_equal_entries;
+use kom_model::{ASKING_NUMBERS, HIDING_NUMBERS};
 use kom_types::{Act, Call, Entry, NewText, lines_of};
 
 /// A call that asks, that the reader refused, or one of the eleven whose change may be hidden.
 fn may_be_hidden(call: &Call) -> bool
     ensures { result ≡ may_be_hidden call.now }
 {
-    match call {
-        Call::Logout => false,
-        Call::ChangeConference { .. } => false,
-        Call::ChangeWhatIAmDoing { .. } => false,
-        Call::Enable { .. } => false,
-        Call::SendMessage { .. } => false,
-        Call::Disconnect { .. } => false,
-        Call::WhoAmI => true,
-        Call::Login { .. } => false,
-        Call::SetClientVersion(_) => false,
-        Call::GetClientName { .. } => true,
-        Call::GetClientVersion { .. } => true,
-        Call::AcceptAsync { .. } => false,
-        Call::QueryAsync => true,
-        Call::UserActive => false,
-        Call::WhoIsOnDynamic { .. } => true,
-        Call::GetStaticSessionInfo { .. } => true,
-        Call::GetTime => true,
-        Call::SyncKom => false,
-        Call::ShutdownKom { .. } => false,
-        Call::GetVersionInfo => true,
-        Call::GetCollateTable => true,
-        Call::GetInfo => true,
-        Call::SetPrivBits { .. } => false,
-        Call::SetPasswd(_) => false,
-        Call::GetPersonStat { .. } => true,
-        Call::SetUserArea { .. } => false,
-        Call::CreatePerson(_) => false,
-        Call::SetPersFlags { .. } => false,
-        Call::ChangeName { .. } => false,
-        Call::DeleteConf { .. } => false,
-        Call::SetPresentation { .. } => true,
-        Call::SetEtcMotd { .. } => true,
-        Call::SetSupervisor { .. } => false,
-        Call::SetPermittedSubmitters { .. } => false,
-        Call::SetSuperConf { .. } => false,
-        Call::SetConfType { .. } => false,
-        Call::SetGarbNice { .. } => false,
-        Call::LookupZName { .. } => true,
-        Call::GetUconfStat { .. } => true,
-        Call::CreateConf(_) => false,
-        Call::GetConfStat { .. } => true,
-        Call::SetExpire { .. } => false,
-        Call::SetKeepCommented { .. } => false,
-        Call::FirstUnusedConfNo => true,
-        Call::FindNextConfNo { .. } => true,
-        Call::FindPreviousConfNo { .. } => true,
-        Call::GetMarks => true,
-        Call::GetText { .. } => true,
-        Call::DeleteText { .. } => false,
-        Call::AddRecipient { .. } => true,
-        Call::SubRecipient { .. } => true,
-        Call::AddComment { .. } => false,
-        Call::SubComment { .. } => false,
-        Call::AddFootnote { .. } => false,
-        Call::SubFootnote { .. } => false,
-        Call::FindNextTextNo { .. } => true,
-        Call::FindPreviousTextNo { .. } => true,
-        Call::MarkText { .. } => false,
-        Call::UnmarkText { .. } => false,
-        Call::CreateText(_) => true,
-        Call::CreateAnonymousText(_) => false,
-        Call::GetTextStat { .. } => true,
-        Call::LocalToGlobal { .. } => true,
-        Call::MapCreatedTexts { .. } => true,
-        Call::FirstUnusedTextNo => true,
-        Call::LocalToGlobalReverse { .. } => true,
-        Call::SubMember { .. } => false,
-        Call::MarkAsRead { .. } => true,
-        Call::SetUnread { .. } => false,
-        Call::GetUnreadConfs { .. } => true,
-        Call::SetLastRead { .. } => true,
-        Call::AddMember { .. } => false,
-        Call::GetMembers { .. } => true,
-        Call::SetMembershipType { .. } => false,
-        Call::QueryReadTexts { .. } => true,
-        Call::GetMembership { .. } => true,
-        Call::MarkAsUnread { .. } => true,
-        Call::SetReadRanges { .. } => true,
-        Call::ModifyTextInfo(_) => true,
-        Call::ModifyConfInfo(_) => true,
-        Call::QueryPredefinedAuxItems => true,
-        Call::Refused(_, _) => true,
-    }
+    let number = call.number();
+    matches!(call, Call::Refused(_, _))
+        || ASKING_NUMBERS.contains(&number)
+        || HIDING_NUMBERS.contains(&number)
 }
 
 /// Whether an act of a session outside the group may be another in another world.

@@ -47,7 +47,8 @@ use Rattle.kom_laws.specs.masking.Masks.{Mask}
 use Rattle.kom_laws.specs.Erasing.{mask_of}
 use Rattle.kom_laws.specs.Groups.{Group, IsInGroup, is_unseen, is_unread}
 use Rattle.kom_laws.proofs.Told.{in-of}
-use Rattle.noninterference.specs.respect.Hidden.{query_numbers, hiding_numbers, is_of_hidden, text_of_call}
+use Rattle.kom_model.specs.declared.kinds.TheConstants.{ASKING_NUMBERS, HIDING_NUMBERS}
+use Rattle.noninterference.specs.respect.Hidden.{is_of_hidden, text_of_call}
 use Rattle.noninterference.specs.respect.Vanishing.{is_hidden_field, is_masked}
 use Rattle.noninterference.proofs.respect.Untold.{AreUntold, row-untold, unseen-fails, unseen-untaken, unread-ungot}
 
@@ -137,7 +138,7 @@ module _ (group : Group) (asked : Asked) (outside : not (is_among group.persons 
   session-answered number None = plain-vanishes (call.GetStaticSessionInfo number) _ refl refl refl
   session-answered number (Some seat) = plain-vanishes (call.GetStaticSessionInfo number) _ refl refl refl
 
-  query-vanishes : (call : Call) → (was_refused call || is_among query_numbers (number_of_call call)) ≡ true →
+  query-vanishes : (call : Call) → (was_refused call || is_among ASKING_NUMBERS (number_of_call call)) ≡ true →
       Vanishes group asked call (definition_of asked call).rest
   query-vanishes call.GetMarks is = plain-vanishes call.GetMarks _ refl refl refl
   query-vanishes (call.GetText text start end) is = unsent-vanishes (call.GetText text start end) _
@@ -240,7 +241,7 @@ module _ (group : Group) (asked : Asked) (outside : not (is_among group.persons 
     text-refused given None made accepted hidden textless =
         absurd (true≢false (sym (ap not accepted) ∙ textless))
 
-    change-vanishes : (call : Call) → is_among hiding_numbers (number_of_call call) ≡ true →
+    change-vanishes : (call : Call) → is_among HIDING_NUMBERS (number_of_call call) ≡ true →
         Hides call (definition_of asked call).rest
     change-vanishes (call.SetPresentation conference text) is hidden textless = record {
       masked = field-masked conference (field.Presentation text) hidden refl;
@@ -295,17 +296,17 @@ module _ (group : Group) (asked : Asked) (outside : not (is_among group.persons 
     change-vanishes other is hidden textless = absurd (true≢false (sym is))
 
     -- ---- so do all calls that are hidden and make no text
-    pub hidden-decided : (call : Call) → (was_refused call || is_among query_numbers (number_of_call call)
-        || is_among hiding_numbers (number_of_call call)
+    pub hidden-decided : (call : Call) → (was_refused call || is_among ASKING_NUMBERS (number_of_call call)
+        || is_among HIDING_NUMBERS (number_of_call call)
         && (is_refused (decision_of asked call).reply || is_of_hidden group asked.db call)) ≡ true →
         (is_some (text_of_call call) && not (is_refused (decision_of asked call).reply)) ≡ false →
         Vanishes group asked call (decision_of asked call)
     hidden-decided call hidden textless =
-        elim (or_cases (was_refused call || is_among query_numbers (number_of_call call)) _ hidden) [
+        elim (or_cases (was_refused call || is_among ASKING_NUMBERS (number_of_call call)) _ hidden) [
           | inl query ↦ decision-meets (Vanishes group asked call) (refused-vanishes call) asked call
               (λ early. query-vanishes call query)
           | inr change ↦
-              let parts = and_parts (is_among hiding_numbers (number_of_call call)) _ change in
+              let parts = and_parts (is_among HIDING_NUMBERS (number_of_call call)) _ change in
               decision-meets (Hides call) (λ why hidden textless. refused-vanishes call why) asked call
               (λ early. change-vanishes call parts.0) parts.1 textless
         ]

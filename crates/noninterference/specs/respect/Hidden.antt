@@ -11,6 +11,7 @@ use Rattle.kom_types.specs.declared.texts.MiscInput.{MiscInput}
 use Rattle.kom_types.specs.declared.texts.NewText.{NewText}
 use Rattle.kom_types.specs.calls.Numbers.{number_of_call}
 use Rattle.kom_types.specs.tables.Texts.{lines_of}
+use Rattle.kom_model.specs.declared.kinds.TheConstants.{ASKING_NUMBERS, HIDING_NUMBERS}
 use Rattle.kom_model.specs.After.{decision_at}
 use Rattle.kom_model.specs.Db.{Db}
 use Rattle.kom_model.specs.Decide.{was_refused}
@@ -21,20 +22,10 @@ use Rattle.kom_model.specs.ToWhom.{is_refused}
 use Rattle.kom_model.specs.calls.NewTexts.{names_recipient}
 use Rattle.kom_laws.specs.Groups.{Group, is_unseen, is_unread, weak}
 
--- the calls that only ask
-abbrev pub query_numbers : List ℕ
-query_numbers =
-    23 ∷ 25 ∷ 35 ∷ 49 ∷ 52 ∷ 56 ∷ 60 ∷ 61 ∷ 70 ∷ 71 ∷ 75 ∷ 76 ∷ 78 ∷ 81 ∷ 83 ∷ 84 ∷ 85 ∷ 90
-    ∷ 91 ∷ 94 ∷ 96 ∷ 101 ∷ 103 ∷ 104 ∷ 107 ∷ 108 ∷ 114 ∷ 115 ∷ 116 ∷ 117 ∷ 121 ∷ []
-
--- the eleven calls whose change may be hidden
-abbrev pub hiding_numbers : List ℕ
-hiding_numbers = 16 ∷ 17 ∷ 27 ∷ 30 ∷ 31 ∷ 77 ∷ 86 ∷ 92 ∷ 93 ∷ 109 ∷ 110 ∷ []
-
 -- a call asks, or was refused by the reader, or is one of the eleven
 abbrev pub may_be_hidden : Call → Bool
 may_be_hidden call = let number = number_of_call call in
-    was_refused call || is_among query_numbers number || is_among hiding_numbers number
+    was_refused call || is_among ASKING_NUMBERS number || is_among HIDING_NUMBERS number
 
 -- somebody of the group reads the texts of a conference
 abbrev pub is_read_by_some : Group → Db → ℕ → Bool
@@ -85,8 +76,8 @@ is_hidden_change group state moment session reference call =
 
 abbrev pub is_hidden_call : Group → State → ℕ → ℕ → ℕ → Call → Bool
 is_hidden_call group state moment session reference call =
-    was_refused call || is_among query_numbers (number_of_call call)
-    || is_among hiding_numbers (number_of_call call)
+    was_refused call || is_among ASKING_NUMBERS (number_of_call call)
+    || is_among HIDING_NUMBERS (number_of_call call)
     && is_hidden_change group state moment session reference call
 
 -- Whether an entry is hidden from the group in this state.
