@@ -4,6 +4,7 @@ use Rattle.std.proofs.Common.{map, Option, Some, None, Result, Ok, Err, refl, sy
 use Rattle.std.proofs.Common.{append_assoc, arith}
 use Rattle.std.specs.Prelude.{⊤}
 use Rattle.std.proofs.lemmas.List.{map-append}
+use Rattle.kom_types.specs.declared.limits.TheConstants.{LONGEST_USER_NAME}
 use Rattle.kom_types.specs.declared.acts.Act.TheVariants as act
 use Rattle.kom_types.specs.declared.acts.Record.{Record}
 use Rattle.kom_types.specs.declared.answers.Why.TheVariants as why
@@ -699,7 +700,7 @@ taking units next splitting s at = record {
 
 -- the name of a greeting is short
 pub name_short : {start : Seen} {past : Past} {known : Known} {now : Seen} (units : List StreamUnit)
-    (user : List ℕ) → IsTaking start past units (unit.Hello user) known now → length user ≤ 1024
+    (user : List ℕ) → IsTaking start past units (unit.Hello user) known now → length user ≤ LONGEST_USER_NAME
 name_short {past = past} {known = known} units user t =
     let nobody = greeted_nobody past.party units user t in
     short_greeting past.fed user

@@ -6,7 +6,7 @@ use Rattle.std.specs.Prelude.{option_to_list, option_map, IfSome}
 use Rattle.std.proofs.lemmas.List.{length-map}
 use Rattle.std.proofs.lemmas.Bool.{eqb-true, leb-true}
 use Rattle.std.proofs.Math.Seq.{take-append_seam}
-use Rattle.kom_types.specs.declared.limits.TheConstants.{LONGEST_STREAM}
+use Rattle.kom_types.specs.declared.limits.TheConstants.{LONGEST_STREAM, LONGEST_USER_NAME}
 use Rattle.kom_types.specs.declared.side.Side.TheVariants as side
 use Rattle.kom_types.specs.ByteKind.{is_blank, is_digit}
 use Rattle.kom_types.specs.Token.{Token, number_of}
@@ -301,22 +301,22 @@ begins_more bytes user lines rest more prefix =
 
 abbrev IsShortForm : Form (List ℕ) → Type 0
 IsShortForm Prefix = Unit {0}
-IsShortForm (Whole name) = length name ≤ 1024
+IsShortForm (Whole name) = length name ≤ LONGEST_USER_NAME
 IsShortForm Unfit = Unit {0}
 
-exact_short : (less same : Bool) (bytes : List ℕ) → (same ≡ true → length bytes ≤ 1024)
+exact_short : (less same : Bool) (bytes : List ℕ) → (same ≡ true → length bytes ≤ LONGEST_USER_NAME)
     → IsShortForm
     (elim less [ true ↦ Prefix | false ↦ elim same [ true ↦ Whole bytes | false ↦ Unfit ] ])
 exact_short true same bytes h = tt
 exact_short false true bytes h = h refl
 exact_short false false bytes h = tt
 
-exactly_short : (count : ℕ) (bytes : List ℕ) → count ≤ 1024 → IsShortForm (exactly count bytes)
+exactly_short : (count : ℕ) (bytes : List ℕ) → count ≤ LONGEST_USER_NAME → IsShortForm (exactly count bytes)
 exactly_short count bytes h =
     exact_short (nat_lt (length bytes) count) (length bytes == count) bytes
     (λ e. omega (arith, eqb-true (length bytes) count e, h))
 
-name_short : (fits : Bool) (digits tail : List ℕ) → (fits ≡ true → number_of digits ≤ 1024)
+name_short : (fits : Bool) (digits tail : List ℕ) → (fits ≡ true → number_of digits ≤ LONGEST_USER_NAME)
     → IsShortForm (elim fits [ true ↦ exactly (number_of digits) tail | false ↦ Unfit ])
 name_short true digits tail h = exactly_short (number_of digits) tail (h refl)
 name_short false digits tail h = tt
@@ -329,9 +329,9 @@ name_at_short : (digits bytes : List ℕ) → IsShortForm (name_at digits bytes)
 name_at_short digits [] = to_come (nat_le (length digits) 4)
 name_at_short digits (byte ∷ tail) =
     name_short (byte == 72 && is_name_length digits) digits tail
-    (λ e. leb-true (number_of digits) 1024
+    (λ e. leb-true (number_of digits) LONGEST_USER_NAME
     (and_right (nat_le 1 (length digits) && nat_le (length digits) 4)
-    (nat_le (number_of digits) 1024) (and_right (byte == 72) (is_name_length digits) e)))
+    (nat_le (number_of digits) LONGEST_USER_NAME) (and_right (byte == 72) (is_name_length digits) e)))
 
 letter_short : (is_letter : Bool) (form : Form (List ℕ)) → IsShortForm form
     → IsShortForm (elim is_letter [ true ↦ form | false ↦ Unfit ])
@@ -347,7 +347,7 @@ greeting_short (letter ∷ bytes) =
 
 abbrev IsShortVerdict : Verdict (List ℕ) → Type 0
 IsShortVerdict GoesOn = Unit {0}
-IsShortVerdict (Ends name) = length name ≤ 1024
+IsShortVerdict (Ends name) = length name ≤ LONGEST_USER_NAME
 IsShortVerdict (Fails fault) = Unit {0}
 
 bounded_short : (place : ℕ) (within too_long : Bool) (fits : Verdict (List ℕ))
@@ -374,7 +374,7 @@ verdict_short place too_long (Whole name) h =
     bounded_short place (nat_lt place LONGEST_STREAM) too_long (Ends name) h
 
 short_step : (text : List ℕ) (found : Verdict (List ℕ)) (on next : Split) → IsShortVerdict found
-    → IfSome on.greeting (λ name. length name ≤ 1024) →
+    → IfSome on.greeting (λ name. length name ≤ LONGEST_USER_NAME) →
     let split : Split =
     elim found [
       | GoesOn ↦ on
@@ -382,13 +382,13 @@ short_step : (text : List ℕ) (found : Verdict (List ℕ)) (on next : Split) �
       | Fails
           fault ↦ stopped_in text (Some fault)
     ] in IfSome split.greeting
-    (λ name. length name ≤ 1024)
+    (λ name. length name ≤ LONGEST_USER_NAME)
 short_step text GoesOn on next h k = k
 short_step text (Ends name) on next h k = h
 short_step text (Fails fault) on next h k = tt
 
 short_from : (place : ℕ) (text bytes : List ℕ)
-    → IfSome (greeting_from side.Client place text bytes).greeting (λ name. length name ≤ 1024)
+    → IfSome (greeting_from side.Client place text bytes).greeting (λ name. length name ≤ LONGEST_USER_NAME)
 short_from place text [] = tt
 short_from place text (byte ∷ bytes) =
     short_step text (greeting_verdict side.Client place (text ++ byte ∷ []))
@@ -398,7 +398,7 @@ short_from place text (byte ∷ bytes) =
 
 -- a greeting's user name has at most 1,024 bytes
 pub short_greeting : (bytes name : List ℕ) → (stream_of bytes).greeting ≡ Some name
-    → length name ≤ 1024
+    → length name ≤ LONGEST_USER_NAME
 short_greeting bytes name e =
-    subst (λ (greeting : Option (List ℕ)). IfSome greeting (λ name. length name ≤ 1024)) e
+    subst (λ (greeting : Option (List ℕ)). IfSome greeting (λ name. length name ≤ LONGEST_USER_NAME)) e
     (short_from 0 [] bytes)

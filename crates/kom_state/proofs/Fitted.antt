@@ -3,6 +3,7 @@ use Rattle.std.proofs.Common.{◌≡◌, ℕ, ◌≤◌, ◌&&◌, true, false, 
 use Rattle.std.proofs.Common.{sym, true≢false, arith}
 use Rattle.std.specs.Prelude.{is_none}
 use Rattle.std.proofs.lemmas.Bool.{and_parts, leb-true, eqb-true}
+use Rattle.kom_types.specs.declared.limits.TheConstants.{LAST_DRAWN, LONGEST_BODY}
 use Rattle.row_table.specs.Tables.{row_of}
 use Rattle.kom_types.specs.declared.effects.Effect.TheVariants as effect
 use Rattle.kom_types.specs.declared.texts.TextLink.{TextLink}
@@ -24,9 +25,9 @@ none_from None none = refl
 none_from (Some x) none = absurd (true≢false (sym none))
 
 pub record TextFits (db : Db) (number : ℕ) (body : List ℕ) : Type 0 where
-  pub last : number ≤ 4294967294
+  pub last : number ≤ LAST_DRAWN
   pub absent : row_of number_of_text number db.texts ≡ None
-  pub size : length body ≤ 1048576
+  pub size : length body ≤ LONGEST_BODY
 
 pub text-fits : (db : Db) (number author at : ℕ) (body : List ℕ) →
     fits (effect.TextAdded number author at body) db ≡ true → TextFits db number body
@@ -42,7 +43,7 @@ text-fits db number author at body fits' =
 pub record RecipientFits (db : Db) (given : Recipient) : Type 0 where
   pub absent : Texts.recipient_of given.text given.conference db.recipients ≡ None
   pub from : next_local given.conference db.conferences ≤ given.local
-  pub last : given.local ≤ 4294967294
+  pub last : given.local ≤ LAST_DRAWN
 
 pub recipient-fits : (db : Db) (given : Recipient) → fits (effect.RecipientAdded given) db ≡ true →
     RecipientFits db given
@@ -66,7 +67,7 @@ pub record CreatedFits (db : Db) (person local text : ℕ) : Type 0 where
   pub author : row.author ≡ person
   pub unnumbered : row.created_local ≡ 0
   pub from : next_created person db.persons ≤ local
-  pub last : local ≤ 4294967294
+  pub last : local ≤ LAST_DRAWN
 
 pub created-fits : (db : Db) (person local text : ℕ) → fits (effect.Created person local text) db ≡ true →
     CreatedFits db person local text

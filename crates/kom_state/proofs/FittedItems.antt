@@ -3,6 +3,7 @@ use Rattle.std.proofs.Common.{◌≡◌, ℕ, ◌≤◌, Bool, true, false, cond
 use Rattle.std.proofs.Common.{Option, Some, is_some, refl, sym, ◌∙◌}
 use Rattle.std.specs.List.{list_any}
 use Rattle.std.proofs.lemmas.Bool.{and_parts, leb-true}
+use Rattle.kom_types.specs.declared.limits.TheConstants.{LAST_DRAWN}
 use Rattle.row_table.specs.Tables.{row_of}
 use Rattle.kom_types.specs.declared.aux_items.AuxRow.{AuxRow}
 use Rattle.kom_types.specs.declared.aux_items.ItemRow.{ItemRow}
@@ -19,7 +20,7 @@ use Rattle.kom_state.proofs.Drawn.{next_item}
 
 pub record ItemFits (db : Db) (on_text : Bool) (object : ℕ) (item : AuxRow) : Type 0 where
   pub from : next_item on_text object db.conferences db.texts ≤ item.number
-  pub last : item.number ≤ 4294967294
+  pub last : item.number ≤ LAST_DRAWN
 
 next_is : (db : Db) (on_text : Bool) (object : ℕ) →
     next_item_of db on_text object ≡ next_item on_text object db.conferences db.texts

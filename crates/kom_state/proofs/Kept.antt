@@ -1,6 +1,7 @@
 -- What is kept of the rows stays so as effects that fit are made.
 use Rattle.std.proofs.Common.{◌≡◌, ℕ, ◌<◌, ◌≤◌, true, false, List, map, None, refl, sym, ap, ◌∙◌, arith}
 use Rattle.std.proofs.lemmas.Bool.{and_parts, not-true, leb-true}
+use Rattle.kom_types.specs.declared.limits.TheConstants.{LAST_CONFERENCE}
 use Rattle.row_table.specs.Tables.{changed_row}
 use Rattle.kom_types.specs.declared.effects.Counter.{Counter}
 use Rattle.kom_types.specs.declared.effects.Counter.TheVariants as counter
@@ -141,7 +142,7 @@ taken-kept db names kept number name may =
 
 pub added-parts : (db : Db) (number : ℕ) (name : List ℕ) (kind at creator supervisor : ℕ) →
     fits (effect.ConfAdded number name kind at creator supervisor) db ≡ true →
-    (may_name db number name ≡ true) × (number ≤ 65535)
+    (may_name db number name ≡ true) × (number ≤ LAST_CONFERENCE)
 unfolding fits
 added-parts db number name kind at creator supervisor fit =
     let named = and_parts _ _ (and_parts _ _ fit).0 in

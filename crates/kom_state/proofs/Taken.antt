@@ -4,6 +4,7 @@ use Rattle.std.proofs.Common.{None, is_some, refl, sym, ap, ◌∙◌, inl, inr,
 use Rattle.std.specs.List.{list_any}
 use Rattle.std.proofs.lemmas.Bool.{eq-eqb, ne_eqb, cases_Bool, or_parts}
 use Rattle.std.proofs.lemmas.Option.{none-some, same_Some}
+use Rattle.kom_types.specs.declared.errors.TheConstants as error
 use Rattle.row_table.specs.Tables.{row_of, IsByNumber}
 use Rattle.kom_types.specs.declared.conferences.ConferenceRow.{ConferenceRow}
 use Rattle.kom_types.specs.Names.{clash}
@@ -76,9 +77,11 @@ free_guard-free db number name free = ap refused_by (none_found (is_other number
 
 pub free_guard-taken : (db : Db) (number other : ℕ) (name : List ℕ) → IsByNumber number_of_conference db.conferences →
     taken name (map name_row db.conferences) ≡ Some other → (other ≡ number → ⊥) →
-    free_guard db number name ≡ cond (has_letterbox db other) (refusal 21 0) (refusal 20 0)
+    free_guard db number name
+    ≡ cond (has_letterbox db other) (refusal error.PERSON_EXISTS 0) (refusal error.CONFERENCE_EXISTS 0)
 unfolding conferences_of conference_of
 free_guard-taken db number other name rising found apart =
     let first = first_other number other name db.conferences rising found apart in
     ap refused_by first.1.first
-    ∙ sym (ap (λ row. cond (letterbox row) (refusal 21 0) (refusal 20 0)) first.1.at)
+    ∙ sym (ap (λ row. cond (letterbox row) (refusal error.PERSON_EXISTS 0) (refusal error.CONFERENCE_EXISTS 0))
+    first.1.at)

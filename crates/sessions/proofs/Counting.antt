@@ -1,5 +1,6 @@
 -- The bytes that are counted of what waits.
 use Rattle.std.proofs.Common.{◌≡◌, ℕ, ◌+◌, ◌-◌, ◌≤◌, List, [], ◌∷◌, ◌++◌, length, arith}
+use Rattle.kom_types.specs.declared.limits.TheConstants.{MOST_WAITING_BYTES}
 use Rattle.kom_types.specs.Printing.{print_of}
 use Rattle.kom_types.specs.Sessions.{Waiting, printed_bytes}
 use Rattle.sessions.specs.Outboxes.{IsOutbox}
@@ -11,7 +12,7 @@ printed_bytes-push (first ∷ waiting) one = omega (arith, printed_bytes-push wa
 
 -- an item that fits was added
 pub IsOutbox-push : (waiting : List Waiting) (capacity printed len : ℕ) (one : Waiting) →
-    IsOutbox waiting capacity printed → len ≡ length (print_of one.item) → len ≤ 33554432 - printed →
+    IsOutbox waiting capacity printed → len ≡ length (print_of one.item) → len ≤ MOST_WAITING_BYTES - printed →
     IsOutbox (waiting ++ one ∷ []) capacity (printed + len)
 IsOutbox-push waiting capacity printed len one is printed_to fit =
     let bytes = printed_bytes-push waiting one in

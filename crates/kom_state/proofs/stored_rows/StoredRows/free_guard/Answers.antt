@@ -1,5 +1,6 @@
 use Rattle.std.proofs.Common.{◌≡◌, cond, sym, ap, subst, ◌∙◌}
 use Rattle.std.proofs.lemmas.Bool.{eq-eqb, not-true}
+use Rattle.kom_types.specs.declared.errors.TheConstants as error
 use Rattle.kom_model.specs.Effects.{has_letterbox}
 use Rattle.kom_model.specs.calls.Guards.{Guard, Guards, refusal, free_guard}
 use Rattle.name_lookup.specs.NamedRows.{taken}
@@ -10,7 +11,8 @@ use Rattle.kom_state.proofs.stored_rows.StoredRows.free_guard.Goals.{In-Some}
 
 refused : (c : In-Some) → (c.in-Some.other ≡ c.args.number → ⊥) →
     free_guard c.args.self.now.db c.args.number c.args.name.now
-    ≡ cond (has_letterbox c.args.self.now.db c.in-Some.other) (refusal 21 0) (refusal 20 0)
+    ≡ cond (has_letterbox c.args.self.now.db c.in-Some.other) (refusal error.PERSON_EXISTS 0)
+    (refusal error.CONFERENCE_EXISTS 0)
 refused c apart =
     let name = c.args.name.now in
     rw (← c.self.view_is)
@@ -20,13 +22,15 @@ refused c apart =
 pub returns-then-has_letterbox : goal.returns-then-has_letterbox
 returns-then-has_letterbox c =
     let eq = refused (goal.at.returns-then-has_letterbox c).In-Some c.if-other-number.false
-    ∙ ap (λ b. cond b (refusal 21 0) (refusal 20 0)) (sym c.has_letterbox.ensures ∙ c.if-has_letterbox.true) in
+    ∙ ap (λ b. cond b (refusal error.PERSON_EXISTS 0) (refusal error.CONFERENCE_EXISTS 0))
+    (sym c.has_letterbox.ensures ∙ c.if-has_letterbox.true) in
     subst (λ (guard : Guard). Guards guard c.refuse.result) (sym eq) c.refuse.ensures
 
 pub returns-else-has_letterbox : goal.returns-else-has_letterbox
 returns-else-has_letterbox c =
     let eq = refused (goal.at.returns-else-has_letterbox c).In-Some c.if-other-number.false
-    ∙ ap (λ b. cond b (refusal 21 0) (refusal 20 0)) (sym c.has_letterbox.ensures ∙ c.if-has_letterbox.false) in
+    ∙ ap (λ b. cond b (refusal error.PERSON_EXISTS 0) (refusal error.CONFERENCE_EXISTS 0))
+    (sym c.has_letterbox.ensures ∙ c.if-has_letterbox.false) in
     subst (λ (guard : Guard). Guards guard c.refuse-else-has_letterbox.result) (sym eq)
     c.refuse-else-has_letterbox.ensures
 
