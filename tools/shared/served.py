@@ -14,6 +14,8 @@ from built import Wrong
 from protocol import STRING, string
 
 ADMINISTRATOR = 5
+# The statuses where the store is open in another process or failed, where it is no store or a damaged one, and where a port failed.
+STORE_FAILED, UNFIT, PORT_FAILED = 3, 4, 5
 # How long a script waits for one thing, in seconds.
 PATIENCE = 30
 
@@ -61,13 +63,21 @@ def is_free(port):
     return True
 
 
-class Server:
-    """A store that is served by so many workers, with more in the environment than this process has, if it is given, and with what the
-    process is to do before the program begins."""
+class Ended(Wrong):
+    """A server ended before it served."""
 
-    def __init__(self, program, store, workers, environment=(), begin=None):
+    def __init__(self, status, said):
+        super().__init__(f"the server ended with status {status}: {said!r:.200}")
+        self.status = status
+
+
+class Server:
+    """A store that is served by so many workers, at the first of the ports that is free, or at one that is drawn: with more in the
+    environment than this process has, if it is given, and with what the process is to do before the program begins."""
+
+    def __init__(self, program, store, workers, environment=(), begin=None, ports=None, patience=PATIENCE):
         # Below the ports that systems give to connections.
-        for port in random.sample(range(20_000, 30_000), 5):
+        for port in ports or random.sample(range(20_000, 30_000), 5):
             if not is_free(port):
                 continue
             self.port = port
@@ -78,15 +88,19 @@ class Server:
                 env={**os.environ, **dict(environment)},
                 preexec_fn=begin,
             )
-            if self.is_reached():
-                return
-            if self.process.returncode != 5:
-                raise Wrong(f"the server ended with status {self.process.returncode}: {self.process.stdout.read()!r:.200}")
+            try:
+                if self.is_reached(patience):
+                    return
+            except BaseException:
+                self.kill()
+                raise
+            if self.process.returncode != PORT_FAILED:
+                raise Ended(self.process.returncode, self.process.stdout.read())
         raise Wrong("no port is free")
 
-    def is_reached(self):
+    def is_reached(self, patience):
         """Whether somebody listens at the port before the server ends."""
-        end = time.monotonic() + PATIENCE
+        end = time.monotonic() + patience
         while time.monotonic() < end:
             try:
                 socket.create_connection(("127.0.0.1", self.port), 1).close()
@@ -96,7 +110,6 @@ class Server:
                 if self.process.poll() is not None:
                     return False
             time.sleep(0.02)
-        self.kill()
         raise Wrong("the server does not listen")
 
     def wait(self, seconds=PATIENCE):
@@ -108,6 +121,12 @@ class Server:
         if told:
             raise Wrong(f"the server wrote {told!r:.200}")
         return self.process.returncode
+
+    def end(self):
+        """Ends the server by SIGTERM, if it runs."""
+        if self.process.poll() is None:
+            self.process.terminate()
+        self.process.communicate()
 
     def kill(self):
         """Ends the server by signal 9, if it runs."""
