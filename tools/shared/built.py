@@ -35,7 +35,7 @@ def program_of(words, place=0, name="komd"):
     """The path of the program that a word names, or else of the built one."""
     program = pathlib.Path(words[place]).resolve() if len(words) > place else built(name)
     if not program.is_file():
-        sys.exit(f"there is no program {program}; `rt ci {name}` builds it proved, `tools/unproved {name} FILE` without proof")
+        sys.exit(f"there is no program {program}; `rt ci` leaves it there, proved, and `tools/unproved {name} FILE` builds it without proof")
     return str(program)
 
 
