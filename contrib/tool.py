@@ -1,0 +1,102 @@
+"""What the tools beside this file have in common: passwords that are asked for, files that come whole or not at all, progress."""
+import contextlib
+import getpass
+import os
+import sys
+import time
+
+
+class Trouble(Exception):
+    """Why a tool ends, in words for people, and its status."""
+
+    def __init__(self, words, status=1):
+        super().__init__(words)
+        self.status = status
+
+
+def run(main, name):
+    """Ends the program with the status of its main function, or with the reason for which that was left."""
+    try:
+        sys.exit(main())
+    except Trouble as trouble:
+        print(f"{name}: {trouble}", file=sys.stderr)
+        sys.exit(trouble.status)
+    except BrokenPipeError:
+        os.dup2(os.open(os.devnull, os.O_WRONLY), sys.stdout.fileno())
+        sys.exit(1)
+    except OSError as fault:
+        print(f"{name}: {fault}", file=sys.stderr)
+        sys.exit(1)
+    except KeyboardInterrupt:
+        print(f"{name}: interrupted", file=sys.stderr)
+        sys.exit(1)
+
+
+def password(prompt):
+    """A password: typed on the terminal, where it is not shown, or else a line of standard input. No word of a process has it."""
+    if not sys.stdin.isatty():
+        return sys.stdin.buffer.readline().rstrip(b"\r\n")
+    try:
+        return getpass.getpass(prompt).encode("latin-1")
+    except UnicodeEncodeError:
+        raise Trouble("a password has letters of ISO 8859-1 alone") from None
+
+
+@contextlib.contextmanager
+def whole_file(path, beside):
+    """A file to write, readable for its owner alone, which stands at `beside` until all is written and then at `path`, where none was."""
+    if os.path.lexists(path):
+        raise Trouble(f"{path} is there already, and stays as it is")
+    with contextlib.suppress(FileNotFoundError):
+        os.unlink(beside)
+    try:
+        with os.fdopen(os.open(beside, os.O_WRONLY | os.O_CREAT | os.O_EXCL, 0o600), "wb") as file:
+            yield file
+            file.flush()
+            os.fsync(file.fileno())
+        os.link(beside, path)
+        sync_folder(path)
+    finally:
+        with contextlib.suppress(FileNotFoundError):
+            os.unlink(beside)
+
+
+def sync_folder(path):
+    """Stores that a file has its name."""
+    folder = os.open(os.path.dirname(os.path.abspath(path)), os.O_RDONLY)
+    try:
+        os.fsync(folder)
+    finally:
+        os.close(folder)
+
+
+class Progress:
+    """How far a long work has come, in a line of the terminal; nothing where standard error is none."""
+
+    def __init__(self, what):
+        self.what, self.is_shown = what, sys.stderr.isatty()
+        self.start = self.told = time.monotonic()
+        self.first = None
+
+    def tell(self, done, total):
+        """Tells it, at most twice a second."""
+        now = time.monotonic()
+        if not self.is_shown or now - self.told < 0.5:
+            return
+        if self.first is None:
+            self.first, self.start = done, now
+        self.told, rate = now, (done - self.first) / max(now - self.start, 0.1)
+        left = f", {(total - done) / rate / 60:.0f} minutes left" if rate > 0 else ""
+        print(f"\r{self.what}: {done:,} of {total:,}{left}\x1b[K", end="", file=sys.stderr, flush=True)
+
+    def over(self, rows, total):
+        """The same rows, told of while they are taken."""
+        for done, row in enumerate(rows):
+            yield row
+            if done % 1000 == 0:
+                self.tell(done, total)
+        self.end()
+
+    def end(self):
+        if self.is_shown:
+            print("\r\x1b[K", end="", file=sys.stderr, flush=True)
