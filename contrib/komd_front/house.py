@@ -1,0 +1,47 @@
+"""What all sessions of a door have in common: the server, its places, and the limits."""
+import asyncio
+import dataclasses
+
+from .addresses import Crowd
+from .guessing import Guesses
+
+HOST = "127.0.0.1"
+# The places that are left to this machine.
+LEFT_FREE = 2
+# How many sessions there may be that have no place yet, since their greetings are not whole.
+MOST_GREETING = 256
+# How many bytes may wait for a peer before nothing more is read for it.
+MOST_WAITING = 65_536
+
+
+@dataclasses.dataclass(frozen=True)
+class Limits:
+    """What an operator may set; the words of the command line say what it is."""
+
+    komd: int
+    workers: int
+    connections: int
+    greeting_seconds: float
+    silent_seconds: float
+    guess_seconds: float
+    is_open: bool
+
+
+class House:
+    """The server behind the door, and who is let in to it."""
+
+    def __init__(self, limits, moving=None):
+        self.limits, self.moving = limits, moving
+        self.guesses = Guesses(limits.guess_seconds)
+        places = limits.workers - LEFT_FREE
+        self.places = Crowd(places, places)
+        self.sessions = Crowd(places + MOST_GREETING, limits.connections)
+
+    def place(self):
+        """A place at the server, for as long as it is held."""
+        return self.places.one_more("")
+
+    async def connect(self):
+        """A connection to the server."""
+        async with asyncio.timeout(self.limits.greeting_seconds):
+            return await asyncio.open_connection(HOST, self.limits.komd, limit=MOST_WAITING)
