@@ -2,7 +2,7 @@
 
 import { auxItemInput, conference, dynamicSession, found, info, mark, member, membership, miscInfo, person,
   readRange, staticSession, textMapping, textStat, time, uconference, version } from "./records.js";
-import { array, bits, integer, list, nothing, string, truth } from "./shapes.js";
+import { array, bits, byte, integer, list, nothing, string, truth } from "./shapes.js";
 import { Reader, Writer } from "./tokens.js";
 
 const call = (number, sent, answer = nothing) => ({ number, sent, answer });
@@ -37,7 +37,7 @@ export const calls = {
   addFootnote: call(37, [integer, integer]),
   removeFootnote: call(38, [integer, integer]),
   setUnread: call(40, [integer, integer]),
-  enable: call(42, [integer]),
+  enable: call(42, [byte]),
   sync: call(43, []),
   shutDown: call(44, [integer]),
   getPerson: call(49, [integer], person),
@@ -52,7 +52,7 @@ export const calls = {
   setClientVersion: call(69, [string, string]),
   getClientName: call(70, [integer], string),
   getClientVersion: call(71, [integer], string),
-  markText: call(72, [integer, integer]),
+  markText: call(72, [integer, byte]),
   unmarkText: call(73, [integer]),
   getVersion: call(75, [], version),
   lookUp: call(76, [string, truth, truth], array(found)),
@@ -75,7 +75,7 @@ export const calls = {
   getInfo: call(94, [], info),
   getAuxTags: call(96, [], array(integer)),
   setExpire: call(97, [integer, integer]),
-  addMember: call(100, [integer, integer, integer, integer, bits(8)]),
+  addMember: call(100, [integer, integer, byte, integer, bits(8)]),
   getMembers: call(101, [integer, integer, integer], array(member)),
   setMembershipType: call(102, [integer, integer, bits(8)]),
   localToGlobal: call(103, [integer, integer, integer], textMapping),

@@ -2,10 +2,20 @@
 
 import { ProtocolError } from "./lines.js";
 
-export const integer = {
-  read: (from) => from.integer(),
-  write: (to, value) => to.word(String(value)),
-};
+const whole = (most) => ({
+  read(from) {
+    const value = from.integer();
+    if (value > most) throw new ProtocolError(`a number is at most ${most}`);
+    return value;
+  },
+  write(to, value) {
+    if (!Number.isInteger(value) || value < 0 || value > most) throw new RangeError(`${value} is no number up to ${most}`);
+    to.word(String(value));
+  },
+});
+
+export const integer = whole(4_294_967_295);
+export const byte = whole(255);
 
 export const truth = {
   read(from) {

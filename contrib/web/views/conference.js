@@ -1,0 +1,103 @@
+// A conference: what it is, its presentation, and the member's own part in it.
+
+import { bodyOf } from "./body.js";
+import { button, el, fact, field, heading, letters, link, many } from "./dom.js";
+import { nameLink } from "./names.js";
+import { momentOf } from "./times.js";
+
+const TYPES = [[0, "closed: its texts are for members"], [2, "secret: members alone see it"], [4, "takes texts without an author"]];
+const PASSIVE = 1;
+const LARGEST_PRIORITY = 255;
+
+/** A text that presents something, or stands on its door. */
+export async function shownText(app, number, label) {
+  if (number === 0) return null;
+  const text = await app.club.texts.load(number).catch(() => null);
+  if (text === null) return null;
+  return el("section", { class: "presented", "aria-label": label },
+    el("h2", {}, label), el("p", { class: "meta" }, link(`text/${number}`, letters(text.subject || `text ${number}`)), ", ", momentOf(text.stat.created)),
+    bodyOf(text.body));
+}
+
+/** Priority, passive, the place to go on from, and leaving. */
+function ownPart(app, conference, again) {
+  const { club } = app;
+  const row = club.membership(conference);
+  const priority = el("input", { type: "number", min: 0, max: LARGEST_PRIORITY, value: row.priority, required: true });
+  const passive = el("input", { type: "checkbox" });
+  passive.checked = row.passive;
+  const last = el("input", { type: "number", min: 0, value: 10, required: true });
+  const withBit = (type, place, on) => type.slice(0, place) + (on ? "1" : "0") + type.slice(place + 1);
+  return el("details", {},
+    el("summary", {}, "Your membership"),
+    row.invitation ? el("p", {}, "You were invited.") : null,
+    el("form", { submit: (event) => {
+      event.preventDefault();
+      app.try(async () => {
+        await club.join(conference, Number(priority.value), row.position);
+        if (passive.checked !== row.passive || row.invitation) {
+          await club.setMembershipType(conference, withBit(withBit(row.type, PASSIVE, passive.checked), 0, false));
+        }
+        again();
+      }, "Your membership is changed.");
+    } },
+      field("Priority", priority, "0 to 255. Conferences of higher priority are read first."),
+      el("label", { class: "check" }, passive, " Passive: nothing of it is unread, and nothing is told"),
+      el("button", { type: "submit" }, "Change it")),
+    el("form", { submit: (event) => {
+      event.preventDefault();
+      app.try(() => club.keepUnread(conference, Number(last.value)).then(again), "Done.");
+    } },
+      field("Read on from the last texts", last, "All older ones count as read then. 0 passes over all."),
+      el("button", { type: "submit" }, "Only these are unread")),
+    conference === club.me ? null : button("Leave the conference", () => app.try(() => club.leave(conference).then(again), "You are a member no more."), { class: "danger" }));
+}
+
+export async function conferenceView(app, words) {
+  const number = Number(words);
+  const { club } = app;
+  const [conference] = await Promise.all([app.session.call("getConference", number), club.names.ask(number)]);
+  if (conference.type[3] === "1") {
+    app.go(`person/${number}`);
+    return { title: "Person", node: el("div", {}) };
+  }
+  const row = club.membership(number);
+  const again = () => app.show({ focus: false });
+  const types = TYPES.filter(([bit]) => conference.type[bit] === "1").map(([, each]) => each);
+  const supervises = conference.supervisor === club.me;
+  const [presentation, notice] = await Promise.all([
+    shownText(app, conference.presentation, "Presentation"), shownText(app, conference.notice, "Notice")]);
+  const name = club.names.known(number);
+  const acts = { write: () => app.go(`write/text-${number}`) };
+  const read = () => {
+    club.goTo(number);
+    app.prompt.next();
+  };
+  return {
+    name: "conference",
+    title: name,
+    acts,
+    back: again,
+    node: el("div", {},
+      heading(letters(name)),
+      el("div", { class: "acts" },
+        row ? button(row.unread > 0 ? `Read (${row.unread} unread)` : "Go there", () => (row.unread > 0 ? read() : (club.goTo(number), app.say("You are there now."))), { class: "main" })
+          : button("Join", () => app.try(() => club.join(number).then(again), "You are a member now."), { class: "main" }),
+        button(["Write to it", el("kbd", {}, "w")], acts.write),
+        el("a", { class: "button", href: `#/last/${number}` }, "Last texts"),
+        el("a", { class: "button", href: `#/members/${number}` }, `Members (${conference.members})`),
+        button("Send a message", () => app.go(`messages/${number}`))),
+      notice,
+      presentation,
+      el("dl", {},
+        fact("Number", String(number)),
+        types.length > 0 ? fact("Kind", types.join("; ")) : null,
+        fact("Texts", `${conference.texts.toLocaleString("en")}, the last one `, momentOf(conference.lastWritten)),
+        fact("Made", momentOf(conference.created), " by ", nameLink(club, conference.creator)),
+        fact("Kept by", nameLink(club, conference.supervisor)),
+        conference.submitters !== 0 ? fact("Who may write", nameLink(club, conference.submitters), " and its members") : null,
+        fact("Texts are kept", many(conference.nice, "day"))),
+      row ? ownPart(app, number, again) : null,
+      supervises ? el("p", {}, link(`write/presentation-${number}`, "Write its presentation"), " · ", link(`write/notice-${number}`, "Write its notice")) : null),
+  };
+}

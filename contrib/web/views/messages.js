@@ -1,0 +1,70 @@
+// Messages: what was said since the login, and a line to answer.
+
+import { bytesOfMessage } from "../letters.js";
+import { el, field, heading } from "./dom.js";
+import { finder } from "./finder.js";
+import { nameOf } from "./names.js";
+import { momentOf } from "./times.js";
+
+export async function messagesView(app, words) {
+  const { club } = app;
+  let to = words === undefined ? null : Number(words);
+  if (to) await club.names.ask(to).catch(() => undefined);
+  const log = el("ul", { class: "log", role: "log", "aria-live": "polite", "aria-label": "Messages since you logged in" });
+  const input = el("textarea", { rows: 2, required: true });
+  const receiver = el("p", { class: "receiver" });
+  const left = new AbortController();
+
+  const item = ({ sender, recipient, text, at }) => el("li", { class: sender === club.me ? "own" : null },
+    el("p", { class: "meta" }, nameOf(club, sender), " to ", recipient === 0 ? "everybody" : nameOf(club, recipient), ", ", momentOf(at)),
+    el("p", { class: "said", dir: "auto" }, text));
+
+  function show() {
+    log.replaceChildren(...club.messages.map(item));
+    log.scrollTop = log.scrollHeight;
+  }
+
+  function setReceiver(number) {
+    to = number;
+    receiver.replaceChildren("To ", number === null ? "nobody yet" : number === 0 ? "everybody" : nameOf(club, number));
+  }
+
+  async function send(event) {
+    event?.preventDefault();
+    const text = input.value.trim();
+    if (text === "") return;
+    if (to === null) {
+      app.say("Say first to whom it goes.");
+      return;
+    }
+    if (await app.try(() => app.session.call("sendMessage", to, bytesOfMessage(text)))) {
+      club.keepMessage(to, text);
+      input.value = "";
+      show();
+    }
+  }
+
+  input.addEventListener("keydown", (event) => {
+    if (event.key === "Enter" && !event.shiftKey) send(event);
+  });
+  club.addEventListener("message", show, { signal: left.signal });
+  setReceiver(to);
+  show();
+  return {
+    name: "messages",
+    title: "Messages",
+    focus: to === null ? undefined : input,
+    leave: () => left.abort(),
+    node: el("div", {}, heading("Messages"),
+      club.messages.length === 0 ? el("p", { class: "hint" }, "None came since you logged in. Messages are not kept by the server.") : null,
+      log,
+      el("form", { submit: send }, receiver,
+        field("Message", input, "Enter sends it."),
+        el("div", { class: "row" }, el("button", { type: "submit", class: "main" }, "Send"),
+          el("button", { type: "button", click: () => setReceiver(0) }, "To everybody"))),
+      finder(app, { label: "To somebody else", hint: "A person, or all members of a conference.", chosen: (number) => {
+        setReceiver(number);
+        input.focus();
+      } })),
+  };
+}

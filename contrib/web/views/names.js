@@ -1,0 +1,34 @@
+// Names as links that learn their name when it is known, and follow when it is another.
+
+import { el } from "./dom.js";
+
+/** Where the page of a conference or a person is. */
+export const placeOf = (club, number) => `${club.names.isPerson(number) ? "person" : "conference"}/${number}`;
+
+function fill(club, element) {
+  const number = Number(element.dataset.name);
+  element.textContent = club.names.known(number) ?? "…";
+  const parent = element.parentElement;
+  if (parent?.matches("a[data-place]")) parent.href = `#/${placeOf(club, number)}`;
+}
+
+/** The name of a conference or a person, as text. */
+export function nameOf(club, number) {
+  const element = el("bdi", { "data-name": number });
+  fill(club, element);
+  if (club.names.known(number) === null) club.names.ask(number).catch(() => undefined);
+  return element;
+}
+
+/** The name as a link to its page. Nobody has none. */
+export function nameLink(club, number) {
+  if (number === 0) return nameOf(club, 0);
+  return el("a", { href: `#/${placeOf(club, number)}`, "data-place": "" }, nameOf(club, number));
+}
+
+/** Fills the names of the page in when they are known. */
+export function followNames(club) {
+  club.names.addEventListener("name", ({ detail }) => {
+    for (const element of document.querySelectorAll(`[data-name="${detail}"]`)) fill(club, element);
+  });
+}

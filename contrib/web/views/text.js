@@ -1,0 +1,130 @@
+// One text: its head, its letters, what can be done with it, and the conversation that it stands in.
+
+import { recipientsOf } from "../club/club.js";
+import { BLIND_COPY, COMMENT_TO, COPY, FOOTNOTE_TO, TO } from "../protocol/records.js";
+import { bodyOf } from "./body.js";
+import { Conversation } from "./conversation.js";
+import { button, el, letters, link, many } from "./dom.js";
+import { nameLink } from "./names.js";
+import { momentOf } from "./times.js";
+
+export const TO_WORDS = { [TO]: "To", [COPY]: "Copy to", [BLIND_COPY]: "Hidden copy to" };
+const MARK = 100;
+
+/** A text by its number, with its author where that is known. */
+export function textLink(app, number) {
+  const by = el("span", {});
+  app.club.texts.statOrNull(number).then((stat) => {
+    if (stat) by.append(" by ", nameLink(app.club, stat.author));
+  }).catch(() => undefined);
+  return [link(`text/${number}`, `text ${number}`), by];
+}
+
+/** The lines above a text: to whom it goes, and what it answers. */
+export function linesOf(app, stat) {
+  const line = (words, ...what) => el("li", {}, el("span", { class: "label" }, words), " ", ...what);
+  const answers = (tag) => stat.misc.filter((info) => info.tag === tag).map(({ value }) => value);
+  return [
+    ...recipientsOf(stat).map(({ conference, tag }) => line(TO_WORDS[tag], nameLink(app.club, conference))),
+    ...answers(COMMENT_TO).map((text) => line("Comment to", ...textLink(app, text))),
+    ...answers(FOOTNOTE_TO).map((text) => line("Footnote to", ...textLink(app, text))),
+  ];
+}
+
+/** What can be done with the text of a view: by keys and by buttons. */
+function actsOn(app, text, again) {
+  const { club } = app;
+  const { number, stat } = text;
+  const own = stat.author === club.me;
+  return {
+    comment: () => app.go(`write/comment-${number}`),
+    footnote: own ? () => app.go(`write/footnote-${number}`) : null,
+    reply: stat.author === 0 ? null : () => app.go(`write/reply-${number}`),
+    above: () => {
+      const answered = stat.misc.find(({ tag }) => tag === COMMENT_TO || tag === FOOTNOTE_TO);
+      if (answered) app.go(`text/${answered.value}`);
+      else app.say("It answers no other text.");
+    },
+    skip: () => app.try(async () => {
+      const count = await club.skipBelow(number);
+      club.order.leaveBranch();
+      app.say(`${many(count, "text")} below this one ${count === 1 ? "is" : "are"} passed over.`);
+      again();
+    }),
+    mark: () => app.try(() => app.session.call("markText", number, MARK).then(again), `Text ${number} is marked. You find it under Marks.`),
+    unmark: () => app.try(() => app.session.call("unmarkText", number).then(again), `Text ${number} is not marked any more.`),
+    unread: () => app.try(() => club.markUnread(number), `Text ${number} is unread again.`),
+    remove: own ? () => askToDelete(app, number) : null,
+  };
+}
+
+function askToDelete(app, number) {
+  const dialog = el("dialog", { "aria-labelledby": "delete-words" },
+    el("p", { id: "delete-words" }, `Delete text ${number}? It goes for all, and cannot be had back.`),
+    el("div", { class: "row" },
+      button("Delete it", async () => {
+        dialog.close();
+        if (await app.try(() => app.session.call("deleteText", number), `Text ${number} is deleted.`)) {
+          app.club.texts.forget(number);
+          app.show();
+        }
+      }, { class: "danger" }),
+      button("Keep it", () => dialog.close())));
+  dialog.addEventListener("close", () => dialog.remove());
+  document.body.append(dialog);
+  dialog.showModal();
+}
+
+/** A text is read once it has been shown to somebody who looks. */
+function readIt(club, text) {
+  if (!club.isUnreadBy(text.stat)) return;
+  if (club.order.last !== text.number) club.order.chose(text.number);
+  club.markRead(text.stat);
+}
+
+export async function textView(app, words) {
+  const number = Number(words);
+  const { club } = app;
+  const before = club.order.last;
+  const [text, marks] = await Promise.all([club.texts.load(number), app.session.call("getMarks")]);
+  const { stat } = text;
+  const reviewed = !club.isUnreadBy(stat) && before !== number && before !== 0;
+  const marked = marks.some((each) => each.text === number);
+  const again = () => app.show({ focus: false });
+  const acts = actsOn(app, text, again);
+  if (marked) acts.mark = acts.unmark;
+
+  const act = (label, name, key) => acts[name] && button([label, key ? el("kbd", {}, key) : null], acts[name]);
+  const conversation = new Conversation(app, number);
+  const article = el("article", { "aria-labelledby": "subject" },
+    reviewed ? el("p", { class: "reviewed" }, "Looked at again. ", link(`text/${before}`, `Back to text ${before}`), ", where you read.") : null,
+    el("header", {},
+      el("h1", { tabindex: "-1", id: "subject" }, text.subject === "" ? "(no subject)" : letters(text.subject)),
+      el("p", { class: "meta" }, `Text ${number} by `, nameLink(club, stat.author), ", ", momentOf(stat.created), `, ${many(stat.lines, "line")}`,
+        stat.marks > 0 ? `, ${many(stat.marks, "mark")}` : "", marked ? ", marked by you" : ""),
+      el("ul", { class: "links" }, linesOf(app, stat))),
+    bodyOf(text.body),
+    el("footer", { class: "acts", role: "group", "aria-label": `Text ${number}` },
+      act("Comment", "comment", "c"), act("Answer in private", "reply", "p"), act(marked ? "Drop the mark" : "Mark", "mark", "m"),
+      el("details", {}, el("summary", {}, "More"), el("div", { class: "acts" },
+        act("Footnote", "footnote", "f"), act("What it answers", "above", "a"), act("Unread again", "unread", "u"),
+        act("Pass over its comments", "skip", "j"), act("Delete", "remove")))));
+
+  const read = () => {
+    if (!document.hidden) readIt(club, text);
+  };
+  return {
+    name: "reading",
+    title: text.subject || `Text ${number}`,
+    node: el("div", { class: "reading" }, article, conversation.node),
+    acts,
+    shown() {
+      read();
+      conversation.load().catch((error) => error.code !== undefined && app.fail(error));
+    },
+    seen: read,
+    tookText: (_, told) => conversation.tookText(told),
+    back: again,
+    leave: () => conversation.leave(),
+  };
+}
