@@ -1,0 +1,276 @@
+#!/usr/bin/env python3
+"""Serves clients that are silent by `komd serve` with two workers, and tells its clock the time: silent_clients.py [PROGRAM]
+
+A library that is loaded before the C library has the clock stand still unless this script tells it to go on, and cuts each wait short:
+so days pass in seconds. Clients of each kind take both workers, and a third waits for one of them:
+
+- one that sends a letter, and one that sends a letter of its greeting now and then, are there after 29 seconds and gone after 30;
+- one that greets and sends no more is there after 29 minutes, and gone after 30;
+- one that greets and then sends a line feed each minute is there after 35 minutes, and still answered;
+- one that sent a call, in the piece of its greeting or after it, is there after 41 days of silence, and still answered;
+- one that reads nothing of what it asked for is there after 59 seconds, and gone after 60.
+
+Then it looks whether the system asks a silent client of a server without that library after a minute, by /proc/net, and by `ss` where
+that is there. It needs a C compiler; where there is none it says so, and ends with 0. It prints a line for each kind, and ends with 1
+at the first thing that is otherwise, or after two minutes, else with 0. It takes some fifteen seconds. PROGRAM is
+crates/komd/out/komd, which `rt ci` leaves there, unless it is named.
+"""
+import mmap
+import pathlib
+import re
+import select
+import shutil
+import subprocess
+import sys
+import tempfile
+import time
+
+sys.path.insert(0, str(pathlib.Path(__file__).resolve().parent.parent))
+
+from served import PATIENCE, Server, Session, Wrong, folder_in_memory, limit_seconds, make_store, program_of, stop, string
+
+LIMIT_SECONDS = 120
+MINUTE, DAY = 60, 86_400
+# How long a wait of the server lasts at most under the library, in milliseconds; and how long it is given here to see what the time
+# is, in seconds: several waits, on a machine that may be busy.
+LONGEST_WAIT, SETTLED = 20, 0.4
+# How the system's table of connections tells of a timer that keeps alive.
+KEEP_ALIVE = 2
+SHIM_C = r"""
+#define _GNU_SOURCE
+#include <dlfcn.h>
+#include <fcntl.h>
+#include <stdlib.h>
+#include <sys/epoll.h>
+#include <sys/mman.h>
+#include <time.h>
+static volatile long *later;
+__attribute__((constructor)) static void begin(void) {
+    int file = open(getenv("LATER"), O_RDONLY);
+    if (file < 0) abort();
+    later = mmap(0, sizeof *later, PROT_READ, MAP_SHARED, file, 0);
+    if (later == MAP_FAILED) abort();
+}
+int clock_gettime(clockid_t clock, struct timespec *time) {
+    int (*real)(clockid_t, struct timespec *) = dlsym(RTLD_NEXT, "clock_gettime");
+    int status = real(clock, time);
+    if (!status && clock == CLOCK_MONOTONIC) { time->tv_sec = *later; time->tv_nsec = 0; }
+    return status;
+}
+int epoll_wait(int set, struct epoll_event *events, int count, int millis) {
+    int (*real)(int, struct epoll_event *, int, int) = dlsym(RTLD_NEXT, "epoll_wait");
+    return real(set, events, count, millis < 0 || millis > LONGEST_WAIT ? LONGEST_WAIT : millis);
+}
+"""
+
+
+class Late:
+    """The clock of a server."""
+
+    def __init__(self, folder):
+        self.path, self.seconds = folder / "later", DAY
+        self.path.write_bytes(DAY.to_bytes(8, sys.byteorder))
+        self.file = self.path.open("r+b")
+        self.map = mmap.mmap(self.file.fileno(), 8)
+
+    def pass_by(self, seconds, settled=SETTLED):
+        """So many seconds go by, and the server has seen it."""
+        self.seconds += seconds
+        self.map[:] = self.seconds.to_bytes(8, sys.byteorder)
+        time.sleep(settled)
+
+
+def build(folder):
+    """The library."""
+    source, library = folder / "shim.c", folder / "shim.so"
+    source.write_text(SHIM_C)
+    subprocess.run(["gcc", "-shared", "-fPIC", "-O1", f"-DLONGEST_WAIT={LONGEST_WAIT}", "-o", library, source, "-ldl"], check=True)
+    return library
+
+
+def greeted(port, more=""):
+    """A client that sent a greeting, and maybe more in the same piece, and was answered."""
+    client = Session(port, None)
+    client.write(f"A1Hx{more}")
+    if (line := client.line()) != "LysKOM":
+        raise Wrong(f"a greeting is answered {line!r}")
+    return client
+
+
+def connections(port):
+    """The connections that a server has at a port: the kind of each one's timer, in how many hundredths of a second that is due, and the
+    number of its socket, which is 0 until it is accepted."""
+    for name in ("/proc/net/tcp", "/proc/net/tcp6"):
+        try:
+            rows = pathlib.Path(name).read_text(encoding="ascii").splitlines()[1:]
+        except OSError:
+            continue
+        for row in rows:
+            _, local, _, state, _, timer, _, _, _, inode, *_ = row.split()
+            if int(local.rsplit(":", 1)[1], 16) == port and state == "01":
+                kind, due = timer.split(":")
+                yield int(kind), int(due, 16), int(inode)
+
+
+def connected(port):
+    """Two clients that have sent nothing, and were accepted."""
+    clients = [Session(port, None) for _ in range(2)]
+    end = time.monotonic() + PATIENCE
+    while sum(inode != 0 for _, _, inode in connections(port)) < 2:
+        if end < time.monotonic():
+            raise Wrong("two clients are not accepted")
+        time.sleep(0.02)
+    time.sleep(SETTLED)
+    return clients
+
+
+def is_there(client):
+    """Whether a client's connection is open, from which nothing is to be read."""
+    return not select.select([client.socket], [], [], 0)[0]
+
+
+def want(what, wanted, got):
+    if wanted != got:
+        raise Wrong(f"{what}: {got!r:.200}, not {wanted!r:.200}")
+
+
+def are_gone(what, late, port, clients, seconds, passed=0):
+    """Clients that take both workers, for whom some seconds have gone by, are there a second before all have, and gone then: a third
+    is answered."""
+    waiting = Session(port, None)
+    waiting.write("A1Hw\n1 56\n")
+    late.pass_by(seconds - 1 - passed)
+    want(f"{what}, a second before", [True] * 3, [is_there(client) for client in (*clients, waiting)])
+    late.pass_by(1)
+    is_served(what, waiting)
+    want(f"{what}, what came at the end", [None, None], [client.line() for client in clients])
+    for client in clients:
+        client.close()
+    print(f"{what}: gone after {seconds} seconds")
+
+
+def is_served(what, waiting):
+    """A client that waited for a worker is answered."""
+    if not select.select([waiting.socket], [], [], PATIENCE)[0]:
+        raise Wrong(f"{what}: both workers are still taken")
+    want(f"{what}, who waited", "LysKOM", waiting.line())
+    waiting.end()
+
+
+def are_served(what, late, clients, before=lambda client: None, minutes=(31, 1_440, 40 * 1_440)):
+    """Clients that take both workers are there after each of these times, before which they may do something, and answered in the end."""
+    for each in minutes:
+        for client in clients:
+            before(client)
+        late.pass_by(each * MINUTE, SETTLED / 4)
+        want(f"{what}, there", [True, True], [is_there(client) for client in clients])
+    time.sleep(SETTLED)
+    for client in clients:
+        client.reference = 9
+        client.ask("56")
+        client.end()
+    print(f"{what}: answered after {sum(minutes)} minutes")
+
+
+def dribble(late, port):
+    """Two clients that send a letter of a greeting each 9 seconds."""
+    clients = connected(port)
+    for letter in "A9H":
+        for client in clients:
+            client.write(letter)
+        late.pass_by(9)
+    are_gone("letters of a greeting", late, port, clients, 30, 27)
+
+
+def unread(late, port):
+    """Two clients that ask for more than their connections hold, and read nothing."""
+    writer = Session(port).login()
+    text = writer.ask(f"86 {string('x' * 1_000_000)} 0 {{ }} 0 {{ }}")
+    writer.end()
+    clients = [Session(port, receive=4_096).login() for _ in range(2)]
+    for client in clients:
+        client.write("".join(f"{place} 25 {text} 0 1000000\n" for place in range(40)))
+    waiting = Session(port, None)
+    waiting.write("A1Hw\n")
+    # (the connections are filled meanwhile)
+    time.sleep(1)
+    late.pass_by(59)
+    want("clients that read nothing, who waits", True, is_there(waiting))
+    late.pass_by(1)
+    is_served("clients that read nothing", waiting)
+    for client in clients:
+        client.close()
+    print("clients that read nothing: gone after 60 seconds")
+
+
+def served_late(program, folder):
+    """All that time alone brings about."""
+    late = Late(folder)
+    shim = {"LD_PRELOAD": str(build(folder)), "LATER": str(late.path)}
+    server = Server(program, make_store(program, folder / "late"), 2, shim)
+    port = server.port
+    try:
+        letters = connected(port)
+        for client in letters:
+            client.write("A")
+        are_gone("a letter", late, port, letters, 30)
+        dribble(late, port)
+        are_gone("a greeting", late, port, [greeted(port), greeted(port, "\n")], 30 * MINUTE)
+        feeds = [greeted(port), greeted(port, "\n")]
+        are_served("a greeting, and a line feed each minute", late, feeds, lambda client: client.write("\n"), [1] * 35)
+        called = greeted(port, "\n1 56\n")
+        called.answer(1)
+        are_served("a call, and no more", late, [called, Session(port).login()])
+        unread(late, port)
+        stop(server).rest()
+        want("the status", 0, server.wait())
+    finally:
+        server.kill()
+
+
+def asked(program, folder):
+    """The system asks a silent client whether it is there."""
+    server = Server(program, make_store(program, folder / "asked"), 1)
+    try:
+        client = Session(server.port)
+        client.ask("56")
+        # (a timer for what was sent goes first)
+        end = time.monotonic() + PATIENCE
+        while (kinds := [kind for kind, _, _ in connections(server.port)]) != [KEEP_ALIVE] and time.monotonic() < end:
+            time.sleep(0.1)
+        due = [due for _, due, _ in connections(server.port)]
+        if kinds != [KEEP_ALIVE] or not 1_000 < due[0] <= 6_000:
+            raise Wrong(f"the timers of one silent client are {kinds}, due in {due}")
+        told = f"in {due[0] / 100:.0f} seconds"
+        if shutil.which("ss"):
+            line = subprocess.run(["ss", "-tnoH", f"sport = :{server.port}"], capture_output=True, check=True, text=True).stdout
+            if not re.search(r"timer:\(keepalive,(\d+sec|1min)", line):
+                raise Wrong(f"ss tells of no keep-alive: {line!r:.200}")
+            told += ", and ss tells so"
+        client.end()
+        print(f"a silent client is asked {told}")
+    finally:
+        server.kill()
+
+
+def main(words):
+    if "--help" in words:
+        print(__doc__.strip())
+        return 0
+    if not shutil.which("gcc"):
+        print("there is no C compiler, so no clock was told the time")
+        return 0
+    program = program_of(words)
+    try:
+        limit_seconds(LIMIT_SECONDS)
+        with tempfile.TemporaryDirectory(dir=folder_in_memory()) as folder:
+            served_late(program, pathlib.Path(folder))
+            asked(program, pathlib.Path(folder))
+    except (Wrong, OSError) as fault:
+        print(f"otherwise: {fault}")
+        return 1
+    return 0
+
+
+if __name__ == "__main__":
+    sys.exit(main(sys.argv[1:]))
