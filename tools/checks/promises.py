@@ -1,6 +1,9 @@
 #!/usr/bin/env python3
-"""Checks the tables of docs/promises.md against the sources: each function stands in the file that is named, its contract has
-each clause that is named, and each edit lies in must-fail/ or tests/edits. Prints what is wrong, and fails if anything is."""
+"""Checks docs/promises.md and docs/theorem.md against the sources: promises.py [--mend]
+
+Of the tables of promises each function stands in the file that is named, its contract has each clause that is named, and each edit lies
+in must-fail/ or tests/edits. Of the tables of the theorem each definition stands at its line; with --mend those that stand at another
+line of their file get that one. Prints what is wrong, and ends with 1 if anything is, else with 0."""
 import glob
 import os
 import pathlib
@@ -14,6 +17,10 @@ from built import ROOT, script
 OWNER = re.compile(r"^(?:pub(?:\([a-z]+\))? )?(?:unsafe )?(?:impl|trait)\b(.*)$")
 FUNCTION = re.compile(r"^\s*(?:pub(?:\([a-z]+\))? )?(?:const )?(?:unsafe )?fn (\w+)")
 CLAUSE = re.compile(r"^\s*ensures (\w+ )?\{")
+# A definition or a type, where it is cited, and where it stands.
+CITED = re.compile(r"`(\w+)` \(`([\w/.]+):(\d+)`\)")
+DEFINES = r"\s*(?:(?:abbrev|unfoldable) pub|pub (?:record|data|struct|enum)) %s\b"
+THEOREM = pathlib.Path("docs/theorem.md")
 
 
 def contracts_of(path):
@@ -63,7 +70,32 @@ def faults_of(cells):
             yield f"there is no edit {edit}"
 
 
-def main(_words):
+def place_of(name, path):
+    """The line at which a file defines a name, or None."""
+    source = pathlib.Path("crates", path)
+    lines = source.read_text(encoding="utf-8").splitlines() if source.is_file() else []
+    return next((number for number, line in enumerate(lines, 1) if re.match(DEFINES % name, line)), None)
+
+
+def look_at_theorem(mends):
+    """How many definitions the theorem cites, and how many of them stand elsewhere than it says."""
+    text, wrong = THEOREM.read_text(encoding="utf-8"), 0
+    for name, path, line in CITED.findall(text):
+        place = place_of(name, path)
+        if place and mends:
+            text = text.replace(f"`{name}` (`{path}:{line}`)", f"`{name}` (`{path}:{place}`)")
+        elif place != int(line):
+            wrong += 1
+            print(f"{THEOREM}: {name} is not defined at line {line} of {path}" + (f", but at {place}" if place else ""))
+    if mends:
+        THEOREM.write_text(text, encoding="utf-8")
+    return len(CITED.findall(text)), wrong
+
+
+def main(words):
+    if words not in ([], ["--mend"]):
+        print(__doc__, file=sys.stderr)
+        return 2
     os.chdir(ROOT)
     wrong = count = 0
     for number, cells in rows():
@@ -71,8 +103,9 @@ def main(_words):
         for fault in faults_of(cells):
             wrong += 1
             print(f"docs/promises.md:{number}: {fault}")
-    print(f"{count} promises, {wrong} faults")
-    return 1 if wrong or not count else 0
+    cited, misplaced = look_at_theorem(bool(words))
+    print(f"{count} promises, {wrong} faults; {cited} definitions of the theorem, {misplaced} elsewhere")
+    return 1 if wrong or misplaced or not count or not cited else 0
 
 
 if __name__ == "__main__":
