@@ -11,7 +11,7 @@ Each word of both programs' usage lines is tried with each subset of the descrip
 - where `/dev/null` cannot be opened `komd` ends with 5 and `komc` with 1, and the store is as it was.
 
 It prints a count, and a line for each run that is otherwise, and ends with 1 if there is one, else with 0. It takes some ten seconds.
-KOMD and KOMC are the programs that `rt ci` leaves in crates/*/out, unless they are named.
+KOMD and KOMC are the built programs unless they are named.
 """
 import itertools
 import os
@@ -23,9 +23,10 @@ import sys
 import tempfile
 import threading
 
-sys.path.insert(0, str(pathlib.Path(__file__).resolve().parent.parent))
-
-from served import PATIENCE, ROOT, Server, Session, Wrong, check_store, make_store, stop
+sys.path.insert(0, str(pathlib.Path(__file__).resolve().parents[1] / "shared"))
+from built import check_store, make_store, program_of, script
+from served import PATIENCE, Server, Session, stop
+from tried import Tried
 
 INPUT, OUTPUT, ERRORS = 0, 1, 2
 SUBSETS = [closed for count in range(4) for closed in itertools.combinations((INPUT, OUTPUT, ERRORS), count)]
@@ -36,96 +37,91 @@ KEYS, SENT, SHOWN = b"read 1\n", b"A1Hu\n1 25 1 0 4294967295\n", b"ok 3Hone\n"
 USAGE_STATUS, STORE_STATUS, REPORT_STATUS, STANDARD_STATUS = 2, 4, 7, 5
 
 
-class Tried:
-    """How many runs there were, and how many of them were otherwise."""
+class Closed(Tried):
+    """What was looked at with some descriptors closed, of both programs."""
 
-    def __init__(self, komd, komc, folder):
-        self.komd, self.komc, self.folder, self.count, self.failed = komd, komc, folder, 0, 0
+    def __init__(self, komd, komc, folder, closed):
+        super().__init__(komd, folder)
+        self.client, self.closed = komc, closed
+        self.store = folder / "store"
 
-    def same(self, what, closed, wanted, got):
-        self.count += 1
-        if wanted != got:
-            self.failed += 1
-            print(f"{what}, with {', '.join(map(str, closed)) or 'nothing'} closed: {got!r:.300}, not {wanted!r:.300}")
+    def looks(self, what, wanted, got):
+        self.same(f"{what}, with {', '.join(map(str, self.closed)) or 'nothing'} closed", wanted, got)
+
+    def run(self, words, given=b"", files=None):
+        """The status of a run, and what it printed and reported; with no number from `files` on that it may open."""
+        process = subprocess.Popen(
+            words, stdin=subprocess.PIPE, stdout=subprocess.PIPE, stderr=subprocess.PIPE, preexec_fn=begin(self.closed, files)
+        )
+        try:
+            printed, reported = process.communicate(given, PATIENCE)
+        except subprocess.TimeoutExpired:
+            process.kill()
+            process.communicate()
+            return "not done", b"", b""
+        return process.returncode, printed, reported
 
 
-def close(numbers, files=None):
+def begin(closed, files=None):
     """What a process does before a program begins: it closes these descriptors, and may open no number from `files` on."""
 
-    def begin():
-        for number in numbers:
+    def close():
+        for number in closed:
             os.close(number)
         if files is not None:
             resource.setrlimit(resource.RLIMIT_NOFILE, (files, files))
 
-    return begin
+    return close
 
 
-def run(words, closed, given=b"", files=None):
-    """The status of a run, and what it printed and reported."""
-    process = subprocess.Popen(
-        words, stdin=subprocess.PIPE, stdout=subprocess.PIPE, stderr=subprocess.PIPE, preexec_fn=close(closed, files)
-    )
-    try:
-        printed, reported = process.communicate(given, PATIENCE)
-    except subprocess.TimeoutExpired:
-        process.kill()
-        process.communicate()
-        return "not done", b"", b""
-    return process.returncode, printed, reported
-
-
-def try_reports(tried, closed):
+def try_reports(tried):
     """The words that print a report."""
-    komd, failed = tried.komd, OUTPUT in closed
-    store = tried.folder / "store"
-    before = store.read_bytes()
+    komd, failed = tried.program, OUTPUT in tried.closed
+    store, before = tried.store, tried.store.read_bytes()
     report = b"" if failed else b"batches 1\nconferences 5\npersons 1\ntexts 0\n"
     status = REPORT_STATUS if failed else 0
-    tried.same("check STORE", closed, (status, report, b""), run([komd, "check", store], closed))
-    tried.same("the store after check", closed, before, store.read_bytes())
-    loads = run([komd, "load", "8"], closed)
-    tried.same("load 8", closed, (status, b"" if failed else b"calls 8\nok 8\nrefused 0\nconferences 7\ntexts 2\n", b""), loads)
+    tried.looks("check STORE", (status, report, b""), tried.run([komd, "check", store]))
+    tried.looks("the store after check", before, store.read_bytes())
+    loads = tried.run([komd, "load", "8"])
+    tried.looks("load 8", (status, b"" if failed else b"calls 8\nok 8\nrefused 0\nconferences 7\ntexts 2\n", b""), loads)
     made = tried.folder / "made"
     made.unlink(missing_ok=True)
     said = b"" if failed else b"store made\n"
-    tried.same("init STORE PASSWORD", closed, (status, said, b""), run([komd, "init", made, "secret"], closed))
+    tried.looks("init STORE PASSWORD", (status, said, b""), tried.run([komd, "init", made, "secret"]))
     counts = {"batches": 1, "conferences": 5, "persons": 1, "texts": 0}
-    tried.same("the store that init made", closed, (0, counts), check_store(komd, made))
+    tried.looks("the store that init made", (0, counts), check_store(komd, made))
     # (there is a store now)
-    tried.same("a second init", closed, STORE_STATUS, run([komd, "init", made, "other"], closed)[0])
-    status, printed, reported = run([komd], closed)
-    tried.same("no word", closed, (USAGE_STATUS, not failed, b""), (status, printed.startswith(b"usage: "), reported))
+    tried.looks("a second init", STORE_STATUS, tried.run([komd, "init", made, "other"])[0])
+    status, printed, reported = tried.run([komd])
+    tried.looks("no word", (USAGE_STATUS, not failed, b""), (status, printed.startswith(b"usage: "), reported))
 
 
-def try_sessions(tried, closed):
+def try_sessions(tried):
     """A session on standard input and output."""
-    store = tried.folder / "store"
-    before = store.read_bytes()
-    told = b"" if INPUT in closed or OUTPUT in closed else b"LysKOM\n=1 1\n"
+    store, before = tried.store, tried.store.read_bytes()
+    told = b"" if INPUT in tried.closed or OUTPUT in tried.closed else b"LysKOM\n=1 1\n"
     for words in (["once"], ["once", store]):
         what = " ".join(["once", "STORE"][: len(words)])
-        tried.same(what, closed, (0, told, b""), run([tried.komd, *words], closed, ASKS))
-    tried.same("the store after once", closed, before, store.read_bytes())
+        tried.looks(what, (0, told, b""), tried.run([tried.program, *words], ASKS))
+    tried.looks("the store after once", before, store.read_bytes())
 
 
-def try_serve(tried, closed):
+def try_serve(tried):
     """Sessions at a port."""
-    store = tried.folder / "store"
-    before = store.read_bytes()
-    server = Server(tried.komd, str(store), 1, begin=close(closed))
+    store, before = tried.store, tried.store.read_bytes()
+    server = Server(tried.program, str(store), 1, begin=begin(tried.closed))
     try:
         session = Session(server.port)
-        tried.same("serve, a session's number", closed, "1", session.ask("56"))
+        tried.looks("serve, a session's number", "1", session.ask("56"))
         session.end()
-        tried.same("the store that is served", closed, before, store.read_bytes())
+        tried.looks("the store that is served", before, store.read_bytes())
         stop(server).rest()
-        tried.same("serve, stopped", closed, 0, server.wait())
+        tried.looks("serve, stopped", 0, server.wait())
     finally:
         server.kill()
     # (the last byte was a closed gate)
-    tried.same("the store that was served", closed, before[:-1], store.read_bytes()[: len(before) - 1])
-    tried.same("its check", closed, 0, check_store(tried.komd, store)[0])
+    tried.looks("the store that was served", before[:-1], store.read_bytes()[: len(before) - 1])
+    tried.looks("its check", 0, check_store(tried.program, store)[0])
 
 
 def answer_client(listener, came):
@@ -140,60 +136,51 @@ def answer_client(listener, came):
                 connection.sendall(b"=1 3Hone\n")
 
 
-def try_client(tried, closed):
+def try_client(tried):
     """The client, at a server that notes what it sends."""
     came = []
     with socket.create_server(("127.0.0.1", 0)) as listener:
         listener.settimeout(PATIENCE)
         answering = threading.Thread(target=answer_client, args=(listener, came), daemon=True)
         answering.start()
-        words = [tried.komc, "--port", str(listener.getsockname()[1]), "--user", "u"]
-        done = run(words, closed, KEYS)
+        words = [tried.client, "--port", str(listener.getsockname()[1]), "--user", "u"]
+        done = tried.run(words, KEYS)
         answering.join(PATIENCE)
-    if INPUT in closed:
+    if INPUT in tried.closed:
         wanted = (0, b"", b""), SENT[: SENT.index(b"\n") + 1]
-    elif OUTPUT in closed:
+    elif OUTPUT in tried.closed:
         wanted = (1, b"", b""), SENT
     else:
         wanted = (0, SHOWN, b""), SENT
-    tried.same("komc", closed, wanted, (done, b"".join(came)))
-    tried.same("komc without words", closed, (1, b"", b""), run([tried.komc], closed))
+    tried.looks("komc", wanted, (done, b"".join(came)))
+    tried.looks("komc without words", (1, b"", b""), tried.run([tried.client]))
 
 
-def try_full(tried, closed):
+def try_full(tried):
     """Programs that may open two files at a time, which their loader needs: what is closed cannot be filled."""
-    files = 5 - len(closed)
-    store = tried.folder / "store"
-    before = store.read_bytes()
+    files = 5 - len(tried.closed)
+    store, before = tried.store, tried.store.read_bytes()
     for words in (["once"], ["once", store], ["serve", store, "4894", "1"], ["init", tried.folder / "none", ""], ["check", store]):
-        done = run([tried.komd, *words], closed, ASKS, files)
-        tried.same(f"{words[0]} without files", closed, (STANDARD_STATUS, b"", b""), done)
-    tried.same("a store that nobody could make", closed, False, (tried.folder / "none").exists())
-    tried.same("komc without files", closed, (1, b"", b""), run([tried.komc, "--port", "4894", "--user", "u"], closed, KEYS, files))
-    tried.same("the store without files", closed, before, store.read_bytes())
+        done = tried.run([tried.program, *words], ASKS, files)
+        tried.looks(f"{words[0]} without files", (STANDARD_STATUS, b"", b""), done)
+    tried.looks("a store that nobody could make", False, (tried.folder / "none").exists())
+    tried.looks("komc without files", (1, b"", b""), tried.run([tried.client, "--port", "4894", "--user", "u"], KEYS, files))
+    tried.looks("the store without files", before, store.read_bytes())
 
 
 def main(words):
-    if "--help" in words:
-        print(__doc__.strip())
-        return 0
-    programs = [ROOT / "crates" / name / "out" / name for name in ("komd", "komc")]
-    programs[: len(words)] = [pathlib.Path(word) for word in words]
-    komd, komc = (str(program.resolve()) for program in programs)
-    with tempfile.TemporaryDirectory() as folder:
-        tried = Tried(komd, komc, pathlib.Path(folder))
-        try:
-            for closed in SUBSETS:
-                make_store(komd, tried.folder / "store")
-                for part in (try_reports, try_sessions, try_client, try_full, try_serve):
-                    part(tried, closed)
-                (tried.folder / "store").unlink()
-        except (Wrong, OSError) as fault:
-            print(f"with {', '.join(map(str, closed)) or 'nothing'} closed: {fault}")
-            return 1
-    print(f"{tried.count} things were looked at with standard descriptors closed; {tried.failed} are otherwise")
-    return 1 if tried.failed else 0
+    komd, komc = program_of(words), program_of(words, 1, "komc")
+    count = failed = 0
+    for closed in SUBSETS:
+        with tempfile.TemporaryDirectory() as folder:
+            tried = Closed(komd, komc, pathlib.Path(folder), closed)
+            make_store(komd, tried.store)
+            for part in (try_reports, try_sessions, try_client, try_full, try_serve):
+                part(tried)
+        count, failed = count + tried.count, failed + tried.failed
+    print(f"{count} things were looked at with standard descriptors closed; {failed} are otherwise")
+    return 1 if failed else 0
 
 
 if __name__ == "__main__":
-    sys.exit(main(sys.argv[1:]))
+    script(main, __doc__)

@@ -12,9 +12,10 @@ so days pass in seconds. Clients of each kind take both workers, and a third wai
 
 Then it looks whether the system asks a silent client of a server without that library after a minute, by /proc/net, and by `ss` where
 that is there. It needs a C compiler; where there is none it says so, and ends with 0. It prints a line for each kind, and ends with 1
-at the first thing that is otherwise, or after two minutes, else with 0. It takes some fifteen seconds. PROGRAM is
-crates/komd/out/komd, which `rt ci` leaves there, unless it is named.
+at the first thing that is otherwise, or after two minutes, else with 0. It takes some fifteen seconds. PROGRAM is the built `komd`
+unless it is named.
 """
+import collections
 import mmap
 import pathlib
 import re
@@ -25,9 +26,10 @@ import sys
 import tempfile
 import time
 
-sys.path.insert(0, str(pathlib.Path(__file__).resolve().parent.parent))
-
-from served import PATIENCE, Server, Session, Wrong, folder_in_memory, limit_seconds, make_store, program_of, stop, string
+sys.path.insert(0, str(pathlib.Path(__file__).resolve().parents[1] / "shared"))
+from built import Wrong, compile_c, make_store, program_of, script
+from protocol import string
+from served import PATIENCE, Server, Session, folder_in_memory, limit_seconds, stop, wants
 
 LIMIT_SECONDS = 120
 MINUTE, DAY = 60, 86_400
@@ -82,10 +84,8 @@ class Late:
 
 def build(folder):
     """The library."""
-    source, library = folder / "shim.c", folder / "shim.so"
-    source.write_text(SHIM_C)
-    subprocess.run(["gcc", "-shared", "-fPIC", "-O1", f"-DLONGEST_WAIT={LONGEST_WAIT}", "-o", library, source, "-ldl"], check=True)
-    return library
+    (folder / "shim.c").write_text(SHIM_C)
+    return compile_c(folder / "shim.c", folder / "shim.so", "-shared", "-fPIC", f"-DLONGEST_WAIT={LONGEST_WAIT}")
 
 
 def greeted(port, more=""):
@@ -97,30 +97,39 @@ def greeted(port, more=""):
     return client
 
 
+# A connection that a server has: the kind of its timer, in how many hundredths of a second that is due, how many bytes its client has not
+# taken, and the number of its socket, which is 0 until it is accepted.
+Connection = collections.namedtuple("Connection", "timer due waiting socket")
+
+
 def connections(port):
-    """The connections that a server has at a port: the kind of each one's timer, in how many hundredths of a second that is due, and the
-    number of its socket, which is 0 until it is accepted."""
+    """The connections that a server has at a port, as the system tells of them."""
     for name in ("/proc/net/tcp", "/proc/net/tcp6"):
         try:
             rows = pathlib.Path(name).read_text(encoding="ascii").splitlines()[1:]
         except OSError:
             continue
         for row in rows:
-            _, local, _, state, _, timer, _, _, _, inode, *_ = row.split()
+            _, local, _, state, queues, timer, _, _, _, number, *_ = row.split()
             if int(local.rsplit(":", 1)[1], 16) == port and state == "01":
                 kind, due = timer.split(":")
-                yield int(kind), int(due, 16), int(inode)
+                yield Connection(int(kind), int(due, 16), int(queues.split(":")[0], 16), int(number))
+
+
+def until(what, holds):
+    """Waits until something holds, and then for the server to see it."""
+    end = time.monotonic() + PATIENCE
+    while not holds():
+        if end < time.monotonic():
+            raise Wrong(f"{what}: not after {PATIENCE} seconds")
+        time.sleep(0.05)
+    time.sleep(SETTLED)
 
 
 def connected(port):
     """Two clients that have sent nothing, and were accepted."""
     clients = [Session(port, None) for _ in range(2)]
-    end = time.monotonic() + PATIENCE
-    while sum(inode != 0 for _, _, inode in connections(port)) < 2:
-        if end < time.monotonic():
-            raise Wrong("two clients are not accepted")
-        time.sleep(0.02)
-    time.sleep(SETTLED)
+    until("two clients are accepted", lambda: sum(one.socket != 0 for one in connections(port)) == 2)
     return clients
 
 
@@ -129,21 +138,16 @@ def is_there(client):
     return not select.select([client.socket], [], [], 0)[0]
 
 
-def want(what, wanted, got):
-    if wanted != got:
-        raise Wrong(f"{what}: {got!r:.200}, not {wanted!r:.200}")
-
-
 def are_gone(what, late, port, clients, seconds, passed=0):
     """Clients that take both workers, for whom some seconds have gone by, are there a second before all have, and gone then: a third
     is answered."""
     waiting = Session(port, None)
     waiting.write("A1Hw\n1 56\n")
     late.pass_by(seconds - 1 - passed)
-    want(f"{what}, a second before", [True] * 3, [is_there(client) for client in (*clients, waiting)])
+    wants(f"{what}, a second before", [is_there(client) for client in (*clients, waiting)], [True] * 3)
     late.pass_by(1)
     is_served(what, waiting)
-    want(f"{what}, what came at the end", [None, None], [client.line() for client in clients])
+    wants(f"{what}, what came at the end", [client.line() for client in clients], [None, None])
     for client in clients:
         client.close()
     print(f"{what}: gone after {seconds} seconds")
@@ -153,7 +157,7 @@ def is_served(what, waiting):
     """A client that waited for a worker is answered."""
     if not select.select([waiting.socket], [], [], PATIENCE)[0]:
         raise Wrong(f"{what}: both workers are still taken")
-    want(f"{what}, who waited", "LysKOM", waiting.line())
+    wants(f"{what}, who waited", waiting.line(), "LysKOM")
     waiting.end()
 
 
@@ -163,7 +167,7 @@ def are_served(what, late, clients, before=lambda client: None, minutes=(31, 1_4
         for client in clients:
             before(client)
         late.pass_by(each * MINUTE, SETTLED / 4)
-        want(f"{what}, there", [True, True], [is_there(client) for client in clients])
+        wants(f"{what}, there", [is_there(client) for client in clients], [True, True])
     time.sleep(SETTLED)
     for client in clients:
         client.reference = 9
@@ -192,10 +196,15 @@ def unread(late, port):
         client.write("".join(f"{place} 25 {text} 0 1000000\n" for place in range(40)))
     waiting = Session(port, None)
     waiting.write("A1Hw\n")
-    # (the connections are filled meanwhile)
-    time.sleep(1)
+    seen = []
+
+    def are_full():
+        seen.append(sorted(one.waiting for one in connections(port) if one.waiting))
+        return len(seen) > 20 and len(seen[-1]) == 2 and all(each == seen[-1] for each in seen[-20:])
+
+    until("two clients are sent no more", are_full)
     late.pass_by(59)
-    want("clients that read nothing, who waits", True, is_there(waiting))
+    wants("clients that read nothing, who waits", is_there(waiting), True)
     late.pass_by(1)
     is_served("clients that read nothing", waiting)
     for client in clients:
@@ -206,7 +215,7 @@ def unread(late, port):
 def served_late(program, folder):
     """All that time alone brings about."""
     late = Late(folder)
-    shim = {"LD_PRELOAD": str(build(folder)), "LATER": str(late.path)}
+    shim = {"LD_PRELOAD": build(folder), "LATER": str(late.path)}
     server = Server(program, make_store(program, folder / "late"), 2, shim)
     port = server.port
     try:
@@ -223,7 +232,7 @@ def served_late(program, folder):
         are_served("a call, and no more", late, [called, Session(port).login()])
         unread(late, port)
         stop(server).rest()
-        want("the status", 0, server.wait())
+        wants("the status", server.wait(), 0)
     finally:
         server.kill()
 
@@ -235,13 +244,11 @@ def asked(program, folder):
         client = Session(server.port)
         client.ask("56")
         # (a timer for what was sent goes first)
-        end = time.monotonic() + PATIENCE
-        while (kinds := [kind for kind, _, _ in connections(server.port)]) != [KEEP_ALIVE] and time.monotonic() < end:
-            time.sleep(0.1)
-        due = [due for _, due, _ in connections(server.port)]
-        if kinds != [KEEP_ALIVE] or not 1_000 < due[0] <= 6_000:
-            raise Wrong(f"the timers of one silent client are {kinds}, due in {due}")
-        told = f"in {due[0] / 100:.0f} seconds"
+        until("a timer to keep alive", lambda: [one.timer for one in connections(server.port)] == [KEEP_ALIVE])
+        due = [one.due / 100 for one in connections(server.port)]
+        if len(due) != 1 or not 10 < due[0] <= 60:
+            raise Wrong(f"a silent client is asked in {due} seconds")
+        told = f"in {due[0]:.0f} seconds"
         if shutil.which("ss"):
             line = subprocess.run(["ss", "-tnoH", f"sport = :{server.port}"], capture_output=True, check=True, text=True).stdout
             if not re.search(r"timer:\(keepalive,(\d+sec|1min)", line):
@@ -254,23 +261,16 @@ def asked(program, folder):
 
 
 def main(words):
-    if "--help" in words:
-        print(__doc__.strip())
-        return 0
-    if not shutil.which("gcc"):
+    program = program_of(words)
+    if not shutil.which("cc"):
         print("there is no C compiler, so no clock was told the time")
         return 0
-    program = program_of(words)
-    try:
-        limit_seconds(LIMIT_SECONDS)
-        with tempfile.TemporaryDirectory(dir=folder_in_memory()) as folder:
-            served_late(program, pathlib.Path(folder))
-            asked(program, pathlib.Path(folder))
-    except (Wrong, OSError) as fault:
-        print(f"otherwise: {fault}")
-        return 1
+    limit_seconds(LIMIT_SECONDS)
+    with tempfile.TemporaryDirectory(dir=folder_in_memory()) as folder:
+        served_late(program, pathlib.Path(folder))
+        asked(program, pathlib.Path(folder))
     return 0
 
 
 if __name__ == "__main__":
-    sys.exit(main(sys.argv[1:]))
+    script(main, __doc__)
