@@ -109,7 +109,7 @@ systemctl start komd
 serves 'the server after that'
 same 'call 44' 'LysKOM =1 =2 =3' "$(talk 'A1Ha' '1 62 6 12Ha second one 0' '2 42 255' '3 44 0')"
 stands 'after call 44' 'inactive success 0 0' 12
-drop_in 'ExecStart=' 'ExecStart=/usr/sbin/komd serve /var/lib/komd/store 4894 65'
+drop_in 'Environment=KOMD_WORKERS=65'
 systemctl start komd
 stands 'after status 2' 'failed exit-code 2 0' 12
 drop_in 'RestartSec=1'
