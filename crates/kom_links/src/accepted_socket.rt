@@ -160,23 +160,19 @@ impl<C: Clock + Drop> AcceptedSocket<C> {
         ensures { GivesWithin (length into.new) result }
     {
         let got = self.read_soon(into, true);
-        match got {
-            Got::Some(count) => {
-                if has_more_than_line_feeds(&into[..count]) {
-                    self.stage = Stage::Heard;
-                }
-                got
-            }
-            Got::NotYet => {
-                if self.is_past(greeted, SILENCE_SECONDS) {
-                    Got::Failed
-                } else {
-                    Got::NotYet
-                }
-            }
-            Got::End => Got::End,
-            Got::Failed => Got::Failed,
+        let is_silent = match got {
+            Got::Some(count) => !has_more_than_line_feeds(&into[..count]),
+            Got::NotYet => true,
+            Got::End | Got::Failed => return got,
+        };
+        if !is_silent {
+            self.stage = Stage::Heard;
+            return got;
         }
+        if self.is_past(greeted, SILENCE_SECONDS) {
+            return Got::Failed;
+        }
+        got
     }
 
     // Notes that something was written of so many bytes that were handed in.
