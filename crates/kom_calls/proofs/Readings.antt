@@ -1,7 +1,8 @@
 -- How a line reads that begins with a reference and a call number.
 use Rattle.std.proofs.Common.{◌≡◌, ℕ, eqb, Bool, true, false, List, [], ◌∷◌, Some, None, Ok, Err, option_map, refl, ap}
-use Rattle.std.proofs.Common.{sym, subst, ◌∙◌}
-use Rattle.std.specs.Prelude.{Option, option_and_then}
+use Rattle.std.proofs.Common.{sym, subst, ◌∙◌, zero, suc, ◌+◌, drop, arith}
+use Rattle.std.specs.Prelude.{Option, Result, option_and_then, slice_get}
+use Rattle.std.specs.Option.{ok_or}
 use Rattle.std.proofs.lemmas.Bool.{eqb-true}
 use Rattle.kom_types.specs.declared.calls.Call.{Call}
 use Rattle.kom_types.specs.declared.calls.Call.TheVariants.{Refused}
@@ -11,13 +12,30 @@ use Rattle.kom_types.specs.calls.Arguments.{Taken, Took, Departs, Malformed, int
 use Rattle.kom_types.specs.calls.Pattern.{Pattern}
 use Rattle.kom_calls.specs.declared.fault.ArgumentFault.{ArgumentFault}
 use Rattle.kom_calls.specs.declared.fault.ArgumentFault.TheVariants as fault
-use Rattle.kom_calls.specs.Telling.{Departed}
+use Rattle.kom_calls.specs.Telling.{Departed, Tells}
 use Rattle.kom_calls.specs.Reads.{ReadsBy, pattern_of, takes_room}
 use Rattle.kom_calls.specs.Lines.{line_takes_room}
 
 -- what a token is to the rule of an integer, by the integer that it spells
-abbrev integer_by : Option ℕ → List Token → Taken ℕ
+abbrev pub integer_by : Option ℕ → List Token → Taken ℕ
 integer_by spelled tail = elim spelled [ Some number ↦ Took number tail | None ↦ Departs Malformed ]
+
+-- the integer at an index of a line's tokens
+pub integer_at : (tokens : List Token) (place : ℕ) →
+    integer (drop place tokens)
+    ≡ integer_by (option_and_then integer_of (slice_get tokens place)) (drop (place + 1) tokens)
+integer_at [] zero = refl
+integer_at [] (suc place) = refl
+integer_at (token ∷ tokens) zero = refl
+integer_at (token ∷ tokens) (suc place) =
+    let next : suc (place + 1) ≡ suc place + 1 = omega arith in
+    integer_at tokens place
+    ∙ ap (λ n. integer_by (option_and_then integer_of (slice_get tokens place)) (drop n (token ∷ tokens))) next
+
+pub told_integer : (spelled : Option ℕ) (tail : List Token) →
+    Tells false (integer_by spelled tail) (ok_or spelled fault.Malformed) tail
+told_integer (Some number) tail = refl
+told_integer None tail = refl
 
 took : (spelled : Option ℕ) (tail rest : List Token) (number : ℕ) → integer_by spelled tail ≡ Took number rest →
     (spelled ≡ Some number) × (tail ≡ rest)

@@ -4,7 +4,6 @@ ghost use Rattle.kom_calls.specs.Telling.{Next, Tells, Ends, Boxes};
 
 use crate::bits::bits_in;
 use crate::fault::ArgumentFault;
-use crate::integer::integer;
 use kom_framing::{Line, Token};
 use kom_types::{Boxed, Bytes};
 use std::alloc::Global;
@@ -71,10 +70,12 @@ impl<'a> Arguments<'a> {
     pub(crate) fn integer(&mut self) -> Result<u32, ArgumentFault>
         ensures { Tells false (argument.integer self.old) result self.new }
     {
-        match self.next() {
-            Some(token) => integer(token).ok_or(ArgumentFault::Malformed),
-            None => Err(ArgumentFault::Malformed),
+        let place = self.place;
+        if place >= self.line.len() {
+            return Err(ArgumentFault::Malformed);
         }
+        self.place = place + 1;
+        self.line.integer(place).ok_or(ArgumentFault::Malformed)
     }
 
     /// Takes an integer that ends at 255.
@@ -153,9 +154,10 @@ impl<'a> Arguments<'a> {
     pub(crate) fn end(&mut self) -> Result<(), ArgumentFault>
         ensures { Ends result self.old }
     {
-        match self.next() {
-            Some(_) => Err(ArgumentFault::Malformed),
-            None => Ok(()),
+        if self.len() == 0 {
+            Ok(())
+        } else {
+            Err(ArgumentFault::Malformed)
         }
     }
 

@@ -8,7 +8,6 @@ mod bits;
 mod conferences;
 mod elements;
 mod fault;
-mod integer;
 mod memberships;
 mod persons;
 mod reader;

@@ -1,15 +1,15 @@
 -- What is found at the place of a token is that token.
 use Rattle.std.proofs.Common.{◌≡◌, ℕ, ◌+◌, ◌-◌, ◌<◌, ◌≤◌, Bool, true, false, ◌&&◌, eqb, leb, List, [], ◌∷◌, length}
-use Rattle.std.proofs.Common.{get_or, take, drop, refl, sym, ap, ◌∙◌, inl, inr, arith}
+use Rattle.std.proofs.Common.{get_or, take, drop, None, refl, sym, ap, ◌∙◌, inl, inr, arith}
 use Rattle.std.specs.List.{take_while, slice_range}
 use Rattle.std.proofs.Math.Seq.{drop-append_seam, take-append_seam}
-use Rattle.std.proofs.lemmas.Bool.{cases_Bool, and_parts, eqb-true, leb-true}
+use Rattle.std.proofs.lemmas.Bool.{cases_Bool, and_parts, both_ways, eqb-true, leb-true}
 use Rattle.std.proofs.lemmas.List.{drop-drop, drop_more, length-drop}
 use Rattle.kom_types.specs.declared.byte_kind.ByteKind.{ByteKind}
 use Rattle.kom_types.specs.declared.byte_kind.ByteKind.TheVariants as kind
 use Rattle.kom_types.specs.declared.side.Side.TheVariants as side
 use Rattle.kom_types.specs.ByteKind.{is_digit, kind_of}
-use Rattle.kom_types.specs.Token.{Token, Digits, Text, Star, Signed, number_of, is_integer}
+use Rattle.kom_types.specs.Token.{Token, Digits, Text, Star, Signed, number_of, is_integer, integer_of}
 use Rattle.kom_types.specs.Grammar.{Form, Prefix, Whole, Unfit, Cut, drop_while, string_at, run_at, signed_run_at}
 use Rattle.kom_framing.specs.Spans.{cut_of, IsToken, token_cut, token_of}
 use Rattle.kom_framing.proofs.Lists.{take_while-yes, drop_while-yes, parted}
@@ -191,3 +191,41 @@ signed_found bytes start end token e at =
     ∙ signed_of mark (take_while is_digit tail) (drop_while is_digit tail) token.cut
     (sym (from_first bytes start kind.Sign token e) ∙ token.whole)
     ∙ ap (Signed mark) (sym parts.digits)
+
+-- ---- integers
+
+signed_no_integer : (mark : ℕ) (digits rest : List ℕ) → integer_of (token_cut (signed_run_at mark digits rest)) ≡ None
+signed_no_integer mark digits [] =
+    elim (leb (length digits) 16) as (λ (b : Bool). integer_of (token_cut (choice b Prefix Unfit)) ≡ None) [
+      | true ↦ refl
+      | false ↦ refl
+    ]
+signed_no_integer mark digits (byte ∷ rest) =
+    elim (leb 1 (length digits) && leb (length digits) 16) as (λ (b : Bool). integer_of
+    (token_cut (choice b (Whole (record { token = Signed mark digits; tail = byte ∷ rest })) Unfit)) ≡ None) [
+      | true ↦ refl
+      | false ↦ refl
+    ]
+
+kind_no_integer : (byte : ℕ) (bytes : List ℕ) (sort : ByteKind) → (sort ≡ kind.Digit → ⊥)
+    → integer_of (token_cut (token_of_kind side.Server byte bytes sort)) ≡ None
+kind_no_integer byte bytes kind.Digit apart = absurd (apart refl)
+kind_no_integer byte bytes kind.Open apart = refl
+kind_no_integer byte bytes kind.Close apart = refl
+kind_no_integer byte bytes kind.Star apart = refl
+kind_no_integer byte bytes kind.Sign apart =
+    signed_no_integer byte (take_while is_digit bytes) (drop_while is_digit bytes)
+kind_no_integer byte bytes kind.Blank apart = refl
+kind_no_integer byte bytes kind.LineFeed apart = refl
+kind_no_integer byte bytes kind.Hollerith apart = refl
+kind_no_integer byte bytes kind.Other apart = refl
+
+-- a token that begins with no digit spells no integer
+pub no_integer : (bytes : List ℕ) (start : ℕ) → IsToken bytes start → is_digit (get_or bytes start 0) ≡ false
+    → integer_of (token_of bytes start) ≡ None
+no_integer bytes start token e =
+    ap (λ (f : Form Cut). integer_of (token_cut f))
+    (from_first bytes start (kind_of (get_or bytes start 0)) token refl)
+    ∙ kind_no_integer (get_or bytes start 0) (drop (start + 1) bytes) (kind_of (get_or bytes start 0))
+    (λ (same : kind_of (get_or bytes start 0) ≡ kind.Digit).
+    absurd (both_ways _ e (digit_is (get_or bytes start 0) same)))

@@ -1,7 +1,7 @@
 ghost use Rattle.std.specs.Prelude.{◌≡◌, ◌+◌, ◌<◌, ◌≤◌, ◌↔◌, [], length, drop, take_while, IsTrue};
-ghost use Rattle.std.specs.Prelude.{Some, get_or, slice_get};
+ghost use Rattle.std.specs.Prelude.{Some, get_or, slice_get, option_and_then};
 ghost use Rattle.kom_types.specs.ByteKind.{is_digit, kind_of};
-ghost use Rattle.kom_types.specs.Token.{number_of};
+ghost use Rattle.kom_types.specs.Token.{number_of, integer_of, Digits};
 ghost use Rattle.kom_framing.specs.Spans.{token_seen, token_of, tokens_of, IsToken, AreTokens};
 
 use crate::lines::{LineStarts, LineText};
@@ -48,6 +48,17 @@ impl Line {
         ensures { slice_get self.now.tokens index ≡ Some (token_seen result) }
     {
         token_at(self.text.as_slice(), self.starts.as_slice()[index] as usize)
+    }
+
+    /// The integer that the token at an index spells, if there is such a token and it spells one.
+    pub fn integer(&self, index: usize) -> Option<u32>
+        ensures { result ≡ option_and_then integer_of (slice_get self.now.tokens index) }
+    {
+        if index < self.starts.len() {
+            integer_at(self.text.as_slice(), self.starts.as_slice()[index] as usize)
+        } else {
+            None
+        }
     }
 
     /// The place of the line feed in the stream.
@@ -98,7 +109,47 @@ fn run_at(text: &[u8], start: usize) -> Token<'_>
     }
 }
 
+// The integer of the token that begins at a place of these bytes, if it spells one.
+fn integer_at(text: &[u8], start: usize) -> Option<u32>
+    requires { IsToken text.now start }
+    ensures { result ≡ integer_of (token_of text.now start) }
+{
+    if text[start].is_ascii_digit() {
+        integer_of_run(text, start)
+    } else {
+        None
+    }
+}
+
+// The same of a token that begins with a digit.
+#[inline(always)]
+fn integer_of_run(text: &[u8], start: usize) -> Option<u32>
+    requires token { IsToken text.now start }
+    requires digit { kind_of (get_or text.now start 0) ≡ ByteKind.Digit }
+    ensures { result ≡ integer_of (token_of text.now start) }
+{
+    let end = end_of_digits(text, start);
+    if text[end] == b'H' {
+        None
+    } else {
+        integer_in(&text[start..end])
+    }
+}
+
+// The integer that a run of digits spells: ten digits at most, below 2^32.
+#[inline(always)]
+fn integer_in(digits: &[u8]) -> Option<u32>
+    ensures { result ≡ integer_of (Digits digits.now) }
+{
+    if digits.len() <= 10 {
+        u32::try_from(number(digits)).ok()
+    } else {
+        None
+    }
+}
+
 // The place after the digits that begin there.
+#[inline(always)]
 fn end_of_digits(text: &[u8], start: usize) -> usize
     requires { start ≤ length text.now }
     ensures { result ≡ start + length (take_while is_digit (drop start text.now)) }
@@ -111,6 +162,7 @@ fn end_of_digits(text: &[u8], start: usize) -> usize
 }
 
 // The number that a run of ten digits at most spells.
+#[inline(always)]
 fn number(digits: &[u8]) -> u64
     requires { length digits.now ≤ 10 }
     ensures { result ≡ number_of digits.now }
