@@ -1,7 +1,7 @@
 -- How a line reads that begins with a reference and a call number.
 use Rattle.std.proofs.Common.{◌≡◌, ℕ, eqb, Bool, true, false, List, [], ◌∷◌, Some, None, Ok, Err, option_map, refl, ap}
 use Rattle.std.proofs.Common.{sym, subst, ◌∙◌, zero, suc, ◌+◌, drop, arith}
-use Rattle.std.specs.Prelude.{Option, Result, option_and_then, slice_get}
+use Rattle.std.specs.Prelude.{Option, option_and_then, slice_get}
 use Rattle.std.specs.Option.{ok_or}
 use Rattle.std.proofs.lemmas.Bool.{eqb-true}
 use Rattle.kom_types.specs.declared.calls.Call.{Call}
