@@ -1,4 +1,5 @@
 """What the tools beside this file have in common: passwords that are asked for, files that come whole or not at all, progress."""
+import argparse
 import contextlib
 import getpass
 import os
@@ -30,6 +31,19 @@ def run(main, name):
     except KeyboardInterrupt:
         print(f"{name}: interrupted", file=sys.stderr)
         sys.exit(1)
+
+
+def words_of_server(description, page):
+    """A reader of the words of a tool that asks a server, which is told where that is."""
+    words = argparse.ArgumentParser(description=description, epilog=f"See {page}.")
+    words.add_argument("--host", default="localhost", help="where the server is, if not on this machine")
+    words.add_argument("--port", type=int, default=4894, help="its port, if not 4894")
+    return words
+
+
+def shown(name):
+    """Bytes of a name or a text's first line as they are shown: letters of ISO 8859-1, and `?` for what steers a terminal."""
+    return "".join(letter if letter.isprintable() else "?" for letter in name.decode("latin-1"))
 
 
 def password(prompt):
