@@ -22,7 +22,7 @@ import tempfile
 TOP = pathlib.Path(__file__).resolve().parents[2]
 sys.path.insert(0, str(TOP / "tools" / "shared"))
 from built import make_store, program_of, script
-from served import PATIENCE, Server, Session, folder_in_memory, stop
+from served import PATIENCE, Server, folder_in_memory, stop
 from tried import Tried
 
 WHY, SAMPLES = TOP / "contrib" / "komd-why", TOP / "tests" / "stores"
