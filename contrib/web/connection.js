@@ -8,7 +8,7 @@ import { Writer } from "./protocol/tokens.js";
 
 const USER = "web";
 /** So many calls of no hurry are on their way at once; what a member waits for goes before the others. */
-const WINDOW = 64;
+const WINDOW = 32;
 const BEAT = 45_000;
 const PATIENCE = 20_000;
 

@@ -38,6 +38,8 @@ export class Club extends EventTarget {
   /** What is being done that takes its time: { done, all }, or null. */
   progress = null;
   #memberships = new Map();
+  /** The same in the order of reading, or null where that is to be found anew. */
+  #sorted = null;
   /** Marks that the server has not answered: by conference, local numbers. */
   #marks = new Map();
   /** Each login makes what was begun before it void. */
@@ -53,7 +55,7 @@ export class Club extends EventTarget {
     this.order = new Order(this);
     session.addEventListener("member", () => this.#enter(true).catch(console.error));
     session.addEventListener("message", ({ detail }) => this.#told(detail.name, detail.value));
-    this.names.addEventListener("name", ({ detail }) => this.#tell("unread", detail));
+    this.names.addEventListener("name", ({ detail }) => this.#tell("unread", detail.number));
     if (globalThis.BroadcastChannel) {
       this.#tabs = new BroadcastChannel("kom-read");
       this.#tabs.onmessage = ({ data }) => this.#otherTab(data);
@@ -68,7 +70,8 @@ export class Club extends EventTarget {
 
   /** All memberships, in the order of reading. */
   get memberships() {
-    return [...this.#memberships.values()].sort(inOrder);
+    this.#sorted ??= [...this.#memberships.values()].sort(inOrder);
+    return this.#sorted;
   }
 
   membership(conference) {
@@ -96,6 +99,7 @@ export class Club extends EventTarget {
       this.messages = [];
       this.#marks.clear();
       this.#memberships.clear();
+      this.#sorted = null;
     }
     this.me = person;
     this.drafts.person = person;
@@ -122,6 +126,7 @@ export class Club extends EventTarget {
     const rows = await this.#membershipRows(me, 0, memberships);
     if (visit !== this.#visit) return;
     this.#memberships = new Map(rows.map((row) => [row.conference, new Membership(row)]));
+    this.#sorted = null;
     for (const [conference, locals] of this.#marks) {
       for (const local of locals) this.#memberships.get(conference)?.mark(local);
     }
@@ -320,6 +325,7 @@ export class Club extends EventTarget {
     membership.highest = known.highest;
     this.names.take(conference, nameOf(known.name), known.type);
     this.#memberships.set(conference, membership);
+    this.#sorted = null;
     if (!membership.passive) await this.#map(membership);
     this.#tell("members");
     this.#tell("unread", conference);
@@ -360,6 +366,7 @@ export class Club extends EventTarget {
 
   #left(conference) {
     this.#memberships.delete(conference);
+    this.#sorted = null;
     if (this.order.conference === conference) this.order.conference = 0;
     this.#tell("members");
     this.#tell("unread", 0);

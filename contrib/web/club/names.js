@@ -2,7 +2,7 @@
 
 import { nameOf } from "../letters.js";
 
-/** Events: `name` with the number, when a name is known or is another. */
+/** Events: `name` with the number and whether it is the first that is known of it. */
 export class Names extends EventTarget {
   #session;
   #known = new Map();
@@ -53,7 +53,7 @@ export class Names extends EventTarget {
     const before = this.#known.get(number);
     if (before?.name === name && (type === undefined || before.type === type)) return;
     this.#known.set(number, { name, type: type ?? before?.type ?? null });
-    this.dispatchEvent(new CustomEvent("name", { detail: number }));
+    this.dispatchEvent(new CustomEvent("name", { detail: { number, first: before === undefined } }));
   }
 
   /** What was asked before is asked anew when it is wanted: the session is another. */

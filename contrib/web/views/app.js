@@ -3,7 +3,7 @@
 import { sentenceOn } from "../errors.js";
 import { lastName } from "../settings.js";
 import { Side } from "./conferences.js";
-import { button, el, many, onceAFrame } from "./dom.js";
+import { button, el, many, seldom } from "./dom.js";
 import { listenToKeys } from "./keys.js";
 import { loginView } from "./login.js";
 import { followNames, nameOf } from "./names.js";
@@ -39,7 +39,7 @@ export class App {
     listenToKeys(this);
     byId("skip").addEventListener("click", () => byId("main").focus());
     byId("menu-button").addEventListener("click", () => this.#openMenu(!byId("menu").classList.contains("open")));
-    this.retitle = onceAFrame(() => this.#retitle());
+    this.retitle = seldom(() => this.#retitle());
     session.addEventListener("state", () => this.#stateChanged());
     club.addEventListener("entered", () => this.#enteredClub());
     club.addEventListener("unread", () => this.retitle());

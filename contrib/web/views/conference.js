@@ -1,7 +1,7 @@
 // A conference: what it is, its presentation, and the member's own part in it.
 
 import { bodyOf } from "./body.js";
-import { button, el, fact, field, heading, letters, link, many } from "./dom.js";
+import { button, el, fact, field, figure, heading, letters, link, many } from "./dom.js";
 import { nameLink } from "./names.js";
 import { momentOf } from "./times.js";
 
@@ -92,7 +92,7 @@ export async function conferenceView(app, words) {
       el("dl", {},
         fact("Number", String(number)),
         types.length > 0 ? fact("Kind", types.join("; ")) : null,
-        fact("Texts", `${conference.texts.toLocaleString("en")}, the last one `, momentOf(conference.lastWritten)),
+        fact("Texts", `${figure(conference.texts)}, the last one `, momentOf(conference.lastWritten)),
         fact("Made", momentOf(conference.created), " by ", nameLink(club, conference.creator)),
         fact("Kept by", nameLink(club, conference.supervisor)),
         conference.submitters !== 0 ? fact("Who may write", nameLink(club, conference.submitters), " and its members") : null,

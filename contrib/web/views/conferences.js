@@ -1,15 +1,20 @@
 // The list of conferences with their counts, beside the text or as the first view.
 
-import { button, el, many, onceAFrame } from "./dom.js";
+import { button, el, figure, many, seldom } from "./dom.js";
 import { nameOf } from "./names.js";
+
+const ROWS = 60;
 
 /** A list of memberships that keeps up with the counts. */
 export class ConferenceList {
   #app;
   #rows = new Map();
   #all;
+  /** So many rows are shown: nobody reads two thousand. */
+  #most = ROWS;
   #list = el("ul", { class: "counts" });
   #summary = el("p", { class: "summary" });
+  #more;
   #toggle;
 
   constructor(app, all = false) {
@@ -19,7 +24,11 @@ export class ConferenceList {
       this.#all = !this.#all;
       this.update();
     }, { class: "quiet" });
-    this.node = el("div", {}, this.#summary, this.#list, this.#toggle);
+    this.#more = button("", () => {
+      this.#most *= 4;
+      this.update();
+    }, { class: "quiet" });
+    this.node = el("div", {}, this.#summary, this.#list, this.#more, " ", this.#toggle);
     this.update();
   }
 
@@ -51,12 +60,14 @@ export class ConferenceList {
     const { club } = this.#app;
     const all = club.memberships;
     const some = this.#all ? all : all.filter((each) => (each.unread ?? 1) > 0 || each.conference === club.order.conference);
-    const items = some.map((each) => this.#row(each));
+    const items = some.slice(0, this.#most).map((each) => this.#row(each));
+    this.#more.hidden = some.length <= this.#most;
+    this.#more.textContent = `${figure(some.length - this.#most)} more`;
     const old = this.#list.children;
     if (items.length !== old.length || items.some((item, place) => item !== old[place])) this.#list.replaceChildren(...items);
     const count = club.unread;
     this.#summary.textContent = count > 0 ? `${many(count, "unread text")}` : "Nothing is unread.";
-    this.#toggle.textContent = this.#all ? "Those with unread texts" : `All ${all.length} memberships`;
+    this.#toggle.textContent = this.#all ? "Those with unread texts" : `All ${figure(all.length)} memberships`;
   }
 }
 
@@ -65,7 +76,7 @@ export class Side {
   constructor(app) {
     const nav = document.getElementById("conferences");
     let list = null;
-    const update = onceAFrame(() => list?.update());
+    const update = seldom(() => list?.update());
     app.club.addEventListener("unread", update);
     app.club.addEventListener("members", update);
     app.club.addEventListener("entered", () => {

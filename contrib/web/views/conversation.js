@@ -2,7 +2,7 @@
 
 import { answersOf } from "../club/order.js";
 import { COMMENT_TO, FOOTNOTE_TO } from "../protocol/records.js";
-import { el, letters, link, many, onceAFrame } from "./dom.js";
+import { el, letters, link, many, seldom } from "./dom.js";
 import { nameOf } from "./names.js";
 import { momentShort } from "./times.js";
 
@@ -22,8 +22,8 @@ export class Conversation {
     this.#current = current;
     this.node = el("nav", { class: "conversation", "aria-label": "Conversation", hidden: true },
       el("h2", {}, "Conversation"), this.#list);
-    this.#again = onceAFrame(() => this.load().catch(() => undefined));
-    app.club.addEventListener("unread", onceAFrame(() => this.#markUnread()), { signal: this.#left.signal });
+    this.#again = seldom(() => this.load().catch(() => undefined));
+    app.club.addEventListener("unread", seldom(() => this.#markUnread()), { signal: this.#left.signal });
   }
 
   /** The view is left. */

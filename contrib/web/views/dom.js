@@ -39,22 +39,25 @@ export function field(words, input, hint) {
 /** A table row of a list of facts. */
 export const fact = (words, ...value) => [el("dt", {}, words), el("dd", {}, ...value)];
 
-/** Does something once before the next frame, however often it is asked for. */
-export function onceAFrame(act) {
-  let asked = false;
+const SELDOM = 150;
+
+/** Does something soon, however often it is asked for: at once if it was not done lately. */
+export function seldom(act) {
+  let timer = 0;
+  let last = 0;
   return () => {
-    if (asked) return;
-    asked = true;
-    const run = () => {
-      if (!asked) return;
-      asked = false;
+    timer ||= setTimeout(() => {
+      timer = 0;
+      last = Date.now();
       act();
-    };
-    // A page that is not seen has no frames.
-    if (document.hidden) setTimeout(run, 50);
-    else requestAnimationFrame(run);
+    }, Math.max(0, last + SELDOM - Date.now()));
   };
 }
 
+const NUMBERS = new Intl.NumberFormat("en");
+
+/** A number as it is shown. */
+export const figure = (number) => NUMBERS.format(number);
+
 /** A number of things in words. */
-export const many = (count, one, more = `${one}s`) => `${count.toLocaleString("en")} ${count === 1 ? one : more}`;
+export const many = (count, one, more = `${one}s`) => `${figure(count)} ${count === 1 ? one : more}`;

@@ -12,11 +12,17 @@ function fill(club, element) {
   if (parent?.matches("a[data-place]")) parent.href = `#/${placeOf(club, number)}`;
 }
 
+/** The elements that wait for a name, by its number. */
+const waiting = new Map();
+
 /** The name of a conference or a person, as text. */
 export function nameOf(club, number) {
   const element = el("bdi", { "data-name": number });
   fill(club, element);
-  if (club.names.known(number) === null) club.names.ask(number).catch(() => undefined);
+  if (club.names.known(number) === null) {
+    waiting.set(number, [...(waiting.get(number) ?? []), element]);
+    club.names.ask(number).catch(() => undefined);
+  }
   return element;
 }
 
@@ -26,9 +32,11 @@ export function nameLink(club, number) {
   return el("a", { href: `#/${placeOf(club, number)}`, "data-place": "" }, nameOf(club, number));
 }
 
-/** Fills the names of the page in when they are known. */
+/** Fills the names of the page in when they are known, and anew when they are others. */
 export function followNames(club) {
-  club.names.addEventListener("name", ({ detail }) => {
-    for (const element of document.querySelectorAll(`[data-name="${detail}"]`)) fill(club, element);
+  club.names.addEventListener("name", ({ detail: { number, first } }) => {
+    const elements = first ? waiting.get(number) ?? [] : document.querySelectorAll(`[data-name="${number}"]`);
+    waiting.delete(number);
+    for (const element of elements) fill(club, element);
   });
 }

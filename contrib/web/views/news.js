@@ -2,13 +2,13 @@
 
 import { ConferenceList } from "./conferences.js";
 import { bodyOf } from "./body.js";
-import { el, heading, letters, link, onceAFrame } from "./dom.js";
+import { el, heading, letters, link, seldom } from "./dom.js";
 
 export async function newsView(app) {
   const { club } = app;
   const list = new ConferenceList(app);
   const left = new AbortController();
-  const update = onceAFrame(() => list.update());
+  const update = seldom(() => list.update());
   for (const event of ["unread", "members"]) club.addEventListener(event, update, { signal: left.signal });
   const notice = el("aside", { class: "notice", "aria-label": "Notice", hidden: true });
   app.session.call("getInfo").then(async ({ notice: number }) => {

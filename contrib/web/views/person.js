@@ -3,7 +3,7 @@
 import { latin1 } from "../protocol/bytes.js";
 import { shownInLine } from "../letters.js";
 import { shownText } from "./conference.js";
-import { button, el, fact, heading, letters, many } from "./dom.js";
+import { button, el, fact, figure, heading, letters, many } from "./dom.js";
 import { nameLink } from "./names.js";
 import { momentOf, spanWords } from "./times.js";
 
@@ -52,7 +52,7 @@ export async function personView(app, words) {
         fact("Number", String(number)),
         fact("Here", sessions.length > 0 ? `now, ${many(sessions.length, "session")}, idle for ${spanWords(Math.min(...sessions.map(({ idle }) => idle)))}` : "not now"),
         fact("Last login", momentOf(person.lastLogin), `, by ${shownInLine(latin1(person.user)) || "an unknown client"}`),
-        fact("Texts written", person.texts.toLocaleString("en")),
+        fact("Texts written", figure(person.texts)),
         fact("Been here", `${many(person.sessions, "time")}, ${spanWords(person.present)} in all`),
         fact("Member since", momentOf(letterbox.created))),
       memberships(app, number, person.memberships)),

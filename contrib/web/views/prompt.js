@@ -1,6 +1,6 @@
 // The one button and key that goes on: what it does next is written on it.
 
-import { el, many, onceAFrame } from "./dom.js";
+import { el, many, seldom } from "./dom.js";
 import { nameOf } from "./names.js";
 
 export class Prompt {
@@ -12,7 +12,7 @@ export class Prompt {
     this.#app = app;
     this.button = document.getElementById("next");
     this.button.addEventListener("click", () => this.next());
-    const update = onceAFrame(() => this.update());
+    const update = seldom(() => this.update());
     for (const event of ["unread", "members", "deleted"]) app.club.addEventListener(event, update);
   }
 
@@ -34,8 +34,7 @@ export class Prompt {
     try {
       const next = await club.next();
       if (asked !== this.#asked) return;
-      this.button.replaceChildren(...this.#words(next, club.order.last));
-      this.button.append(el("kbd", {}, "Space"));
+      this.button.replaceChildren(el("span", {}, ...this.#words(next, club.order.last)), el("kbd", {}, "Space"));
       this.button.toggleAttribute("aria-disabled", next.what === "wait");
       this.button.classList.toggle("nothing", next.what === "wait");
     } catch (error) {

@@ -10,7 +10,11 @@ const MOST = 4;
 export function toast(words, { actions = [], stays = false, wrong = false } = {}) {
   const area = document.getElementById("toasts");
   const note = el("div", { class: wrong ? "toast wrong" : "toast", role: wrong ? "alert" : null });
-  const close = () => note.remove();
+  const close = () => {
+    // The focus is not lost with its button.
+    if (note.contains(document.activeElement)) document.getElementById("main").focus({ preventScroll: true });
+    note.remove();
+  };
   note.append(
     el("div", { class: "words" }, words),
     ...actions.map(([label, act]) => button(label, () => {

@@ -1,6 +1,6 @@
 // Who is on: where they are, and for how long they have done nothing.
 
-import { button, el, heading, onceAFrame } from "./dom.js";
+import { button, el, heading, seldom } from "./dom.js";
 import { nameLink } from "./names.js";
 import { messageOf } from "../letters.js";
 import { spanWords } from "./times.js";
@@ -21,7 +21,7 @@ export async function whoView(app) {
   }
 
   await show();
-  const again = onceAFrame(() => show().catch(() => undefined));
+  const again = seldom(() => show().catch(() => undefined));
   club.addEventListener("presence", again, { signal: left.signal });
   const timer = setInterval(again, 60_000);
   return {
