@@ -14,7 +14,7 @@ use Rattle.kom_types.specs.declared.session_changes.SessionChange.TheVariants as
 use Rattle.kom_types.specs.Sessions.{Waiting, Session, Limits, waiting_limits}
 use Rattle.kom_model.specs.State.{State, empty, IsSound}
 use Rattle.kom_model.specs.Db.{empty_db}
-use Rattle.kom_model.specs.calls.Call.{Asked, answer, unguarded, refused}
+use Rattle.kom_model.specs.calls.Call.{Asked, answer, unguarded}
 use Rattle.kom_model.specs.Decide.{asked_in, definition_of, decision_of, limited, is_firm}
 use Rattle.kom_model.specs.Sending.{Delivery}
 use Rattle.kom_model.specs.Refusal.{refusal_of}
