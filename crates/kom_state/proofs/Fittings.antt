@@ -1,13 +1,29 @@
--- The effects that fit, one after another.
+-- Effects that fit, one after another.
 use Rattle.std.proofs.Common.{◌≡◌, Bool, true, false, cond, List, [], ◌∷◌, ◌++◌, Option, Some, None, refl, sym, ap}
-use Rattle.std.proofs.Common.{◌∙◌, append_assoc}
+use Rattle.std.proofs.Common.{◌∙◌, append_assoc, subst, IsTrue}
+use Rattle.std.proofs.lemmas.Bool.{and_parts}
 use Rattle.std.proofs.lemmas.List.{append-nil}
 use Rattle.kom_types.specs.declared.effects.Effect.{Effect}
 use Rattle.kom_model.specs.Db.{Db}
-use Rattle.kom_model.specs.Effects.{fits, apply, apply_all, fitting}
+use Rattle.kom_model.specs.Effects.{fits, made, apply, apply_all, all_fit, fitting}
 use Rattle.kom_state.specs.Keepers.{appended}
 
--- an effect that fits; and one that does not
+-- an effect that fits is made
+pub apply_fit : (what : Effect) (db : Db) → fits what db ≡ true → apply what db ≡ made what db
+apply_fit what db fit = ap (λ (b : Bool). cond b (made what db) db) fit
+
+-- of effects that all fit the first does, and the others do after it
+pub first_fits : (what : Effect) (effects : List Effect) (db : Db) → IsTrue (all_fit (what ∷ effects) db) →
+    fits what db ≡ true
+first_fits what effects db fit = (and_parts (fits what db) (all_fit effects (apply what db)) fit).0
+
+pub others_fit : (what : Effect) (effects : List Effect) (db : Db) → IsTrue (all_fit (what ∷ effects) db) →
+    IsTrue (all_fit effects (made what db))
+others_fit what effects db fit =
+    let parts = and_parts (fits what db) (all_fit effects (apply what db)) fit in
+    subst (λ (next : Db). all_fit effects next ≡ true) (apply_fit what db parts.0) parts.1
+
+-- of one effect, one that fits and one that does not
 pub fitting_fit : (what : Effect) (db : Db) → fits what db ≡ true → fitting (what ∷ []) db ≡ what ∷ []
 fitting_fit what db fit = ap (λ (b : Bool). cond b (what ∷ []) []) fit
 

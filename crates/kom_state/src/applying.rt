@@ -1,13 +1,13 @@
-ghost use Rattle.std.specs.Prelude.{◌≡◌, true, List, [], ◌∷◌};
+ghost use Rattle.std.specs.Prelude.{◌≡◌, true, List, [], ◌∷◌, IsTrue};
 ghost use Rattle.kom_types.specs.declared.effects.Effect.{Effect as Change};
-ghost use Rattle.kom_model.specs.Effects.{fits, made, apply, apply_all, fitting};
-ghost use Rattle.kom_state.specs.Keepers.{appended, HasRoomFirst};
+ghost use Rattle.kom_model.specs.Effects.{fits, made, apply, apply_all, all_fit};
+ghost use Rattle.kom_state.specs.Keepers.{appended};
 ghost use Rattle.kom_state.specs.Room.{HasRoom, IsPossible, IsMade, is_of_person, set_of};
 
 mod item_effects;
 mod text_effects;
 
-use crate::keeper::{Keeper, Unkept};
+use crate::keeper::Keeper;
 use crate::stored_rows::StoredRows;
 use conferences::fresh_conference;
 use kom_types::{
@@ -16,36 +16,17 @@ use kom_types::{
 use persons::fresh_person;
 
 impl StoredRows {
-    /// Makes those of the effects that fit, in their order, and gives each of these to a keeper
-    /// first; there is room for all, here and there. It takes no memory.
+    /// Makes effects, of which each fits after those before it, in their order, and gives each to a
+    /// keeper first; there is room for all, here and there. It takes no memory.
     pub fn apply_all<K: Keeper>(&mut self, effects: EffectList, keeper: &mut K)
+        requires fit { IsTrue (all_fit effects self.old.db) }
         requires room { HasRoom self.old.room effects }
         requires kept_room { K.has_room keeper.old effects }
         ensures db { self.new.db ≡ apply_all effects self.old.db }
-        ensures kept { K.pending keeper.new
-            ≡ appended (fitting effects self.old.db) (K.pending keeper.old) }
+        ensures kept { K.pending keeper.new ≡ appended effects (K.pending keeper.old) }
         ensures rest { K.stays keeper.old keeper.new }
     {
         for effect in effects.into_vec() {
-            self.apply_kept(effect, keeper);
-        }
-    }
-
-    /// Makes an effect if it fits, and gives it to a keeper first.
-    #[tactic(auto, using(crate::proofs::Fittings::fitting_fit, crate::proofs::Fittings::fitting_unfit))]
-    fn apply_kept<K: Keeper>(&mut self, effect: Effect, keeper: &mut K)
-        requires room { HasRoom self.old.room (effect ∷ []) }
-        requires kept_room { HasRoomFirst K.has_room keeper.old effect }
-        ensures db { self.new.db ≡ apply effect self.old.db }
-        ensures room { (rest : List Change) → HasRoom self.old.room (effect ∷ rest)
-            → HasRoom self.new.room rest }
-        ensures kept { K.pending keeper.new
-            ≡ appended (fitting (effect ∷ []) self.old.db) (K.pending keeper.old) }
-        ensures kept_room { (more : List Change) → K.has_room keeper.old (effect ∷ more)
-            → K.has_room keeper.new more }
-        ensures rest { K.stays keeper.old keeper.new }
-    {
-        if self.fits(&effect) {
             keeper.keep(&effect);
             self.apply_effect(effect);
         }
@@ -54,11 +35,11 @@ impl StoredRows {
     /// Makes an effect, for which there is room, if it fits.
     pub(crate) fn apply(&mut self, effect: Effect)
         requires { HasRoom self.old.room (effect ∷ []) }
-        ensures db { self.new.db ≡ apply effect self.old.db }
-        ensures room { (rest : List Change) → HasRoom self.old.room (effect ∷ rest)
-            → HasRoom self.new.room rest }
+        ensures { self.new.db ≡ apply effect self.old.db }
     {
-        self.apply_kept(effect, &mut Unkept);
+        if self.fits(&effect) {
+            self.apply_effect(effect);
+        }
     }
 
     /// Makes an effect that fits, for which there is room. It takes no memory.

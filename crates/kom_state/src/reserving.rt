@@ -42,15 +42,32 @@ impl StoredRows {
 
     /// Gives back memory of rows that are gone, with the room that was taken before. For each row
     /// that goes it looks at two keys of each table, so it comes to all of them before as many as
-    /// half of them have lost their last row.
+    /// half of them have lost their last row. Where nothing comes or goes there is nothing to do.
     fn sweep(&mut self, effects: &[Effect])
         ensures { self.new.db ≡ self.old.db }
     {
+        if !effects
+            .iter()
+            .any(|effect| adds_slot(effect) || takes_away(effect))
+        {
+            return;
+        }
         let going = effects.iter().filter(|effect| takes_away(effect)).count();
         self.texts.sweep(going.saturating_mul(2));
         self.items.sweep(going.saturating_mul(2));
         self.memberships.sweep(going.saturating_mul(2));
     }
+}
+
+/// Whether an effect adds a row to a table whose slots are put into blocks.
+fn adds_slot(effect: &Effect) -> bool {
+    matches!(
+        effect,
+        Effect::RecipientAdded(_)
+            | Effect::LinkAdded(_)
+            | Effect::MarkSet { .. }
+            | Effect::AuxAdded { .. }
+    )
 }
 
 /// Whether an effect takes away something that hung on a text or a conference.

@@ -19,6 +19,7 @@ use sessions::SessionRow;
 impl ServerState {
     /// Makes the act of an entry that nothing refuses, but for the count of entries and the moment.
     /// A keeper gets the effects of a call.
+    #[tactic(auto, using(crate::proofs::Keeping::kept_call))]
     pub(super) fn change<K: Keeper>(
         &mut self,
         entry: &Entry,

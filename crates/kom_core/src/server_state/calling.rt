@@ -1,7 +1,8 @@
 ghost use Rattle.std.specs.Prelude.{◌≡◌, ℕ, [], Some, None, IfOk, IsOk, OnOk, OnErr};
-ghost use Rattle.std.specs.Prelude.{if◌then◌else◌};
+ghost use Rattle.std.specs.Prelude.{if◌then◌else◌, IsTrue};
 ghost use Rattle.kom_state.specs.Room.{IsOrderly};
-ghost use Rattle.kom_model.specs.Effects.{apply_all, fitting};
+ghost use Rattle.kom_model.specs.Effects.{apply_all, all_fit};
+ghost use Rattle.kom_model.specs.State.{IsSound};
 ghost use Rattle.kom_model.specs.After.{make_change, make_changes};
 ghost use Rattle.kom_core.specs.Deciding.{IsCall, DecidesFirm};
 ghost use Rattle.kom_model.specs.Kept.{effects_of};
@@ -29,10 +30,11 @@ impl ServerState {
         reference: u32,
         keeper: &mut K,
     ) -> bool
-        requires { IsCall entry.now.act }
+        requires sound { IsSound self.old }
+        requires call { IsCall entry.now.act }
         ensures answers { Answers self.old entry.now session reference result self.new }
         ensures kept { K.pending keeper.new
-            ≡ appended (if result then [] else fitting (effects_of self.old entry.now) self.old.db)
+            ≡ appended (if result then [] else effects_of self.old entry.now)
             (K.pending keeper.old) }
         ensures rest { K.stays keeper.old keeper.new }
     {
@@ -58,12 +60,12 @@ impl ServerState {
         entry: &Entry,
         keeper: &mut K,
     ) -> Result<(Reply, Vec<Delivery>), Memory>
-        requires { IsCall entry.now.act }
+        requires sound { IsSound self.old }
+        requires call { IsCall entry.now.act }
         ensures ok { IfOk result (λ both.
             CarriesOut self.old entry.now both.0 both.1.items self.new) }
         ensures kept { OnOk result (K.pending keeper.new
-            ≡ appended (fitting (effects_of self.old entry.now) self.old.db)
-            (K.pending keeper.old)) }
+            ≡ appended (effects_of self.old entry.now) (K.pending keeper.old)) }
         ensures err { OnErr result (self.new ≡ self.old) }
         ensures unkept { OnErr result (K.pending keeper.new ≡ K.pending keeper.old) }
         ensures rest { K.stays keeper.old keeper.new }
@@ -91,15 +93,16 @@ impl ServerState {
         Ok((decision, messages))
     }
 
-    /// Makes those of the effects that fit on the stored rows, in order, and gives each of these to
-    /// a keeper first. Where memory for any of them runs out, none is made or kept.
+    /// Makes effects, of which each fits after those before it, on the stored rows, in order, and
+    /// gives each to a keeper first. Where memory for any of them runs out, none is made or kept.
     #[tactic(auto, using(crate::proofs::Keeping::none_appended))]
     fn apply<K: Keeper>(&mut self, effects: EffectList, keeper: &mut K) -> Result<(), Memory>
-        requires { IsOrderly effects }
+        requires orderly { IsOrderly effects }
+        requires fit { IsTrue (all_fit effects self.old.db) }
         ensures ok { OnOk result (
             self.new ≡ record self.old { db = apply_all effects self.old.db }) }
         ensures kept { OnOk result (
-            K.pending keeper.new ≡ appended (fitting effects self.old.db) (K.pending keeper.old)) }
+            K.pending keeper.new ≡ appended effects (K.pending keeper.old)) }
         ensures err { OnErr result (self.new ≡ self.old) }
         ensures unkept { OnErr result (K.pending keeper.new ≡ K.pending keeper.old) }
         ensures rest { K.stays keeper.old keeper.new }

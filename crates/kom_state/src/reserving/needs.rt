@@ -1,17 +1,69 @@
-ghost use Rattle.std.specs.Prelude.{◌≡◌, ℕ, ◌+◌, ◌<◌, ◌≤◌, ◌^◌, OnOk, IfOk, nat_eq, if◌then◌else◌};
+ghost use Rattle.std.specs.Prelude.{◌≡◌, ℕ, ◌+◌, ◌<◌, ◌≤◌, ◌^◌, OnOk, IfOk, nat_eq, count_by};
+ghost use Rattle.std.specs.Prelude.{if◌then◌else◌};
 ghost use Rattle.std.specs.HashMap.{get};
 ghost use Rattle.std.specs.Map.{count_at};
 ghost use Rattle.texts.specs.Needs.{HasRoom, count_of};
-ghost use Rattle.kom_state.specs.Counts.{number_of, AreCounts};
+ghost use Rattle.kom_state.specs.Counts.{number_of, is_of, AreCounts};
 
 use kom_types::Memory;
 use std::alloc::Global;
 use std::collections::HashMap;
 use texts::{Need, Texts};
 
-/// Makes room for each thing that is needed, as often as it is needed, and now and then for more:
-/// things of one number are counted together. The time grows with the needs.
+/// So many needs are counted without a table.
+const FEW: usize = 12;
+
+/// Makes room for each thing that is needed, as often as it is needed, and now and then for more.
 pub(crate) fn reserve_needs(texts: &mut Texts, needs: &[Need], alloc: Global) -> Result<(), Memory>
+    ensures rows { texts.new.rows ≡ texts.old.rows }
+    ensures ok { OnOk result (HasRoom texts.new.room needs.now) }
+{
+    if needs.len() <= FEW {
+        return reserve_few(texts, needs);
+    }
+    reserve_many(texts, needs, alloc)
+}
+
+/// The same where few are needed: the time grows with the square of the needs.
+fn reserve_few(texts: &mut Texts, needs: &[Need]) -> Result<(), Memory>
+    ensures rows { texts.new.rows ≡ texts.old.rows }
+    ensures ok { OnOk result (HasRoom texts.new.room needs.now) }
+{
+    for need in needs {
+        texts.reserve(*need, most_of_few(*need, needs))?;
+    }
+    Ok(())
+}
+
+/// How often a thing is needed at most: things of one number are counted together.
+fn most_of_few(need: Need, needs: &[Need]) -> usize
+    ensures { count_of need needs.now ≤ result }
+{
+    match number_of(need) {
+        Some(number) => count_of_number(number, needs),
+        None => needs.len(),
+    }
+}
+
+/// How often things of a number are needed.
+fn count_of_number(number: u32, needs: &[Need]) -> usize
+    ensures { result ≡ count_by (is_of number) needs.now }
+{
+    needs.iter().filter(|need| is_of(number, **need)).count()
+}
+
+/// Whether a need is of this number.
+fn is_of(number: u32, need: Need) -> bool
+    ensures { result ≡ is_of number need }
+{
+    match number_of(need) {
+        Some(other) => number == other,
+        None => false,
+    }
+}
+
+/// The same where many are needed: the time grows with the needs.
+fn reserve_many(texts: &mut Texts, needs: &[Need], alloc: Global) -> Result<(), Memory>
     ensures rows { texts.new.rows ≡ texts.old.rows }
     ensures ok { OnOk result (HasRoom texts.new.room needs.now) }
 {

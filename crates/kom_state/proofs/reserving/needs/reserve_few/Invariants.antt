@@ -1,6 +1,6 @@
 use Rattle.std.proofs.Common.{◌≡◌, ◌≤◌, All, take}
 use Rattle.texts.specs.Needs.{room_for, count_of}
-use Rattle.kom_state.proofs.reserving.needs.reserve_needs.Given as goal
+use Rattle.kom_state.proofs.reserving.needs.reserve_few.Given as goal
 
 abbrev pub invariant-loop-need : goal.invariant-loop-need
 invariant-loop-need l = record {

@@ -5,7 +5,7 @@ use Rattle.std.proofs.lemmas.List.Elements.{All-more}
 use Rattle.texts.specs.declared.needs.Need.{Need}
 use Rattle.texts.specs.Needs.{room_for, count_of}
 use Rattle.kom_state.proofs.Needed.{room_for_all}
-use Rattle.kom_state.proofs.reserving.needs.reserve_needs.Goals as goal
+use Rattle.kom_state.proofs.reserving.needs.reserve_many.Goals as goal
 
 pub loop-need-preserved : goal.loop-need-preserved
 loop-need-preserved c =
