@@ -16,6 +16,7 @@ mod whole;
 mod writer;
 
 pub use line::Line;
+pub use placing::digit_count;
 pub use splitter::{FeedRefusal, Splitter};
 pub use token::Token;
 pub use units::Unit;

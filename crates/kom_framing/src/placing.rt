@@ -144,7 +144,8 @@ fn place_len(out: &mut [u8], at: usize, len: usize) -> usize
 /// How many digits a number has in decimal.
 #[inline(always)]
 pub fn digit_count(number: u64) -> usize
-    ensures { result ≡ length (decimal number) }
+    ensures digits { result ≡ length (decimal number) }
+    ensures few { result ≤ 20 }
 {
     if number < 10 {
         1

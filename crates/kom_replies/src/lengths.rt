@@ -1,10 +1,10 @@
-ghost use Rattle.std.specs.Prelude.{◌≡◌, ◌≤◌, ◌^◌, ◌-◌, ◌+◌, length, min};
-ghost use Rattle.std.specs.Fmt.{decimal};
+ghost use Rattle.std.specs.Prelude.{◌≡◌, ◌<◌, ◌≤◌, ◌^◌, ◌-◌, ◌+◌, length, min};
 ghost use Rattle.kom_types.specs.Printing.{print_of};
 ghost use Rattle.kom_replies.specs.Lengths.{capped};
 
 use crate::printer::put_words;
 use crate::sinks::Sink;
+use kom_framing::digit_count;
 use kom_types::Item;
 use std::convert::Infallible;
 use std::marker::Model;
@@ -34,9 +34,10 @@ impl Model for Length {
 impl Length {
     /// Adds a word of so many bytes, and what is after it.
     fn add(&mut self, bytes: usize)
+        requires { bytes < 2 ^ 64 - 1 }
         ensures { self.new ≡ capped (self.old + (bytes + 1)) }
     {
-        self.0 = self.0.saturating_add(bytes as u64).saturating_add(1);
+        self.0 = self.0.saturating_add(bytes as u64 + 1);
     }
 }
 
@@ -60,12 +61,12 @@ impl Sink for Length {
     }
 
     fn len(&mut self, len: usize) -> Result<(), Infallible> {
-        self.add(digit_count(len));
+        self.add(digit_count(len as u64));
         Ok(())
     }
 
     fn signed(&mut self, _sign: u8, value: u32) -> Result<(), Infallible> {
-        self.add(1 + digit_count(value as usize));
+        self.add(1 + digit_count(u64::from(value)));
         Ok(())
     }
 
@@ -75,15 +76,7 @@ impl Sink for Length {
     }
 
     fn text(&mut self, bytes: &[u8]) -> Result<(), Infallible> {
-        self.add(digit_count(bytes.len()) + 1 + bytes.len());
+        self.add(digit_count(bytes.len() as u64) + 1 + bytes.len());
         Ok(())
     }
-}
-
-/// How many digits a number has in decimal.
-fn digit_count(number: usize) -> usize
-    ensures digits { result ≡ length (decimal number) }
-    ensures few { result ≤ 20 }
-{
-    number.max(1).ilog10() as usize + 1
 }
