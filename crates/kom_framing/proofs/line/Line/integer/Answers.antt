@@ -1,6 +1,5 @@
 use Rattle.std.proofs.Common.{◌<◌, List, ℕ, length, get_or, ap, sym, ◌∙◌, arith}
 use Rattle.std.specs.Prelude.{slice_get, option_and_then}
-use Rattle.std.proofs.lemmas.List.{length-map}
 use Rattle.kom_types.specs.Stream as stream
 use Rattle.kom_types.specs.Token.{integer_of}
 use Rattle.kom_framing.specs.Spans.{token_of}
