@@ -2,8 +2,8 @@
 """Uses the clients that people use, in a terminal, and looks at the screen: clients_on_screen.py [KOMD [KOMC]]
 
 Each part makes a store, has `komd serve` serve it at a port of this machine, and types at a client under tmux:
-1. `contrib/kom`, without rlwrap and with it: each key; no password is seen, letters of ISO 8859-1 are shown as UTF-8, and a text
-   with control bytes does not steer the terminal;
+1. `contrib/kom`, without rlwrap and with it: each key; no password is seen, letters of ISO 8859-1 and of UTF-8 are shown as such, and
+   a text with control bytes does not steer the terminal;
 2. the Emacs client lyskom-elisp-client as it comes: it logs in, writes, is told of a new text, reads it, comments on it, marks it,
    sends a message and is sent one, and leaves; and it goes wrong where docs/emacs.md says so;
 3. the same client with the lines of lisp of docs/emacs.md, with which that goes right.
@@ -141,12 +141,16 @@ def use_kom(komd, komc, under_rlwrap):
                 lines += [typed, answer]
                 screen.types(typed)
                 screen.wants("\n".join(map(re.escape, lines[-4:])) + "$")
+            other.ask("86 " + string("ž\u202e".encode().decode("latin-1")) + " 1 { 0 5 } 0 { }")
+            lines += ["read 5", "ok 5Hž?"]
+            screen.types("read 5")
+            screen.wants("\n".join(map(re.escape, lines[-4:])) + "$")
             if other.ask("25 2 0 99") != string("Grüße an alle"):
                 raise Wrong("a text that is stored otherwise")
             if "\x1b[31m" in screen.ask("capture-pane", "-p", "-e") or "steered" in screen.ask("display-message", "-p", "#T"):
                 raise Wrong("a text steers the terminal")
             if under_rlwrap:
-                screen.keys("Up", "Up", "Up", "BSpace")
+                screen.keys("Up", "Up", "Up", "Up", "BSpace")
                 screen.types("1")
                 lines += ["read 1", "ok 24H?[31mred?]0;steered??2J?"]
                 screen.wants("\n".join(map(re.escape, lines[-2:])) + "$")
@@ -154,7 +158,7 @@ def use_kom(komd, komc, under_rlwrap):
             other.ask("44 0")
             other.rest()
             screen.types("list")
-            screen.wants("kom: the talk has ended\nIt ended with 1[.]")
+            screen.wants("kom: the talk has ended: .*\nIt ended with 1[.]")
             screen.types("the echo is on again")
             screen.wants("the echo is on again")
             if screen.shown().split("\n")[: len(lines)] != lines:
