@@ -201,7 +201,10 @@ def read_password():
 
 def rescue(file, person):
     """Tells what the store holds, or makes a person of it an administrator."""
-    fcntl.flock(file, fcntl.LOCK_EX | fcntl.LOCK_NB)
+    try:
+        fcntl.flock(file, fcntl.LOCK_EX | fcntl.LOCK_NB)
+    except BlockingIOError:
+        raise OSError("a server, or another program, has the store open: systemctl stop komd") from None
     os.fsync(file)
     if os.fstat(file).st_size == 0:
         raise Unfit("no store")
@@ -222,8 +225,11 @@ def rescue(file, person):
 
 
 def main(words):
+    if words == ["--help"]:
+        print(__doc__.strip())
+        return 0
     if not 1 <= len(words) <= 2 or not all(word.isascii() and word.isdigit() for word in words[1:]):
-        print("usage: rescue.py STORE [PERSON]")
+        print("usage: rescue.py STORE [PERSON]", file=sys.stderr)
         return 2
     try:
         file = os.open(words[0], os.O_RDWR | os.O_CLOEXEC)
@@ -235,7 +241,7 @@ def main(words):
         print(fault, file=sys.stderr)
         return 4
     except OSError as fault:
-        print(fault, file=sys.stderr)
+        print(f"{words[0]}: {fault}" if fault.filename is None else fault, file=sys.stderr)
         return 3
     except Unfit as fault:
         print(f"{words[0]}: {fault}", file=sys.stderr)

@@ -88,8 +88,8 @@ def try_first_day(tried):
     real, tried.program = tried.program, str(wrapper)
     status, said = tried.run(CONTRIB / "komd-first-day", store, given=given)
     tried.program = real
-    tried.same("the first day", (0, "store made\nperson 6 is the second administrator\n"), (status, said))
-    tried.same("words that are no password", {"init", "once", str(store), ""}, set(words.read_text().splitlines()))
+    tried.same("the first day", (0, f"the store is made at {store}, and person 6 is the second administrator\n"), (status, said))
+    tried.same("words that are no password", {"init", "once", f"{store}.first-day", ""}, set(words.read_text().splitlines()))
     lost = f"A1Ha\n1 62 6 {string(SECOND)} 0\n2 42 255\n3 8 5 0H {string(FIRST[::-1])}\n4 8 5 0H {string(FIRST)}\n"
     tried.same("a password that the other sets", 4, tried.run(tried.program, "once", store, given=lost.encode())[1].count("="))
     lines = "A1Ha\n1 62 5 0H 0\n"
@@ -98,8 +98,18 @@ def try_first_day(tried):
     answered = tried.run(tried.program, "once", store, given=lines.encode())
     tried.same("both passwords, and no empty one", (0, "LysKOM\n%1 4 5\n" + "=2\n" * 3 + "=3\n" * 3), answered)
     tried.same("another first day there", 4, tried.run(CONTRIB / "komd-first-day", store, given=given)[0])
-    short = tried.folder / "short"
-    tried.same("a short password", (1, False), (tried.run(CONTRIB / "komd-first-day", short, given=b"short\n")[0], short.exists()))
+    refused = tried.folder / "refused"
+    for what, given in [("a short password", "short\n"), ("a name that is taken", f"{FIRST}\nnews\n{SECOND}\n"),
+                        ("a long name", f"{FIRST}\n{'x' * 61}\n{SECOND}\n"), ("a name without words", f"{FIRST}\n(x)\n{SECOND}\n"),
+                        ("a letter of no place", f"{FIRST}\nŠimon\n{SECOND}\n"), ("an input that ends", f"{FIRST}\n")]:
+        status = tried.run(CONTRIB / "komd-first-day", refused, given=given.encode())[0]
+        tried.same(what, (1, []), (status, list(tried.folder.glob("refused*"))))
+    plain = tried.folder / "plain"
+    given = f"{FIRST}\n{NAME}\n{SECOND}\n".encode()
+    environment = {**os.environ, "KOMD": tried.program, "LC_ALL": "C"}
+    done = subprocess.run([CONTRIB / "komd-first-day", plain], input=given, capture_output=True, env=environment, check=False)
+    tried.same("the first day without a locale", (0, [6, 2, 0]), (done.returncode, tried.counts(plain)[1:]))
+    tried.same("other words", 2, tried.run(CONTRIB / "komd-first-day")[0])
 
 
 def try_statuses(tried):
@@ -267,6 +277,7 @@ def try_probe(tried):
             tried.same("a probe by IPv6", 0, tried.run(probe[0], "::1", *probe[2:])[0])
         one = Session(server.port, "one")
         tried.same("a probe where sessions are many", 1, tried.run(*probe, 2)[0])
+        tried.same("a probe that knows the workers", 1, tried.run(*probe)[0])
         other = Session(server.port, "other")
         status, said = tried.run(*probe)
         tried.same("a probe where all workers have sessions", (2, "KOMD CRITICAL"), (status, said[:13]))
@@ -276,7 +287,7 @@ def try_probe(tried):
         other.ask("42 255")
         other.ask(f"55 {idle}")
         one.rest()
-        tried.same("a probe after an idle session was ended", 0, tried.run(*probe)[0])
+        tried.same("a probe after an idle session was ended, which takes the last worker", 1, tried.run(*probe)[0])
     finally:
         server.kill()
     tried.same("a probe where nobody listens", 2, tried.run(*probe)[0])
