@@ -4,8 +4,8 @@ import sqlite3
 
 from tool import Trouble
 
-# The memory that its pages may take, in KiB.
-CACHE = 64_000
+# Nobody else uses the file. A stop of the machine may lose the last steps, and loses no half of one. Pages take 64 MB of memory.
+PRAGMAS = ("locking_mode = EXCLUSIVE", "journal_mode = WAL", "synchronous = NORMAL", "cache_size = -64000", "temp_store = FILE")
 TABLES = """
 CREATE TABLE state (name TEXT PRIMARY KEY, value);
 CREATE TABLE told (what TEXT PRIMARY KEY, count INTEGER);
@@ -46,7 +46,7 @@ class Work:
         os.close(os.open(path, os.O_RDWR | os.O_CREAT, 0o600))
         self.rows = sqlite3.connect(path, timeout=1, isolation_level=None)
         try:
-            for pragma in ("locking_mode = EXCLUSIVE", "journal_mode = WAL", f"cache_size = -{CACHE}", "temp_store = FILE"):
+            for pragma in PRAGMAS:
                 self.rows.execute(f"PRAGMA {pragma}")
             self.rows.execute("BEGIN IMMEDIATE")
             self.is_new = not self.rows.execute("SELECT count(*) FROM sqlite_master").fetchone()[0]
