@@ -8,8 +8,8 @@ from .told import tell_now_and_then
 BACKLOG = 128
 # After an accept that failed, as where no descriptor is free, the next one waits.
 SECONDS_OF_REST = 1
-# A peer that vanished without a word is found out after some four minutes.
-KEEPALIVE = ((socket.TCP_KEEPIDLE, 120), (socket.TCP_KEEPINTVL, 30), (socket.TCP_KEEPCNT, 4))
+# A peer that vanished without a word is found out after some four minutes; no answer waits for more to be sent with it.
+OPTIONS = ((socket.TCP_KEEPIDLE, 120), (socket.TCP_KEEPINTVL, 30), (socket.TCP_KEEPCNT, 4), (socket.TCP_NODELAY, 1))
 EVERYWHERE, EVERYWHERE_BY_IPV4 = "::", "0.0.0.0"
 
 
@@ -50,7 +50,7 @@ class Door:
             try:
                 with self.crowd.one_more(address.place):
                     connection.setsockopt(socket.SOL_SOCKET, socket.SO_KEEPALIVE, 1)
-                    for option, value in KEEPALIVE:
+                    for option, value in OPTIONS:
                         connection.setsockopt(socket.IPPROTO_TCP, option, value)
                     await self.serve(connection, address)
             except Full:

@@ -3,6 +3,7 @@ import asyncio
 
 from .house import MOST_WAITING
 from .session import Session
+from .tls import abort
 
 
 class NativeClient:
@@ -53,4 +54,4 @@ class Native:
             await Session(self.house, client).run()
             await client.close()
         finally:
-            transport.abort()
+            abort(transport)

@@ -1,5 +1,6 @@
 """TLS, by Python's own module."""
 import asyncio.sslproto
+import contextlib
 import ssl
 
 # How much is kept for reading at each connection. asyncio has 256 KiB, which is a quarter of a GB for a thousand idle clients.
@@ -30,3 +31,9 @@ class Tls:
         if not self.context:
             return {}
         return {"ssl": self.context, "ssl_handshake_timeout": seconds, "ssl_shutdown_timeout": SHUTDOWN_SECONDS}
+
+
+def abort(transport):
+    """Closes a connection, whatever is under way. One over TLS that was closed twice before has forgotten it, and ends by itself."""
+    with contextlib.suppress(AttributeError):
+        transport.abort()

@@ -1,13 +1,16 @@
 """The page, and sessions of browsers: WebSockets whose frames carry the bytes of Protocol A both ways, cut anywhere."""
 import asyncio
+import logging
 import pathlib
 import re
 
 from aiohttp import WSCloseCode, WSMsgType, web
+from aiohttp.http_exceptions import HttpProcessingError
 
 from .addresses import Crowd, Full
 from .calls import Departed
 from .session import DEPARTED, FULL, NO_SERVER, SERVER_ENDED, Session
+from .tls import abort
 
 # A browser fetches the page by several connections at once, and several persons may share an address.
 CONNECTIONS, CONNECTIONS_OF_A_PLACE = 1_024, 32
@@ -33,6 +36,11 @@ HEADERS = {
     "Referrer-Policy": "no-referrer",
     "X-Content-Type-Options": "nosniff",
 }
+
+
+def is_ours(record):
+    """Whether a fault that aiohttp tells of is the door's, and not that of what a stranger sent."""
+    return not (record.exc_info and isinstance(record.exc_info[1], HttpProcessingError))
 
 
 class WebClient:
@@ -81,7 +89,7 @@ class Guard(asyncio.Protocol):
     def abort(self):
         """Closes the connection, whatever is under way."""
         if self.transport:
-            self.transport.abort()
+            abort(self.transport)
 
 
 class Web:
@@ -101,7 +109,9 @@ class Web:
         application.router.add_get("/kom", self.session)
         application.router.add_static("/", self.folder)
         application.on_response_prepare.append(self.add_headers)
-        self.runner = web.AppRunner(application, keepalive_timeout=KEEPALIVE_SECONDS, access_log=None)
+        logger = logging.getLogger("komd-front")
+        logger.addFilter(is_ours)
+        self.runner = web.AppRunner(application, keepalive_timeout=KEEPALIVE_SECONDS, access_log=None, logger=logger)
         await self.runner.setup()
 
     async def serve(self, connection, _address):

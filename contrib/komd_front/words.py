@@ -45,10 +45,10 @@ def parser():
     return words
 
 
-def given():
-    """The words of this run. Others end it with status 2."""
+def given(told=None):
+    """The words that are told, or else those of this run. Others end it with status 2."""
     words = parser()
-    arg = words.parse_args()
+    arg = words.parse_args(told)
     if not arg.port and not arg.web:
         words.error("neither --port nor --web")
     if arg.key and not arg.cert:
