@@ -4,9 +4,8 @@
 A library that is loaded before the C library has the clock stand still unless this script tells it to go on, and cuts each wait short:
 so days pass in seconds. Clients of each kind take both workers, and a third waits for one of them:
 
-- one that sends a letter, and one that sends a letter of its greeting now and then, are there after 29 seconds and gone after 30;
-- one that greets and sends no more is there after 29 minutes, and gone after 30;
-- one that greets and then sends a line feed each minute is there after 35 minutes, and still answered;
+- one that sends a letter, or a letter of its greeting each nine seconds, is there after 29 seconds, and gone after 30;
+- one that greets and sends no more, or a line feed each minute, is there a second before 30 minutes, and gone after them;
 - one that sent a call, in the piece of its greeting or after it, is there after 41 days of silence, and still answered;
 - one that reads nothing of what it asked for is there after 59 seconds, and gone after 60.
 
@@ -161,14 +160,11 @@ def is_served(what, waiting):
     waiting.end()
 
 
-def are_served(what, late, clients, before=lambda client: None, minutes=(31, 1_440, 40 * 1_440)):
-    """Clients that take both workers are there after each of these times, before which they may do something, and answered in the end."""
+def are_served(what, late, clients, minutes=(31, 1_440, 40 * 1_440)):
+    """Clients that take both workers are there after each of these times, and answered in the end."""
     for each in minutes:
-        for client in clients:
-            before(client)
-        late.pass_by(each * MINUTE, SETTLED / 4)
+        late.pass_by(each * MINUTE)
         wants(f"{what}, there", [is_there(client) for client in clients], [True, True])
-    time.sleep(SETTLED)
     for client in clients:
         client.reference = 9
         client.ask("56")
@@ -176,14 +172,13 @@ def are_served(what, late, clients, before=lambda client: None, minutes=(31, 1_4
     print(f"{what}: answered after {sum(minutes)} minutes")
 
 
-def dribble(late, port):
-    """Two clients that send a letter of a greeting each 9 seconds."""
-    clients = connected(port)
-    for letter in "A9H":
+def dribble(what, late, port, clients, pieces, each, seconds):
+    """Two clients that send these pieces, and so many seconds go by after each of them."""
+    for piece in pieces:
         for client in clients:
-            client.write(letter)
-        late.pass_by(9)
-    are_gone("letters of a greeting", late, port, clients, 30, 27)
+            client.write(piece)
+        late.pass_by(each, SETTLED / 4)
+    are_gone(what, late, port, clients, seconds, len(pieces) * each)
 
 
 def unread(late, port):
@@ -219,14 +214,10 @@ def served_late(program, folder):
     server = Server(program, make_store(program, folder / "late"), 2, shim)
     port = server.port
     try:
-        letters = connected(port)
-        for client in letters:
-            client.write("A")
-        are_gone("a letter", late, port, letters, 30)
-        dribble(late, port)
+        dribble("a letter", late, port, connected(port), ["A"], 0, 30)
+        dribble("a letter each nine seconds", late, port, connected(port), "A9H", 9, 30)
         are_gone("a greeting", late, port, [greeted(port), greeted(port, "\n")], 30 * MINUTE)
-        feeds = [greeted(port), greeted(port, "\n")]
-        are_served("a greeting, and a line feed each minute", late, feeds, lambda client: client.write("\n"), [1] * 35)
+        dribble("a greeting, and a line feed each minute", late, port, [greeted(port), greeted(port)], ["\n"] * 29, MINUTE, 30 * MINUTE)
         called = greeted(port, "\n1 56\n")
         called.answer(1)
         are_served("a call, and no more", late, [called, Session(port).login()])

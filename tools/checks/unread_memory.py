@@ -4,7 +4,7 @@
 `komd serve` has WORKERS (8) workers, and each of them a member who accepts message 15, new-text. In each of ROUNDS (5) another of them
 writes texts to a conference of theirs, each with 100 aux-items of 16,384 bytes, while the others read nothing, until as much waits for
 each as may; then they read it, and the texts are deleted. Each VALUE stands in the environment of the server, beside what
-contrib/komd.service sets there.
+contrib/komd.service sets there for the C library.
 
 It prints what is resident with all that waits, and after it, in millions of bytes; and ends with 1 if 500 or more are after the last
 round, or if something is otherwise, else with 0. It takes some seconds for each round. By hand: the machine needs 1 GB of memory for 8
@@ -29,9 +29,9 @@ LIMIT_SECONDS = 600
 
 
 def environment_of_unit():
-    """What the unit sets."""
+    """What the unit sets for the C library."""
     text = (ROOT / "contrib" / "komd.service").read_text(encoding="utf-8")
-    return dict(line.split("=", 1) for line in re.findall(r"^Environment=(.*)$", text, re.MULTILINE))
+    return dict(re.findall(r"^Environment=(MALLOC_\w+)=(\S+)$", text, re.MULTILINE))
 
 
 def millions(server):
