@@ -5,8 +5,8 @@ usage: instructions_of_texts.py [KOMD]      (KOMD: the built program if left out
 
 A conference has 1,000 texts, or 100,000, each a comment to the one before and of the same author, who asks for the middle one, for
 what lies beside it, and for a hundred of their numbers, and sends more. Counted by callgrind: the instructions of a run with so many
-calls less those of the same run without them. Then a run of a million texts, not counted, tells the memory that is kept for each
-text and its call, the call's record among it.
+calls less those of the same run without them; and so those of 3,000 texts of 500 bytes, each a comment to the one before. Then a
+run of a million texts, not counted, tells the memory that is kept for each text and its call, the call's record among it.
 """
 import os
 import pathlib
@@ -17,8 +17,10 @@ import tempfile
 sys.path.insert(0, str(pathlib.Path(__file__).resolve().parents[1] / "shared"))
 from built import program_of, script
 from callgrind import Prepared, login, tell
+from protocol import string
 
 FEW, MANY, MOST = 1_000, 100_000, 1_000_000
+COMMENTS = 3_000
 # The conference of the texts, and the author.
 TEXTS, AUTHOR = 6, 5
 
@@ -28,6 +30,11 @@ def stream(size):
     lines = [b"A5Hceder", login(AUTHOR), b"2 88 5HTexts 00000000 0 { }", b"3 86 5HHello 1 { 0 %d } 0 { }" % TEXTS]
     lines += [b"4 86 5HHello 2 { 0 %d 2 %d } 0 { }" % (TEXTS, number) for number in range(1, size)]
     return lines
+
+
+def comments():
+    """Texts of 500 bytes after the first, each a comment to the one before."""
+    return [b"4 86 %s 2 { 0 %d 2 %d } 0 { }" % (string(500 * b"x"), TEXTS, number) for number in range(1, COMMENTS + 1)]
 
 
 CALLS = {
@@ -61,6 +68,7 @@ def main(words):
         tell(name, few.each(call(FEW)), many.each(call(MANY)), (FEW, MANY))
     averages = ((grown.before - one.before) / (size - 1) for grown, size in ((few, FEW), (many, MANY)))
     tell("create-text of a comment, on average", *averages, (FEW, MANY))
+    print(f"create-text of 500 bytes with a recipient and a parent: {one.each_of(comments()):.0f} instructions", flush=True)
     each = (kept(program, MOST) - kept(program, 1)) / (MOST - 1)
     print(f"resident with {MOST} texts: {each:.0f} bytes for each text and its call")
 
