@@ -14,7 +14,8 @@ from .calls import LOGIN, SET_PASSWORD
 from .house import HOST
 from .told import tell
 
-SECONDS = 10
+# An old server may look up names before it answers a first call.
+SECONDS = 60
 GREETING = b"A10Hkomd-front\n"
 
 
