@@ -17,6 +17,7 @@ import tempfile
 
 sys.path.insert(0, str(pathlib.Path(__file__).resolve().parents[1] / "shared"))
 from built import ROOT, check_store, make_store, program_of, script
+from once import in_pieces
 from protocol import pattern_of, string
 
 VISIT = ROOT / "tests" / "streams" / "worked_rows" / "evening"
@@ -29,19 +30,9 @@ STEP, PAGE = 12, 4096
 
 def visit(program, store):
     """The visit's lines as they are answered, each sent once the one before it was, and the status."""
-    process = subprocess.Popen([program, "once", store], stdin=subprocess.PIPE, stdout=subprocess.PIPE)
-    answered = []
-    try:
-        for line in VISIT.with_suffix(".in").read_bytes().splitlines(keepends=True):
-            process.stdin.write(line)
-            process.stdin.flush()
-            if not (reply := process.stdout.readline()):
-                break
-            answered.append(reply.rstrip(b"\n"))
-        process.stdin.close()
-    except BrokenPipeError:
-        pass
-    return answered, process.wait()
+    lines = VISIT.with_suffix(".in").read_bytes().splitlines(keepends=True)
+    answered, status = in_pieces(program, store, [(line, 1) for line in lines])
+    return answered.splitlines(), status
 
 
 def check(program, store):

@@ -12,16 +12,15 @@ It needs a C compiler; where there is none it says so, and ends with 0. It print
 if there is one. PROGRAM is the built `komd` unless it is named.
 """
 import collections
-import os
 import pathlib
 import shutil
 import signal
-import subprocess
 import sys
 import tempfile
 
 sys.path.insert(0, str(pathlib.Path(__file__).resolve().parents[1] / "shared"))
 from built import ROOT, check_store, compile_c, make_store, program_of, script
+from once import in_pieces
 from protocol import difference
 
 # Counts the calls from the first write on, and ends the process before the one after so many, or has that one fail.
@@ -80,19 +79,7 @@ def visits():
 def served(program, store, pieces, shim, calls, fails):
     """What is answered, piece by piece, and the status."""
     more = {"LD_PRELOAD": shim, "STOPS_AFTER": str(calls), **({"STOPS_FAIL": "1"} if fails else {})}
-    process = subprocess.Popen([program, "once", store], stdin=subprocess.PIPE, stdout=subprocess.PIPE, env={**os.environ, **more})
-    answered = b""
-    try:
-        for piece in pieces:
-            process.stdin.write(piece.sent)
-            process.stdin.flush()
-            for _ in piece.answered.splitlines():
-                answered += process.stdout.readline()
-        process.stdin.close()
-    except BrokenPipeError:
-        pass
-    answered += process.stdout.read()
-    return answered, process.wait()
+    return in_pieces(program, store, [(piece.sent, piece.answered.count(b"\n")) for piece in pieces], more)
 
 
 def held(program, store):
