@@ -9,7 +9,13 @@ BACKLOG = 128
 # After an accept that failed, as where no descriptor is free, the next one waits.
 SECONDS_OF_REST = 1
 # A peer that vanished without a word is found out after two minutes; no answer waits for more to be sent with it.
-OPTIONS = ((socket.TCP_KEEPIDLE, 60), (socket.TCP_KEEPINTVL, 20), (socket.TCP_KEEPCNT, 3), (socket.TCP_USER_TIMEOUT, 120_000), (socket.TCP_NODELAY, 1))
+OPTIONS = (
+    (socket.TCP_KEEPIDLE, 60),
+    (socket.TCP_KEEPINTVL, 20),
+    (socket.TCP_KEEPCNT, 3),
+    (socket.TCP_USER_TIMEOUT, 120_000),
+    (socket.TCP_NODELAY, 1),
+)
 EVERYWHERE, EVERYWHERE_BY_IPV4 = "::", "0.0.0.0"
 
 

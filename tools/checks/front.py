@@ -48,6 +48,11 @@ NEW_PERSON = "89 {} 1Hx 00000000 0 {{ }}"
 # Blanks, empty lines, leading zeros, counted strings with line feeds and heads of other calls in them, and no login.
 HARMLESS = b"\n \t\n1 56\n 02\t035 \r\n3 4 " + string(BODY) + b"\n0000000004 0000000083 1 1 0\n5 76 9H62 5 0H \n 1 1\n6 999 { * } 2H89\n"
 
+WRONG_WORDS = (
+    "", "--port 0", "--port 65536", "--port x", "--web +80", "--port 4895 more", "--port 4895 --listen 0.0.0.0",
+    "--port 4895 --listen nowhere", "--port 4895 --key file", "--port 4895 --workers 2", "--port 4895 --old 4894",
+    "--port 4895 --greeting 0", "--port 4895 --proxy nobody")
+
 
 class Place:
     """What the parts have in common: a served store, its program and a certificate."""
@@ -68,7 +73,7 @@ def status_of(words):
     """The status with which words end the door at once, or 0 if they do not."""
     with contextlib.redirect_stderr(io.StringIO()):
         try:
-            given([str(word) for word in words])
+            given(words)
             return 0
         except SystemExit as end:
             return end.code
@@ -79,16 +84,15 @@ def try_words(place):
     def status(*words):
         return subprocess.run([FRONT, *words], capture_output=True, timeout=PATIENCE, check=False).returncode
 
-    tried, (certificate, key) = place.tried, place.certificate
-    for words in ([], ["--port", "0"], ["--port", "65536"], ["--port", "x"], ["--port", "4895", "--listen", "0.0.0.0"], ["--port", "4895", "more"],
-                  ["--port", "4895", "--key", key], ["--port", "4895", "--workers", "2"], ["--port", "4895", "--old", "4894"], ["--web", "+80"],
-                  ["--port", "4895", "--listen", "nowhere"], ["--port", "4895", "--greeting", "0"], ["--port", "4895", "--proxy", "nobody"]):
-        tried.same(f"the status for {words}", 2, status_of(words))
-    for words in (["--port", "4895"], ["--port", "4895", "--listen", "::1"], ["--web", "443", "--cleartext"], ["--web", "443", "--cert", certificate]):
-        tried.same(f"the status for {words}", 0, status_of(words))
+    tried = place.tried
+    for line in WRONG_WORDS:
+        tried.same(f"the status for {line}", 2, status_of(line.split()))
+    for line in ("--port 4895", "--port 4895 --listen ::1", "--web 443 --cleartext", "--web 443 --cert file"):
+        tried.same(f"the status for {line}", 0, status_of(line.split()))
     tried.same("the status without words", 2, status())
     port = str(free_port())
-    tried.same("the status with a key of another", 3, status("--port", port, "--cert", certificate, "--key", make_certificate(place.folder, "x")[1]))
+    other = make_certificate(place.folder, "other")[1]
+    tried.same("the status with a key of another", 3, status("--port", port, "--cert", place.certificate[0], "--key", other))
     readable = place.folder / "readable"
     readable.write_bytes(b"6\tx\n")
     readable.chmod(0o644)
@@ -193,7 +197,8 @@ def try_strangers(place):
     guest.ask("1")
     tried.same("one after the logout", "=", guest.try_to(NEW_PERSON.format(string("Pelle")))[0])
     guest.end()
-    tried.same("what the log has of it", True, {"127.0.0.1 login of 5", "127.0.0.1 may not make a person"} <= set(front.told().splitlines()))
+    log = set(front.told().splitlines())
+    tried.same("what the log has of it", True, {"127.0.0.1 login of 5", "127.0.0.1 may not make a person"} <= log)
     front.end()
     front = place.front("--open")
     tried.same("a person that a stranger may make", "=", Guest(front).try_to(NEW_PERSON.format(string("Nisse")))[0])

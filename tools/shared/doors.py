@@ -1,5 +1,4 @@
 """A front door before a served store, its certificate, and sessions through it from several addresses of this machine."""
-import pathlib
 import random
 import re
 import signal
@@ -39,13 +38,17 @@ class Again(Server):
 
     def __init__(self, program, store, port, workers):  # pylint: disable=super-init-not-called
         self.port = port
-        self.process = subprocess.Popen([program, "serve", store, str(port), str(workers)], stdout=subprocess.PIPE, stderr=subprocess.STDOUT)
+        words = [program, "serve", store, str(port), str(workers)]
+        self.process = subprocess.Popen(words, stdout=subprocess.PIPE, stderr=subprocess.STDOUT)
         if not self.is_reached(PATIENCE):
             raise Wrong(f"the server ended with status {self.process.returncode}")
 
 
 class Front:
     """A front door that runs, with its log."""
+
+    # A door is looked at as a server is.
+    resident, processor_seconds = Server.resident, Server.processor_seconds
 
     def __init__(self, folder, komd, *words, certificate=(), ports=("--port",)):
         self.port, self.web, given = None, None, []
@@ -94,11 +97,6 @@ class Front:
         connection.connect(("127.0.0.1", port or self.port))
         connection.setsockopt(socket.IPPROTO_TCP, socket.TCP_NODELAY, 1)
         return connection
-
-    def resident(self):
-        """How many KiB of memory the door has resident."""
-        told = pathlib.Path(f"/proc/{self.process.pid}/status").read_text(encoding="ascii")
-        return int(re.search(r"VmRSS:\s*(\d+) kB", told)[1])
 
     def end(self):
         """Ends the door by a signal, and returns its status. It must not have had a fault that it did not expect."""
