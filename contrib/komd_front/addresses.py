@@ -44,10 +44,14 @@ class Crowd:
         self.most, self.most_of_a_place = most, most_of_a_place
         self.count, self.counts = 0, {}
 
+    def is_full(self):
+        """Whether there are as many as there may be in all."""
+        return self.count >= self.most
+
     @contextlib.contextmanager
     def one_more(self, place):
         """Counts one for as long as it is there, or refuses it."""
-        if self.count >= self.most or self.counts.get(place, 0) >= self.most_of_a_place:
+        if self.is_full() or self.counts.get(place, 0) >= self.most_of_a_place:
             raise Full
         self.count += 1
         self.counts[place] = self.counts.get(place, 0) + 1

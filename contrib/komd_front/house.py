@@ -1,8 +1,9 @@
 """What all sessions of a door have in common: the server, its places, and the limits."""
 import asyncio
+import contextlib
 import dataclasses
 
-from .addresses import Crowd
+from .addresses import Crowd, Full
 from .guessing import Guesses
 
 HOST = "127.0.0.1"
@@ -24,6 +25,7 @@ class Limits:
     greeting_seconds: float
     silent_seconds: float
     guess_seconds: float
+    stranger_seconds: float
     is_open: bool
 
 
@@ -36,10 +38,28 @@ class House:
         places = limits.workers - LEFT_FREE
         self.places = Crowd(places, places)
         self.sessions = Crowd(places + MOST_GREETING, limits.connections)
+        # The sessions in which nobody has logged in yet, the oldest first.
+        self.strangers = {}
 
-    def place(self):
-        """A place at the server, for as long as it is held."""
-        return self.places.one_more("")
+    @contextlib.asynccontextmanager
+    async def place(self, session):
+        """A place at the server, for as long as it is held. Until somebody logs in, the session may be asked to leave it."""
+        if self.places.is_full():
+            await self.make_room()
+        with self.places.one_more(""):
+            self.strangers[session] = asyncio.get_running_loop().time()
+            try:
+                yield
+            finally:
+                self.strangers.pop(session, None)
+
+    async def make_room(self):
+        """Has the session end that has been longest without a login, if that is long enough: strangers keep no member out."""
+        oldest = next(iter(self.strangers), None)
+        if oldest is None or asyncio.get_running_loop().time() - self.strangers[oldest] < self.limits.stranger_seconds:
+            raise Full
+        del self.strangers[oldest]
+        await oldest.leave()
 
     async def connect(self):
         """A connection to the server."""

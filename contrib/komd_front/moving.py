@@ -80,7 +80,7 @@ class Moving:
             tell(address, "the old server was not asked for", person, fault)
             return False
         try:
-            with house.place():
+            with house.places.one_more(""):
                 await ask(HOST, house.limits.komd, login(person, random),
                           b"%d %d %s %s" % (SET_PASSWORD, person, string(random), string(password)))
         except (Full, OSError, ValueError) as fault:

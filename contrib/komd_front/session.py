@@ -18,10 +18,15 @@ DEPARTED = "no line of the protocol"
 SILENT = "nothing of what is sent is taken"
 SERVER_ENDED = "the server ended the session"
 CLIENT_ENDED = "the client is gone"
+MADE_ROOM = "nobody had logged in, and another needed the place"
 
 
 class ServerEnded(Exception):
     """The server has closed its connection."""
+
+
+class MadeRoom(Exception):
+    """The session was asked to leave its place."""
 
 
 class Session:
@@ -35,12 +40,14 @@ class Session:
         self.from_server = self.to_server = None
         # The attempt that the server judges, and whether it has.
         self.attempt, self.is_judged = None, asyncio.Event()
+        # Is made to fail where the session is to leave, and then is waited for.
+        self.asked, self.has_left = asyncio.get_running_loop().create_future(), asyncio.Event()
 
     async def run(self):
         """Serves the client to the end, and tells why that came."""
         try:
             begun = await self.greeting()
-            with self.house.place():
+            async with self.house.place(self):
                 return await self.served(begun)
         except TimeoutError:
             tell_now_and_then(self.client.address, LATE)
@@ -53,6 +60,15 @@ class Session:
             return DEPARTED
         except OSError:
             return CLIENT_ENDED
+        finally:
+            self.asked.cancel()
+            self.has_left.set()
+
+    async def leave(self):
+        """Ends the session, and waits until its place is free."""
+        if not self.asked.done():
+            self.asked.set_exception(MadeRoom())
+        await self.has_left.wait()
 
     async def greeting(self):
         """What the client sent up to the end of its greeting, and what came with that: no place is taken before."""
@@ -74,7 +90,7 @@ class Session:
         self.to_server.write(begun[0])
         ways = [asyncio.create_task(way) for way in (self.up(begun[1]), self.down())]
         try:
-            done, _ = await asyncio.wait(ways, return_when=asyncio.FIRST_EXCEPTION)
+            done, _ = await asyncio.wait([*ways, self.asked], return_when=asyncio.FIRST_EXCEPTION)
             return await self.why([way.exception() for way in done])
         finally:
             for way in ways:
@@ -89,6 +105,9 @@ class Session:
         fault = next(exception for exception in exceptions if exception)
         if isinstance(fault, ServerEnded):
             return SERVER_ENDED
+        if isinstance(fault, MadeRoom):
+            tell_now_and_then(self.client.address, "made room:", MADE_ROOM)
+            return MADE_ROOM
         if isinstance(fault, Departed):
             await self.client.send(PROTOCOL_ERROR)
             return DEPARTED
@@ -160,4 +179,5 @@ class Session:
         elif reply.is_good and attempt.call == LOGIN:
             self.calls.may_create = True
             self.person = attempt.person
+            self.house.strangers.pop(self, None)
             tell(address, "login of", attempt.person)

@@ -9,7 +9,7 @@ from aiohttp.http_exceptions import HttpProcessingError
 
 from .addresses import Crowd, Full
 from .calls import Departed
-from .session import DEPARTED, FULL, NO_SERVER, SERVER_ENDED, Session
+from .session import DEPARTED, FULL, MADE_ROOM, NO_SERVER, SERVER_ENDED, Session
 from .tls import abort
 
 # A browser fetches the page by several connections at once, and several persons may share an address.
@@ -25,6 +25,7 @@ HOST = re.compile(r"(?:[A-Za-z0-9.-]+|\[[0-9A-Fa-f:]+\])(?::\d+)?")
 CROWDED = "this address has as many sessions as it may have"
 CODES = {
     FULL: WSCloseCode.TRY_AGAIN_LATER,
+    MADE_ROOM: WSCloseCode.TRY_AGAIN_LATER,
     NO_SERVER: WSCloseCode.TRY_AGAIN_LATER,
     SERVER_ENDED: WSCloseCode.GOING_AWAY,
     DEPARTED: WSCloseCode.PROTOCOL_ERROR,

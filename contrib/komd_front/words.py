@@ -39,6 +39,8 @@ def parser():
     limits.add_argument("--silent", type=seconds, metavar="SECONDS", default=60, help="for whoever takes nothing of what is sent (60)")
     limits.add_argument("--guess", type=seconds, metavar="SECONDS", default=5,
                         help="between two passwords of an address after five wrong ones in ten minutes (5)")
+    limits.add_argument("--stranger", type=seconds, metavar="SECONDS", default=10,
+                        help="that a session without a login keeps its place for, where all are taken (10)")
     moving = words.add_argument_group("passwords that come over from an old server")
     moving.add_argument("--old", type=address_and_port, metavar="[ADDRESS:]PORT", help="where that serves")
     moving.add_argument("--passwords", metavar="FILE", help="the passwords that komd-import drew; lines go as passwords come over")
@@ -67,7 +69,7 @@ def given(told=None):
 def limits_of(arg):
     """The limits among the words."""
     return Limits(komd=arg.komd, workers=arg.workers, connections=arg.connections, greeting_seconds=arg.greeting,
-                  silent_seconds=arg.silent, guess_seconds=arg.guess, is_open=arg.open)
+                  silent_seconds=arg.silent, guess_seconds=arg.guess, stranger_seconds=arg.stranger, is_open=arg.open)
 
 
 def number(word, least, most):

@@ -7,7 +7,7 @@
 4. Six wrong passwords slow down their address, right ones of it too, and nobody else.
 5. A ninth connection of an address is closed, and another address is not.
 6. Whoever sends no handshake, no greeting, half of one or one that is none is closed; no place of the server is taken for that.
-7. Of five places three are given, and this machine has the other two.
+7. Of five places three are given, and this machine has the other two. Who has not logged in makes room, and nobody else.
 8. A client that takes nothing is closed, beside others that are served; one that takes little gets each byte.
 9. The server ends and comes back.
 10. A certificate that is read anew.
@@ -285,7 +285,7 @@ def try_places(place):
     store = make_store(place.program, str(place.folder / "small"))
     server = Server(place.program, store, 5)
     front = Front(place.folder, server.port, "--workers", "5", certificate=place.certificate)
-    guests = [Guest(front) for _ in range(3)]
+    guests = [Guest(front).login() for _ in range(3)]
     full = front.connect()
     full.sendall(b"A1Ha")
     place.tried.same("a fourth session is closed", True, is_closed(full))
@@ -295,7 +295,28 @@ def try_places(place):
     place.tried.same("another in the place of one", True, comes_in(front))
     place.tried.same("the log of it", 1, front.told().count("all places are taken"))
     front.end()
+    try_strangers_places(place, server)
     server.kill()
+
+
+def try_strangers_places(place, server):
+    """Part 7, where strangers have the places."""
+    front = Front(place.folder, server.port, "--workers", "5", "--stranger", "0.5", certificate=place.certificate)
+    member, first, second = Guest(front).login(), Guest(front), Guest(front)
+    second.ask("35")
+    time.sleep(0.6)
+    third = Guest(front)
+    place.tried.same("the oldest stranger makes room", [], first.rest())
+    third.login()
+    place.tried.same("the others stay", ["=", "=", "="], [guest.try_to("35")[0] for guest in (member, second, third)])
+    fourth = Guest(front).login()
+    place.tried.same("the second one makes room", [], second.rest())
+    time.sleep(0.6)
+    full = front.connect()
+    full.sendall(b"A1Ha")
+    place.tried.same("members make none", (True, "="), (is_closed(full), fourth.try_to("35")[0]))
+    place.tried.same("the log of it", 1, front.told().count("127.0.0.1 made room"))
+    front.end()
 
 
 def try_slow(place):
