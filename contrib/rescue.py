@@ -229,7 +229,7 @@ def main(words):
         print(__doc__.strip())
         return 0
     if not 1 <= len(words) <= 2 or not all(word.isascii() and word.isdigit() for word in words[1:]):
-        print("usage: rescue.py STORE [PERSON]", file=sys.stderr)
+        print(f"usage: {os.path.basename(sys.argv[0])} STORE [PERSON]", file=sys.stderr)
         return 2
     try:
         file = os.open(words[0], os.O_RDWR | os.O_CLOEXEC)

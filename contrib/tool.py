@@ -36,7 +36,7 @@ def run(main, name):
 def words_of_server(description, page):
     """A reader of the words of a tool that asks a server, which is told where that is."""
     words = argparse.ArgumentParser(description=description, epilog=f"See {page}.")
-    words.add_argument("--host", default="localhost", help="where the server is, if not on this machine")
+    words.add_argument("--host", default="127.0.0.1", help="where the server is, if not on this machine")
     words.add_argument("--port", type=int, default=4894, help="its port, if not 4894")
     return words
 

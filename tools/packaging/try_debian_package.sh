@@ -3,8 +3,9 @@
 #
 #     try_debian_package.sh PACKAGE ROOT
 #
-# ROOT is a folder as `debootstrap --variant=minbase bookworm ROOT` leaves it, and is left as it was: all is done in a copy beside it. It
-# prints a line for each thing that is otherwise than wanted, and a count, and ends with 1 if there is one, else with 0. Run it as root.
+# ROOT is a folder as `debootstrap --variant=minbase --include=adduser,perl,python3 bookworm ROOT` leaves it, and is left as it was: all is
+# done in a copy beside it. Each tool of the package is used, the server is served at a port of this machine for that. It prints a line
+# for each thing that is otherwise than wanted, and a count, and ends with 1 if there is one, else with 0. Run it as root.
 set -euo pipefail
 # shellcheck source-path=SCRIPTDIR source=../shared/script.sh
 . "$(dirname "${BASH_SOURCE[0]}")/../shared/script.sh"
@@ -12,14 +13,15 @@ usage='usage: try_debian_package.sh PACKAGE ROOT'
 package=$(realpath "${1:?$usage}")
 system=$(realpath "${2:?$usage}")
 copy=$(mktemp -d "$system.XXXXXX")
-trap 'rm -rf --one-file-system "$copy" "$work"' EXIT
+server=
+trap '[ -z "$server" ] || kill "$server"; rm -rf --one-file-system "$copy" "$work"' EXIT
 cp -a "$system/." "$copy"
 cp "$package" "$copy/komd.deb"
 tried=0
 failed=0
 
 inside() {
-    timeout 60 chroot "$copy" /usr/bin/env -i PATH=/usr/sbin:/usr/bin:/sbin:/bin LC_ALL=C.UTF-8 "$@"
+    timeout 120 chroot "$copy" /usr/bin/env -i PATH=/usr/sbin:/usr/bin:/sbin:/bin LC_ALL=C.UTF-8 "$@"
 }
 
 # same WHAT WANTED GOT
@@ -35,6 +37,7 @@ files() {
     (cd "$copy" && find . -xdev \( -path ./var/log -o -path ./run -o -path ./var/lib/dpkg -o -path ./var/cache -o -path ./tmp \) -prune -o -print | sort)
 }
 
+echo "127.0.0.1 localhost" >"$copy/etc/hosts"
 files >"$copy/tmp/before"
 inside dpkg -i /komd.deb >"$copy/tmp/said" 2>&1 || { cat "$copy/tmp/said"; exit 1; }
 # shellcheck disable=SC2016
@@ -45,14 +48,45 @@ same 'the user' '/var/lib/komd /usr/sbin/nologin' "$(inside getent passwd komd |
 same 'an answer' 'LysKOM =1 1' "$(printf 'A1Ha\n1 56\n' | inside komd once | paste -sd ' ')"
 printf 'a first one\nBirgit\na second one\n' >"$copy/tmp/words"
 chmod 644 "$copy/tmp/words"
-same 'the first day' 'store made person 6 is the second administrator' \
-    "$(inside setpriv --reuid komd --regid komd --clear-groups /usr/share/komd/komd-first-day /var/lib/komd/store <"$copy/tmp/words" | paste -sd ' ')"
-same 'the store' '600 komd komd' "$(inside stat -c '%a %U %G' /var/lib/komd/store)"
-same 'a copy' 1 "$(inside /usr/share/komd/komd-backup save /var/lib/komd/store /root/copies | grep -c ': batches .* conferences 6 persons 2 texts 0$')"
-for page in man8/komd.8 man1/komc.1; do
-    if [ -e "$copy/usr/share/man/$page.gz" ]; then
-        same "warnings of $page" '' "$(zcat "$copy/usr/share/man/$page.gz" | man --warnings -E UTF-8 -Tutf8 -Z -l - 2>&1 >/dev/null)"
-    fi
+as_komd() {
+    inside setpriv --reuid komd --regid komd --clear-groups "$@"
+}
+
+store=/var/lib/komd/store
+same 'the first day' "the store is made at $store, and person 6 is the second administrator" \
+    "$(as_komd komd-first-day $store <"$copy/tmp/words")"
+same 'the store' '600 komd komd' "$(inside stat -c '%a %U %G' $store)"
+same 'a copy' 1 "$(inside komd-backup save $store /root/copies | grep -c ': batches .* conferences 6 persons 2 texts 0$')"
+same 'who is an administrator' 'administrator 5 Administrator administrator 6 Birgit' "$(as_komd komd-rescue $store | tail -n 2 | paste -sd ' ')"
+same 'why a komd ended' 'komd: status 4: /etc/passwd is no store of komd: it begins with the bytes 72 6f 6f 74 3a 78 3a 30' \
+    "$(as_komd komd-why 4 /etc/passwd)"
+
+# What asks a server.
+port=$((20000 + RANDOM % 10000))
+chroot "$copy" setpriv --reuid komd --regid komd --clear-groups komd serve $store "$port" 4 &
+server=$!
+for _ in {1..100}; do
+    ! inside komd-probe localhost "$port" 2 >/dev/null || break
+    sleep 0.1
+done
+same 'a probe' 'KOMD OK' "$(inside komd-probe localhost "$port" 10 | cut -d ' ' -f 1,2)"
+same 'measures' 'komd_up 1' "$(as_komd komd-metrics --port "$port" | grep -v '^#' | head -n 1)"
+same 'a mailbox' '0 texts' "$(echo 'a first one' | inside komd-mbox --port "$port" 5 /root/mailbox)"
+same 'who comes' 'komd-log: person 5 cannot log in with this password: call 62 was refused with error 4, status 5' \
+    "$(echo 'another one' | inside komd-log --port "$port" 5 2>&1)"
+same 'bringing over' 'conferences 6, persons 2, texts 0, recipients 0, memberships 2, marks 0, items 0' \
+    "$(echo 'a first one' | as_komd komd-import "$port" 5 /var/lib/komd/brought /var/lib/komd/passwords)"
+same 'what was brought over' 'conferences 6 persons 2 texts 0' "$(as_komd komd check /var/lib/komd/brought | tail -n 3 | paste -sd ' ')"
+kill "$server"
+wait "$server" 2>/dev/null || true
+server=
+rm -f "$copy"/var/lib/komd/{brought,passwords} "$copy/root/mailbox"
+for tool in kom komd-{backup,first-day,front,import,log,mbox,metrics,probe,rescue,why}; do
+    inside "$tool" --help >"$copy/tmp/said" 2>&1 || same "the usage of $tool" 0 $?
+    same "a page of $tool" yes "$([ -e "$copy/usr/share/man/man8/$tool.8.gz" ] || [ -e "$copy/usr/share/man/man1/$tool.1.gz" ] && echo yes)"
+done
+for page in "$copy"/usr/share/man/man[18]/kom*.gz; do
+    same "warnings of $page" '' "$(zcat "$page" | man --warnings -E UTF-8 -Tutf8 -Z -l - 2>&1 >/dev/null)"
 done
 inside dpkg -i /komd.deb >"$copy/tmp/said" 2>&1 || { cat "$copy/tmp/said"; exit 1; }
 same 'the store after a second installation' 600 "$(inside stat -c %a /var/lib/komd/store)"

@@ -3,7 +3,8 @@
 #
 #     try_unit.sh PACKAGE ROOT
 #
-# ROOT is a folder as `debootstrap --variant=minbase --include=systemd,systemd-sysv,dbus,adduser bookworm ROOT` leaves it, and is left as
+# ROOT is a folder as `debootstrap --variant=minbase --include=adduser,dbus,perl,python3,systemd,systemd-sysv bookworm ROOT`
+# leaves it, and is left as
 # it was: the container runs in a copy beside it, with a network of its own. It prints a line for each thing that is otherwise than wanted,
 # and a count, and ends with 1 if there is one, else with 0. Run it as root; it needs systemd-nspawn, and takes two minutes.
 set -euo pipefail
@@ -59,7 +60,7 @@ stands() {
 }
 serves() {
     for _ in {1..150}; do
-        /usr/share/komd/komd-probe 127.0.0.1 4894 1 >/said.probe && break
+        komd-probe 127.0.0.1 4894 1 >/said.probe && break
         sleep 0.1
     done
     same "$1" 'KOMD OK' "$(cut -d ' ' -f 1,2 /said.probe)"
@@ -74,6 +75,11 @@ talk() {
 as_komd() {
     runuser -u komd -- "$@"
 }
+# What the journal has of the last end, by komd-why.
+said() {
+    journalctl --sync
+    same "$1" "$2" "$(journalctl -u komd -o cat --no-pager | grep '^komd: ' | tail -n 1 | cut -c "1-${#2}")"
+}
 drop_in() {
     mkdir -p /etc/systemd/system/komd.service.d
     printf '[Service]\n%s\n' "$@" >/etc/systemd/system/komd.service.d/try.conf
@@ -87,7 +93,8 @@ same 'the units as systemd-analyze finds them' '' \
 echo "systemd-analyze security: $(systemd-analyze security --no-pager komd.service | tail -n 1)"
 systemctl start komd
 stands 'where there is no store' 'failed exit-code 4 0' 12
-printf 'a first one\nBirgit\na second one\n' | as_komd /usr/share/komd/komd-first-day $store >/said.first
+said 'why, where there is no store' 'komd: status 4: there is no store at /var/lib/komd/store'
+printf 'a first one\nBirgit\na second one\n' | as_komd komd-first-day $store >/said.first
 systemctl reset-failed komd
 systemctl enable --now --quiet komd
 serves 'a store that was made'
@@ -102,27 +109,42 @@ same 'what it says' 1 "$(journalctl --sync; journalctl -u komd-backup -o cat --n
 kill -KILL "$pid"
 stands 'after signal 9' 'active success 0 1'
 serves 'the server after signal 9'
+said 'why, after signal 9' 'komd: signal KILL: it was killed'
 same 'the text after it' 'LysKOM =1 =2 4Hkept =3' "$(talk 'A1Ha' '1 62 6 12Ha second one 0' '2 25 1 0 9' '3 55 0')"
 systemctl stop komd
 stands 'after systemctl stop' 'inactive success 15 1'
+said 'why, after systemctl stop' 'komd: signal TERM: it was stopped'
 systemctl start komd
 serves 'the server after that'
 same 'call 44' 'LysKOM =1 =2 =3' "$(talk 'A1Ha' '1 62 6 12Ha second one 0' '2 42 255' '3 44 0')"
 stands 'after call 44' 'inactive success 0 0' 12
+said 'why, after call 44' 'komd: status 0: it came to its end: call 44'
+same 'what komd-why says at a prompt' 'komd: status 0: it came to its end: call 44' "$(komd-why | cut -d ' ' -f 1-10)"
 drop_in 'Environment=KOMD_WORKERS=65'
 systemctl start komd
 stands 'after status 2' 'failed exit-code 2 0' 12
+said 'why, after status 2' 'komd: status 2: its words are none that it knows'
 drop_in 'RestartSec=1'
 exec 8<$store
 flock 8
 systemctl start komd
 stands 'after status 3, again and again' 'failed exit-code 3 5'
+said 'why, after status 3' 'komd: status 3: another process has /var/lib/komd/store open'
 exec 8<&-
 rm /etc/systemd/system/komd.service.d/try.conf
 systemctl daemon-reload
 systemctl reset-failed komd
 systemctl start komd
 serves 'the server after that'
+echo 'a second one' >/etc/komd-log.password
+chmod 600 /etc/komd-log.password
+systemctl start komd-log@6
+sleep 2
+talk 'A1Ha' '1 62 5 11Ha first one 0' '2 1' >/dev/null
+sleep 1
+journalctl --sync
+same 'who came, as the journal has it' 'login session person 5 Administrator' \
+    "$(journalctl -u komd-log@6 -o cat --no-pager | grep -o 'login session [0-9]* person 5 Administrator' | head -n 1 | sed 's/ [0-9]* p/ p/')"
 before=$(systemctl show -P MainPID komd)
 dpkg -i /komd.deb >/said.dpkg 2>&1 || cat /said.dpkg
 serves 'the server after another installation'
