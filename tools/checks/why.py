@@ -128,7 +128,7 @@ def try_others(tried):
     with socket.create_server(("", 0)) as taken:
         port = taken.getsockname()[1]
         tried.says("a port that is taken", "5", f"another program listens at port {port}", tried.end("serve", store, port, 1), store, port)
-    end = tried.end("serve", store, port, 1, preexec_fn=lambda: resource.setrlimit(resource.RLIMIT_NOFILE, (6, 6)))
+    end = tried.end("serve", store, port, 1, preexec_fn=lambda: resource.setrlimit(resource.RLIMIT_NOFILE, (9, 9)))
     tried.says("a limit on open files", "5", f"port {port}, which is free now, could not be served", end, store, port)
     with open("/dev/full", "wb") as full:
         tried.says("a report that is not taken", "7", "could not be written", tried.end("check", store, stdout=full))
