@@ -32,9 +32,8 @@ from served import PATIENCE, Server, Session, folder_in_memory, limit_seconds, s
 
 LIMIT_SECONDS = 120
 MINUTE, DAY = 60, 86_400
-# How long a wait of the server lasts at most under the library, in milliseconds; and how long it is given here to see what the time
-# is, in seconds: several waits, on a machine that may be busy.
-LONGEST_WAIT, SETTLED = 20, 0.4
+# How long a wait of the server lasts at most under the library, in milliseconds.
+LONGEST_WAIT = 20
 # How the system's table of connections tells of a timer that keeps alive.
 KEEP_ALIVE = 2
 SHIM_C = r"""
@@ -69,16 +68,38 @@ class Late:
     """The clock of a server."""
 
     def __init__(self, folder):
-        self.path, self.seconds = folder / "later", DAY
+        self.path, self.seconds, self.server = folder / "later", DAY, None
         self.path.write_bytes(DAY.to_bytes(8, sys.byteorder))
         self.file = self.path.open("r+b")
         self.map = mmap.mmap(self.file.fileno(), 8)
 
-    def pass_by(self, seconds, settled=SETTLED):
-        """So many seconds go by, and the server has seen it."""
+    def pass_by(self, seconds):
+        """So many seconds go by once the server has done what came before, and it sees what the time is."""
+        self.rest()
         self.seconds += seconds
         self.map[:] = self.seconds.to_bytes(8, sys.byteorder)
-        time.sleep(settled)
+        for _ in range(2):
+            time.sleep(2 * LONGEST_WAIT / 1_000)
+            self.rest()
+
+    def rest(self):
+        """Waits until each thread of the server waits: on a busy machine one may be about to do something for long."""
+        tasks = pathlib.Path(f"/proc/{self.server.process.pid}/task")
+        until("each thread waits", lambda: all(state_of(task) == "S" for task in tasks.iterdir()))
+
+
+def state_of(task):
+    """The letter of what a thread does."""
+    return (task / "stat").read_text(encoding="ascii").rsplit(") ", 1)[1][0]
+
+
+def until(what, holds):
+    """Waits until something holds."""
+    end = time.monotonic() + PATIENCE
+    while not holds():
+        if end < time.monotonic():
+            raise Wrong(f"{what}: not after {PATIENCE} seconds")
+        time.sleep(0.01)
 
 
 def build(folder):
@@ -113,16 +134,6 @@ def connections(port):
             if int(local.rsplit(":", 1)[1], 16) == port and state == "01":
                 kind, due = timer.split(":")
                 yield Connection(int(kind), int(due, 16), int(queues.split(":")[0], 16), int(number))
-
-
-def until(what, holds):
-    """Waits until something holds, and then for the server to see it."""
-    end = time.monotonic() + PATIENCE
-    while not holds():
-        if end < time.monotonic():
-            raise Wrong(f"{what}: not after {PATIENCE} seconds")
-        time.sleep(0.05)
-    time.sleep(SETTLED)
 
 
 def connected(port):
@@ -177,7 +188,7 @@ def dribble(what, late, port, clients, pieces, each, seconds):
     for piece in pieces:
         for client in clients:
             client.write(piece)
-        late.pass_by(each, SETTLED / 4)
+        late.pass_by(each)
     are_gone(what, late, port, clients, seconds, len(pieces) * each)
 
 
@@ -195,7 +206,7 @@ def unread(late, port):
 
     def are_full():
         seen.append(sorted(one.waiting for one in connections(port) if one.waiting))
-        return len(seen) > 20 and len(seen[-1]) == 2 and all(each == seen[-1] for each in seen[-20:])
+        return len(seen) > 100 and len(seen[-1]) == 2 and all(each == seen[-1] for each in seen[-100:])
 
     until("two clients are sent no more", are_full)
     late.pass_by(59)
@@ -211,7 +222,7 @@ def served_late(program, folder):
     """All that time alone brings about."""
     late = Late(folder)
     shim = {"LD_PRELOAD": build(folder), "LATER": str(late.path)}
-    server = Server(program, make_store(program, folder / "late"), 2, shim)
+    late.server = server = Server(program, make_store(program, folder / "late"), 2, shim)
     port = server.port
     try:
         dribble("a letter", late, port, connected(port), ["A"], 0, 30)
