@@ -14,8 +14,10 @@ const CHUNK = 500;
 const BLOCKS_AHEAD = 20;
 const LONG_ARRAY = 46;
 const NO_ACCESS = 11;
+const NO_SUCH_TEXT = 14;
 const RECIPIENTS = [TO, COPY, BLIND_COPY];
 const MESSAGES_KEPT = 500;
+const MARK = 100;
 
 /** The recipients of a text with their local numbers: { conference, tag, local }. */
 export function recipientsOf(stat) {
@@ -29,8 +31,8 @@ export function recipientsOf(stat) {
 
 /**
  * Events: `unread` when any count may be another, with the conference or 0; `members` when memberships came or
- * went; `entered` after a login, again too; `text`, `deleted`, `message`, `presence`, `presentation` with what
- * was told.
+ * went; `entered` after a login, again too; `text`, `deleted`, `message`, `joined`, `presence`, `presentation`
+ * with what was told.
  */
 export class Club extends EventTarget {
   me = 0;
@@ -40,7 +42,11 @@ export class Club extends EventTarget {
   #memberships = new Map();
   /** The same in the order of reading, or null where that is to be found anew. */
   #sorted = null;
-  /** Marks that the server has not answered: by conference, local numbers. */
+  /** Texts that were found to be gone. */
+  #gone = new Set();
+  /** The texts that the member has marked. */
+  marked = new Set();
+  /** Read marks that the server has not answered: by conference, local numbers. */
   #marks = new Map();
   /** Each login makes what was begun before it void. */
   #visit = 0;
@@ -121,8 +127,9 @@ export class Club extends EventTarget {
 
   async #loadMemberships(visit) {
     const { session, me } = this;
-    const [unread, { memberships }, own] = await Promise.all([
-      session.call("getUnread", me), session.call("getPerson", me), this.names.ask(me)]);
+    const [unread, { memberships }, own, marks] = await Promise.all([
+      session.call("getUnread", me), session.call("getPerson", me), this.names.ask(me), session.call("getMarks")]);
+    this.marked = new Set(marks.map(({ text }) => text));
     const rows = await this.#membershipRows(me, 0, memberships);
     if (visit !== this.#visit) return;
     this.#memberships = new Map(rows.map((row) => [row.conference, new Membership(row)]));
@@ -202,10 +209,15 @@ export class Club extends EventTarget {
 
   async answersOf(text) {
     const stat = await this.texts.statOrNull(text);
-    return stat === null ? [] : answersOf(stat);
+    if (stat === null) return [];
+    const answers = answersOf(stat);
+    // What is looked at one by one is asked for together.
+    for (const answer of answers) this.texts.statOrNull(answer).catch(() => undefined);
+    return answers;
   }
 
   async isUnread(text) {
+    if (this.#gone.has(text)) return false;
     const stat = await this.texts.statOrNull(text);
     return stat !== null && this.isUnreadBy(stat);
   }
@@ -235,7 +247,8 @@ export class Club extends EventTarget {
         await this.texts.load(next.text);
         return next;
       } catch (error) {
-        if (error.code === undefined) throw error;
+        if (error.code !== NO_SUCH_TEXT) throw error;
+        this.#gone.add(next.text);
         for (const membership of this.#memberships.values()) membership.drop(next.text);
       }
     }
@@ -278,6 +291,14 @@ export class Club extends EventTarget {
     for (const [conference, local] of marked ?? []) this.#memberships.get(conference)?.mark(local);
     for (const [conference, local, text] of unmarked ?? []) this.#memberships.get(conference)?.unmark(local, text);
     for (const [conference] of marked ?? unmarked) this.#tell("unread", conference);
+  }
+
+  /** Marks a text to remember it, or drops the mark. */
+  async setMark(text, on) {
+    await (on ? this.session.call("markText", text, MARK) : this.session.call("unmarkText", text));
+    if (on) this.marked.add(text);
+    else this.marked.delete(text);
+    this.texts.forgetStat(text);
   }
 
   /** A text is to be unread again. */
@@ -383,7 +404,7 @@ export class Club extends EventTarget {
     const told = {
       newName: ({ conference, now }) => this.names.take(conference, nameOf(now)),
       left: ({ conference }) => this.#left(conference),
-      joined: ({ conference }) => this.#reload(conference).catch(() => undefined),
+      joined: ({ conference }) => this.#reload(conference).then(() => this.#tell("joined", conference)).catch(() => undefined),
       login: () => this.#tell("presence", value),
       logout: () => this.#tell("presence", value),
       message: () => this.#takeMessage(value),

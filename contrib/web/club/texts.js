@@ -7,6 +7,7 @@ const KEPT_STATS = 5_000;
 const KEPT_BODIES = 500;
 const WHOLE = 4_294_967_295;
 const BEGINNING = 160;
+const FRESH = 10_000;
 const NO_SUCH_TEXT = 14;
 
 /** A map that forgets what was put in first. */
@@ -38,6 +39,8 @@ export class Texts {
   #stats = new Kept(KEPT_STATS);
   #bodies = new Kept(KEPT_BODIES);
   #subjects = new Kept(KEPT_STATS);
+  /** When the stats were asked for. */
+  #asked = new Kept(KEPT_STATS);
 
   constructor(session) {
     this.#session = session;
@@ -53,7 +56,17 @@ export class Texts {
 
   /** What a text is linked to. Refused where it is not there or not to be read. */
   stat(number) {
-    return this.#stats.get(number) ?? this.#keep(this.#stats, number, this.#session.call("getTextStat", number));
+    return this.#stats.get(number) ?? this.#askStat(number);
+  }
+
+  #askStat(number) {
+    this.#asked.set(number, Date.now());
+    return this.#keep(this.#stats, number, this.#session.call("getTextStat", number));
+  }
+
+  /** Has the stat be asked for anew, unless it was lately: not all that changes it is told. */
+  refresh(number) {
+    if (Date.now() - (this.#asked.get(number) ?? 0) > FRESH) this.#askStat(number);
   }
 
   /** The same, or null where the text is not there. */

@@ -45,6 +45,7 @@ export class App {
     club.addEventListener("unread", () => this.retitle());
     club.addEventListener("message", ({ detail }) => this.#takeMessage(detail));
     club.addEventListener("text", ({ detail }) => this.#takeText(detail));
+    club.addEventListener("joined", ({ detail }) => this.#takeMembership(detail));
     window.addEventListener("hashchange", () => this.show());
     window.addEventListener("online", () => session.state === "gone" && session.connect());
     document.addEventListener("visibilitychange", () => this.#seen());
@@ -76,7 +77,7 @@ export class App {
       view = { title: "Not shown", node: el("div", {},
         el("h1", { tabindex: "-1" }, "Not shown"),
         el("p", {}, sentenceOn(error, (number) => this.nameWords(number))),
-        button("Back", () => history.back())) };
+        button("Back", () => history.back())), back: () => this.show() };
     }
     if (shown !== this.#shown) return;
     this.#put(view, focus);
@@ -167,8 +168,15 @@ export class App {
     this.#view.tookText?.(text, stat);
     if (!club.isUnreadBy(stat)) return;
     club.names.ask(stat.author).catch(() => undefined).then(() => {
+      if (!document.hidden) this.announce(`New text by ${this.nameWords(stat.author)}. ${many(club.unread, "unread text")}.`);
       notify(`New text by ${this.nameWords(stat.author)}`, `${many(club.unread, "unread text")}.`, "text", () => this.go(""));
     });
+  }
+
+  #takeMembership(conference) {
+    if (!this.club.membership(conference)?.invitation) return;
+    this.say(["You are invited to ", nameOf(this.club, conference), "."],
+      { stays: true, actions: [["Look at it", () => this.go(`conference/${conference}`)]] });
   }
 
   #retitle() {
@@ -211,10 +219,11 @@ export class App {
 
   #stateWords() {
     const { state, nextTry } = this.session;
-    if (state === "full") return "The server has no free place yet. Waiting for one…";
+    if (state === "full") return "The server does not answer yet. It may have no free place. Waiting…";
     if (state === "connecting") return "Connecting to the server…";
     const seconds = Math.max(0, Math.ceil((nextTry - Date.now()) / 1000));
-    const why = this.session.noPlace ? "The server has no place free, or does not serve just now." : "The connection to the server is gone.";
+    const why = this.session.noPlace
+      ? "The server has no place free, or does not serve just now." : "The connection to the server is gone.";
     return `${why} It is tried again in ${many(seconds, "second")}. Your drafts are kept.`;
   }
 

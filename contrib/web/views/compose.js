@@ -20,7 +20,8 @@ function answered(app, numbers) {
   return numbers.map((number) => {
     const place = el("div", { class: "quoted" });
     app.club.texts.load(number).then((text) => {
-      place.append(el("p", { class: "meta" }, nameOf(app.club, text.stat.author), ": ", letters(text.subject)), bodyOf(text.body));
+      const head = el("p", { class: "meta" }, nameOf(app.club, text.stat.author), ": ", letters(text.subject));
+      place.append(head, bodyOf(text.body));
     }).catch((error) => place.append(sentenceOn(error)));
     return el("details", { open: true }, el("summary", {}, `Text ${number}, which you answer`), place);
   });
@@ -30,8 +31,10 @@ function answered(app, numbers) {
 function recipients(app, draft, changed) {
   const list = el("ul", { class: "recipients" });
   const summary = el("span", {});
-  const summarize = () => summary.replaceChildren(...draft.to.flatMap(({ number, tag }, place) => [
-    place > 0 ? "; " : "", `${KINDS.find(([each]) => each === tag)[1]} `, nameOf(app.club, number)]), draft.to.length === 0 ? "To nobody yet" : "");
+  const kindWords = (tag) => KINDS.find(([each]) => each === tag)[1];
+  const summarize = () => summary.replaceChildren(
+    ...draft.to.flatMap(({ number, tag }, place) => [place > 0 ? "; " : "", `${kindWords(tag)} `, nameOf(app.club, number)]),
+    draft.to.length === 0 ? "To nobody yet" : "");
   const show = () => {
     summarize();
     list.replaceChildren(...draft.to.map(item));
@@ -107,7 +110,7 @@ export async function composeView(app, key) {
 
   /** The connection went: whether the text was written is looked up when it is back. */
   function lookUpLater(attempt) {
-    status.textContent = "The connection went while the text was sent. When it is back, it is looked up whether the text was written.";
+    status.textContent = "The connection went while the text was sent. Whether it was written is looked up when it is back.";
     club.addEventListener("entered", async () => {
       try {
         const number = await wasWritten(club, attempt);

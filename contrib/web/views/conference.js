@@ -1,23 +1,17 @@
 // A conference: what it is, its presentation, and the member's own part in it.
 
-import { bodyOf } from "./body.js";
 import { button, el, fact, field, figure, heading, letters, link, many } from "./dom.js";
 import { nameLink } from "./names.js";
+import { personView } from "./person.js";
+import { presented } from "./presented.js";
 import { momentOf } from "./times.js";
 
-const TYPES = [[0, "closed: its texts are for members"], [2, "secret: members alone see it"], [4, "takes texts without an author"]];
+const TYPES = [
+  [0, "closed: its texts are for members"], [2, "secret: members alone see it"], [4, "takes texts without an author"],
+];
 const PASSIVE = 1;
+const LETTERBOX = 3;
 const LARGEST_PRIORITY = 255;
-
-/** A text that presents something, or stands on its door. */
-export async function shownText(app, number, label) {
-  if (number === 0) return null;
-  const text = await app.club.texts.load(number).catch(() => null);
-  if (text === null) return null;
-  return el("section", { class: "presented", "aria-label": label },
-    el("h2", {}, label), el("p", { class: "meta" }, link(`text/${number}`, letters(text.subject || `text ${number}`)), ", ", momentOf(text.stat.created)),
-    bodyOf(text.body));
-}
 
 /** Priority, passive, the place to go on from, and leaving. */
 function ownPart(app, conference, again) {
@@ -50,28 +44,27 @@ function ownPart(app, conference, again) {
     } },
       field("Read on from the last texts", last, "All older ones count as read then. 0 passes over all."),
       el("button", { type: "submit" }, "Only these are unread")),
-    conference === club.me ? null : button("Leave the conference", () => app.try(() => club.leave(conference).then(again), "You are a member no more."), { class: "danger" }));
+    button("Leave the conference", () => app.try(() => club.leave(conference).then(again), "You are a member no more."),
+      { class: "danger" }));
 }
 
 export async function conferenceView(app, words) {
   const number = Number(words);
   const { club } = app;
   const [conference] = await Promise.all([app.session.call("getConference", number), club.names.ask(number)]);
-  if (conference.type[3] === "1") {
-    app.go(`person/${number}`);
-    return { title: "Person", node: el("div", {}) };
-  }
+  if (conference.type[LETTERBOX] === "1") return personView(app, words);
   const row = club.membership(number);
   const again = () => app.show({ focus: false });
   const types = TYPES.filter(([bit]) => conference.type[bit] === "1").map(([, each]) => each);
   const supervises = conference.supervisor === club.me;
   const [presentation, notice] = await Promise.all([
-    shownText(app, conference.presentation, "Presentation"), shownText(app, conference.notice, "Notice")]);
+    presented(app, conference.presentation, "Presentation"), presented(app, conference.notice, "Notice")]);
   const name = club.names.known(number);
   const acts = { write: () => app.go(`write/text-${number}`) };
-  const read = () => {
+  const goThere = () => {
     club.goTo(number);
-    app.prompt.next();
+    if (row.unread > 0) app.prompt.next();
+    else app.say("You are there now. Nothing of it is unread.");
   };
   return {
     name: "conference",
@@ -81,7 +74,7 @@ export async function conferenceView(app, words) {
     node: el("div", {},
       heading(letters(name)),
       el("div", { class: "acts" },
-        row ? button(row.unread > 0 ? `Read (${row.unread} unread)` : "Go there", () => (row.unread > 0 ? read() : (club.goTo(number), app.say("You are there now."))), { class: "main" })
+        row ? button(row.unread > 0 ? `Read (${row.unread} unread)` : "Go there", goThere, { class: "main" })
           : button("Join", () => app.try(() => club.join(number).then(again), "You are a member now."), { class: "main" }),
         button(["Write to it", el("kbd", {}, "w")], acts.write),
         el("a", { class: "button", href: `#/last/${number}` }, "Last texts"),
@@ -98,6 +91,7 @@ export async function conferenceView(app, words) {
         conference.submitters !== 0 ? fact("Who may write", nameLink(club, conference.submitters), " and its members") : null,
         fact("Texts are kept", many(conference.nice, "day"))),
       row ? ownPart(app, number, again) : null,
-      supervises ? el("p", {}, link(`write/presentation-${number}`, "Write its presentation"), " · ", link(`write/notice-${number}`, "Write its notice")) : null),
+      supervises ? el("p", {}, link(`write/presentation-${number}`, "Write its presentation"), " · ",
+        link(`write/notice-${number}`, "Write its notice")) : null),
   };
 }

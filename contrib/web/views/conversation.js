@@ -76,7 +76,8 @@ export class Conversation {
     }
     this.#known = new Set(nodes.keys());
     const { texts } = this.#app.club;
-    const subjects = new Map(await Promise.all([...nodes.keys()].map(async (text) => [text, await texts.subject(text).catch(() => "")])));
+    const subjects = new Map();
+    await Promise.all([...nodes.keys()].map(async (text) => subjects.set(text, await texts.subject(text).catch(() => ""))));
     this.node.hidden = nodes.size < 2;
     const more = [...nodes.values()].flatMap(({ answers }) => answers).filter((text) => !nodes.has(text)).length;
     this.#list.replaceChildren(
@@ -85,7 +86,7 @@ export class Conversation {
     this.#markUnread();
     // The list may be long: the reader's place in it is shown, and the page stays where it is.
     const here = this.#list.querySelector("[aria-current]");
-    if (here && this.node.scrollHeight > this.node.clientHeight) this.node.scrollTop = here.offsetTop - this.node.clientHeight / 3;
+    if (here) this.node.scrollTop = here.offsetTop - this.node.clientHeight / 3;
   }
 
   #item(text, nodes, subjects, above, depth) {

@@ -42,6 +42,9 @@ export async function findView(app) {
         event.preventDefault();
         app.go(`text/${number.value}`);
       } }, field("A text by its number", number), el("button", { type: "submit" }, "Show it")),
-      button("All conferences", () => app.try(listAll)), all),
+      el("div", { class: "row" },
+        button("All conferences", () => app.try(listAll)),
+        el("a", { class: "button", href: "#/make" }, "Make a conference")),
+      all),
   };
 }

@@ -11,7 +11,8 @@ const SHOWN = 40;
  * A finder with a label. `chosen(number, name)` is called for what is chosen; `persons` and `conferences` say
  * what is looked for.
  */
-export function finder(app, { label, hint, persons = true, conferences = true, words = (name) => name, chosen, clears = true }) {
+export function finder(app, wanted) {
+  const { label, hint, persons = true, conferences = true, words = (name) => name, chosen, clears = true } = wanted;
   const { club } = app;
   const input = el("input", { type: "search", autocomplete: "off", spellcheck: "false" });
   const results = el("ul", { class: "found" });

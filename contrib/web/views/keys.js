@@ -9,7 +9,7 @@ export const KEYS = [
   ["c", "comment on the text", (app) => app.view.acts?.comment?.()],
   ["f", "write a footnote to your own text", (app) => app.view.acts?.footnote?.()],
   ["p", "answer its author in private", (app) => app.view.acts?.reply?.()],
-  ["w", "write: a new text, or to the conference or person that is shown", (app) => (app.view.acts?.write ?? (() => newText(app)))()],
+  ["w", "write: a new text, or to the conference or person that is shown", (app) => writeFrom(app)],
   ["a", "the text that this one answers", (app) => app.view.acts?.above?.()],
   ["j", "pass over all comments below the text", (app) => app.view.acts?.skip?.()],
   ["m", "mark the text, or drop the mark", (app) => app.view.acts?.mark?.()],
@@ -23,8 +23,9 @@ export const KEYS = [
   ["?", "help", (app) => app.go("help")],
 ];
 
-function newText(app) {
-  app.go(`write/text-${app.club.order.conference}`);
+function writeFrom(app) {
+  if (app.view.acts?.write) app.view.acts.write();
+  else app.go(`write/text-${app.club.order.conference}`);
 }
 
 /** Scrolls, or goes on where there is nothing more to see of the text. */

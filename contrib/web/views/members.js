@@ -1,6 +1,6 @@
 // The members of a conference, and whom to invite.
 
-import { button, el, heading, link, many } from "./dom.js";
+import { button, el, heading, link } from "./dom.js";
 import { finder } from "./finder.js";
 import { nameLink, nameOf } from "./names.js";
 import { momentOf } from "./times.js";
@@ -24,8 +24,9 @@ export async function membersView(app, words) {
     });
     place += rows.length;
     more.hidden = rows.length < PAGE;
+    const how = (type) => `${type[0] === "1" ? ", invited" : ""}${type[1] === "1" ? ", passive" : ""}`;
     list.append(...rows.map(({ person, added, type }) => el("li", {}, nameLink(club, person), " ",
-      el("span", { class: "hint" }, "since ", momentOf(added), type[0] === "1" ? ", invited" : "", type[1] === "1" ? ", passive" : ""))));
+      el("span", { class: "hint" }, "since ", momentOf(added), how(type)))));
   }
 
   await Promise.all([show(), club.names.ask(conference)]);
@@ -37,7 +38,6 @@ export async function membersView(app, words) {
       list, more,
       el("details", {}, el("summary", {}, "Invite somebody"),
         finder(app, { label: "Whom?", conferences: false, chosen: (person, name) => app.try(
-          () => app.session.call("addMember", conference, person, PRIORITY, LAST_PLACE, "00000000"), `${name} is invited.`) })),
-      el("p", { class: "hint" }, `${many(place, "member")} shown.`)),
+          () => app.session.call("addMember", conference, person, PRIORITY, LAST_PLACE, "00000000"), `${name} is invited.`) }))),
   };
 }

@@ -10,7 +10,7 @@ export async function messagesView(app, words) {
   const { club } = app;
   let to = words === undefined ? null : Number(words);
   if (to) await club.names.ask(to).catch(() => undefined);
-  const log = el("ul", { class: "log", role: "log", "aria-live": "polite", "aria-label": "Messages since you logged in" });
+  const log = el("ul", { class: "log", "aria-live": "polite", "aria-label": "Messages since you logged in" });
   const input = el("textarea", { rows: 2, required: true });
   const receiver = el("p", { class: "receiver" });
   const left = new AbortController();
@@ -56,7 +56,7 @@ export async function messagesView(app, words) {
     focus: to === null ? undefined : input,
     leave: () => left.abort(),
     node: el("div", {}, heading("Messages"),
-      club.messages.length === 0 ? el("p", { class: "hint" }, "None came since you logged in. Messages are not kept by the server.") : null,
+      el("p", { class: "hint" }, "Messages since you logged in. The server keeps none."),
       log,
       el("form", { submit: send }, receiver,
         field("Message", input, "Enter sends it."),

@@ -5,6 +5,7 @@ import { conferenceView } from "./conference.js";
 import { findView } from "./find.js";
 import { helpView } from "./help.js";
 import { byView, lastView, marksView } from "./lists.js";
+import { makeView } from "./make.js";
 import { membersView } from "./members.js";
 import { messagesView } from "./messages.js";
 import { newsView } from "./news.js";
@@ -32,6 +33,7 @@ export const routes = {
   by: at(byView, NUMBER),
   marks: at(marksView),
   find: at(findView),
+  make: at(makeView),
   who: at(whoView),
   messages: at(messagesView, MAYBE_NUMBER),
   settings: at(settingsView),

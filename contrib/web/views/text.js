@@ -9,7 +9,6 @@ import { nameLink } from "./names.js";
 import { momentOf } from "./times.js";
 
 export const TO_WORDS = { [TO]: "To", [COPY]: "Copy to", [BLIND_COPY]: "Hidden copy to" };
-const MARK = 100;
 
 /** A text by its number, with its author where that is known. */
 export function textLink(app, number) {
@@ -51,8 +50,11 @@ function actsOn(app, text, again) {
       app.say(`${many(count, "text")} below this one ${count === 1 ? "is" : "are"} passed over.`);
       again();
     }),
-    mark: () => app.try(() => app.session.call("markText", number, MARK).then(again), `Text ${number} is marked. You find it under Marks.`),
-    unmark: () => app.try(() => app.session.call("unmarkText", number).then(again), `Text ${number} is not marked any more.`),
+    mark: () => {
+      const on = !club.marked.has(number);
+      const done = on ? `Text ${number} is marked. You find it under Marks.` : `Text ${number} is not marked any more.`;
+      return app.try(() => club.setMark(number, on).then(again), done);
+    },
     unread: () => app.try(() => club.markUnread(number), `Text ${number} is unread again.`),
     remove: own ? () => askToDelete(app, number) : null,
   };
@@ -86,26 +88,29 @@ export async function textView(app, words) {
   const number = Number(words);
   const { club } = app;
   const before = club.order.last;
-  const [text, marks] = await Promise.all([club.texts.load(number), app.session.call("getMarks")]);
+  club.texts.refresh(number);
+  const text = await club.texts.load(number);
   const { stat } = text;
   const reviewed = !club.isUnreadBy(stat) && before !== number && before !== 0;
-  const marked = marks.some((each) => each.text === number);
+  const marked = club.marked.has(number);
   const again = () => app.show({ focus: false });
   const acts = actsOn(app, text, again);
-  if (marked) acts.mark = acts.unmark;
 
   const act = (label, name, key) => acts[name] && button([label, key ? el("kbd", {}, key) : null], acts[name]);
   const conversation = new Conversation(app, number);
   const article = el("article", { "aria-labelledby": "subject" },
-    reviewed ? el("p", { class: "reviewed" }, "Looked at again. ", link(`text/${before}`, `Back to text ${before}`), ", where you read.") : null,
+    reviewed ? el("p", { class: "reviewed" },
+      "Looked at again. ", link(`text/${before}`, `Back to text ${before}`), ", where you read.") : null,
     el("header", {},
       el("h1", { tabindex: "-1", id: "subject" }, text.subject === "" ? "(no subject)" : letters(text.subject)),
-      el("p", { class: "meta" }, `Text ${number} by `, nameLink(club, stat.author), ", ", momentOf(stat.created), `, ${many(stat.lines, "line")}`,
+      el("p", { class: "meta" },
+        `Text ${number} by `, nameLink(club, stat.author), ", ", momentOf(stat.created), `, ${many(stat.lines, "line")}`,
         stat.marks > 0 ? `, ${many(stat.marks, "mark")}` : "", marked ? ", marked by you" : ""),
       el("ul", { class: "links" }, linesOf(app, stat))),
     bodyOf(text.body),
     el("footer", { class: "acts", role: "group", "aria-label": `Text ${number}` },
-      act("Comment", "comment", "c"), act("Answer in private", "reply", "p"), act(marked ? "Drop the mark" : "Mark", "mark", "m"),
+      act("Comment", "comment", "c"), act("Answer in private", "reply", "p"),
+      act(marked ? "Drop the mark" : "Mark", "mark", "m"),
       el("details", {}, el("summary", {}, "More"), el("div", { class: "acts" },
         act("Footnote", "footnote", "f"), act("What it answers", "above", "a"), act("Unread again", "unread", "u"),
         act("Pass over its comments", "skip", "j"), act("Delete", "remove")))));

@@ -5,6 +5,8 @@ import { nameLink } from "./names.js";
 import { messageOf } from "../letters.js";
 import { spanWords } from "./times.js";
 
+const COLUMNS = ["Who", "In", "Idle", "Doing", "Say"];
+
 export async function whoView(app) {
   const { club } = app;
   const table = el("tbody", {});
@@ -34,6 +36,6 @@ export async function whoView(app) {
     },
     node: el("div", {}, heading("Who is on"),
       el("div", { class: "scrolls", role: "region", "aria-label": "Sessions", tabindex: "0" },
-        el("table", {}, el("thead", {}, el("tr", {}, ["Who", "In", "Idle", "Doing", ""].map((words) => el("th", { scope: "col" }, words)))), table))),
+        el("table", {}, el("thead", {}, el("tr", {}, COLUMNS.map((words) => el("th", { scope: "col" }, words)))), table))),
   };
 }
