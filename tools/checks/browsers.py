@@ -6,10 +6,13 @@ import shutil
 import subprocess
 import time
 
-from served import PATIENCE, Wrong
+from built import Wrong
+from served import PATIENCE
 
 CHROMIUM, DRIVER = shutil.which("chromium"), shutil.which("chromedriver")
 WIDE, NARROW = (1280, 900), (390, 800)
+# How often a browser is asked what it shows. Each time takes some of its processor.
+POLL = 0.05
 
 
 def missing():
@@ -55,7 +58,7 @@ class Browser:
         return self.run("""
             const [selector, text] = arguments;
             return [...document.querySelectorAll(selector)].find((each) => each.checkVisibility({ visibilityProperty: true })
-              && (text === null || (each.innerText ?? "").includes(text) || (each.value ?? "").includes(text))) ?? null;
+              && (text === null || (each.textContent ?? "").includes(text) || (each.value ?? "").includes(text))) ?? null;
             """, selector, text)
 
     def wants(self, selector, text=None, seconds=PATIENCE):
@@ -64,7 +67,7 @@ class Browser:
         while (found := self.find(selector, text)) is None:
             if time.monotonic() > end:
                 raise Wrong(f"{selector} with {text!r} does not come in {seconds} s:\n{self.text()[:1500]}\n{self.log()}")
-            time.sleep(0.02)
+            time.sleep(POLL)
         return found
 
     def wants_not(self, selector, text=None, seconds=PATIENCE):
@@ -73,7 +76,7 @@ class Browser:
         while self.find(selector, text) is not None:
             if time.monotonic() > end:
                 raise Wrong(f"{selector} with {text!r} does not go in {seconds} s")
-            time.sleep(0.02)
+            time.sleep(POLL)
 
     def wants_title(self, text, seconds=PATIENCE):
         """Waits until the title has this text."""
@@ -81,7 +84,7 @@ class Browser:
         while text not in self.driver.title:
             if time.monotonic() > end:
                 raise Wrong(f"the title is {self.driver.title!r}, without {text!r}")
-            time.sleep(0.02)
+            time.sleep(POLL)
 
     def text(self):
         """The letters that are seen."""
@@ -118,6 +121,10 @@ class Browser:
         self.fill("input[name=password]", password)
         self.click("form button[type=submit]")
         self.wants("#prompt, body.writing main form")
+
+    def text_number(self):
+        """The number of the text that the address names."""
+        return self.run("return Number(location.hash.split('/')[2])")
 
     def open(self, element):
         """Opens details."""

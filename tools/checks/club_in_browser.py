@@ -11,26 +11,31 @@ It serves stores of its own by `komd serve`, opens contrib/komd-front before the
     return        the server is killed and returns: the bar, the place, the marks, and what was being written
     keys          reading and writing by keys alone, and where the focus is
     views         each view, narrow and wide, light and dark, by the rules of page_rules.js; --pictures keeps how they look
+    emacs         the page beside the Emacs client: each writes, the other is told, and both read in the same order
     large         2,000 memberships and 20,000 unread texts: the first text within two seconds
 
 The page may load nothing from elsewhere and nothing may be refused by its Content-Security-Policy: what a browser complains of is
 a departure. It prints a line for each part, says that it skips all where chromium, chromium-driver, python3-selenium or the door is
-not there, and ends with 1 where a part fails, else with 0. KOMD is crates/komd/out/komd unless it is named. It takes some minutes.
+not there, and ends with 1 where a part fails, else with 0. How long something took is judged only where the machine has a processor
+free for it, and told in any case. KOMD is crates/komd/out/komd unless it is named. It takes some minutes.
 """
 import argparse
+import os
 import pathlib
 import random
+import re
+import shutil
 import subprocess
 import sys
 import tempfile
 import time
 
-sys.path.insert(0, str(pathlib.Path(__file__).resolve().parent.parent))
-
-# pylint: disable=wrong-import-position
+sys.path.insert(0, str(pathlib.Path(__file__).resolve().parents[1] / "shared"))
 import browsers
-from browsers import NARROW, WIDE, Browser, Front
-from served import ADMINISTRATOR, ROOT, Server, Session, Wrong, folder_in_memory, is_free, make_store, string
+from browsers import NARROW, POLL, WIDE, Browser, Front
+from built import ROOT, Wrong, built, make_store, script
+from protocol import string
+from served import ADMINISTRATOR, PATIENCE, Server, Session, folder_in_memory, is_free
 
 PAGE = ROOT / "contrib" / "web"
 RULES = pathlib.Path(__file__).with_name("page_rules.js").read_text(encoding="utf-8")
@@ -98,7 +103,7 @@ class Club:
         while not reached:
             words = [self.komd, "serve", self.store, str(again.port), "40"]
             again.process = subprocess.Popen(words, stdout=subprocess.PIPE, stderr=subprocess.STDOUT)
-            reached = again.is_reached()
+            reached = again.is_reached(PATIENCE)
         self.server = again
 
     def end_all(self):
@@ -123,12 +128,17 @@ def write(session, text, *misc, items=NO_ITEMS):
     return int(session.ask(f"86 {string(text)} {len(misc)} {{ {' '.join(misc)} }} {items}"))
 
 
+def is_busy():
+    """Whether others use the processors, so that a clock tells of them."""
+    return os.getloadavg()[0] > (os.cpu_count() or 1)
+
+
 def soon(what, act):
     """Has something come within a second, and tells how long it took."""
     began = time.monotonic()
     act()
     took = time.monotonic() - began
-    if took > SOON:
+    if took > SOON and not is_busy():
         raise Wrong(f"{what} took {took:.2f} s")
     return took
 
@@ -151,7 +161,7 @@ def evening(club):
     one.wants(".preview a[href='https://example.org/birds?a=1&b=2'][rel='noopener noreferrer']")
     one.click("main button.main", "Send")
     times.append(soon("the first text", lambda: two.wants("#next", "Go to Birds (1 unread)")))
-    two.wants_title("(1)", SOON)
+    two.wants_title("(1)")
     one.wants("article h1", "Sparrows")
     if one.find("#next", "Nothing is unread") is None:
         raise Wrong("one's own text is unread")
@@ -182,7 +192,7 @@ def evening(club):
     two.wants("summary", "To Anna Ek; To Bo Berg")
     two.fill("textarea", "Between us.")
     two.click("main button.main", "Send")
-    one.wants("#conferences .unread", "Your letters", SOON)
+    times.append(soon("the letter", lambda: one.wants("#conferences .unread", "Your letters")))
     two.wants("article .links", "Footnote to text 1")
     two.keys("m")
     two.wants("article .meta", "marked by you")
@@ -252,7 +262,7 @@ def evening(club):
         foreign = browser.run("return performance.getEntriesByType('resource').map(({ name }) => name).filter((name) => !name.startsWith(location.origin))")
         if foreign:
             raise Wrong(f"the page loads {foreign}")
-    return f"told within {max(times):.2f} s"
+    return f"told within {max(times):.2f} s" + (", while others use the processors" if is_busy() else "")
 
 
 def pairs_of(mapping):
@@ -314,6 +324,15 @@ def order_by_rule(session, person, conferences):
         waiting = new + [each for each in waiting if each not in new and each != text]
 
 
+def wants_all_read(session, person, conferences):
+    """Waits until nothing is unread to the server."""
+    end = time.monotonic() + PATIENCE
+    while left := order_by_rule(session, person, conferences):
+        if time.monotonic() > end:
+            raise Wrong(f"to the server {left} are unread")
+        time.sleep(POLL)
+
+
 def order(club):
     """Trees of comments over conferences, read to their end."""
     dice = random.Random(5)
@@ -342,24 +361,17 @@ def order(club):
     browser, shown = club.browser("Rut Holm"), []
     while browser.find("#next", "Nothing is unread") is None and len(shown) < 200:
         browser.keys("n")
-        text = browser.wants("article .meta")
-        end = time.monotonic() + 5
-        while browser.run("return Number(location.hash.split('/')[2])") == (shown[-1] if shown else 0) and time.monotonic() < end:
+        end = time.monotonic() + PATIENCE
+        while (number := browser.text_number()) == (shown[-1] if shown else 0):
+            if time.monotonic() > end:
+                raise Wrong(f"after {shown} nothing comes")
             time.sleep(0.01)
-        number = browser.run("return Number(location.hash.split('/')[2])")
         browser.wants("article .meta", f"Text {number} ")
-        # What comes next is known when the button says so.
-        browser.run("return arguments[0].isConnected", text)
-        time.sleep(0.08)
         shown.append(number)
     if shown != wanted:
         place = next((at for at, pair in enumerate(zip(shown, wanted)) if pair[0] != pair[1]), min(len(shown), len(wanted)))
         raise Wrong(f"text {place + 1} of {len(wanted)} is {shown[place:place + 3]}, not {wanted[place:place + 3]}")
-    end = time.monotonic() + 5
-    while left := order_by_rule(own, reader, conferences):
-        if time.monotonic() > end:
-            raise Wrong(f"to the server {left} are unread")
-        time.sleep(0.05)
+    wants_all_read(own, reader, conferences)
     return f"{len(shown)} texts in the order of the rule"
 
 
@@ -453,7 +465,7 @@ def letters(club):
         browser.fill("textarea", typed)
         browser.click("main button.main", "Send")
         browser.wants("article .body", typed)
-        number = browser.run("return location.hash.split('/')[2]")
+        number = browser.text_number()
         if session.ask(f"25 {number} 2 999") != string(sent) or (kind in session.ask(f"90 {number}")) is not bool(kind) and kind:
             raise Wrong(f"{typed} is stored as {session.ask(f'25 {number} 0 999')}")
     return "shown as letters"
@@ -553,34 +565,35 @@ def back(club):
     browser.wants("#next", "Read the next comment")
     time.sleep(0.3)
     club.kill()
-    browser.wants("#bar", "The connection to the server is gone.")
-    # What is read now is not told to the server yet.
+    browser.wants("#bar", "tried again")
+    # The comment is there already: it can be read, and is told to the server later.
     browser.keys("n")
-    browser.wants("article .body", "to the first") if browser.find("article .body", "to the first") else None
-    browser.go(f"write/text-{birds}")
-    time.sleep(0.5)
+    browser.wants("main h1", None)
+    time.sleep(1)
+    comment_shown = browser.find("article .body", "to the first") is not None
+    browser.go("help")
+    browser.wants("main h1", "Help")
     club.serve_again()
     began = time.monotonic()
-    browser.wants_not("#bar", seconds=40)
+    browser.wants_not("#bar", seconds=120)
     took = time.monotonic() - began
     browser.go("")
-    browser.wants("#next", "Read the next")
-    if not browser.find("#next", "comment"):
-        raise Wrong(f"the place is lost: {browser.find('#next').text}")
+    browser.wants("#next", "Read the next text in Birds (1 unread)" if comment_shown else "Read the next comment")
     write(club.session(bo), "Three\nthird", f"0 {birds}")
-    for words in ["to the first", "second", "third"]:
+    for words in [*([] if comment_shown else ["to the first"]), "second", "third"]:
         browser.keys("n")
         browser.wants("article .body", words)
+    wants_all_read(club.session(anna), anna, [birds])
     # A pause while a text is being written: it is kept, and sent when the server is there again.
     browser.go(f"write/text-{birds}")
     browser.fill("main input:not([type=search])", "Later")
     browser.fill("textarea", "when you are back")
     club.kill()
-    browser.wants("#bar", "gone")
+    browser.wants("#bar", "tried again")
     browser.click("main button.main", "Send")
     time.sleep(0.5)
     club.serve_again()
-    browser.wants_not("#bar", seconds=40)
+    browser.wants_not("#bar", seconds=120)
     if browser.find("article .body", "when you are back") is None:
         browser.wants("main [role=status], .toast", None)
         browser.click("main button.main", "Send")
@@ -590,9 +603,9 @@ def back(club):
     session.ask("42 255")
     session.ask(f"8 {anna} 0H {string('other')}")
     club.kill()
-    browser.wants("#bar", "gone")
+    browser.wants("#bar", "tried again")
     club.serve_again()
-    browser.wants("input[name=password]", seconds=40)
+    browser.wants("input[name=password]", seconds=120)
     return f"back {took:.1f} s after the server"
 
 
@@ -714,7 +727,7 @@ def views(club, pictures=None):
     browser.click("#next")
     browser.wants("article")
     club.kill()
-    browser.wants("#bar", "gone")
+    browser.wants("#bar", "tried again")
     look_at("gone")
     return f"{count} looks keep the rules"
 
@@ -754,23 +767,98 @@ def large(club):
             time.sleep(0.005)
     a_text = (time.monotonic() - began) / 20
     told = f"the first text came {took:.2f} s after the login, for which the browser used {used:.2f} s of its processors"
-    # Where others use the processors, the clock tells of them.
-    if min(took, used) > FIRST_TEXT:
+    if took > FIRST_TEXT and not is_busy():
         raise Wrong(told)
-    return f"{told}; all was counted after {counted:.1f} s; a next text in {a_text * 1000:.0f} ms"
+    return f"{told}{', while others use them too' if is_busy() else ''}; all was counted after {counted:.1f} s; a next text in {a_text * 1000:.0f} ms"
+
+
+def emacs(club):
+    """An evening with the Emacs client: each writes, the other is told, and both read a store in the same order."""
+    import clients_on_screen as on_screen  # pylint: disable=import-outside-toplevel
+
+    if not (shutil.which("tmux") and on_screen.has_emacs()):
+        return f"tmux, Emacs or {on_screen.LIBRARY} is not there: skipped"
+    anna, bert = club.person("Anna Ek"), club.person("Bert", "sparrow")
+    birds = club.conference("Birds", anna, bert)
+    (club.folder / "start.el").write_text("(setq inhibit-startup-screen t)\n" + on_screen.lisp_of_page().replace("4894", str(club.server.port)),
+                                          encoding="utf-8")
+    screen = on_screen.Screen(club.folder, ["emacs", "-nw", "-q", "-l", str(club.folder / "start.el")], {})
+    try:
+        on_screen.enter(screen, club.server.port, True)
+        browser = club.browser("Anna Ek")
+        # The page writes, Emacs reads and comments, the page reads that.
+        browser.go(f"write/text-{birds}")
+        browser.fill("main input:not([type=search])", "Sparrows")
+        browser.fill("textarea", "Grüße, and a € from the page")
+        browser.click("main button.main", "Send")
+        screen.wants("Read next text -")
+        screen.keys("Space")
+        screen.wants("Subject: Sparrows\n-*\nGrüße, and a € from the page\n[(]1[)] /Anna Ek/")
+        screen.keys("c")
+        screen.wants("Comment to text 1 by Anna Ek")
+        screen.ask("send-keys", "-l", "Blå from Emacs")
+        screen.keys("C-c", "C-c")
+        screen.wants("Text 2 has been created")
+        told = soon("the comment of Emacs", lambda: browser.wants("#next", "Go to Birds (1 unread)"))
+        browser.keys("n")
+        browser.wants("article .body", "Blå from Emacs")
+        browser.wants("article .links", "Comment to text 1 by Anna Ek")
+        # Messages both ways.
+        on_screen.command(screen, "kom-send-message")
+        screen.answers("Send message to whom", "Anna Ek")
+        screen.answers("Message:", "är du där?")
+        browser.wants(".toast .said", "är du där?")
+        browser.go(f"messages/{bert}")
+        browser.fill("main textarea", "ja, det är jag")
+        browser.click("main button.main", "Send")
+        screen.wants("ja, det är jag")
+        # Both read the same trees of comments.
+        dice, writer, texts = random.Random(3), club.person("Vera Dahl"), []
+        club.join(birds, writer)
+        session = club.session(writer)
+        for number in range(12):
+            above = [f"2 {dice.choice(texts)}"] if texts and dice.random() < 0.7 else []
+            texts.append(write(session, f"Subject {number}\nbody {number}", f"0 {birds}", *above))
+        page, terminal = [], []
+        for _ in texts:
+            before = browser.text_number() if browser.find("article") else 0
+            browser.keys("n")
+            while (number := browser.text_number()) == before or not browser.find("article .meta", f"Text {number} "):
+                time.sleep(POLL)
+            page.append(number)
+        for _ in texts:
+            screen.wants("Read next (text|comment) -")
+            before = screen.shown()
+            screen.keys("Space")
+            end = time.monotonic() + PATIENCE
+            while (heads := re.findall(r"^(\d+) .*/\d+ lines?/ Vera Dahl$", screen.shown(), re.M))[-1:] == terminal_words(terminal, before):
+                if time.monotonic() > end:
+                    raise Wrong(f"Emacs shows nothing more after {terminal}:\n{screen.shown()}")
+                time.sleep(POLL)
+            terminal.append(int(heads[-1]))
+        if page != terminal:
+            raise Wrong(f"the page reads {page}, Emacs {terminal}")
+        return f"told within {told:.2f} s, {len(page)} texts in the same order"
+    finally:
+        screen.end()
+
+
+def terminal_words(read, shown):
+    """What the last head of a text on a screen is while nothing has come."""
+    return [str(read[-1])] if read and re.search(rf"^{read[-1]} ", shown, re.M) else []
 
 
 PARTS = {"evening": evening, "order": order, "secrets": secrets, "letters": letters, "drafts": drafts, "return": back, "keys": keys, "views": views,
-         "large": large}
+         "emacs": emacs, "large": large}
 
 
-def main():
-    words = argparse.ArgumentParser(description=__doc__, formatter_class=argparse.RawDescriptionHelpFormatter)
-    words.add_argument("--front", type=pathlib.Path, default=ROOT / "contrib" / "komd-front", help="the door for browsers")
-    words.add_argument("--pictures", type=pathlib.Path, help="a folder for pictures of each view")
-    words.add_argument("--only", choices=PARTS, action="append", help="this part alone; may be said again")
-    words.add_argument("komd", nargs="?", type=pathlib.Path, default=ROOT / "crates" / "komd" / "out" / "komd")
-    arg = words.parse_args()
+def main(given):
+    words = argparse.ArgumentParser(add_help=False)
+    words.add_argument("--front", type=pathlib.Path, default=ROOT / "contrib" / "komd-front")
+    words.add_argument("--pictures", type=pathlib.Path)
+    words.add_argument("--only", choices=PARTS, action="append")
+    words.add_argument("komd", nargs="?", type=pathlib.Path, default=built("komd"))
+    arg = words.parse_args(given)
     missing = browsers.missing() or next((f"{each} is not there" for each in (arg.front, arg.komd) if not each.exists()), "")
     if missing:
         print(f"{missing}: all is skipped")
@@ -796,4 +884,4 @@ def main():
 
 
 if __name__ == "__main__":
-    sys.exit(main())
+    script(main, __doc__)
