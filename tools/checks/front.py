@@ -31,7 +31,7 @@ import time
 
 sys.path.insert(0, str(pathlib.Path(__file__).resolve().parents[1] / "shared"))
 from built import ROOT, Wrong, make_store, program_of, script
-from doors import FRONT, Again, Front, Guest, free_port, make_certificate
+from doors import FRONT, Again, Front, Guest, free_port, is_closed, make_certificate
 from protocol import string
 from served import PATIENCE, Server, Session, folder_in_memory, limit_seconds
 from tried import Tried
@@ -222,14 +222,6 @@ def try_guesses(place):
     tried.same("both waited, one after the other", True, time.monotonic() - begun >= 2.9)
     tried.same("a logged in session goes on", "=", same.try_to("35")[0])
     front.end()
-
-
-def is_closed(connection):
-    """Whether a connection ends without a word."""
-    try:
-        return connection.recv(100) == b""
-    except OSError:
-        return True
 
 
 def comes_in(front, source="127.0.0.1"):

@@ -24,7 +24,7 @@ import time
 
 sys.path.insert(0, str(pathlib.Path(__file__).resolve().parents[1] / "shared"))
 from built import ROOT, make_store, program_of, script
-from doors import NAME, Front, free_port, make_certificate
+from doors import NAME, Front, free_port, is_closed, make_certificate
 from protocol import string
 from served import PATIENCE, Server, folder_in_memory, is_free, limit_seconds
 from tried import Tried
@@ -236,14 +236,6 @@ async def try_ends(place):
         await gone.send(b"A1Ha")
         tried.same("the end without a server", (1013, b""), await gone.end())
     front.end()
-
-
-def is_closed(connection):
-    """Whether a connection ends without a word."""
-    try:
-        return connection.recv(100) == b""
-    except OSError:
-        return True
 
 
 async def try_silent(place):

@@ -33,6 +33,16 @@ def make_certificate(folder, name="door"):
     return certificate, key
 
 
+def is_closed(connection):
+    """Whether a connection ends without a word, before patience does."""
+    try:
+        return connection.recv(100) == b""
+    except TimeoutError:
+        return False
+    except OSError:
+        return True
+
+
 class Again(Server):
     """A store that is served at the port of a server that has ended, whose connections the system still remembers."""
 
