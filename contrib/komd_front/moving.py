@@ -95,11 +95,14 @@ class Moving:
         return True
 
     def strike(self, person):
-        """Takes a person out of the file, which is whole at each moment."""
+        """Takes a person out of the file, which is whole at each moment. A line that stays does no harm: its password is wrong."""
         self.passwords.pop(person, None)
         new = self.path.with_name(self.path.name + ".new")
-        with open(os.open(new, os.O_WRONLY | os.O_CREAT | os.O_TRUNC, 0o600), "wb") as file:
-            file.writelines(b"%d\t%s\n" % line for line in self.passwords.items())
-            file.flush()
-            os.fsync(file.fileno())
-        new.replace(self.path)
+        try:
+            with open(os.open(new, os.O_WRONLY | os.O_CREAT | os.O_TRUNC, 0o600), "wb") as file:
+                file.writelines(b"%d\t%s\n" % line for line in self.passwords.items())
+                file.flush()
+                os.fsync(file.fileno())
+            new.replace(self.path)
+        except OSError as fault:
+            tell("the line stays in the file of", person, fault)

@@ -61,7 +61,9 @@ class Session:
         except OSError:
             return CLIENT_ENDED
         finally:
-            self.asked.cancel()
+            # (where it was asked nobody else may have looked)
+            if not self.asked.cancel():
+                self.asked.exception()
             self.has_left.set()
 
     async def leave(self):

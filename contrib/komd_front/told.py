@@ -1,4 +1,5 @@
 """What the door tells its log, a line each: from which address, and what happened."""
+import contextlib
 import os
 import sys
 import time
@@ -11,9 +12,10 @@ told = {}
 
 
 def tell(*words):
-    """Writes a line."""
+    """Writes a line. Where the log takes none, the door serves on."""
     moment = () if HAS_TIMES else (time.strftime("%FT%TZ", time.gmtime()),)
-    print(*moment, *words, file=sys.stderr, flush=True)
+    with contextlib.suppress(OSError, ValueError):
+        print(*moment, *words, file=sys.stderr, flush=True)
 
 
 def tell_now_and_then(*words):

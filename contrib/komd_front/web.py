@@ -44,6 +44,11 @@ def is_ours(record):
     return not (record.exc_info and isinstance(record.exc_info[1], HttpProcessingError))
 
 
+def host_of(request):
+    """The host of which a request asks, or none. (aiohttp would ask a name server then, and all would wait.)"""
+    return request.headers.get("Host", "")
+
+
 class WebClient:
     """A browser's WebSocket."""
 
@@ -139,7 +144,7 @@ class Web:
 
     async def session(self, request):
         """A session of Protocol A."""
-        if request.headers.get("Origin") != f"{self.proxy.scheme(request)}://{request.host}":
+        if request.headers.get("Origin") != f"{self.proxy.scheme(request)}://{host_of(request)}":
             raise web.HTTPForbidden
         socket = web.WebSocketResponse(heartbeat=PING_SECONDS, timeout=CLOSE_SECONDS, max_msg_size=MOST_OF_A_FRAME, compress=False)
         await socket.prepare(request)
@@ -163,8 +168,8 @@ class Web:
 
     async def add_headers(self, request, response):
         """What a browser is told with each answer."""
-        scheme = self.proxy.scheme(request)
-        sources = f"'self' {scheme.replace('http', 'ws')}://{request.host}" if HOST.fullmatch(request.host) else "'self'"
+        scheme, host = self.proxy.scheme(request), host_of(request)
+        sources = f"'self' {scheme.replace('http', 'ws')}://{host}" if HOST.fullmatch(host) else "'self'"
         response.headers.update(HEADERS)
         response.headers["Content-Security-Policy"] = (
             f"default-src 'self'; connect-src {sources}; object-src 'none'; base-uri 'none'; form-action 'none'; frame-ancestors 'none'"

@@ -136,6 +136,14 @@ def asked(front, path):
         return connection.makefile("rb").read()
 
 
+def asked_without_host(place, front):
+    """What is answered to a request that names no host."""
+    with front.connect(port=front.web) as connection:
+        connection.sendall(b"GET / HTTP/1.0\r\n\r\n")
+        answer = connection.makefile("rb").read()
+    place.tried.same("the answer without a host", (True, True), (b" 200 OK" in answer, b"connect-src 'self';" in answer))
+
+
 async def try_page(place):
     """Part 1."""
     tried, front = place.tried, place.front()
@@ -153,6 +161,7 @@ async def try_page(place):
             tried.same(f"{path} is nothing", (True, False), (answer.split()[1] in (b"400", b"403", b"404"), b"nobody" in answer))
         status, headers, _ = await browser.get(place.url(front), headers={"Host": "x; script-src *"})
         tried.same("another host", False, "script-src" in headers.get("Content-Security-Policy", ""))
+        await asyncio.to_thread(asked_without_host, place, front)
         tried.same("a session without WebSocket", True, (await browser.get(place.url(front, "/kom")))[0] in (400, 403))
     front.end()
 
