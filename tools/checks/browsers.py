@@ -123,8 +123,8 @@ class Browser:
         self.wants("#prompt, body.writing main form")
 
     def text_number(self):
-        """The number of the text that the address names."""
-        return self.run("return Number(location.hash.split('/')[2])")
+        """The number of the text that the address names, or 0."""
+        return self.run("return Number(/^#\\/text\\/([0-9]+)$/.exec(location.hash)?.[1] ?? 0)")
 
     def open(self, element):
         """Opens details."""
