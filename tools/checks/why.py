@@ -171,6 +171,10 @@ def try_systemd(tried):
         asked.write_text(f"#!/bin/sh\nprintf 'Result=x\\nExecMainCode={code}\\nExecMainStatus={status}\\nEnvironment=KOMD_STORE={nothing} KOMD_PORT=1\\n'\n")
         tried.same(f"systemd asked of {status}", (0, True), matched(said(PATH=path), wanted))
     asked.write_text("#!/bin/sh\nprintf 'Result=success\\nExecMainCode=0\\nExecMainStatus=0\\n'\n")
+    journal = written(tried, "journalctl", b"#!/bin/sh\necho 2026-12-01T02:00:00+0000 club komd-why[7]: komd: signal KILL: it was killed\n")
+    journal.chmod(0o755)
+    tried.same("an end in the journal", (0, True), matched(said(PATH=path), "2026-12-01T02:00:00+0000 club komd-why[7]: komd: signal KILL"))
+    journal.write_text("#!/bin/sh\n")
     tried.same("no end", (1, True), matched(said(PATH=path), "komd-why: systemd tells of no end"))
     for words in (["four"], ["4", "store", "port"], ["4", "store", "1", "more"], ["-x"]):
         tried.same(f"the words {words}", (2, True), matched(said(*words), "usage: komd-why"))
