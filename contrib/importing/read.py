@@ -12,7 +12,7 @@ from tool import Progress, Trouble
 
 USER = b"komd-import"
 # How many numbers are asked for together; how many elements of a list.
-TOGETHER, PAGE = 32, 200
+TOGETHER, PAGE = 64, 200
 # After how many seconds a broken connection is tried again, and by how many the two clocks may differ.
 PAUSES, CLOCKS = (0, 1, 2, 5, 10, 20), 600
 LETTERBOX, STRONG = 16, 255
