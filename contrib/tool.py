@@ -3,6 +3,7 @@ import argparse
 import contextlib
 import getpass
 import os
+import signal
 import sys
 import time
 
@@ -15,8 +16,18 @@ class Trouble(Exception):
         self.status = status
 
 
+class Ended(BaseException):
+    """A signal came that ends the program, once what it has begun is taken away."""
+
+
+def end(number, _frame):
+    raise Ended(number)
+
+
 def run(main, name):
     """Ends the program with the status of its main function, or with the reason for which that was left."""
+    for number in (signal.SIGTERM, signal.SIGHUP):
+        signal.signal(number, end)
     try:
         sys.exit(main())
     except Trouble as trouble:
@@ -31,6 +42,9 @@ def run(main, name):
     except KeyboardInterrupt:
         print(f"{name}: interrupted", file=sys.stderr)
         sys.exit(1)
+    except Ended as ended:
+        signal.signal(ended.args[0], signal.SIG_DFL)
+        os.kill(os.getpid(), ended.args[0])
 
 
 def words_of_server(description, page):

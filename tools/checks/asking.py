@@ -8,6 +8,7 @@ it; and that other words, wrong passwords, files that are there and interrupts l
 It prints a line for each thing that is otherwise, and a count, and ends with 1 if there is one, else with 0. PROGRAM is the built `komd`
 unless it is named.
 """
+import itertools
 import mailbox
 import os
 import pathlib
@@ -174,17 +175,22 @@ def try_mbox(tried):
         tried.same("who may read it, and what it is", (0o600, held), (box.stat().st_mode & 0o777, box.read_bytes()))
         for number, (body, items, parent) in enumerate(sorts, 1):
             session.ask(f"86 {string(body)} 0 {{ }} {items}")
-        for number in (signal.SIGINT, signal.SIGTERM):
+        for number, pause in itertools.product((signal.SIGKILL, signal.SIGINT, signal.SIGTERM), (0.05, 0.1, 0.2)):
             stopped = tried.folder / "stopped"
             process = tried.begin("komd-mbox", "--port", server.port, 5, stopped)
-            time.sleep(0.1)
+            time.sleep(pause)
             process.send_signal(number)
             process.communicate(timeout=PATIENCE)
+            if number == signal.SIGKILL:
+                # (what that leaves beside the mailbox, the next run takes away)
+                stopped.unlink(missing_ok=True)
+                continue
             if stopped.exists():
                 # (it came once the mailbox had its name)
                 tried.same("letters of a mailbox that was interrupted late", 2 * len(sorts), len(mailbox.mbox(stopped)))
                 stopped.unlink()
             tried.same("what an interrupt leaves", [], list(tried.folder.glob("stopped*")))
+        full_disk(tried, server.port)
     finally:
         server.kill()
     letters = list(mailbox.mbox(box))
@@ -212,6 +218,25 @@ def try_mbox(tried):
     tried.refused("no server", "komd-mbox", "--port", server.port, 5, tried.folder / "none")
     tried.same("files half done", [], [path.name for path in tried.folder.iterdir() if path.name.startswith("none")])
     tried.usages("komd-mbox")
+
+
+def full_disk(tried, port):
+    """A file system on which neither a mailbox nor measures have room; a file of measures that was there stays."""
+    room = tried.folder / "room"
+    room.mkdir()
+    if subprocess.run(["mount", "-t", "tmpfs", "-o", "size=12k", "tmpfs", room], capture_output=True, check=False).returncode:
+        print("no small file system can be made here, so none was filled")
+        return
+    try:
+        (room / "komd.prom").write_text("komd_up 1\n")
+        tried.refused("a mailbox on a full disk", "komd-mbox", "--port", port, 5, room / "box")
+        (room / "filler").write_bytes(bytes(8192))
+        tried.refused("measures on a full disk", "komd-metrics", "--port", port, room / "komd.prom")
+        tried.same("what a full disk has", (["filler", "komd.prom"], "komd_up 1\n"),
+                   (sorted(path.name for path in room.iterdir()), (room / "komd.prom").read_text()))
+    finally:
+        subprocess.run(["umount", room], check=True)
+        room.rmdir()
 
 
 def unquoted(text):

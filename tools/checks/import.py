@@ -333,7 +333,7 @@ def try_texts(tried, texts):
     with open(many, "wb") as file:
         write_club(work, file, {number: b"" for number in range(101, 301)})
     work.remove()
-    old = Server(tried.program, many, 4)
+    old = Server(tried.program, many, 4, patience=600)
     try:
         start = time.monotonic()
         words = [IMPORT, old.port, 101, store, tried.path("many.passwords")]
