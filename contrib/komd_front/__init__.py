@@ -4,6 +4,7 @@
     doors       a listening socket, and who may come in at it
     addresses   where clients come from, and how many of one place there are
     tls         the certificate
+    connections a connection, whose bytes are taken as they come
     native      clients that speak Protocol A
     web         the page, and browsers that speak Protocol A in WebSocket frames
     proxies     what a reverse proxy tells of a browser

@@ -4,6 +4,7 @@ import contextlib
 import dataclasses
 
 from .addresses import Crowd, Full
+from .connections import Connection
 from .guessing import Guesses
 
 HOST = "127.0.0.1"
@@ -11,8 +12,6 @@ HOST = "127.0.0.1"
 LEFT_FREE = 2
 # How many sessions there may be that have no place yet, since their greetings are not whole.
 MOST_GREETING = 256
-# How many bytes may wait for a peer before nothing more is read for it.
-MOST_WAITING = 65_536
 
 
 @dataclasses.dataclass(frozen=True)
@@ -64,4 +63,5 @@ class House:
     async def connect(self):
         """A connection to the server."""
         async with asyncio.timeout(self.limits.greeting_seconds):
-            return await asyncio.open_connection(HOST, self.limits.komd, limit=MOST_WAITING)
+            _, connection = await asyncio.get_running_loop().create_connection(Connection, HOST, self.limits.komd)
+            return connection

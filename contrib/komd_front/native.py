@@ -1,37 +1,25 @@
 """Clients that speak Protocol A over TLS, or over nothing where that is allowed."""
 import asyncio
 
-from .house import MOST_WAITING
+from .connections import Connection
 from .session import Session
 from .tls import abort
 
 
-class NativeClient:
+class NativeClient(Connection):
     """A client's connection."""
 
-    def __init__(self, reader, writer, address, deadline, silent_seconds):
-        self.reader, self.writer = reader, writer
-        self.address, self.deadline, self.silent_seconds = address, deadline, silent_seconds
+    def __init__(self, address, limits, is_tls):
+        # TLS, as asyncio has it, is closed both ways or not at all.
+        super().__init__(stays_half_open=not is_tls)
+        self.address = address
+        self.deadline = asyncio.get_running_loop().time() + limits.greeting_seconds
 
-    async def read(self):
-        """The next bytes, or none at the end."""
-        return await self.reader.read(MOST_WAITING)
-
-    async def send(self, piece):
-        """Sends bytes. Where many wait already it waits too, and fails if they are not taken in time."""
-        transport = self.writer.transport
-        if transport.is_closing():
-            raise ConnectionResetError
-        transport.write(piece)
-        if transport.get_write_buffer_size() > MOST_WAITING:
-            async with asyncio.timeout(self.silent_seconds):
-                await self.writer.drain()
-
-    async def close(self):
+    async def close(self, seconds):
         """Closes the connection when all is taken, or is not taken in time."""
-        self.writer.close()
-        async with asyncio.timeout(self.silent_seconds):
-            await self.writer.wait_closed()
+        self.transport.close()
+        async with asyncio.timeout(seconds):
+            await self.closed.wait()
 
 
 class Native:
@@ -42,16 +30,11 @@ class Native:
 
     async def serve(self, connection, address):
         """One client, from its handshake on."""
-        loop, limits = asyncio.get_running_loop(), self.house.limits
-        deadline = loop.time() + limits.greeting_seconds
-        reader = asyncio.StreamReader(limit=MOST_WAITING)
-        protocol = asyncio.StreamReaderProtocol(reader)
-        handshake = self.tls.handshake(limits.greeting_seconds)
-        transport, _ = await loop.connect_accepted_socket(lambda: protocol, connection, **handshake)
-        writer = asyncio.StreamWriter(transport, protocol, reader, loop)
-        client = NativeClient(reader, writer, address, deadline, limits.silent_seconds)
+        limits, handshake = self.house.limits, self.tls.handshake(self.house.limits.greeting_seconds)
+        client = NativeClient(address, limits, bool(handshake))
+        await asyncio.get_running_loop().connect_accepted_socket(lambda: client, connection, **handshake)
         try:
             await Session(self.house, client).run()
-            await client.close()
+            await client.close(limits.silent_seconds)
         finally:
-            abort(transport)
+            abort(client.transport)

@@ -1,9 +1,9 @@
 """A session: what a client and the server say to each other through the door."""
 import asyncio
+import itertools
 
 from .addresses import Full
 from .calls import LOGIN, Attempt, Calls, Departed, Stranger, greeting_length
-from .house import MOST_WAITING
 from .replies import Replies, Reply
 from .told import tell, tell_now_and_then
 
@@ -29,6 +29,10 @@ class MadeRoom(Exception):
     """The session was asked to leave its place."""
 
 
+# What each fault of either way means.
+REASONS = {ServerEnded: SERVER_ENDED, MadeRoom: MADE_ROOM, Departed: DEPARTED, TimeoutError: SILENT, OSError: CLIENT_ENDED}
+
+
 class Session:
     """One client, from its greeting on."""
 
@@ -37,7 +41,7 @@ class Session:
         self.calls = Calls(house.limits.is_open)
         self.replies = Replies()
         self.person = 0
-        self.from_server = self.to_server = None
+        self.begun, self.server = b"", None
         # The attempt that the server judges, and whether it has.
         self.attempt, self.is_judged = None, asyncio.Event()
         # Is made to fail where the session is to leave, and then is waited for.
@@ -46,9 +50,9 @@ class Session:
     async def run(self):
         """Serves the client to the end, and tells why that came."""
         try:
-            begun = await self.greeting()
+            greeting, more = await self.greeting()
             async with self.house.place(self):
-                return await self.served(begun)
+                return await self.served(greeting, more)
         except TimeoutError:
             tell_now_and_then(self.client.address, LATE)
             return LATE
@@ -56,7 +60,7 @@ class Session:
             tell_now_and_then(FULL)
             return FULL
         except Departed:
-            await self.client.send(PROTOCOL_ERROR)
+            await self.say(PROTOCOL_ERROR)
             return DEPARTED
         except OSError:
             return CLIENT_ENDED
@@ -72,76 +76,97 @@ class Session:
             self.asked.set_exception(MadeRoom())
         await self.has_left.wait()
 
-    async def greeting(self):
-        """What the client sent up to the end of its greeting, and what came with that: no place is taken before."""
-        begun = b""
-        async with asyncio.timeout_at(self.client.deadline):
-            while (length := greeting_length(begun)) is None or len(begun) < length:
-                if not (piece := await self.client.read()):
-                    raise ConnectionResetError
-                begun += piece
-        return begun[:length], begun[length:]
+    def take_greeting(self, piece):
+        """Takes what the client sends, until its greeting is whole: that, and what came with it."""
+        self.begun += piece
+        length = greeting_length(self.begun)
+        return None if length is None or len(self.begun) < length else (self.begun[:length], self.begun[length:])
 
-    async def served(self, begun):
+    async def greeting(self):
+        """The greeting, and what came with it. No place is taken before."""
+        async with asyncio.timeout_at(self.client.deadline):
+            if begun := await self.client.pass_on(self.take_greeting):
+                return begun
+        raise ConnectionResetError
+
+    async def served(self, greeting, more):
         """Both ways at once, until one of them fails or the server ends."""
         try:
-            self.from_server, self.to_server = await self.house.connect()
-        except (OSError, TimeoutError):
+            self.server = await self.house.connect()
+        except OSError:
             tell_now_and_then(NO_SERVER)
             return NO_SERVER
-        self.to_server.write(begun[0])
-        ways = [asyncio.create_task(way) for way in (self.up(begun[1]), self.down())]
+        self.server.write(greeting)
+        ways = [asyncio.create_task(way) for way in (self.up(self.calls.units(more)), self.down())]
         try:
             done, _ = await asyncio.wait([*ways, self.asked], return_when=asyncio.FIRST_EXCEPTION)
-            return await self.why([way.exception() for way in done])
+            return await self.why(next(filter(None, (way.exception() for way in done))))
         finally:
             for way in ways:
                 way.cancel()
             await asyncio.gather(*ways, return_exceptions=True)
-            self.to_server.transport.abort()
+            self.server.transport.abort()
             if self.person:
                 tell(self.client.address, "end of", self.person)
 
-    async def why(self, exceptions):
-        """The reason that the first of the exceptions stands for."""
-        fault = next(exception for exception in exceptions if exception)
-        if isinstance(fault, ServerEnded):
-            return SERVER_ENDED
-        if isinstance(fault, MadeRoom):
-            tell_now_and_then(self.client.address, "made room:", MADE_ROOM)
-            return MADE_ROOM
-        if isinstance(fault, Departed):
-            await self.client.send(PROTOCOL_ERROR)
-            return DEPARTED
-        if isinstance(fault, TimeoutError):
-            return SILENT
-        if isinstance(fault, OSError):
-            return CLIENT_ENDED
-        raise fault
+    async def why(self, fault):
+        """The reason that a fault stands for."""
+        for kind, reason in REASONS.items():
+            if isinstance(fault, kind):
+                break
+        else:
+            raise fault
+        if reason == DEPARTED:
+            await self.say(PROTOCOL_ERROR)
+        if reason == MADE_ROOM:
+            tell_now_and_then(self.client.address, "made room:", reason)
+        return reason
 
-    async def up(self, piece):
+    async def say(self, piece):
+        """Sends bytes of the door's own."""
+        self.client.write(piece)
+        await self.client.drained(self.house.limits.silent_seconds)
+
+    def take_up(self, piece):
+        """Passes on what the client sends, up to what is to be waited for: the units from there on."""
+        units = self.calls.units(piece)
+        for unit in units:
+            if type(unit) is not bytes:
+                return itertools.chain((unit,), units)
+            self.server.write(unit)
+        return () if self.server.is_full() else None
+
+    def take_down(self, piece):
+        """Passes on what the server sends, in the same way."""
+        units = self.replies.units(piece)
+        for unit in units:
+            if type(unit) is not bytes:
+                return itertools.chain((unit,), units)
+            self.client.write(unit)
+        return () if self.client.is_full() else None
+
+    async def up(self, units):
         """What the client sends goes to the server; when the client ends its way, that way ends."""
-        while True:
-            for unit in self.calls.units(piece):
+        while units is not None:
+            for unit in units:
                 if isinstance(unit, Attempt):
                     await self.attempted(unit)
                 elif isinstance(unit, Stranger):
                     tell_now_and_then(self.client.address, "may not make a person")
-                elif unit:
-                    self.to_server.write(unit)
-            await self.to_server.drain()
-            if not (piece := await self.client.read()):
-                self.to_server.write_eof()
-                return
+                else:
+                    self.server.write(unit)
+            await self.server.drained()
+            units = await self.client.pass_on(self.take_up)
+        self.server.write_eof()
 
     async def down(self):
         """What the server sends goes to the client."""
-        while piece := await self.from_server.read(MOST_WAITING):
-            for unit in self.replies.units(piece):
+        while (units := await self.server.pass_on(self.take_down)) is not None:
+            for unit in units:
                 if isinstance(unit, Reply):
                     unit = await self.judged(unit)
-                if unit:
-                    await self.client.send(unit)
+                self.client.write(unit)
+            await self.client.drained(self.house.limits.silent_seconds)
         raise ServerEnded
 
     async def attempted(self, attempt):
@@ -150,7 +175,7 @@ class Session:
         self.attempt = attempt
         self.is_judged.clear()
         self.replies.awaited = self.calls.sent
-        self.to_server.write(attempt.line)
+        self.server.write(attempt.line)
         await self.is_judged.wait()
 
     async def judged(self, reply):
@@ -158,7 +183,7 @@ class Session:
         if reply.is_wrong_password and await self.is_moved():
             self.calls.sent += 1
             self.replies.awaited = self.calls.sent
-            self.to_server.write(self.attempt.line)
+            self.server.write(self.attempt.line)
             return b""
         self.note(reply)
         self.replies.awaited = 0

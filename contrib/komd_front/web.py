@@ -52,25 +52,35 @@ def host_of(request):
 class WebClient:
     """A browser's WebSocket."""
 
-    def __init__(self, socket, address, deadline, silent_seconds):
-        self.socket = socket
-        self.address, self.deadline, self.silent_seconds = address, deadline, silent_seconds
+    def __init__(self, socket, address, limits):
+        self.socket, self.address, self.waiting = socket, address, []
+        self.deadline = asyncio.get_running_loop().time() + limits.greeting_seconds
 
-    async def read(self):
-        """The bytes of the next frame, or none at the end. Frames of letters are none of the protocol."""
-        while True:
-            message = await self.socket.receive()
-            if message.type == WSMsgType.TEXT:
-                raise Departed
-            if message.type != WSMsgType.BINARY:
-                return b""
-            if message.data:
-                return message.data
+    async def pass_on(self, taker):
+        """Gives `taker` the bytes of each frame, until that returns something. Frames of letters are none of the protocol."""
+        while (message := await self.socket.receive()).type == WSMsgType.BINARY:
+            if (rest := taker(message.data)) is not None:
+                return rest
+        if message.type == WSMsgType.TEXT:
+            raise Departed
+        return None
 
-    async def send(self, piece):
-        """Sends a frame, and fails if the browser does not take it in time."""
-        async with asyncio.timeout(self.silent_seconds):
-            await self.socket.send_bytes(piece)
+    def write(self, piece):
+        """Has bytes wait for a frame."""
+        if piece:
+            self.waiting.append(piece)
+
+    def is_full(self):
+        """Whether anything waits: a frame is sent by whoever may wait for that."""
+        return bool(self.waiting)
+
+    async def drained(self, seconds):
+        """Sends what waits, for so many seconds at most."""
+        if self.waiting:
+            frame = b"".join(self.waiting)
+            self.waiting.clear()
+            async with asyncio.timeout(seconds):
+                await self.socket.send_bytes(frame)
 
 
 class Guard(asyncio.Protocol):
@@ -154,13 +164,11 @@ class Web:
 
     async def talk(self, socket, address):
         """The session itself, and why it ended."""
-        limits = self.house.limits
-        deadline = asyncio.get_running_loop().time() + limits.greeting_seconds
         task = asyncio.current_task()
         self.tasks.add(task)
         try:
             with self.house.sessions.one_more(address.place):
-                return await Session(self.house, WebClient(socket, address, deadline, limits.silent_seconds)).run()
+                return await Session(self.house, WebClient(socket, address, self.house.limits)).run()
         except Full:
             return CROWDED
         finally:
