@@ -77,6 +77,7 @@ pub fn run<R: Threads + Wait + Sync, W: World<Gate: Gate<Link: Send>>>(
         HasFailed (map (λ gate. W.Gate.view gate) closing.gates.items)))) }
     ensures sink { (result.status ≡ 7) ↔ ((¬ IsRefused words.now) × (result.status ≢ 3)
         × (result.status ≢ 4) × ((W.Sink.view result.sink).faults ≢ 0)) }
+    ensures named { result.status ≡ 4 → NamesStore words.now }
     ensures unserved { result.status ≡ 6 → IsNone result.end }
     ensures zero { Serves words.now → result.status ≡ 0 → IsSome result.end }
     ensures silent { Serves words.now → IsNothing (W.Sink.view result.sink).put }
@@ -94,6 +95,10 @@ pub fn run<R: Threads + Wait + Sync, W: World<Gate: Gate<Link: Send>>>(
         × (result.status ≡ 0 → AllByRecursion (λ gate. (W.Gate.view gate).ended ≡ true)
         closing.gates.items)
         × (length closing.gates.items ≡ 1)) }
+
+    // Without a store no flush is refused.
+    ensures unrefused { words.now ≡ codes "once" ∷ [] → IfSome result.end (λ closing.
+        HasRefused (map (λ entry. entry.made) closing.pass.seen) → ⊥) }
 
     // `once` over a store, or `serve`: the same over the server that the store stands for as it is
     // found, where that is told; by one gate, or at a port by as many as there are workers; what a
@@ -190,6 +195,7 @@ fn carry_out<R: Threads + Wait + Sync, W: World<Gate: Gate<Link: Send>>>(
     ensures gate { IsTrue result.cases.gate_failed ↔ (IsTrue (serves command)
         × (Rose before (W.view world.new).faults ⊎ IsSomeAnd result.end (λ closing.
         HasFailed (map (λ gate. W.Gate.view gate) closing.gates.items)))) }
+    ensures named { IsTrue result.cases.is_unfit → IsTrue (names_store command) }
     ensures unserved { IsTrue (serves command) → IsTrue result.cases.no_memory
         → IsNone result.end }
     ensures served { IsTrue (serves command) → IsWrong result.cases ⊎ IsSome result.end }
@@ -207,6 +213,8 @@ fn carry_out<R: Threads + Wait + Sync, W: World<Gate: Gate<Link: Send>>>(
         × (IsWrong result.cases ⊎ AllByRecursion (λ gate. (W.Gate.view gate).ended ≡ true)
         closing.gates.items)
         × (length closing.gates.items ≡ 1)) }
+    ensures unrefused { command ≡ said.Once → IfSome result.end (λ closing.
+        HasRefused (map (λ entry. entry.made) closing.pass.seen) → ⊥) }
     ensures over { (store : List ℕ) (port : Option PortModel) → slice_get words.now 1 ≡ Some store
         → command ≡ serve_over port → IfSome result.end (λ closing. (db : Db)
         × IfFound W.Disk.tells (W.view world.old).files store (StandsFor db)

@@ -23,6 +23,9 @@ returns-in-Once-clause-store g c =
     (λ named. false≢true (sym (ap names_store c.in-Once.is) ∙ named.0)) c.once.ensures.store c.once.ensures.asks.0
     c.once.ensures.unrefused
 
+pub returns-in-Once-clause-named : goal.returns-in-Once-clause-named
+returns-in-Once-clause-named g c unfit = absurd (false≢true (sym c.once.ensures.unfit ∙ unfit))
+
 pub returns-in-Once-clause-gate : goal.returns-in-Once-clause-gate
 returns-in-Once-clause-gate g c =
     also (serves c.args.command) (ap serves c.in-Once.is) c.once.ensures.gate
@@ -49,6 +52,9 @@ returns-in-OnceOver-clause-store g c =
     fails_served g.W.Disk.Disk.faults _ _ _ c.serve_store.result.disk _
     (λ rose. (ap names_store c.in-OnceOver.is, rose), λ both. both.1)
     c.serve_store.ensures.store
+
+pub returns-in-OnceOver-clause-named : goal.returns-in-OnceOver-clause-named
+returns-in-OnceOver-clause-named g c unfit = ap names_store c.in-OnceOver.is
 
 pub returns-in-OnceOver-clause-gate : goal.returns-in-OnceOver-clause-gate
 returns-in-OnceOver-clause-gate g c =
@@ -81,6 +87,9 @@ returns-in-Serve-clause-store g c =
     fails_served g.W.Disk.Disk.faults _ _ _ c.serve_store-in-Serve.result.disk _
     (λ rose. (ap names_store c.in-Serve.is, rose), λ both. both.1)
     c.serve_store-in-Serve.ensures.store
+
+pub returns-in-Serve-clause-named : goal.returns-in-Serve-clause-named
+returns-in-Serve-clause-named g c unfit = ap names_store c.in-Serve.is
 
 pub returns-in-Serve-clause-gate : goal.returns-in-Serve-clause-gate
 returns-in-Serve-clause-gate g c =
@@ -115,6 +124,9 @@ returns-in-Init-clause-store g c =
     fails_unserved g.W.Disk.Disk.faults _ _ _ c.init.result.disk c.init.result.end _ c.init.ensures.asks.0
     (λ rose. (ap names_store c.in-Init.is, rose_from _ _ _ c.requires.before rose)) c.init.ensures.unopened
     c.init.ensures.store
+
+pub returns-in-Init-clause-named : goal.returns-in-Init-clause-named
+returns-in-Init-clause-named g c unfit = ap names_store c.in-Init.is
 
 pub returns-in-Init-clause-gate : goal.returns-in-Init-clause-gate
 returns-in-Init-clause-gate g c =
@@ -157,6 +169,9 @@ returns-in-Check-clause-store g c =
     (λ rose. (ap names_store c.in-Check.is, rose_from _ _ _ c.requires.before rose)) c.check-disk.ensures.unopened
     c.check-disk.ensures.failed
 
+pub returns-in-Check-clause-named : goal.returns-in-Check-clause-named
+returns-in-Check-clause-named g c unfit = ap names_store c.in-Check.is
+
 pub returns-in-Check-clause-gate : goal.returns-in-Check-clause-gate
 returns-in-Check-clause-gate g c =
     neither c.check-disk.result.cases.gate_failed (serves c.args.command) c.check-disk.ensures.gate
@@ -191,6 +206,9 @@ returns-in-Load-clause-store g c =
 
 pub returns-in-Load-clause-asks : goal.returns-in-Load-clause-asks
 returns-in-Load-clause-asks g c = rw c.in-Load.is (c.load.ensures.alone.0, c.load.ensures.alone.1, refl)
+
+pub returns-in-Load-clause-named : goal.returns-in-Load-clause-named
+returns-in-Load-clause-named g c unfit = absurd (false≢true (sym c.load.ensures.well.1 ∙ unfit))
 
 pub returns-in-Load-clause-gate : goal.returns-in-Load-clause-gate
 returns-in-Load-clause-gate g c =

@@ -42,6 +42,9 @@ pub returns-in_default-clause-sink : goal.returns-in_default-clause-sink
 returns-in_default-clause-sink g c =
     (λ seven. absurd (omega (arith, seven)), λ all. absurd (all.0 c.in_default.ensures))
 
+pub returns-in_default-clause-named : goal.returns-in_default-clause-named
+returns-in_default-clause-named g c four = absurd (omega (arith, four))
+
 pub returns-in_default-clause-zero : goal.returns-in_default-clause-zero
 returns-in_default-clause-zero g c serving zero = absurd (omega (arith, zero))
 
@@ -141,6 +144,11 @@ returns-clause-sink g c =
     (has_failed c.faults.result (g.W.Sink.Sink.view c.carry_out-ran.new.sink).faults c.faults.ensures)
     (λ refused. refused c.in-Some.command c.in-Some.ensures)
 
+pub returns-clause-named : goal.returns-clause-named
+returns-clause-named g c four =
+    (names_so c.args.words.now c.in-Some.command c.in-Some.ensures).1
+    (c.carry_out-ran.ensures.named (unfit_status c.carry_out-ran.result.cases _ _ c.status-status.ensures four))
+
 pub returns-clause-unserved : goal.returns-clause-unserved
 returns-clause-unserved g c six =
     unserved_end c.in-Some.command _ (is_some c.carry_out-ran.result.end) _ _ c.carry_out-ran.ensures.asks
@@ -170,6 +178,10 @@ returns-clause-once g c is =
       (λ zero. all_well c.carry_out-ran.result.cases _ _ c.status-status.ensures _ (quiet g c) facts.3 (inl zero)),
       facts.4,
     ))
+
+pub returns-clause-unrefused : goal.returns-clause-unrefused
+returns-clause-unrefused g c is =
+    c.carry_out-ran.ensures.unrefused (once_is c.args.words.now c.in-Some.command c.in-Some.ensures is)
 
 pub returns-clause-over : goal.returns-clause-over
 returns-clause-over g c store port is =
