@@ -13,6 +13,7 @@ use Rattle.kom_links.specs.Outside.{LinkView, IsNothing}
 use Rattle.kom_links.specs.Talk.{IsChosen}
 use Rattle.kom_model.specs.State.{State}
 use Rattle.kom_model.specs.Legal.{IsLegal, AreByOwners}
+use Rattle.kom_model.proofs.Prefixes.{gives_prefixes}
 use Rattle.kom_state_lock.specs.Views.{entries_of}
 use Rattle.kom_state_lock.specs.Passes.{HallModel, PassModel, new_pass, AreNewPasses, IsPassOf, HoldsNoTurn, IsReady}
 use Rattle.kom_state_lock.specs.Passes.{AreReady, IsClosed}
@@ -83,8 +84,10 @@ run_of_one {L} view start begins history drawn pass more gate gave legal owned o
     (subst (λ (all : List Record). IsLegal start all) goes_on legal)
     (subst (λ (all : List Record). AreByOwners start all) goes_on owned) mine' none grown tt talks)) in
     record {
+      sound = begins.sound;
       legal = legal;
       by_owners = owned;
+      in_order = λ session. gives_prefixes start session history begins.sound legal;
       numbered = all_zero history others;
       workers = (
         record {

@@ -8,11 +8,12 @@ use Rattle.std.proofs.lemmas.List.{map-append, length_push}
 use Rattle.kom_types.specs.declared.acts.Record.{Record}
 use Rattle.kom_links.specs.Outside.{LinkView}
 use Rattle.kom_model.specs.State.{State}
+use Rattle.kom_model.proofs.Prefixes.{gives_prefixes}
 use Rattle.kom_state_lock.specs.Views.{entries_of}
 use Rattle.kom_state_lock.specs.Passes.{HallModel, PassModel, new_pass, IsClosed}
 use Rattle.hall_desk.specs.Acts.{IsLed, IsOpening}
 use Rattle.hall_desk.specs.Passes.{pass_view, of_pass}
-use Rattle.hall_desk.proofs.Starting.{starts}
+use Rattle.hall_desk.proofs.Starting.{IsStart, starts}
 use Rattle.kom_server.specs.Runs.{IsWorker, AreWorkers, told_sessions, IsDone, IsRun}
 use Rattle.kom_server.specs.Workers.{WorkerView, HasServed, HaveServed, gates_of, readings_of, passes_of}
 use Rattle.kom_server.proofs.Lifting.{worker_of, done_on}
@@ -132,6 +133,7 @@ module _ {B E : Type 0} (made : E → Record) (server : B → State) (pass_of : 
         × AllByRecursion (λ gate. IsDone start history gate) (gates_of workers)
     run_of_all workers passes own have same closed is strangers =
         let lead = leads hall.opening last.seen value led' in
+        let begins : IsStart start = starts start opening in
         let all : AllFrom Closed 0 workers = all_closed workers passes own have same closed in
         let closed_own : IsClosed pass_of last own =
         subst (λ (pass : PassModel B E). IsClosed pass_of last pass) (at_last passes own (length passes) own refl)
@@ -147,8 +149,10 @@ module _ {B E : Type 0} (made : E → Record) (server : B → State) (pass_of : 
           | inr other ↦ strangers number (omega (arith, as_long workers, have.long, some))
         ]) in (
           record {
+            sound = begins.sound;
             legal = lead.legal;
             by_owners = lead.owned;
+            in_order = λ session. gives_prefixes start session history begins.sound lead.legal;
             numbered = below (length (readings_of workers)) history others;
             workers = workers_from view start history last.drawn 0 workers
                 (from_map Closed (λ k worker. IsWorker view start history last.drawn k worker.gate worker.gave) 0

@@ -21,7 +21,7 @@ use Rattle.kom_links.specs.Outside.{LinkView, IsNothing}
 use Rattle.kom_links.specs.Records.{has_connect}
 use Rattle.kom_links.specs.Talk.{IsTalk, IsChosen}
 use Rattle.kom_model.specs.Initial.{initial}
-use Rattle.kom_model.specs.State.{State, opening}
+use Rattle.kom_model.specs.State.{State, IsSound, opening}
 use Rattle.kom_model.specs.Legal.{IsLegal, AreByOwners}
 use Rattle.kom_model.specs.Out.{out_of, given_along}
 use Rattle.kom_model.specs.Laws.{all_given, IsPrefix as IsItemPrefix}
@@ -159,14 +159,17 @@ AreWorkers view start history drawn number (gate ∷ gates) [] = ⊥
 abbrev pub told_sessions : {L : Type 0} → GateView L → List ℕ
 told_sessions gate = elim gate.returned [ None ↦ [] | Some links ↦ sessions_of links ]
 
--- What was seen is a legal history of the one-thread server from this state on, in which each
--- session's acts are made by the pass that connected it; each record is of one of the passes that
--- have a clock; each of these has served its gate by it; and different links have different
--- sessions.
+-- What was seen is a legal history of the one-thread server from this sound state on, in which each
+-- session's acts are made by the pass that connected it; what the drains of a session gave is the
+-- beginning of all that was queued for it, in order; each record is of one of the passes that have a
+-- clock; each of these has served its gate by it; and different links have different sessions.
 pub record IsRun {L : Type 0} (view : L → LinkView) (start : State) (history : List Record)
     (drawn : ℕ) (gates : List (GateView L)) (clocks : List (Option (List ℕ))) : Type 0 where
+  pub sound : IsSound start
   pub legal : IsLegal start history
   pub by_owners : AreByOwners start history
+  pub in_order : (session : ℕ) →
+      IsItemPrefix (all_given start session history) (out_of start session history)
   pub numbered : AllByRecursion (λ made. made.entry.pass < length clocks) history
   pub workers : AreWorkers view start history drawn 0 gates clocks
   pub distinct : IsDistinct nat_eq (flat_map told_sessions gates)
