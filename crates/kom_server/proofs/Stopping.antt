@@ -62,6 +62,7 @@ module _ {D : Type 0} (moment : D → ℕ) (images_at : D → ℕ → Image → 
     opened = moment old.disk;
     within = leads.any_moment.forward;
     since = leads.since;
+    ticked = leads.ticked;
     any_moment = λ at image from to left. leads.any_moment.each at image from to left;
   }
 

@@ -23,13 +23,14 @@ IsRefusalCause tells faults size start history disk =
     ⊎ ((bytes : ℕ) × (IsTrue tells → bytes ≡ size disk) × IsTooLong start history bytes)
 
 module _ {D : Type 0} (moment : D → ℕ) (images_at : D → ℕ → Image → Type 0) where
-  -- At each moment of the disk since the end of opening, which was before the end of each act, a
-  -- stop leaves what stands for the rows after some of the records, all of those among them that
-  -- were stable by then.
+  -- At each moment of the disk since the end of opening, a stop leaves what stands for the rows
+  -- after some of the records, all of those among them that were stable by then. Each act ended at
+  -- one of these moments.
   pub record IsKeptAlong (start : State) (history : List (Ticked D)) (disk : D) : Type 0 where
     pub opened : ℕ
     pub within : opened ≤ moment disk
     pub since : AllByRecursion (λ entry. opened ≤ tick_of moment entry) history
+    pub ticked : AllByRecursion (λ entry. tick_of moment entry ≤ moment disk) history
     pub any_moment : (at : ℕ) (image : Image) → opened ≤ at → at ≤ moment disk
         → images_at disk at image → IsLeftBy moment start history at image
 
