@@ -16,7 +16,7 @@ use Rattle.kom_commands.specs.Statuses.{IsStatus, status_of}
 use Rattle.store_check.specs.Stores.{IsWrong, Fails}
 use Rattle.kom_server.specs.Statuses.{StoreFails, HasRefused, Asks, serve_over}
 use Rattle.kom_server.proofs.StatusCases.{is_status, never_two, three, four, five, six, seven, nothing_wrong}
-use Rattle.kom_server.proofs.StatusCases.{something_wrong}
+use Rattle.kom_server.proofs.StatusCases.{something_wrong, only_four}
 
 -- a store that failed for a reason failed for one that follows
 pub fails_too : {D : Type 0} (faults : D → ℕ) (one other : Type 0) (disk : Option D)
@@ -182,6 +182,12 @@ module _ (cases : Cases) (s : Bool) (status : ℕ) (is : status ≡ status_of ca
 
   pub memory_status : status ≡ 6 → IsTrue cases.no_memory
   memory_status six' = six cases.store_failed cases.is_unfit cases.gate_failed s cases.no_memory (sym is ∙ six')
+
+  pub unfit_alone : ((status ≡ 0) ⊎ (status ≡ 7) → ⊥) → status ≢ 3 → status ≢ 5 → status ≢ 6 → status ≡ 4
+  unfit_alone ended three five six =
+      is ∙ only_four cases.store_failed cases.is_unfit cases.gate_failed s cases.no_memory
+      (λ zero. ended (inl (is ∙ zero))) (λ three'. three (is ∙ three')) (λ five'. five (is ∙ five'))
+      (λ six'. six (is ∙ six')) (λ seven'. ended (inr (is ∙ seven')))
 
   -- at 0 and 7 all went well, where nothing is put to the sink if something went wrong
   pub all_well : (P : Type 0) → (IsWrong cases → s ≡ false) → IsWrong cases ⊎ P → (status ≡ 0) ⊎ (status ≡ 7) → P

@@ -57,6 +57,15 @@ seven false false false true m apart = (λ is. (λ no. omega (arith, no), λ no.
 seven false false false false true apart = (λ is. absurd (omega (arith, is)), λ all. absurd (false≢true all.2))
 seven false false false false false apart = (λ is. absurd (omega (arith, is)), λ all. absurd (false≢true all.2))
 
+pub only_four : (a u g s m : Bool) → st a u g s m ≢ 0 → st a u g s m ≢ 3 → st a u g s m ≢ 5 → st a u g s m ≢ 6 →
+    st a u g s m ≢ 7 → st a u g s m ≡ 4
+only_four true u g s m zero three five six seven = absurd (three refl)
+only_four false true g s m zero three five six seven = refl
+only_four false false true s m zero three five six seven = absurd (five refl)
+only_four false false false true m zero three five six seven = absurd (seven refl)
+only_four false false false false true zero three five six seven = absurd (six refl)
+only_four false false false false false zero three five six seven = absurd (zero refl)
+
 pub six : (a u g s m : Bool) → st a u g s m ≡ 6 → m ≡ true
 six true u g s m is = absurd (omega (arith, is))
 six false true g s m is = absurd (omega (arith, is))

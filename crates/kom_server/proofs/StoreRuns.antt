@@ -20,10 +20,10 @@ use Rattle.kom_journal.specs.Journals.{JournalView}
 use Rattle.kom_book.specs.Books.{BookView, Leads, disk_in, state_in}
 use Rattle.kom_book.specs.Stores.{IfBoth, IsNotRefused}
 use Rattle.kom_book.specs.declared.ticked.Ticked.{Ticked}
-use Rattle.store_check.specs.Stores.{IsWrong}
+use Rattle.store_check.specs.Stores.{IsNoStore, IfFound, IsWrong}
 use Rattle.store_check.proofs.Causes.{memory_wrong}
 use Rattle.kom_server.specs.Runs.{AsksPlace, with_clocks}
-use Rattle.kom_server.specs.Statuses.{is_flush, HasRefused, StoreFails}
+use Rattle.kom_server.specs.Statuses.{is_flush, HasRefused, StoreFails, HoldsNoStore}
 use Rattle.kom_server.proofs.Refusing.{was_refused, refused_since}
 
 -- a fact of what is there leads to another
@@ -46,6 +46,12 @@ pub there_so : {D : Type 0} (told : Type 0) (P : D → Type 0) (disk : Option D)
     (told → IfSome disk P) → IsSomeAnd disk (λ d. told → P d)
 there_so told P None there holds = absurd (false≢true there)
 there_so told P (Some d) there holds = holds
+
+-- what is found to be a store is not told to be none
+pub not_held : (tells : Bool) (files : Option (List ℕ → List ℕ)) (path : List ℕ) →
+    IfFound tells files path (λ image. IsNoStore image → ⊥) → HoldsNoStore tells files path → ⊥
+not_held tells None path so holds = absurd holds.1
+not_held tells (Some found) path so holds = so holds.0 holds.1
 
 -- what is there has a fact, where it is told
 pub told_so : {D : Type 0} (told : Type 0) (P : D → Type 0) (disk : Option D) → (told → IfSome disk P) →

@@ -12,7 +12,8 @@ use Rattle.kom_commands.specs.declared.words.Command.{Command}
 use Rattle.kom_commands.specs.declared.words.Command.TheVariants as command
 use Rattle.kom_commands.specs.Numbers.{number_in}
 use Rattle.kom_commands.specs.Words.{IsSpelled, serves, names_store}
-use Rattle.store_check.specs.Stores.{Fails}
+use Rattle.kom_journal.specs.Images.{as_read}
+use Rattle.store_check.specs.Stores.{Fails, IsNoStore}
 use Rattle.kom_server.specs.Runs.{Opens, AsksPort}
 
 -- the words are a command that serves sessions
@@ -31,6 +32,11 @@ ServesStore words store (Some at) = (port workers : List ℕ)
 abbrev pub OpensStore : List (List ℕ) → List ℕ → Type 0
 OpensStore words store =
     ((port : Option AtPort) × ServesStore words store port) ⊎ (words ≡ codes "check" ∷ store ∷ [])
+
+-- what the run found at this path was no store, as the world and its disks tell
+abbrev pub HoldsNoStore : Bool → Option (List ℕ → List ℕ) → List ℕ → Type 0
+HoldsNoStore tells files path =
+    IsTrue tells × IsSomeAnd files (λ found. IsNoStore (as_read found path))
 
 -- the command that serves a store: over standard input and output, or at a port
 abbrev pub serve_over : Option AtPort → Command

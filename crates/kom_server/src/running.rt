@@ -12,7 +12,7 @@ ghost use Rattle.kom_commands.specs.Words.{IsSpelled, IsRefused, serves, names_s
 ghost use Rattle.kom_commands.specs.Loads.{SaysLoad};
 ghost use Rattle.kom_links.specs.Outside.{IsNothing, Rose};
 ghost use Rattle.kom_links.specs.Doors.{IsNewSink};
-ghost use Rattle.kom_links.specs.WorldCounts.{with_sink};
+ghost use Rattle.kom_links.specs.WorldCounts.{with_sink, with_disk};
 ghost use Rattle.kom_model.specs.Db.{Db};
 ghost use Rattle.kom_model.specs.Initial.{initial};
 ghost use Rattle.kom_model.specs.State.{opening};
@@ -23,6 +23,7 @@ ghost use Rattle.kom_server.specs.Runs.{new_server, usage, Opens, IsHidingRun, I
 ghost use Rattle.kom_server.specs.Runs.{HasFailed, IsOverAt, gates_at, IsFirstMoment};
 ghost use Rattle.kom_server.specs.Statuses.{Serves, NamesStore, ServesStore, OpensStore};
 ghost use Rattle.kom_server.specs.Statuses.{StoreFails, HasRefused, Asks, serve_over, opens_store};
+ghost use Rattle.kom_server.specs.Statuses.{HoldsNoStore};
 ghost use Rattle.kom_server.specs.Stops.{HasServed};
 ghost use Rattle.kom_server.specs.Loads.{IsLoaded};
 
@@ -116,8 +117,17 @@ pub fn run<R: Threads + Wait + Sync, W: World<Gate: Gate<Link: Send>>>(
         × (length closing.gates.items ≡ gates_at port)
         × IfSome result.disk (HasServed (moment_on W.Disk.moment) (images_at W.Disk.images_at)
         W.Disk.tells W.Disk.faults W.Disk.size (opening db) closing.pass.seen)) }
+
+    // Whether it is a store. Where it is told to be none, the status is 4, unless its disk or the
+    // world failed or memory ran out; and neither a clock nor a gate was asked for.
     ensures no_store { (store : List ℕ) → OpensStore words.now store → result.status ≡ 4
         → IfFound W.Disk.tells (W.view world.old).files store IsNoStore }
+    ensures unopened { (store : List ℕ) → OpensStore words.now store → (result.status ≢ 2)
+        → HoldsNoStore W.Disk.tells (W.view world.old).files store → IsNone result.end
+        × ((W.view world.new).counts ≡ with_disk (is_some result.disk)
+        (with_sink (W.view world.old).counts))
+        × ((result.status ≢ 3) → (result.status ≢ 5) → (result.status ≢ 6)
+        → result.status ≡ 4) }
     ensures a_store { (store : List ℕ) → OpensStore words.now store
         → (result.status ≡ 0) ⊎ (result.status ≡ 7)
         → IfFound W.Disk.tells (W.view world.old).files store (λ image. IsNoStore image → ⊥) }
@@ -233,6 +243,11 @@ fn carry_out<R: Threads + Wait + Sync, W: World<Gate: Gate<Link: Send>>>(
     ensures no_store { (store : List ℕ) → slice_get words.now 1 ≡ Some store
         → IsTrue (opens_store command) → IsTrue result.cases.is_unfit
         → IfFound W.Disk.tells (W.view world.old).files store IsNoStore }
+    ensures unopened { (store : List ℕ) → slice_get words.now 1 ≡ Some store
+        → IsTrue (opens_store command)
+        → HoldsNoStore W.Disk.tells (W.view world.old).files store → IsNone result.end
+        × ((W.view world.new).counts
+        ≡ with_disk (is_some result.disk) (W.view world.old).counts) }
     ensures a_store { (store : List ℕ) → slice_get words.now 1 ≡ Some store
         → IsTrue (opens_store command) → IsWrong result.cases
         ⊎ IfFound W.Disk.tells (W.view world.old).files store (λ image. IsNoStore image → ⊥) }

@@ -17,7 +17,7 @@ ghost use Rattle.store_check.specs.Stores.{IsNoStore, IfFound, IsWrong, Fails};
 ghost use Rattle.store_check.specs.Stores.{is_of_content, is_memory};
 ghost use Rattle.kom_server.specs.Runs.{IsRun, IsHidingRun, HasFailed, AsksPlace, gates_at};
 ghost use Rattle.kom_server.specs.Runs.{IsOverAt, IsWithin, IsFirstMoment};
-ghost use Rattle.kom_server.specs.Statuses.{StoreFails, HasRefused};
+ghost use Rattle.kom_server.specs.Statuses.{StoreFails, HasRefused, HoldsNoStore};
 ghost use Rattle.kom_server.specs.Stops.{HasServed};
 
 use crate::outcome::Closing;
@@ -59,6 +59,9 @@ pub(crate) fn serve_store<R: Threads + Wait + Sync, W: World<Gate: Gate<Link: Se
         → IfFound W.Disk.tells (W.view world.old).files path.now IsNoStore }
     ensures exact { IsWrong result.cases ⊎ IfFound W.Disk.tells (W.view world.old).files path.now
         (λ image. IsNoStore image → ⊥) }
+    ensures unopened { HoldsNoStore W.Disk.tells (W.view world.old).files path.now
+        → IsNone result.end × ((W.view world.new).counts
+        ≡ with_disk (is_some result.disk) (W.view world.old).counts) }
     ensures gate { IsTrue result.cases.gate_failed ↔ (Rose before (W.view world.new).faults
         ⊎ IsSomeAnd result.end (λ closing.
         HasFailed (map (λ gate. W.Gate.view gate) closing.gates.items))) }

@@ -2,7 +2,7 @@ use Rattle.std.proofs.Common.{◌≡◌, ℕ, List, refl, sym, ap, subst, ◌∙
 use Rattle.std.proofs.lemmas.Bool.{false≢true}
 use Rattle.kom_commands.specs.declared.words.Command.{Command}
 use Rattle.kom_commands.specs.Words.{IsSpelled, serves, names_store}
-use Rattle.kom_server.specs.Statuses.{opens_store}
+use Rattle.kom_server.specs.Statuses.{opens_store, HoldsNoStore}
 use Rattle.kom_server.proofs.Carried.{never_fails, fails_alone, fails_unserved, fails_served, also, neither, rose_from}
 use Rattle.kom_server.proofs.Carried.{not_served, not_named, over_none, over_some, same_load, none_there, both_or}
 use Rattle.kom_server.proofs.Spelling.{same_word}
@@ -36,6 +36,10 @@ returns-in-Once-clause-over g c store port at is =
 
 pub returns-in-Once-clause-no_store : goal.returns-in-Once-clause-no_store
 returns-in-Once-clause-no_store g c store at opens =
+    absurd (false≢true (sym (ap opens_store c.in-Once.is) ∙ opens))
+
+pub returns-in-Once-clause-unopened : goal.returns-in-Once-clause-unopened
+returns-in-Once-clause-unopened g c store at opens holds =
     absurd (false≢true (sym (ap opens_store c.in-Once.is) ∙ opens))
 
 pub returns-in-Once-clause-a_store : goal.returns-in-Once-clause-a_store
@@ -73,6 +77,12 @@ pub returns-in-OnceOver-clause-no_store : goal.returns-in-OnceOver-clause-no_sto
 returns-in-OnceOver-clause-no_store g c store at opens unfit =
     rw (same_word c.args.words.now 1 c.word.result.now store c.word.ensures at) (c.serve_store.ensures.unfit unfit)
 
+pub returns-in-OnceOver-clause-unopened : goal.returns-in-OnceOver-clause-unopened
+returns-in-OnceOver-clause-unopened g c store at opens holds =
+    c.serve_store.ensures.unopened
+    (subst (λ (path : List ℕ). HoldsNoStore g.W.Disk.Disk.tells (g.W.World.view c.args.world.now).files path)
+    (same_word c.args.words.now 1 c.word.result.now store c.word.ensures at) holds)
+
 pub returns-in-OnceOver-clause-a_store : goal.returns-in-OnceOver-clause-a_store
 returns-in-OnceOver-clause-a_store g c store at opens =
     rw (same_word c.args.words.now 1 c.word.result.now store c.word.ensures at) c.serve_store.ensures.exact
@@ -109,6 +119,12 @@ returns-in-Serve-clause-no_store g c store at opens unfit =
     rw (same_word c.args.words.now 1 c.word-in-Serve.result.now store c.word-in-Serve.ensures at)
     (c.serve_store-in-Serve.ensures.unfit unfit)
 
+pub returns-in-Serve-clause-unopened : goal.returns-in-Serve-clause-unopened
+returns-in-Serve-clause-unopened g c store at opens holds =
+    c.serve_store-in-Serve.ensures.unopened
+    (subst (λ (path : List ℕ). HoldsNoStore g.W.Disk.Disk.tells (g.W.World.view c.args.world.now).files path)
+    (same_word c.args.words.now 1 c.word-in-Serve.result.now store c.word-in-Serve.ensures at) holds)
+
 pub returns-in-Serve-clause-a_store : goal.returns-in-Serve-clause-a_store
 returns-in-Serve-clause-a_store g c store at opens =
     rw (same_word c.args.words.now 1 c.word-in-Serve.result.now store c.word-in-Serve.ensures at)
@@ -138,6 +154,10 @@ returns-in-Init-clause-over g c store port at is =
 
 pub returns-in-Init-clause-no_store : goal.returns-in-Init-clause-no_store
 returns-in-Init-clause-no_store g c store at opens =
+    absurd (false≢true (sym (ap opens_store c.in-Init.is) ∙ opens))
+
+pub returns-in-Init-clause-unopened : goal.returns-in-Init-clause-unopened
+returns-in-Init-clause-unopened g c store at opens holds =
     absurd (false≢true (sym (ap opens_store c.in-Init.is) ∙ opens))
 
 pub returns-in-Init-clause-a_store : goal.returns-in-Init-clause-a_store
@@ -182,6 +202,10 @@ returns-in-Check-clause-no_store g c store at opens unfit =
     rw (same_word c.args.words.now 1 c.word-in-Check.result.now store c.word-in-Check.ensures at)
     (c.check-disk.ensures.unfit unfit)
 
+pub returns-in-Check-clause-unopened : goal.returns-in-Check-clause-unopened
+returns-in-Check-clause-unopened g c store at opens holds =
+    (refl, c.check-disk.ensures.asks)
+
 pub returns-in-Check-clause-a_store : goal.returns-in-Check-clause-a_store
 returns-in-Check-clause-a_store g c store at opens =
     rw (same_word c.args.words.now 1 c.word-in-Check.result.now store c.word-in-Check.ensures at)
@@ -216,6 +240,10 @@ returns-in-Load-clause-gate g c =
 
 pub returns-in-Load-clause-no_store : goal.returns-in-Load-clause-no_store
 returns-in-Load-clause-no_store g c store at opens =
+    absurd (false≢true (sym (ap opens_store c.in-Load.is) ∙ opens))
+
+pub returns-in-Load-clause-unopened : goal.returns-in-Load-clause-unopened
+returns-in-Load-clause-unopened g c store at opens holds =
     absurd (false≢true (sym (ap opens_store c.in-Load.is) ∙ opens))
 
 pub returns-in-Load-clause-a_store : goal.returns-in-Load-clause-a_store

@@ -1,17 +1,18 @@
-use Rattle.std.proofs.Common.{◌≡◌, ◌↔◌, ℕ, false, not, eqb, inl, inr, refl, sym, ap, subst, ◌∙◌, arith}
+use Rattle.std.proofs.Common.{◌≡◌, ◌↔◌, ℕ, List, Option, false, not, eqb, inl, inr, refl, sym, ap, subst, ◌∙◌, arith}
 use Rattle.std.specs.Prelude.{is_some}
 use Rattle.kom_commands.specs.Words.{serves}
 use Rattle.kom_commands.proofs.Spelling.{same_command, once_is, check_is, init_is, load_is}
 use Rattle.kom_links.specs.declared.world_counts.WorldCounts.{WorldCounts}
 use Rattle.kom_links.specs.Doors.{SinkView}
+use Rattle.kom_links.specs.WorldCounts.{with_disk}
 use Rattle.kom_links.specs.Outside.{Rose}
 use Rattle.store_check.specs.Stores.{IsWrong}
-use Rattle.kom_server.specs.Statuses.{Asks}
+use Rattle.kom_server.specs.Statuses.{Asks, HoldsNoStore}
 use Rattle.kom_server.proofs.Carried.{some_status, no_refusal, store_status, unfit_status, gate_status, sink_status}
 use Rattle.kom_server.proofs.Carried.{memory_status, all_well, some_wrong, fails_served, unserved_end, zero_failed}
-use Rattle.kom_server.proofs.Carried.{has_failed, gate_apart}
+use Rattle.kom_server.proofs.Carried.{has_failed, gate_apart, unfit_alone}
 use Rattle.kom_server.proofs.Spelling.{second, third, over_is, served_at, opens_so, opened_at, serves_so, names_so}
-use Rattle.kom_server.proofs.StoreRuns.{some_then}
+use Rattle.kom_server.proofs.StoreRuns.{some_then, not_held}
 use Rattle.kom_server.proofs.running.run.Goals as goal
 
 -- ---- the words are no command
@@ -53,6 +54,9 @@ returns-in_default-clause-silent g c serving = absurd (c.in_default.ensures serv
 
 pub returns-in_default-clause-no_store : goal.returns-in_default-clause-no_store
 returns-in_default-clause-no_store g c store opens four = absurd (omega (arith, four))
+
+pub returns-in_default-clause-unopened : goal.returns-in_default-clause-unopened
+returns-in_default-clause-unopened g c store opens accepted holds = absurd (accepted refl)
 
 pub returns-in_default-clause-a_store : goal.returns-in_default-clause-a_store
 returns-in_default-clause-a_store g c store opens (inl zero) = absurd (omega (arith, zero))
@@ -203,6 +207,21 @@ returns-clause-no_store g c store opens four =
     (c.carry_out-ran.ensures.no_store store (opened_at c.args.words.now store opens)
     (opens_so c.args.words.now c.in-Some.command store c.in-Some.ensures opens)
     (unfit_status c.carry_out-ran.result.cases _ _ c.status-status.ensures four))
+
+pub returns-clause-unopened : goal.returns-clause-unopened
+returns-clause-unopened g c store opens accepted holds =
+    let at = opened_at c.args.words.now store opens in
+    let command = opens_so c.args.words.now c.in-Some.command store c.in-Some.ensures opens in
+    let held = subst (λ (files : Option (List ℕ → List ℕ)). HoldsNoStore g.W.Disk.Disk.tells files store)
+    (sym c.out-sink.ensures.told.files) holds in
+    let unserved = c.carry_out-ran.ensures.unopened store at command held in (
+      unserved.0,
+      unserved.1 ∙ ap (with_disk (is_some c.carry_out-ran.result.disk)) c.out-sink.ensures.counts,
+      unfit_alone c.carry_out-ran.result.cases _ _ c.status-status.ensures (λ well.
+          not_held g.W.Disk.Disk.tells _ store
+          (all_well c.carry_out-ran.result.cases _ _ c.status-status.ensures _ (quiet g c)
+          (c.carry_out-ran.ensures.a_store store at command) well) held),
+    )
 
 pub returns-clause-a_store : goal.returns-clause-a_store
 returns-clause-a_store g c store opens well =

@@ -11,7 +11,7 @@ use Rattle.store_check.proofs.Content.{is_store}
 use Rattle.kom_server.specs.Runs.{AsksPlace}
 use Rattle.kom_server.proofs.Carried.{rose_from}
 use Rattle.kom_server.proofs.StoreRuns.{some_then, both_some, opened_from, asks_none, asks_on, store_there}
-use Rattle.kom_server.proofs.StoreRuns.{wrong_or_served}
+use Rattle.kom_server.proofs.StoreRuns.{wrong_or_served, not_held}
 use Rattle.kom_server.proofs.store_runs.serve_store.Goals as goal
 
 -- ---- the store was opened
@@ -32,6 +32,13 @@ returns-in-Ok-open-clause-exact g c =
     let image : Image = as_read g.W.Disk.Disk.bytes c.in-Ok.disk in
     inr (found_so g.W.Disk.Disk.tells _ _ g.W.Disk.Disk.bytes c.in-Ok.disk _ (λ image. IsNoStore image → ⊥)
     c.in-Ok.ensures.found (λ told. is_store c.in-Ok-open.book.core.state.db image (c.in-Ok-open.ensures.was told)))
+
+pub returns-in-Ok-open-clause-unopened : goal.returns-in-Ok-open-clause-unopened
+returns-in-Ok-open-clause-unopened g c holds =
+    let image : Image = as_read g.W.Disk.Disk.bytes c.in-Ok.disk in
+    absurd (not_held g.W.Disk.Disk.tells _ _ (found_so g.W.Disk.Disk.tells _ _ g.W.Disk.Disk.bytes c.in-Ok.disk _
+    (λ image. IsNoStore image → ⊥) c.in-Ok.ensures.found
+    (λ told. is_store c.in-Ok-open.book.core.state.db image (c.in-Ok-open.ensures.was told))) holds)
 
 pub returns-in-Ok-open-clause-served : goal.returns-in-Ok-open-clause-served
 returns-in-Ok-open-clause-served g c =
@@ -85,6 +92,10 @@ returns-in-Err-clause-unfit g c is =
     (λ told. of_content (as_read g.W.Disk.Disk.bytes c.in-Ok.disk) c.in-Err.fault (sym c.refused.ensures.unfit ∙ is)
     (c.in-Err.ensures.cause told))
 
+pub returns-in-Err-clause-unopened : goal.returns-in-Err-clause-unopened
+returns-in-Err-clause-unopened g c holds =
+    rw (c.refused.ensures.end, c.refused.ensures.disk) (refl, c.in-Ok.ensures.counts)
+
 pub returns-in-Err-clause-exact : goal.returns-in-Err-clause-exact
 returns-in-Err-clause-exact g c = inl (wrong g c)
 
@@ -105,6 +116,9 @@ returns-in_default-clause-asks g c =
     (subst (λ (new : WorldCounts). AsksPlace c.args.port false
     (with_disk false (g.W.World.view c.args.world.now).counts) new) (sym c.in_default.ensures.counts)
     (asks_none c.args.port (with_disk false (g.W.World.view c.args.world.now).counts)))
+
+pub returns-in_default-clause-unopened : goal.returns-in_default-clause-unopened
+returns-in_default-clause-unopened g c holds = rw c.unopened.ensures (refl, c.in_default.ensures.counts)
 
 pub returns-in_default-clause-store : goal.returns-in_default-clause-store
 returns-in_default-clause-store g c =
