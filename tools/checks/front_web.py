@@ -68,7 +68,7 @@ class Talk:
     """A session over a WebSocket."""
 
     def __init__(self, socket):
-        self.socket, self.got = socket, b""
+        self.socket, self.got, self.reason = socket, b"", None
 
     async def send(self, data, size=None):
         """Sends bytes, in frames of a size."""
@@ -95,9 +95,10 @@ class Talk:
         return end if place <= len(self.got) and end >= 0 else None
 
     async def end(self):
-        """The code with which the other side ends it, and the bytes that came before."""
+        """The code with which the other side ends it, and the bytes that came before. The reason is kept."""
         while (message := await self.socket.receive(PATIENCE)).type == aiohttp.WSMsgType.BINARY:
             self.got += message.data
+        self.reason = message.extra
         return self.socket.close_code, self.got
 
 
@@ -232,8 +233,11 @@ async def try_ends(place):
         await full.send(b"A1Ha")
         tried.same("the end where all places are taken", (1013, b""), await full.end())
         late = await browser.opens(url)
-        tried.same("the end of one more than an address has", (1008, b""), await (await browser.opens(url)).end())
+        crowded = await browser.opens(url)
+        tried.same("the end of one more than an address has", (1008, b""), await crowded.end())
         tried.same("the end without a greeting", (1008, b""), await late.end())
+        reasons = "this address has as many sessions as it may have", "no greeting came in time"
+        tried.same("their reasons", reasons, (crowded.reason, late.reason))
         wrong = await browser.opens(url)
         await wrong.send(b"B")
         tried.same("the end of no greeting", (1002, b"%%Protocol error.\n"), await wrong.end())
