@@ -302,8 +302,9 @@ async def try_nginx(place, front):
     folder, port = place.folder / "nginx", free_port()
     folder.mkdir()
     site = (ROOT / "contrib" / "komd-front.nginx").read_text()
-    for here, there in (("443", str(port)), ("8080", str(front.web)), ("/etc/komd-front/cert.pem", str(place.certificate[0])),
-                        ("/etc/komd-front/key.pem", str(place.certificate[1])), ("listen [::]", "#"), ("kom.example.org", NAME)):
+    certificate, key = map(str, place.certificate)
+    for here, there in (("listen 443", f"listen {port}"), ("listen [::]", "#"), ("127.0.0.1:8080", f"127.0.0.1:{front.web}"),
+                        ("/etc/komd-front/cert.pem", certificate), ("/etc/komd-front/key.pem", key), ("kom.example.org", NAME)):
         site = site.replace(here, there)
     temporary = "".join(f"{name}_temp_path {folder}/{name};\n" for name in ("client_body", "proxy", "fastcgi", "uwsgi", "scgi"))
     (folder / "conf").write_text(f"daemon off;\nworker_processes 1;\npid {folder}/pid;\nerror_log {folder}/log;\nevents {{ }}\n"
