@@ -67,7 +67,7 @@ done
 mapfile -t names < <(cd "$root/man" && ls komd*)
 pages "${names[@]}"
 put 644 /usr/lib/systemd/system "$root"/contrib/*.{service,timer}
-put 644 /usr/share/doc/komd "$root"/docs/{emacs,moving,operating,protocol,secrecy,promises,store}.md
+put 644 /usr/share/doc/komd "$root"/docs/{emacs,moving,operating,protocol,secrecy,promises,store,web}.md
 put 644 /usr/share/doc/komd "$root"/contrib/komd-front.nginx
 printf 'komd (%s) unstable; urgency=medium\n\n  * Built from commit %s.\n\n -- %s  %s\n' \
     "$version" "$(git -C "$root" rev-parse --short HEAD)" "$maintainer" "$date" | gzip -9n >"$documents/changelog.gz"
