@@ -152,7 +152,7 @@ def evening(club):
     times = []
 
     # Anna writes; Bo is told.
-    one.click("#conferences button", "memberships")
+    one.click("#conferences button", "All memberships")
     one.click("#conferences a", "Birds")
     one.click("main button", "Write to it")
     one.fill("main input:not([type=search])", "Sparrows")
@@ -229,6 +229,27 @@ def evening(club):
     one.open(one.run("return document.querySelector('main input[type=number]')"))
     one.click("main button", "Leave the conference")
     one.wants("main button.main", "Join")
+
+    # A text is sent on to another conference; a conference is made; another name.
+    one.go("text/1")
+    one.click("article summary", "More")
+    one.click("article button", "Send it on")
+    one.fill("dialog .finder input", "fis")
+    one.click("dialog .found button", "Fish")
+    one.wants("article .links", "To Fish")
+    one.go("make")
+    one.fill("main input", "Insects")
+    one.click("main button.main", "Make it")
+    one.wants("main h1", "Insects")
+    one.wants("main summary", "Your membership")
+    two.go("settings")
+    two.fill("main section:nth-of-type(3) input", "Bo B Berg")
+    two.click("main button", "Change the name")
+    one.go(f"person/{bo}")
+    one.wants("main h1", "Bo B Berg")
+    two.fill("main section:nth-of-type(3) input", "Bo Berg")
+    two.click("main button", "Change the name")
+    one.wants("main h1", "Bo Berg")
 
     # A presentation, the last texts, an own text that is deleted, another password.
     two.go(f"person/{bo}")

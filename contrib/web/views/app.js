@@ -9,7 +9,7 @@ import { loginView } from "./login.js";
 import { followNames, nameOf } from "./names.js";
 import { Prompt } from "./prompt.js";
 import { routes } from "./routes.js";
-import { notify, toast } from "./toasts.js";
+import { forgetWrong, notify, toast } from "./toasts.js";
 
 const SLOW = 500;
 const MENU = [["", "Conferences"], ["find", "Find"], ["write/text-0", "Write"], ["messages", "Messages"],
@@ -25,6 +25,9 @@ export class App {
   #newMessages = 0;
   #barTimer = 0;
   #hiddenAt = 0;
+  /** The address of the view that is shown, and how far down each was looked at. */
+  #place = "";
+  #scrolls = new Map();
 
   constructor(session, club) {
     this.session = session;
@@ -87,6 +90,8 @@ export class App {
     this.#view.leave?.();
     this.#view = view;
     const main = byId("main");
+    this.#scrolls.set(this.#place, window.scrollY);
+    this.#place = location.hash;
     document.body.className = view.name ?? "";
     main.replaceChildren(view.node);
     for (const each of document.querySelectorAll("#menu a")) {
@@ -94,8 +99,11 @@ export class App {
       else each.removeAttribute("aria-current");
     }
     if (focus) {
+      forgetWrong();
       (view.focus ?? main.querySelector("h1") ?? main).focus({ preventScroll: true });
-      window.scrollTo(0, 0);
+      // Whoever goes back finds the place where they were.
+      window.scrollTo(0, history.state?.seen ? this.#scrolls.get(this.#place) ?? 0 : 0);
+      history.replaceState({ seen: true }, "");
     }
     view.shown?.();
     this.retitle();
@@ -129,8 +137,8 @@ export class App {
   }
 
   /** Tells what went wrong. */
-  fail(error) {
-    toast(sentenceOn(error, (number) => this.nameWords(number)), { wrong: true, stays: true });
+  fail(error, actions = []) {
+    toast(sentenceOn(error, (number) => this.nameWords(number)), { wrong: true, stays: true, actions });
   }
 
   /** Does something that may fail, and tells if it did: whether it went well. */

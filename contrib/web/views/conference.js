@@ -1,7 +1,7 @@
 // A conference: what it is, its presentation, and the member's own part in it.
 
-import { button, el, fact, field, figure, heading, letters, link, many } from "./dom.js";
-import { nameLink } from "./names.js";
+import { button, el, fact, field, figure, heading, link, many } from "./dom.js";
+import { nameLink, nameOf } from "./names.js";
 import { personView } from "./person.js";
 import { presented } from "./presented.js";
 import { momentOf } from "./times.js";
@@ -72,7 +72,7 @@ export async function conferenceView(app, words) {
     acts,
     back: again,
     node: el("div", {},
-      heading(letters(name)),
+      heading(nameOf(club, number)),
       el("div", { class: "acts" },
         row ? button(row.unread > 0 ? `Read (${row.unread} unread)` : "Go there", goThere, { class: "main" })
           : button("Join", () => app.try(() => club.join(number).then(again), "You are a member now."), { class: "main" }),

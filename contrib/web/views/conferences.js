@@ -67,7 +67,7 @@ export class ConferenceList {
     if (items.length !== old.length || items.some((item, place) => item !== old[place])) this.#list.replaceChildren(...items);
     const count = club.unread;
     this.#summary.textContent = count > 0 ? `${many(count, "unread text")}` : "Nothing is unread.";
-    this.#toggle.textContent = this.#all ? "Those with unread texts" : `All ${figure(all.length)} memberships`;
+    this.#toggle.textContent = this.#all ? "Those with unread texts" : `All memberships (${figure(all.length)})`;
   }
 }
 

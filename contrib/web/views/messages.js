@@ -1,10 +1,13 @@
 // Messages: what was said since the login, and a line to answer.
 
+import { draftOf } from "../club/writing.js";
 import { bytesOfMessage } from "../letters.js";
 import { el, field, heading } from "./dom.js";
 import { finder } from "./finder.js";
 import { nameOf } from "./names.js";
 import { momentOf } from "./times.js";
+
+const NOBODY_HEARS = 53;
 
 export async function messagesView(app, words) {
   const { club } = app;
@@ -16,7 +19,8 @@ export async function messagesView(app, words) {
   const left = new AbortController();
 
   const item = ({ sender, recipient, text, at }) => el("li", { class: sender === club.me ? "own" : null },
-    el("p", { class: "meta" }, nameOf(club, sender), " to ", recipient === 0 ? "everybody" : nameOf(club, recipient), ", ", momentOf(at)),
+    el("p", { class: "meta" },
+      nameOf(club, sender), " to ", recipient === 0 ? "everybody" : nameOf(club, recipient), ", ", momentOf(at)),
     el("p", { class: "said", dir: "auto" }, text));
 
   function show() {
@@ -37,11 +41,23 @@ export async function messagesView(app, words) {
       app.say("Say first to whom it goes.");
       return;
     }
-    if (await app.try(() => app.session.call("sendMessage", to, bytesOfMessage(text)))) {
-      club.keepMessage(to, text);
-      input.value = "";
-      show();
+    try {
+      await app.session.call("sendMessage", to, bytesOfMessage(text));
+    } catch (error) {
+      app.fail(error, error.code === NOBODY_HEARS && to !== 0 ? [["Write a letter", () => writeLetter(text)]] : []);
+      return;
     }
+    club.keepMessage(to, text);
+    input.value = "";
+    show();
+  }
+
+  /** What nobody is there to hear can wait as a letter. */
+  async function writeLetter(text) {
+    const kind = club.names.isPerson(to) ? "letter" : "text";
+    const key = `${kind}-${to}`;
+    if (!club.drafts.get(key)) club.drafts.keep(key, { ...(await draftOf(club, key)), body: text });
+    app.go(`write/${key}`);
   }
 
   input.addEventListener("keydown", (event) => {

@@ -20,7 +20,9 @@ export async function newsView(app) {
   return {
     name: "news",
     title: "Conferences",
-    node: el("div", {}, heading("Conferences"), notice, list.node,
+    node: el("div", {}, heading("Conferences"), notice,
+      club.memberships.length < 2 ? el("p", {}, "You are a member of no conference yet. Find some, and join them.") : null,
+      list.node,
       el("p", { class: "hint" }, link("find", "Find and join others"))),
     leave: () => left.abort(),
     back: update,

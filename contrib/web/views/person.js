@@ -3,7 +3,7 @@
 import { latin1 } from "../protocol/bytes.js";
 import { shownInLine } from "../letters.js";
 import { button, el, fact, figure, heading, letters, many } from "./dom.js";
-import { nameLink } from "./names.js";
+import { nameLink, nameOf } from "./names.js";
 import { presented } from "./presented.js";
 import { momentOf, spanWords } from "./times.js";
 
@@ -39,6 +39,7 @@ export async function personView(app, words) {
   const acts = { write: () => app.go(`write/letter-${number}`) };
   const name = club.names.known(number);
   const go = (place, words) => el("a", { class: "button", href: `#/${place}` }, words);
+  const user = shownInLine(latin1(person.user));
   const idle = Math.min(...sessions.map((each) => each.idle));
   return {
     name: "person",
@@ -46,7 +47,7 @@ export async function personView(app, words) {
     acts,
     back: () => app.show({ focus: false }),
     node: el("div", {},
-      heading(letters(name)),
+      heading(nameOf(club, number)),
       el("div", { class: "acts" },
         button([own ? "Write to yourself" : "Write a letter", el("kbd", {}, "w")], acts.write, { class: own ? null : "main" }),
         own ? null : button("Send a message", () => app.go(`messages/${number}`)),
@@ -58,7 +59,7 @@ export async function personView(app, words) {
       el("dl", {},
         fact("Number", String(number)),
         fact("Here", sessions.length > 0 ? `now, ${many(sessions.length, "session")}, idle for ${spanWords(idle)}` : "not now"),
-        fact("Last login", momentOf(person.lastLogin), `, by ${shownInLine(latin1(person.user)) || "an unknown client"}`),
+        fact("Last login", momentOf(person.lastLogin), user === "" ? "" : [" as ", letters(user)]),
         fact("Texts written", figure(person.texts)),
         fact("Been here", `${many(person.sessions, "time")}, ${spanWords(person.present)} in all`),
         fact("Member since", momentOf(letterbox.created))),

@@ -20,8 +20,9 @@ export class Prompt {
     const { club } = this.#app;
     if (what === "wait") return ["Nothing is unread. New texts are told as they come."];
     const count = conference ? club.membership(conference)?.unread : 0;
-    if (what === "go") return ["Go to ", nameOf(club, conference), count ? ` (${count} unread)` : ""];
-    if (what === "text") return ["Read the next text in ", nameOf(club, conference), count ? ` (${count} unread)` : ""];
+    const name = conference === club.me ? "your letters" : nameOf(club, conference);
+    if (what === "go") return ["Go to ", name, count ? ` (${count} unread)` : ""];
+    if (what === "text") return ["Read the next text in ", name, count ? ` (${count} unread)` : ""];
     return [above === last ? "Read the next comment" : `Read the next comment to text ${above}`];
   }
 

@@ -4,6 +4,8 @@ import { bytesOfName } from "../letters.js";
 import { set, setting } from "../settings.js";
 import { el, field, heading, link } from "./dom.js";
 
+const UNREAD_IS_SECRET = 0;
+
 function check(name, words, changed) {
   const box = el("input", { type: "checkbox", change: async () => {
     if (changed && !(await changed(box.checked))) box.checked = false;
@@ -35,6 +37,23 @@ function passwordForm(app) {
     el("button", { type: "submit" }, "Change the password"));
 }
 
+/** What others see of the member. */
+async function ownForm(app) {
+  const { club, session } = app;
+  const person = await session.call("getPerson", club.me);
+  const name = el("input", { required: true, maxlength: 60, value: club.names.known(club.me), autocomplete: "off" });
+  const hidden = el("input", { type: "checkbox", change: () => app.try(
+    () => session.call("setPersonFlags", club.me, `${hidden.checked ? 1 : 0}${person.flags.slice(1)}`), "It is set.") });
+  hidden.checked = person.flags[UNREAD_IS_SECRET] === "1";
+  return el("form", { submit: (event) => {
+    event.preventDefault();
+    app.try(() => session.call("changeName", club.me, bytesOfName(name.value.trim())), "Your name is another now.");
+  } },
+    field("Your name", name), el("button", { type: "submit" }, "Change the name"),
+    el("label", { class: "check" }, hidden, " Others do not see what I have read"),
+    el("p", {}, link(`person/${club.me}`, "Your presentation and what others see of you")));
+}
+
 /** Asks the browser whether it lets the page notify. */
 async function allowed(app, on) {
   if (!on) return true;
@@ -58,6 +77,6 @@ export async function settingsView(app) {
         check("keys", "Single letters are keys (see Help)"),
         check("oneWidth", "Show texts in letters of one width")),
       el("section", { "aria-labelledby": "of-password" }, el("h2", { id: "of-password" }, "Password"), passwordForm(app)),
-      el("p", {}, link(`person/${app.club.me}`, "Your presentation and what others see of you"))),
+      el("section", { "aria-labelledby": "of-member" }, el("h2", { id: "of-member" }, "At the club"), await ownForm(app))),
   };
 }

@@ -5,6 +5,7 @@ import { BLIND_COPY, COMMENT_TO, COPY, FOOTNOTE_TO, TO } from "../protocol/recor
 import { bodyOf } from "./body.js";
 import { Conversation } from "./conversation.js";
 import { button, el, letters, link, many } from "./dom.js";
+import { finder } from "./finder.js";
 import { nameLink } from "./names.js";
 import { momentOf } from "./times.js";
 
@@ -56,25 +57,43 @@ function actsOn(app, text, again) {
       return app.try(() => club.setMark(number, on).then(again), done);
     },
     unread: () => app.try(() => club.markUnread(number), `Text ${number} is unread again.`),
+    sendOn: () => askToSendOn(app, number, again),
     remove: own ? () => askToDelete(app, number) : null,
   };
 }
 
 function askToDelete(app, number) {
-  const dialog = el("dialog", { "aria-labelledby": "delete-words" },
-    el("p", { id: "delete-words" }, `Delete text ${number}? It goes for all, and cannot be had back.`),
-    el("div", { class: "row" },
-      button("Delete it", async () => {
-        dialog.close();
-        if (await app.try(() => app.session.call("deleteText", number), `Text ${number} is deleted.`)) {
-          app.club.texts.forget(number);
-          app.show();
-        }
-      }, { class: "danger" }),
-      button("Keep it", () => dialog.close())));
+  const close = ask(`Delete text ${number}? It goes for all, and cannot be had back.`, el("div", { class: "row" },
+    button("Delete it", async () => {
+      close();
+      if (await app.try(() => app.session.call("deleteText", number), `Text ${number} is deleted.`)) {
+        app.club.texts.forget(number);
+        app.show();
+      }
+    }, { class: "danger" }),
+    button("Keep it", () => close())));
+}
+
+/** One more recipient of a text. */
+function askToSendOn(app, number, again) {
+  const close = ask(`To whom is text ${number} to go, too?`,
+    finder(app, { label: "A conference or a person", chosen: async (to, name) => {
+      close();
+      if (await app.try(() => app.session.call("addRecipient", number, to, TO), `${name} has text ${number} now.`)) {
+        app.club.texts.forgetStat(number);
+        again();
+      }
+    } }),
+    button("Leave it", () => close()));
+}
+
+/** Asks something above the page; what it gives closes that. */
+function ask(words, ...answers) {
+  const dialog = el("dialog", { "aria-labelledby": "asked" }, el("p", { id: "asked" }, words), ...answers);
   dialog.addEventListener("close", () => dialog.remove());
   document.body.append(dialog);
   dialog.showModal();
+  return () => dialog.close();
 }
 
 /** A text is read once it has been shown to somebody who looks. */
@@ -113,7 +132,7 @@ export async function textView(app, words) {
       act(marked ? "Drop the mark" : "Mark", "mark", "m"),
       el("details", {}, el("summary", {}, "More"), el("div", { class: "acts" },
         act("Footnote", "footnote", "f"), act("What it answers", "above", "a"), act("Unread again", "unread", "u"),
-        act("Pass over its comments", "skip", "j"), act("Delete", "remove")))));
+        act("Pass over its comments", "skip", "j"), act("Send it on", "sendOn"), act("Delete", "remove")))));
 
   const read = () => {
     if (!document.hidden) readIt(club, text);

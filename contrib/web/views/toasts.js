@@ -29,6 +29,11 @@ export function toast(words, { actions = [], stays = false, wrong = false } = {}
   return close;
 }
 
+/** Takes away what was wrong in a view that is left. */
+export function forgetWrong() {
+  for (const note of document.querySelectorAll(".toast.wrong")) note.remove();
+}
+
 /** Tells of something by the system, where the member allows it and does not look at the page. */
 export function notify(title, body, tag, act) {
   if (!document.hidden || !setting("notify") || globalThis.Notification?.permission !== "granted") return;
