@@ -10,7 +10,7 @@ use Rattle.unicode_width.proofs.Rules.{width_or_zero-le}
 use Rattle.kom_letters.specs.Kinds.{is_plain, shown_letter, columns_of}
 use Rattle.kom_letters.specs.Spacing.{piece_of, spaced}
 use Rattle.kom_letters.specs.Lines.{moved, cursor, StaysWithin, StandsBehindBlanks, is_shown}
-use Rattle.kom_letters.specs.Lines.{seen, word_fits, fits, placed, laid}
+use Rattle.kom_letters.specs.Lines.{seen, word_fits, kept_behind, fits, placed, laid}
 
 pub blank_columns : columns_of 32 ≡ 1
 unfolding columns_of char_width
@@ -18,7 +18,7 @@ blank_columns = refl
 
 pub columns_of_le : (c : ℕ) → columns_of c ≤ 3
 unfolding columns_of
-columns_of_le c = width_or_zero-le false c
+columns_of_le c = grind (arith, nat_tests, width_or_zero-le false c)
 
 -- the cases of what a letter becomes
 placed_cases : (columns at c : ℕ) (rest : List ℕ) (P : List ℕ → Type 0) → (c ≡ 10 → P (10 ∷ 32 ∷ []))
@@ -43,9 +43,10 @@ placed_cases columns at c rest P feed same blank cut =
   where
     fits_narrow : (columns at c : ℕ) (rest : List ℕ) → fits columns at c rest ≡ true → at + columns_of c ≤ columns
     fits_narrow columns at c rest fit =
-        let narrow : nat_le (at + columns_of c) columns ≡ true =
-        (and_parts (nat_le (at + columns_of c) columns) (not (c == 32) || word_fits (columns - at - 1) rest) fit).0 in
-        grind (arith, nat_tests)
+        let both = and_parts (nat_le (at + columns_of c + kept_behind rest) columns)
+        (not (c == 32) || word_fits (columns - at - 1) rest) fit in
+        let narrow : at + columns_of c + kept_behind rest ≤ columns = grind (arith, nat_tests, both.0) in
+        omega arith
 
 moved_within : (columns at c : ℕ) → at + columns_of c ≤ columns → moved at c ≤ columns
 moved_within columns at c narrow = grind (arith, nat_tests)

@@ -39,6 +39,11 @@ is_plain c =
 abbrev pub shown_letter : ℕ → ℕ
 shown_letter c = if is_plain c then c else 63
 
--- the columns of a letter: none of a combining mark, two of a wide letter
+-- the selectors that make the letter before them wide, but not on each terminal
+abbrev pub widens : ℕ → Bool
+widens c = (c == 0xFE01) || (c == 0xFE0F)
+
+-- the columns of a letter: none of a combining mark, two of a wide letter, and one of what may make
+-- another letter wide
 unfoldable pub columns_of : ℕ → ℕ
-columns_of c = unwrap_or (char_width false c) 0
+columns_of c = if widens c then 1 else unwrap_or (char_width false c) 0

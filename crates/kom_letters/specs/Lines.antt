@@ -2,7 +2,7 @@
 use Rattle.std.specs.Prelude.{◌≡◌, ℕ, ◌+◌, ◌-◌, ◌≤◌, Bool, true, not, ◌&&◌, ◌||◌, ◌==◌, nat_le}
 use Rattle.std.specs.Prelude.{List, [], ◌∷◌, ◌++◌}
 use Rattle.std.specs.Prelude.{fold, filter, All, IsTrue, if◌then◌else◌}
-use Rattle.kom_letters.specs.Kinds.{is_plain, columns_of}
+use Rattle.kom_letters.specs.Kinds.{is_plain, widens, columns_of}
 
 -- the column in which the cursor stands after a letter, and after several
 abbrev pub moved : ℕ → ℕ → ℕ
@@ -47,10 +47,16 @@ word_fits room [] = true
 word_fits room (c ∷ cs) =
     (c == 32) || (c == 10) || (nat_le (columns_of c) room && word_fits (room - columns_of c) cs)
 
+-- the column that is kept behind a letter for what may make it wide
+abbrev pub kept_behind : List ℕ → ℕ
+kept_behind [] = 0
+kept_behind (c ∷ cs) = if widens c then 1 else 0
+
 -- a letter fits behind a column, a blank together with the word behind it
 abbrev pub fits : ℕ → ℕ → ℕ → List ℕ → Bool
 fits columns at c rest =
-    nat_le (at + columns_of c) columns && (not (c == 32) || word_fits (columns - at - 1) rest)
+    nat_le (at + columns_of c + kept_behind rest) columns
+    && (not (c == 32) || word_fits (columns - at - 1) rest)
 
 -- what a letter becomes before others: a line feed gets a blank behind it; a letter that does not
 -- fit begins a line, behind a blank unless it is one

@@ -1,9 +1,10 @@
 //! The lines of a text.
 ghost use Rattle.std.specs.Prelude.{◌≡◌, ◌+◌, ◌^◌, ◌≤◌, ◌<◌, ◌++◌, ◌∷◌, [], IsTrue, OnOk, IfOk};
 ghost use Rattle.kom_letters.specs.Kinds.{columns_of};
-ghost use Rattle.kom_letters.specs.Lines.{word_fits, fits, placed, cursor, laid};
+ghost use Rattle.kom_letters.specs.Lines.{word_fits, kept_behind, fits, placed, cursor, laid};
 
 use crate::columns_of;
+use crate::kinds::widens;
 use std::alloc::AllocError;
 
 /// Puts letters into lines, the first of which begins in a column.
@@ -71,10 +72,20 @@ fn fits(columns: usize, at: usize, c: char, rest: &[char]) -> bool
     ensures same { result ≡ fits columns at c rest.now }
     ensures within { IsTrue result → at + columns_of c ≤ columns }
 {
-    if columns < at + columns_of(c) {
+    if columns < at + columns_of(c) + kept_behind(rest) {
         return false;
     }
     c != ' ' || word_fits(columns.saturating_sub(at).saturating_sub(1), rest)
+}
+
+fn kept_behind(rest: &[char]) -> usize
+    ensures value { result ≡ kept_behind rest.now }
+    ensures bound { result ≤ 1 }
+{
+    match rest {
+        [c, ..] if widens(*c) => 1,
+        _ => 0,
+    }
 }
 
 #[tactic(auto, using(crate::proofs::Steps::word_step, crate::proofs::Steps::word_end))]

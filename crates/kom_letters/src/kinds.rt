@@ -1,7 +1,7 @@
 //! Which letters are shown as they are, and how many columns they take.
 ghost use Rattle.std.specs.Prelude.{◌≡◌, ◌≤◌};
 ghost use Rattle.kom_letters.specs.Kinds.{is_written, turns_direction, is_plain};
-ghost use Rattle.kom_letters.specs.Kinds.{shown_letter, columns_of};
+ghost use Rattle.kom_letters.specs.Kinds.{shown_letter, widens, columns_of};
 
 use ucd_category::GeneralCategory;
 use unicode_width::UnicodeWidthChar;
@@ -49,11 +49,21 @@ pub fn shown_letter(c: char) -> char
     if is_plain(c) { c } else { '?' }
 }
 
+/// Whether a letter makes the one before it wide on some terminals.
+pub(crate) fn widens(c: char) -> bool
+    ensures { result ≡ widens c }
+{
+    c == '\u{FE01}' || c == '\u{FE0F}'
+}
+
 /// The columns that a letter takes on a terminal.
 #[tactic(auto, unfolding(crate::specs::Kinds::columns_of))]
 pub fn columns_of(c: char) -> usize
     ensures value { result ≡ columns_of c }
     ensures bound { result ≤ 3 }
 {
+    if widens(c) {
+        return 1;
+    }
     c.width().unwrap_or(0)
 }

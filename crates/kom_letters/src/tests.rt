@@ -3,7 +3,7 @@ use crate::{Charset, Start, Unsendable, charset_of, name_bytes, show, show_name,
 use std::test::Fail;
 
 // Bytes, their charset, and what 20 columns show of them on lines of their own.
-static SHOWN: [(&[u8], Charset, &str); 20] = [
+static SHOWN: [(&[u8], Charset, &str); 21] = [
     (b"\x1b[2Ja", Charset::Latin1, " ?[2Ja"),
     (b"\x9b31m", Charset::Latin1, " ?31m"),
     (b"\xc2\x9b31m", Charset::Utf8, " ?31m"),
@@ -42,6 +42,11 @@ static SHOWN: [(&[u8], Charset, &str); 20] = [
         b"abcdefghijklmnopqr\xe6\xbc\xa2",
         Charset::Utf8,
         " abcdefghijklmnopqr\n \u{6F22}",
+    ),
+    (
+        b"abcdefghijklmnopqr\xe2\x9d\xa4\xef\xb8\x8fb",
+        Charset::Utf8,
+        " abcdefghijklmnopqr\n \u{2764}\u{FE0F}b",
     ),
     (b"R\xe4v", Charset::Latin1, " R\u{E4}v"),
 ];
