@@ -1,4 +1,7 @@
 //! The server: its top call `run`, and how a pass of its hall serves the links of a gate.
+//!
+//! Only what serves may wait. The commands `init` and `load`, and `check` of `store_check`, have no
+//! bound `Wait`: that they return is part of their contracts.
 #![tactic(auto)]
 
 mod loads;
@@ -11,5 +14,8 @@ mod standard;
 mod store_runs;
 mod workers;
 
+pub use loads::load;
 pub use outcome::{Closing, Outcome};
+pub use ran::Ran;
 pub use running::run;
+pub use store_runs::init;

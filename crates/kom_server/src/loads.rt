@@ -12,7 +12,7 @@ use kom_load::tell_load;
 use std::alloc::Global;
 
 /// Loads a new server in memory with so many calls, and says what they came to.
-pub(crate) fn load<W: World>(alloc: Global, count: u32, sink: &mut W::Sink) -> Ran<W>
+pub fn load<W: World>(alloc: Global, count: u32, sink: &mut W::Sink) -> Ran<W>
     requires few { count ≤ 100000 }
     requires fresh { IsNewSink (W.Sink.view sink.old) }
     ensures alone { IsNone result.disk × IsNone result.end }

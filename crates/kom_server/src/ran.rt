@@ -15,7 +15,7 @@ use kom_links::World;
 
 /// What a command came to: its cases, the disk that was opened, and what was opened to serve.
 #[derive(Drop)]
-pub(crate) struct Ran<W: World>
+pub struct Ran<W: World>
 where
     Book<W::Disk>: Acts,
 {

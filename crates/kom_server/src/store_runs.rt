@@ -193,7 +193,7 @@ fn serve_at<
 
 /// Makes a store of a new server, whose administrator has this password, on an empty disk, and says
 /// so.
-pub(crate) fn init<W: World>(
+pub fn init<W: World>(
     alloc: Global,
     path: &str,
     password: &[u8],
