@@ -35,6 +35,7 @@ RESCUE = CONTRIB / "rescue.py"
 SAMPLES = ROOT / "tests" / "stores"
 FIRST, NAME, SECOND = "a first password", "Birgit Öberg", "a second password"
 COPIES, READINGS = 20, 200
+BETWEEN_TEXTS = 0.005
 
 
 class Operator(Tried):
@@ -150,6 +151,8 @@ def write_until(server, gone, answered):
             return
         body = f"{number} writes {place} " + "x" * (place % 3000)
         answered[int(session.ask(f"86 {string(body)} 1 {{ 0 4 }} 0 {{ }}"))] = body
+        # (a store that grows without end takes a busy machine longer and longer to copy)
+        time.sleep(BETWEEN_TEXTS)
 
 
 def try_backup(tried):
