@@ -31,7 +31,7 @@ import time
 
 sys.path.insert(0, str(pathlib.Path(__file__).resolve().parents[1] / "shared"))
 from built import ROOT, Wrong, make_store, program_of, script
-from doors import FRONT, Again, Front, Guest, free_port, is_closed, make_certificate
+from doors import FRONT, Again, Front, Guest, free_port, is_closed, kill_all, make_certificate
 from protocol import string
 from served import PATIENCE, Server, Session, folder_in_memory, limit_seconds
 from tried import Tried
@@ -62,7 +62,20 @@ class Place:
         self.tried = Tried(program, folder)
         self.certificate = make_certificate(folder)
         self.store = make_store(program, str(folder / "store"))
-        self.server = Server(program, self.store, 16)
+        self.servers = []
+        self.server = self.serve(self.store, 16)
+
+    def serve(self, store, workers):
+        """A store that is served until all is tried."""
+        self.servers.append(Server(self.program, store, workers))
+        return self.servers[-1]
+
+    def end(self):
+        """Ends all that was begun."""
+        kill_all()
+        for server in self.servers:
+            if server.process.poll() is None:
+                server.kill()
 
     def front(self, *words, **more):
         """A door before the served store, over TLS."""
@@ -275,7 +288,7 @@ def try_greetings(place):
 def try_places(place):
     """Part 7."""
     store = make_store(place.program, str(place.folder / "small"))
-    server = Server(place.program, store, 5)
+    server = place.serve(store, 5)
     front = Front(place.folder, server.port, "--workers", "5", certificate=place.certificate)
     guests = [Guest(front).login() for _ in range(3)]
     full = front.connect()
@@ -340,7 +353,7 @@ def try_slow(place):
 def try_return(place):
     """Part 9."""
     tried, store = place.tried, make_store(place.program, str(place.folder / "returning"))
-    server = Server(place.program, store, 8)
+    server = place.serve(store, 8)
     front = Front(place.folder, server.port, "--workers", "8", certificate=place.certificate)
     guest = Guest(front).login()
     server.kill()
@@ -349,6 +362,7 @@ def try_return(place):
     gone.sendall(b"A1Ha")
     tried.same("one without a server", True, is_closed(gone))
     server = Again(place.program, store, server.port, 8)
+    place.servers.append(server)
     Guest(front).login().end()
     tried.same("the log of it", 1, front.told().count("the server does not serve"))
     front.end()
@@ -379,7 +393,7 @@ def try_certificate(place):
 
 def with_persons(place, name, passwords):
     """A served store with persons from 6 on, who have these passwords."""
-    server = Server(place.program, make_store(place.program, str(place.folder / name)), 8)
+    server = place.serve(make_store(place.program, str(place.folder / name)), 8)
     session = Session(server.port).login()
     for number, password in enumerate(passwords, 6):
         session.ask(f"89 {string(f'Person {number}')} {string(password)} 00000000 0 {{ }}")
@@ -426,7 +440,7 @@ def main(words):
             for part in PARTS:
                 part(place)
         finally:
-            place.server.kill()
+            place.end()
     print(f"{place.tried.count} things looked at, {place.tried.failed} are otherwise")
     return 1 if place.tried.failed else 0
 

@@ -24,7 +24,7 @@ import time
 
 sys.path.insert(0, str(pathlib.Path(__file__).resolve().parents[1] / "shared"))
 from built import ROOT, make_store, program_of, script
-from doors import NAME, Front, free_port, is_closed, make_certificate
+from doors import NAME, Front, free_port, is_closed, kill_all, make_certificate
 from protocol import string
 from served import PATIENCE, Server, folder_in_memory, is_free, limit_seconds
 from tried import Tried
@@ -115,6 +115,14 @@ class Place:
         (folder / "secret").write_text("nobody's")
         (self.page / "link").symlink_to(folder / "secret")
         self.server = Server(program, make_store(program, str(folder / "store")), 12)
+        self.servers = [self.server]
+
+    def end(self):
+        """Ends all that was begun."""
+        kill_all()
+        for server in self.servers:
+            if server.process.poll() is None:
+                server.kill()
 
     def front(self, *words, server=None, tls=True, workers=12):
         """A door for browsers."""
@@ -222,6 +230,7 @@ async def try_origins(place):
 async def try_ends(place):
     """Part 4."""
     tried, server = place.tried, Server(place.program, make_store(place.program, str(place.folder / "small")), 4)
+    place.servers.append(server)
     front = place.front("--greeting", "2", "--connections", "3", server=server, workers=4)
     url = place.url(front, "/kom")
     async with place.browser() as browser, place.browser("127.0.0.2") as other:
@@ -340,7 +349,7 @@ def main(words):
         try:
             asyncio.run(tried_all(place))
         finally:
-            place.server.kill()
+            place.end()
     print(f"{place.tried.count} things looked at, {place.tried.failed} are otherwise")
     return 1 if place.tried.failed else 0
 

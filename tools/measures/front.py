@@ -23,7 +23,7 @@ import time
 
 sys.path.insert(0, str(pathlib.Path(__file__).resolve().parents[1] / "shared"))
 from built import Wrong, make_store, program_of, script
-from doors import Front, Guest, free_port, make_certificate
+from doors import Front, Guest, free_port, kill_all, make_certificate
 from protocol import string
 from served import Server, Session, folder_in_memory
 
@@ -75,6 +75,14 @@ def rate(connect, seconds):
 def compare(program, folder, certificate, where, seconds):
     """Part 1, in a folder."""
     server = Server(program, make_store(program, str(folder / "store")), WORKERS)
+    try:
+        compare_served(server, certificate, where, seconds)
+    finally:
+        server.kill()
+
+
+def compare_served(server, certificate, where, seconds):
+    """Part 1, once a store is served."""
     fill(server.port)
     words = ("--workers", str(WORKERS))
     plain = Front(certificate[0].parent, server.port, *words)
@@ -92,7 +100,6 @@ def compare(program, folder, certificate, where, seconds):
         print(f"get-text, {CLIENTS} connections, a store {where}, {way}: {median:,.0f} a second, {median / medians['the server']:.2f}")
     plain.end()
     tls.end()
-    server.kill()
 
 
 class StandIn:
@@ -132,9 +139,12 @@ def main(words):
     resource.setrlimit(resource.RLIMIT_NOFILE, (4 * IDLE, max(4 * IDLE, resource.getrlimit(resource.RLIMIT_NOFILE)[1])))
     with tempfile.TemporaryDirectory(dir=folder_in_memory()) as memory, tempfile.TemporaryDirectory(dir=(words[2:] or [None])[0]) as disk:
         certificate = make_certificate(pathlib.Path(memory))
-        compare(program, pathlib.Path(disk), certificate, "on disk", seconds)
-        compare(program, pathlib.Path(memory), certificate, "in memory", seconds)
-        idle(pathlib.Path(memory), certificate)
+        try:
+            compare(program, pathlib.Path(disk), certificate, "on disk", seconds)
+            compare(program, pathlib.Path(memory), certificate, "in memory", seconds)
+            idle(pathlib.Path(memory), certificate)
+        finally:
+            kill_all()
     return 0
 
 

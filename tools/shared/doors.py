@@ -43,6 +43,14 @@ def is_closed(connection):
         return True
 
 
+def kill_all():
+    """Ends by signal 9 the doors that were begun and have not ended, as where a script fails."""
+    for front in Front.begun:
+        if front.process.poll() is None:
+            front.process.kill()
+            front.process.wait()
+
+
 class Again(Server):
     """A store that is served at the port of a server that has ended, whose connections the system still remembers."""
 
@@ -57,6 +65,7 @@ class Again(Server):
 class Front:
     """A front door that runs, with its log."""
 
+    begun = []
     # A door is looked at as a server is.
     resident, processor_seconds = Server.resident, Server.processor_seconds
 
@@ -75,6 +84,7 @@ class Front:
         self.log = folder / f"log.{given[1]}"
         with open(self.log, "wb") as log:
             self.process = subprocess.Popen([FRONT, "--komd", str(komd), *given, *words], stdout=log, stderr=log)
+        self.begun.append(self)
         self.await_ports([self.port, self.web])
 
     def await_ports(self, ports):
