@@ -14,8 +14,8 @@ const PATIENCE = 20_000;
 
 /** The connection ended before an answer came: whether the call was made is not known. */
 export class Gone extends Error {
-  constructor() {
-    super("The connection to the server is gone.");
+  constructor(words = "The connection to the server is gone.") {
+    super(words);
   }
 }
 

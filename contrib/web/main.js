@@ -11,4 +11,3 @@ address.hash = "";
 const session = new Session(address.href);
 const club = new Club(session);
 new App(session, club).start();
-session.connect();

@@ -13,10 +13,11 @@ const LONGEST_PAUSE = 30_000;
 const FULL_AFTER = 2_500;
 /** How a WebSocket ends where the server has no place for it, or does not serve. */
 const TRY_AGAIN_LATER = 1013;
+const NO_PLACE = "The server has no place free, or does not serve just now. Try again later.";
 
 /**
  * Events: `state` whenever `state` changes, `member` when somebody is logged in (again, too), `message`.
- * The states are `connecting`, `full` (no answer to the greeting yet), `stranger`, `member` and `gone`.
+ * The states are `stranger` (nobody is logged in), `connecting`, `full` (no answer to the greeting yet), `member` and `gone`.
  * The password stands in this object alone, while somebody is logged in, for logins after a pause.
  */
 export class Session extends EventTarget {
@@ -26,7 +27,11 @@ export class Session extends EventTarget {
   #pause = 0;
   #timer = 0;
   #fullTimer = 0;
-  state = "connecting";
+  /** Whether the connection is there and greeted. */
+  #open = false;
+  /** Who waits for that. */
+  #waiters = [];
+  state = "stranger";
   person = 0;
   /** When the next try to connect begins. */
   nextTry = 0;
@@ -62,12 +67,23 @@ export class Session extends EventTarget {
     this.#fullTimer = setTimeout(() => this.#become("full"), FULL_AFTER);
   }
 
+  /** Has a connection be there. Whoever only looks at the way in takes nobody's place at the server. */
+  ready() {
+    if (this.#open) return Promise.resolve();
+    return new Promise((resolve, reject) => {
+      this.#waiters.push({ resolve, reject });
+      if (this.#waiters.length === 1) this.connect();
+    });
+  }
+
   async #greeted() {
     clearTimeout(this.#fullTimer);
+    this.#open = true;
     this.call("setClientVersion", fromLatin1(CLIENT), fromLatin1(CLIENT_VERSION)).catch(() => undefined);
     if (this.#password === null) {
       this.#pause = 0;
       this.#become("stranger");
+      for (const { resolve } of this.#waiters.splice(0)) resolve();
       return;
     }
     try {
@@ -79,7 +95,14 @@ export class Session extends EventTarget {
 
   #gone(code) {
     clearTimeout(this.#fullTimer);
+    this.#open = false;
     this.noPlace = code === TRY_AGAIN_LATER;
+    if (this.#password === null) {
+      this.#connection = null;
+      this.#become("stranger");
+      for (const { reject } of this.#waiters.splice(0)) reject(new Gone(this.noPlace ? NO_PLACE : undefined));
+      return;
+    }
     this.#pause = Math.min(this.#pause === 0 ? 500 : this.#pause * 2, LONGEST_PAUSE);
     // Members whose server returns do not all come at once.
     const pause = this.#pause * (0.75 + Math.random() / 2);
@@ -138,7 +161,8 @@ export class Session extends EventTarget {
   #forget() {
     this.#password = null;
     this.person = 0;
-    if (this.state === "member" || this.state === "connecting" || this.state === "full") this.#become("stranger");
+    clearTimeout(this.#timer);
+    if (this.state !== "stranger") this.#become("stranger");
   }
 
   /** Logs out, and forgets who it was. */
@@ -146,5 +170,6 @@ export class Session extends EventTarget {
     const answer = this.call("logout");
     this.#forget();
     await answer.catch(() => undefined);
+    this.#connection?.end();
   }
 }

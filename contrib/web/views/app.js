@@ -53,6 +53,7 @@ export class App {
     window.addEventListener("online", () => session.state === "gone" && session.connect());
     document.addEventListener("visibilitychange", () => this.#seen());
     setInterval(() => this.#showBusy(), SLOW / 2);
+    this.#showLogin();
   }
 
   // Where one is.
@@ -210,7 +211,7 @@ export class App {
 
   #stateChanged() {
     const { state } = this.session;
-    if (state === "stranger") this.#showLogin();
+    if (state === "stranger" && this.#view.name !== "login") this.#showLogin();
     clearInterval(this.#barTimer);
     const bar = byId("bar");
     if (state === "member" || state === "stranger") {
@@ -221,7 +222,7 @@ export class App {
     const again = button("Try now", () => this.session.connect(), { hidden: state !== "gone" });
     bar.replaceChildren(words, again);
     // The first connection is told of only where it takes its time.
-    bar.hidden = state === "connecting" && !this.#entered && this.session.nextTry === 0;
+    bar.hidden = state === "connecting" && !this.#entered;
     if (state === "gone") this.#barTimer = setInterval(() => words.replaceChildren(this.#stateWords()), 1000);
   }
 

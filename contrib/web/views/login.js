@@ -29,6 +29,7 @@ export function loginView(app, known) {
     said.textContent = "";
     submit.disabled = true;
     try {
+      await app.session.ready();
       await app.session.login(number, bytesOfName(password.value));
       keepName(name.value.trim());
       password.value = "";
@@ -45,6 +46,7 @@ export function loginView(app, known) {
     said.textContent = "";
     choice.replaceChildren();
     try {
+      await app.session.ready();
       const persons = await personsOf(app, name.value.trim());
       if (persons.length === 1) await enter(persons[0]);
       else if (persons.length === 0) said.textContent = "Nobody here has that name.";
@@ -87,6 +89,7 @@ function newMember(app, loginName) {
       return;
     }
     try {
+      await app.session.ready();
       const bytes = bytesOfName(password.value);
       const number = await app.session.call("createPerson", bytesOfName(name.value.trim()), bytes, "00000000", []);
       keepName(name.value.trim());
