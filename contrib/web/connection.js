@@ -73,7 +73,11 @@ export class Connection {
         act(value);
         this.#sendLater();
       };
-      this.#send(name, values, answered(resolve), answered(reject));
+      try {
+        this.#send(name, values, answered(resolve), answered(reject));
+      } catch (error) {
+        answered(reject)(error);
+      }
     }
   }
 
@@ -83,10 +87,12 @@ export class Connection {
       return;
     }
     const call = calls[name];
+    // What cannot be spelled is not waited for.
+    const line = lineOf(this.#reference + 1, call, values);
     this.#reference += 1;
     this.#waiting.set(this.#reference, { call, resolve, reject });
     if (this.#out.length === 0) queueMicrotask(() => this.#flush());
-    this.#out.push(lineOf(this.#reference, call, values));
+    this.#out.push(line);
   }
 
   #flush() {

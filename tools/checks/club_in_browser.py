@@ -742,6 +742,8 @@ def views(club, pictures=None):
         if place.startswith("conference"):
             browser.run("document.querySelectorAll('main details').forEach((each) => { each.open = true; })")
         look_at(place)
+        # Nothing is waited for in a view that is at rest.
+        browser.wants_not("#busy", seconds=10)
     other.ask(f"53 {anna} {string('Are you coming along to the lake on Sunday?')}")
     browser.wants(".toast")
     look_at("toast")

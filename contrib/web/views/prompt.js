@@ -19,11 +19,11 @@ export class Prompt {
   #words({ what, text, conference, above }, last) {
     const { club } = this.#app;
     if (what === "wait") return ["Nothing is unread. New texts are told as they come."];
-    const count = conference ? club.membership(conference)?.unread : 0;
+    if (what === "comment") return [above === last ? "Read the next comment" : `Read the next comment to text ${above}`];
+    const count = club.membership(conference)?.unread;
     const name = conference === club.me ? "your letters" : nameOf(club, conference);
     if (what === "go") return ["Go to ", name, count ? ` (${count} unread)` : ""];
-    if (what === "text") return ["Read the next text in ", name, count ? ` (${count} unread)` : ""];
-    return [above === last ? "Read the next comment" : `Read the next comment to text ${above}`];
+    return ["Read the next text in ", name, count ? ` (${count} unread)` : ""];
   }
 
   /** Finds out what comes next, and says so. */

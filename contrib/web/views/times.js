@@ -32,7 +32,7 @@ export const momentOf = (moment) => el("time", { datetime: new Date(moment).toIS
 
 /** A number of seconds in words. */
 export function spanWords(seconds) {
-  if (seconds < 60) return "less than a minute";
+  if (seconds < 60) return "under 1 min";
   if (seconds < 3600) return `${Math.floor(seconds / 60)} min`;
   if (seconds < 86_400) return `${Math.floor(seconds / 3600)} h ${Math.floor((seconds % 3600) / 60)} min`;
   return `${Math.floor(seconds / 86_400)} days`;

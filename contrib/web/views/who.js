@@ -17,7 +17,7 @@ export async function whoView(app) {
     table.replaceChildren(...sessions.map(({ person, conference, idle, doing }) => el("tr", {},
       el("td", {}, nameLink(club, person)),
       el("td", {}, conference === 0 ? "" : nameLink(club, conference)),
-      el("td", {}, spanWords(idle)),
+      el("td", { class: "when" }, spanWords(idle)),
       el("td", {}, el("bdi", {}, messageOf(doing))),
       el("td", {}, person === club.me ? "" : button("Message", () => app.go(`messages/${person}`))))));
   }
