@@ -24,7 +24,7 @@ import tempfile
 import time
 
 TOP = pathlib.Path(__file__).resolve().parents[2]
-sys.path.insert(0, str(TOP / "tools" / "shared"))
+sys.path.insert(0, str(TOP / "tools" / "common"))
 from built import Wrong, make_store, program_of, script
 from protocol import string
 from served import PATIENCE, Server, Session, folder_in_memory

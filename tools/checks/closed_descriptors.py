@@ -23,7 +23,7 @@ import sys
 import tempfile
 import threading
 
-sys.path.insert(0, str(pathlib.Path(__file__).resolve().parents[1] / "shared"))
+sys.path.insert(0, str(pathlib.Path(__file__).resolve().parents[1] / "common"))
 from built import check_store, make_store, program_of, script
 from served import PATIENCE, Server, Session, stop
 from tried import Tried

@@ -30,7 +30,7 @@ import sys
 import tempfile
 import time
 
-sys.path.insert(0, str(pathlib.Path(__file__).resolve().parents[1] / "shared"))
+sys.path.insert(0, str(pathlib.Path(__file__).resolve().parents[1] / "common"))
 import browsers
 from browsers import NARROW, POLL, WIDE, Browser, Front
 from built import ROOT, Wrong, built, make_store, script

@@ -23,7 +23,7 @@ import tempfile
 import termios
 import types
 
-sys.path.insert(0, str(pathlib.Path(__file__).resolve().parents[1] / "shared"))
+sys.path.insert(0, str(pathlib.Path(__file__).resolve().parents[1] / "common"))
 from built import ROOT, Wrong, program_of, script
 from served import PATIENCE, Session, limit_seconds, stop
 from tried import Tried

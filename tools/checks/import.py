@@ -29,7 +29,7 @@ import threading
 import time
 
 TOP = pathlib.Path(__file__).resolve().parents[2]
-sys.path[:0] = [str(TOP / "tools" / "shared"), str(TOP / "contrib")]
+sys.path[:0] = [str(TOP / "tools" / "common"), str(TOP / "contrib")]
 from built import Wrong, check_store, make_store, program_of, script
 from club import PERSONS, Club, different, told, told_marks
 from importing.limits import LIMITS, leave_out

@@ -18,7 +18,7 @@ import tempfile
 import time
 
 TOP = pathlib.Path(__file__).resolve().parents[2]
-sys.path[:0] = [str(TOP / "tools" / "shared"), str(TOP / "contrib")]
+sys.path[:0] = [str(TOP / "tools" / "common"), str(TOP / "contrib")]
 import protocol_a
 from built import program_of, script
 from club import Club

@@ -4,8 +4,8 @@
 # as the one word says; then each test, and calls over 300 pairs, again for each allocation with that one refused. Needs
 # valgrind, a C compiler, and `rt` on the path, which proves both programs first.
 set -euo pipefail
-# shellcheck source-path=SCRIPTDIR source=../shared/script.sh
-. "$(dirname "${BASH_SOURCE[0]}")/../shared/script.sh"
+# shellcheck source-path=SCRIPTDIR source=../common/script.sh
+. "$(dirname "${BASH_SOURCE[0]}")/../common/script.sh"
 pairs=${1:-20000}
 few=300
 proved table_tests test

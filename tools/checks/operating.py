@@ -23,7 +23,7 @@ import threading
 import time
 
 TOP = pathlib.Path(__file__).resolve().parents[2]
-sys.path[:0] = [str(TOP / "tools" / "shared"), str(TOP / "contrib")]
+sys.path[:0] = [str(TOP / "tools" / "common"), str(TOP / "contrib")]
 import rescue
 from built import ROOT, Wrong, check_store, make_store, program_of, script
 from protocol import string

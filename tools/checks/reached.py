@@ -30,7 +30,7 @@ try:
 except ImportError:
     gdb = None
 
-sys.path.insert(0, str(pathlib.Path(__file__).resolve().parents[1] / "shared"))
+sys.path.insert(0, str(pathlib.Path(__file__).resolve().parents[1] / "common"))
 from built import ROOT, script
 
 STREAMS = ROOT / "tests" / "streams"

@@ -29,7 +29,7 @@ import tempfile
 import threading
 import time
 
-sys.path.insert(0, str(pathlib.Path(__file__).resolve().parents[1] / "shared"))
+sys.path.insert(0, str(pathlib.Path(__file__).resolve().parents[1] / "common"))
 from built import USAGE, Wrong, check_store, make_store, program_of, script
 from protocol import TIME, string
 from served import PATIENCE, Server, Session, folder_in_memory, has_ipv6, limit_seconds, side_by_side, stop, wants

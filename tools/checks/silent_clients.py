@@ -25,7 +25,7 @@ import sys
 import tempfile
 import time
 
-sys.path.insert(0, str(pathlib.Path(__file__).resolve().parents[1] / "shared"))
+sys.path.insert(0, str(pathlib.Path(__file__).resolve().parents[1] / "common"))
 from built import Wrong, compile_c, make_store, program_of, script
 from protocol import string
 from served import PATIENCE, Server, Session, folder_in_memory, limit_seconds, stop, wants

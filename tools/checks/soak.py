@@ -35,7 +35,7 @@ import tempfile
 import threading
 import time
 
-sys.path.insert(0, str(pathlib.Path(__file__).resolve().parents[1] / "shared"))
+sys.path.insert(0, str(pathlib.Path(__file__).resolve().parents[1] / "common"))
 from built import ROOT, Wrong, check_store, make_store, program_of, script
 from known_person import Known, observed, random_call
 from protocol import string

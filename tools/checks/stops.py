@@ -18,7 +18,7 @@ import signal
 import sys
 import tempfile
 
-sys.path.insert(0, str(pathlib.Path(__file__).resolve().parents[1] / "shared"))
+sys.path.insert(0, str(pathlib.Path(__file__).resolve().parents[1] / "common"))
 from built import ROOT, check_store, compile_c, make_store, program_of, script
 from once import in_pieces
 from protocol import difference

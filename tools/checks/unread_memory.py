@@ -15,7 +15,7 @@ import re
 import sys
 import tempfile
 
-sys.path.insert(0, str(pathlib.Path(__file__).resolve().parents[1] / "shared"))
+sys.path.insert(0, str(pathlib.Path(__file__).resolve().parents[1] / "common"))
 from built import ROOT, make_store, program_of, script
 from protocol import string
 from served import Server, Session, folder_in_memory, limit_seconds, stop, wants

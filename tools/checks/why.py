@@ -20,7 +20,7 @@ import sys
 import tempfile
 
 TOP = pathlib.Path(__file__).resolve().parents[2]
-sys.path.insert(0, str(TOP / "tools" / "shared"))
+sys.path.insert(0, str(TOP / "tools" / "common"))
 from built import make_store, program_of, script
 from served import PATIENCE, Server, folder_in_memory, stop
 from tried import Tried

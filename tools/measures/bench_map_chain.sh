@@ -4,8 +4,8 @@
 # which proves the program bench first. It writes one line for each measure: only the ratios of one run mean
 # anything.
 set -euo pipefail
-# shellcheck source-path=SCRIPTDIR source=../shared/script.sh
-. "$(dirname "${BASH_SOURCE[0]}")/../shared/script.sh"
+# shellcheck source-path=SCRIPTDIR source=../common/script.sh
+. "$(dirname "${BASH_SOURCE[0]}")/../common/script.sh"
 pairs=${1:-1000000}
 proved bench run
 bench=$(built bench)

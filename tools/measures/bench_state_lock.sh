@@ -7,8 +7,8 @@
 # times, and of each the least time and the least processor time count. It needs rt, which proves the
 # program bench first, and rustc.
 set -euo pipefail
-# shellcheck source-path=SCRIPTDIR source=../shared/script.sh
-. "$(dirname "${BASH_SOURCE[0]}")/../shared/script.sh"
+# shellcheck source-path=SCRIPTDIR source=../common/script.sh
+. "$(dirname "${BASH_SOURCE[0]}")/../common/script.sh"
 turns=${1:-2000000}
 proved bench run
 bench=$(built bench)

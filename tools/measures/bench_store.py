@@ -20,7 +20,7 @@ import sys
 import tempfile
 import time
 
-sys.path.insert(0, str(pathlib.Path(__file__).resolve().parents[1] / "shared"))
+sys.path.insert(0, str(pathlib.Path(__file__).resolve().parents[1] / "common"))
 from built import check_store, compile_c, make_store, program_of, script
 
 CALLS, ROUNDS, TEXTS = 200, 9, 100_000

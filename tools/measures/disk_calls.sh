@@ -3,8 +3,8 @@
 # with C that makes the same calls. Both work on files in a folder that the script makes and removes. It needs strace,
 # a C compiler and rt, which proves the program bench first.
 set -euo pipefail
-# shellcheck source-path=SCRIPTDIR source=../shared/script.sh
-. "$(dirname "${BASH_SOURCE[0]}")/../shared/script.sh"
+# shellcheck source-path=SCRIPTDIR source=../common/script.sh
+. "$(dirname "${BASH_SOURCE[0]}")/../common/script.sh"
 turns=${1:-100000}
 proved bench run
 bench=$(built bench)

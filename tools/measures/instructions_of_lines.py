@@ -10,7 +10,7 @@ a change is proved; one with checks takes half as many again.
 import pathlib
 import sys
 
-sys.path.insert(0, str(pathlib.Path(__file__).resolve().parents[1] / "shared"))
+sys.path.insert(0, str(pathlib.Path(__file__).resolve().parents[1] / "common"))
 from built import program_of, script
 from callgrind import instructions, login
 from protocol import string

@@ -11,7 +11,7 @@ instructions of a run with some such calls less those of the same run without th
 import pathlib
 import sys
 
-sys.path.insert(0, str(pathlib.Path(__file__).resolve().parents[1] / "shared"))
+sys.path.insert(0, str(pathlib.Path(__file__).resolve().parents[1] / "common"))
 from built import program_of, script
 from callgrind import FIRST, instructions, login, tell
 from protocol import string

@@ -12,7 +12,7 @@ many calls less those of the same run without them.
 import pathlib
 import sys
 
-sys.path.insert(0, str(pathlib.Path(__file__).resolve().parents[1] / "shared"))
+sys.path.insert(0, str(pathlib.Path(__file__).resolve().parents[1] / "common"))
 from built import program_of, script
 from callgrind import FIRST, Prepared, login, tell
 from protocol import string

@@ -9,7 +9,7 @@ Counted by callgrind: the instructions of a run with so many calls less those of
 import pathlib
 import sys
 
-sys.path.insert(0, str(pathlib.Path(__file__).resolve().parents[1] / "shared"))
+sys.path.insert(0, str(pathlib.Path(__file__).resolve().parents[1] / "common"))
 from built import program_of, script
 from callgrind import CALLS, FIRST, Prepared, login, tell
 from protocol import string

@@ -12,7 +12,7 @@ import subprocess
 import sys
 import tempfile
 
-sys.path.insert(0, str(pathlib.Path(__file__).resolve().parents[1] / "shared"))
+sys.path.insert(0, str(pathlib.Path(__file__).resolve().parents[1] / "common"))
 from built import make_store, program_of, script
 from callgrind import by_function, login
 from protocol import string

@@ -22,7 +22,7 @@ import tempfile
 import threading
 import time
 
-sys.path.insert(0, str(pathlib.Path(__file__).resolve().parents[1] / "shared"))
+sys.path.insert(0, str(pathlib.Path(__file__).resolve().parents[1] / "common"))
 from built import Wrong, compile_c, make_store, program_of, script
 from protocol import string
 from served import ADMINISTRATOR, Server, Session, folder_in_memory, limit_seconds, side_by_side, stop

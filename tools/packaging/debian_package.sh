@@ -8,8 +8,8 @@
 # /etc/komd-front, and starts nothing. It depends on Python, so that all that the pages name is there on a bad day, when nothing can be
 # fetched. Needs dpkg-deb, git, readelf, and the kit, which has the licences of what the programs are built from.
 set -euo pipefail
-# shellcheck source-path=SCRIPTDIR source=../shared/script.sh
-. "$(dirname "${BASH_SOURCE[0]}")/../shared/script.sh"
+# shellcheck source-path=SCRIPTDIR source=../common/script.sh
+. "$(dirname "${BASH_SOURCE[0]}")/../common/script.sh"
 usage='usage: debian_package.sh KOMD FOLDER [KOMC]'
 komd=$(realpath "${1:?$usage}")
 folder=$(realpath "${2:?$usage}")

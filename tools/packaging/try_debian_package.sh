@@ -7,8 +7,8 @@
 # done in a copy beside it. Each tool of the package is used, the server is served at a port of this machine for that. It prints a line
 # for each thing that is otherwise than wanted, and a count, and ends with 1 if there is one, else with 0. Run it as root.
 set -euo pipefail
-# shellcheck source-path=SCRIPTDIR source=../shared/script.sh
-. "$(dirname "${BASH_SOURCE[0]}")/../shared/script.sh"
+# shellcheck source-path=SCRIPTDIR source=../common/script.sh
+. "$(dirname "${BASH_SOURCE[0]}")/../common/script.sh"
 usage='usage: try_debian_package.sh PACKAGE ROOT'
 package=$(realpath "${1:?$usage}")
 system=$(realpath "${2:?$usage}")

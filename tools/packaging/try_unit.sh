@@ -8,8 +8,8 @@
 # it was: the container runs in a copy beside it, with a network of its own. It prints a line for each thing that is otherwise than wanted,
 # and a count, and ends with 1 if there is one, else with 0. Run it as root; it needs systemd-nspawn, and takes two minutes.
 set -euo pipefail
-# shellcheck source-path=SCRIPTDIR source=../shared/script.sh
-. "$(dirname "${BASH_SOURCE[0]}")/../shared/script.sh"
+# shellcheck source-path=SCRIPTDIR source=../common/script.sh
+. "$(dirname "${BASH_SOURCE[0]}")/../common/script.sh"
 usage='usage: try_unit.sh PACKAGE ROOT'
 package=$(realpath "${1:?$usage}")
 system=$(realpath "${2:?$usage}")
