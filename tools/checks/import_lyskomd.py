@@ -12,9 +12,11 @@ alone. It prints a line for each thing that is otherwise, and a count, and ends 
 import os
 import pathlib
 import shutil
+import socket
 import subprocess
 import sys
 import tempfile
+import threading
 import time
 
 TOP = pathlib.Path(__file__).resolve().parents[2]
@@ -38,7 +40,7 @@ def start_lyskomd(folder):
     text = SETTINGS.read_text()
     for place in ("/var/lib", "/var/log", "/var/run"):
         text = text.replace(f"{place}/lyskom-server", str(folder))
-    (folder / "conf").write_text(text)
+    (folder / "conf").write_text(f"{text}\nGarb: no\n")
     for path in (folder, *folder.iterdir()):
         shutil.chown(path, "lyskom")
     process = subprocess.Popen(["setpriv", "--reuid", "lyskom", "--clear-groups", "lyskomd", "-f", folder / "conf"],
@@ -51,6 +53,22 @@ def start_lyskomd(folder):
         except OSError:
             pass
     sys.exit("lyskomd does not serve")
+
+
+def know_no_name(folder):
+    """A name server that knows no name, since lyskomd waits half a minute for one that does not answer, at each connection."""
+    (folder / "resolv.conf").write_text("nameserver 127.0.0.1\n")
+    subprocess.run(["mount", "--bind", folder / "resolv.conf", "/etc/resolv.conf"], check=True)
+    server = socket.socket(socket.AF_INET, socket.SOCK_DGRAM)
+    server.bind(("127.0.0.1", 53))
+
+    def answer():
+        while True:
+            asked, asker = server.recvfrom(512)
+            # (an answer, and the code that there is no such name)
+            server.sendto(asked[:2] + b"\x81\x83" + asked[4:], asker)
+
+    threading.Thread(target=answer, daemon=True).start()
 
 
 def pairs(session, call, number):
@@ -118,12 +136,13 @@ def told_marks(port):
 def main(given):
     program = program_of(given)
     if INSIDE not in os.environ:
-        os.execvpe("unshare", ["unshare", "--net", sys.executable, __file__, program, *given[1:]], {**os.environ, INSIDE: "1"})
+        os.execvpe("unshare", ["unshare", "--net", "--mount", sys.executable, __file__, program, *given[1:]], {**os.environ, INSIDE: "1"})
     subprocess.run(["ip", "link", "set", "lo", "up"], check=True)
     with tempfile.TemporaryDirectory() as name:
         folder = pathlib.Path(name)
         folder.chmod(0o755)
         (folder / "old").mkdir()
+        know_no_name(folder)
         tried, old = Tried(program, folder), start_lyskomd(folder / "old")
         try:
             club = Club(PORT, PASSWORD)
@@ -145,6 +164,7 @@ def main(given):
             new.kill()
         for asked in wanted:
             tried.same(str(asked), wanted[asked], found.get(asked))
+        subprocess.run(["umount", "/etc/resolv.conf"], check=True)
     print(f"{tried.count} things looked at, {tried.failed} are otherwise")
     return 1 if tried.failed else 0
 
