@@ -1,12 +1,13 @@
 #!/bin/bash
-# Runs the unit of a package that debian_package.sh made under a systemd of its own, in a container, and has it end in each way:
+# Runs the units of a package that debian_package.sh made under a systemd of its own, in a container: the server's, which it has end
+# in each way, and the front door's:
 #
 #     try_unit.sh PACKAGE ROOT
 #
 # ROOT is a folder as `debootstrap --variant=minbase --include=adduser,dbus,perl,python3,systemd,systemd-sysv bookworm ROOT`
 # leaves it, and is left as
 # it was: the container runs in a copy beside it, with a network of its own. It prints a line for each thing that is otherwise than wanted,
-# and a count, and ends with 1 if there is one, else with 0. Run it as root; it needs systemd-nspawn, and takes two minutes.
+# and a count, and ends with 1 if there is one, else with 0. Run it as root; it needs systemd-nspawn and openssl, and takes two minutes.
 set -euo pipefail
 # shellcheck source-path=SCRIPTDIR source=../common/script.sh
 . "$(dirname "${BASH_SOURCE[0]}")/../common/script.sh"
@@ -17,6 +18,8 @@ copy=$(mktemp -d "$system.XXXXXX")
 trap 'rm -rf --one-file-system "$copy" "$work"' EXIT
 cp -a "$system/." "$copy"
 cp "$package" "$copy/komd.deb"
+openssl req -x509 -newkey rsa:2048 -nodes -days 2 -subj /CN=localhost -addext subjectAltName=DNS:localhost \
+    -keyout "$copy/key.pem" -out "$copy/cert.pem" 2>/dev/null
 rm -f "$copy/usr/sbin/policy-rc.d"
 cat >"$copy/etc/systemd/system/try.service" <<'END'
 [Unit]
@@ -145,13 +148,41 @@ sleep 1
 journalctl --sync
 same 'who came, as the journal has it' 'login session person 5 Administrator' \
     "$(journalctl -u komd-log@6 -o cat --no-pager | grep -o 'login session [0-9]* person 5 Administrator' | head -n 1 | sed 's/ [0-9]* p/ p/')"
+# The front door; browsers want a package that is not here.
+install -m 0640 -g komd-front /cert.pem /key.pem /etc/komd-front
+mkdir -p /etc/systemd/system/komd-front.service.d
+printf '[Service]\nEnvironment="DOORS=--port 4895"\n' >/etc/systemd/system/komd-front.service.d/try.conf
+systemctl daemon-reload
+systemctl start komd-front
+said=$(python3 - 2>&1 <<'PYTHON'
+import socket, ssl, time
+for _ in range(100):
+    try:
+        near = socket.create_connection(("127.0.0.1", 4895))
+        break
+    except OSError:
+        time.sleep(0.1)
+far = ssl.create_default_context(cafile="/cert.pem").wrap_socket(near, server_hostname="localhost")
+far.sendall(b"A1Ha\n1 89 3HEva 1Hp 00000000 0 { }\n2 62 6 12Ha second one 0\n3 55 0\n")
+got = b""
+while piece := far.recv(4096):
+    got += piece
+print(" ".join(got.decode().split("\n")).strip())
+PYTHON
+)
+same 'a stranger and a member at the front door' 'LysKOM %1 12 0 =2 =3' "$said"
+pid=$(systemctl show -P MainPID komd-front)
+same 'the user of the front door' "komd-front active" "$(stat -c %U "/proc/$pid") $(systemctl show -P ActiveState komd-front)"
+systemctl stop komd-front
+same 'the front door after systemctl stop' 'inactive success' \
+    "$(systemctl show -P ActiveState komd-front) $(systemctl show -P Result komd-front)"
 before=$(systemctl show -P MainPID komd)
 dpkg -i /komd.deb >/said.dpkg 2>&1 || cat /said.dpkg
 serves 'the server after another installation'
 same 'whether it is the same process' no "$([ "$before" = "$(systemctl show -P MainPID komd)" ] && echo yes || echo no)"
 dpkg -r komd >/said.dpkg 2>&1 || cat /said.dpkg
 same 'the server after the removal' '' "$(pidof komd)"
-same 'what would start it' '' "$(find /etc/systemd -name '*komd*' ! -name 'komd.service.d')"
+same 'what would start it' '' "$(find /etc/systemd -name '*komd*' ! -name '*.service.d')"
 same 'the store after the removal' "600 komd" "$(stat -c '%a %U' $store)"
 echo "$tried things looked at, $failed are otherwise"
 END
