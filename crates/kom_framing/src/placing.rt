@@ -1,7 +1,8 @@
-ghost use Rattle.std.specs.Prelude.{◌≡◌, ◌+◌, ◌≤◌, ◌<◌, ◌^◌, if◌then◌else◌, [], ◌∷◌, ◌++◌, length};
-ghost use Rattle.std.specs.Prelude.{take, OnOk, vec_len};
+ghost use Rattle.std.specs.Prelude.{◌≡◌, ◌+◌, ◌*◌, ◌≤◌, ◌<◌, ◌^◌, if◌then◌else◌, [], ◌∷◌, ◌++◌};
+ghost use Rattle.std.specs.Prelude.{length, take, false, OnOk, vec_len};
 ghost use Rattle.std.specs.Fmt.{decimal};
 ghost use Rattle.kom_types.specs.spellings.Words.{hollerith};
+ghost use Rattle.kom_framing.specs.Writing.{put_numbers, written_to};
 
 use itoa::write_digits;
 use kom_types::Memory;
@@ -46,12 +47,30 @@ pub fn place_number(out: &mut [u8], used: usize, joined: bool, n: u32) -> usize
     requires { used + 11 ≤ length out.old }
     ensures written { take result out.new
         ≡ take used out.old ++ (if joined then [] else 32 ∷ []) ++ decimal n }
-    ensures within { result ≤ length out.new }
+    ensures within { result ≤ used + 11 }
 {
     let at = place_space(out, used, joined);
     let end = at + digit_count(n as u64);
     write_digits(n as u64, out, end);
     end
+}
+
+/// Writes numbers, each with a space before it but a first one that is joined, and returns the place
+/// after them.
+pub fn place_numbers(out: &mut [u8], used: usize, joined: bool, values: &[u32]) -> usize
+    requires some { 0 < length values.now }
+    requires room { used + 11 * length values.now ≤ length out.old }
+    ensures written { written_to result out.new false
+        ≡ put_numbers values.now (written_to used out.old joined) }
+    ensures within { result ≤ length out.new }
+{
+    let mut at = used;
+    let mut joined = joined;
+    for value in values {
+        at = place_number(out, at, joined, *value);
+        joined = false;
+    }
+    at
 }
 
 /// Writes a string with its length before it, and a space before that unless it is joined, and

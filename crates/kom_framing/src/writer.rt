@@ -2,9 +2,11 @@ ghost use Rattle.std.specs.Prelude.{◌≡◌, ◌-◌, ◌≤◌, true, [], ◌
 ghost use Rattle.std.specs.Fmt.{decimal};
 ghost use Rattle.kom_types.specs.spellings.Words.{bit_string, hollerith};
 ghost use Rattle.kom_types.specs.ByteKind.{is_sign};
-ghost use Rattle.kom_framing.specs.Writing.{put, put_word, end_line};
+ghost use Rattle.kom_framing.specs.Writing.{put, put_word, put_numbers, end_line};
 
-use crate::placing::{make_room, place_byte, place_mark, place_number, place_string, place_word};
+use crate::placing::{
+    make_room, place_byte, place_mark, place_number, place_numbers, place_string, place_word,
+};
 use kom_types::Memory;
 use std::alloc::Global;
 use std::marker::Model;
@@ -55,6 +57,21 @@ impl Writer {
     {
         make_room(&mut self.out, self.used, 11)?;
         self.used = place_number(self.out.as_mut_slice(), self.used, self.joined, n);
+        self.joined = false;
+        Ok(())
+    }
+
+    /// Writes integers, without leading zeros: so many that room for all of them is little.
+    pub fn numbers(&mut self, values: &[u32]) -> Result<(), Memory>
+        requires { length values.now ≤ 256 }
+        ensures ok { OnOk result (self.new ≡ put_numbers values.now self.old) }
+        ensures err { OnErr result (self.new ≡ self.old) }
+    {
+        if values.is_empty() {
+            return Ok(());
+        }
+        make_room(&mut self.out, self.used, 11 * values.len())?;
+        self.used = place_numbers(self.out.as_mut_slice(), self.used, self.joined, values);
         self.joined = false;
         Ok(())
     }

@@ -1,4 +1,4 @@
-ghost use Rattle.std.specs.Prelude.{◌≡◌, OnOk, flat_map};
+ghost use Rattle.std.specs.Prelude.{◌≡◌, OnOk};
 ghost use Rattle.kom_types.specs.spellings.Words.{number, array, array_count};
 ghost use Rattle.kom_replies.specs.Sinks.{with_words, Keeps};
 
@@ -10,6 +10,10 @@ impl Spelled for u32 {
 
     fn put<S: Sink>(&self, out: &mut S) -> Result<(), S::Refusal> {
         out.number(*self)
+    }
+
+    fn put_all<S: Sink>(values: &[u32], out: &mut S) -> Result<(), S::Refusal> {
+        out.numbers(values)
     }
 }
 
@@ -24,7 +28,7 @@ pub(crate) fn put_array<T: Spelled, S: Sink>(values: &[T], out: &mut S) -> Resul
     }
     out.len(values.len())?;
     out.word(b"{")?;
-    put_each(values, out)?;
+    T::put_all(values, out)?;
     out.word(b"}")
 }
 
@@ -35,16 +39,4 @@ pub(crate) fn put_count<S: Sink>(count: u32, out: &mut S) -> Result<(), S::Refus
 {
     out.number(count)?;
     out.word(b"*")
-}
-
-/// Puts the values one after the other.
-fn put_each<T: Spelled, S: Sink>(values: &[T], out: &mut S) -> Result<(), S::Refusal>
-    ensures ok { OnOk result
-        (out.new ≡ with_words S.with_word (flat_map T.spelling values.now) out.old) }
-    ensures keeps { Keeps S.begins out.old out.new }
-{
-    for value in values {
-        value.put(out)?;
-    }
-    Ok(())
 }

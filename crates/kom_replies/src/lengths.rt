@@ -60,6 +60,15 @@ impl Sink for Length {
         self.len(value as usize)
     }
 
+    fn numbers(&mut self, values: &[u32]) -> Result<(), Infallible> {
+        let mut length = self.0;
+        for value in values {
+            length = length.saturating_add(digit_count(u64::from(*value)) as u64 + 1);
+        }
+        self.0 = length;
+        Ok(())
+    }
+
     fn len(&mut self, len: usize) -> Result<(), Infallible> {
         self.add(digit_count(len as u64));
         Ok(())

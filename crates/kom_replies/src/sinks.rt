@@ -9,6 +9,9 @@ use itoa::Buffer;
 use kom_framing::Writer;
 use kom_types::{Memory, Moment, Time};
 
+/// So many numbers a writer has room for at once.
+const MOST_NUMBERS: usize = 256;
+
 /// Where the words of an item are put: a writer, or the sum of their lengths.
 pub(crate) trait Sink {
     ghost use Rattle.std.specs.Prelude.{ℕ, List};
@@ -30,6 +33,12 @@ pub(crate) trait Sink {
     /// Puts an integer.
     fn number(&mut self, value: u32) -> Result<(), Self::Refusal>
         ensures ok { OnOk result (self.new ≡ with_word (decimal value) self.old) }
+        ensures keeps { Keeps begins self.old self.new };
+
+    /// Puts integers, one after the other.
+    fn numbers(&mut self, values: &[u32]) -> Result<(), Self::Refusal>
+        ensures ok { OnOk result
+            (self.new ≡ with_words with_word (flat_map number values.now) self.old) }
         ensures keeps { Keeps begins self.old self.new };
 
     /// Puts the length of an array.
@@ -74,6 +83,16 @@ impl Sink for Writer {
         Writer::number(self, value)
     }
 
+    fn numbers(&mut self, values: &[u32]) -> Result<(), Memory> {
+        let mut left = values;
+        while left.len() > MOST_NUMBERS {
+            let (first, others) = left.split_at(MOST_NUMBERS);
+            Writer::numbers(self, first)?;
+            left = others;
+        }
+        Writer::numbers(self, left)
+    }
+
     fn len(&mut self, len: usize) -> Result<(), Memory> {
         Writer::word(self, Buffer::new().format(len).as_bytes())
     }
@@ -98,10 +117,7 @@ pub(crate) fn put_numbers<S: Sink>(values: &[u32], out: &mut S) -> Result<(), S:
         (out.new ≡ with_words S.with_word (flat_map number values.now) out.old) }
     ensures keeps { Keeps S.begins out.old out.new }
 {
-    for value in values {
-        out.number(*value)?;
-    }
-    Ok(())
+    out.numbers(values)
 }
 
 /// Puts a time.

@@ -30,3 +30,7 @@ returns-clause-written c =
     taken_on c.place_space-at.result c.digit_count.result c.write_digits.result c.write_digits.new.buf
     c.place_space-at.new.out (decimal c.args.n) _ digits.start c.digit_count.ensures.digits digits.written digits.before
     ∙ ap (λ (t : List ℕ). t ++ decimal c.args.n) c.place_space-at.ensures.written
+
+pub returns-clause-within : goal.returns-clause-within
+returns-clause-within c =
+    omega (arith, c.digit_count.ensures.digits, few_digits c.args.n (omega arith), c.place_space-at.ensures.within)

@@ -2,12 +2,12 @@ use Rattle.std.proofs.Common.{◌+◌, ◌<◌, length, drop, ap, ◌∙◌, sym
 use Rattle.std.specs.List.{flat_map}
 use Rattle.kom_replies.specs.Sinks.{with_words}
 use Rattle.kom_replies.proofs.WrittenWords.{next_put}
-use Rattle.kom_replies.proofs.arrays.put_each.Goals as goal
+use Rattle.kom_replies.proofs.spelled.Spelled.put_all.Goals as goal
 
 pub loop-value-preserved : goal.loop-value-preserved
 loop-value-preserved g c =
     let with_word = g.S.Sink.with_word in
-    let element = g.T.Spelled.spelling in
+    let element = g.Self.Spelled.spelling in
     let values = c.args.values.now in
     let place = c.loop-value.value-index in
     let within : place < length values = c.loop-value-test.true in
