@@ -1,0 +1,638 @@
+#!/usr/bin/env python3
+"""Tries contrib/komd-sweep over served stores whose clock is told the time: sweep.py [PROGRAM [STORES]]
+
+1. Each condition of the rule by itself, at the second before the day on which it lets a text go, and at the second of that: what
+   conferences keep, comments, footnotes, no recipients, marks, items, each way in which a text is named.
+2. Stores of random calls (40, or STORES): what is listed, and then deleted, is what a second model of the rule tells, which reads the
+   replies itself; and all else is as it was, but for links to what is gone.
+3. What comes between: a text that changes, or is named, after it was judged stays; where a call of the walk over the names is refused, or
+   the connection breaks, nothing is deleted, and where it breaks later the first ones are; 16 calls are under way at most.
+4. A person who is not strong, other passwords and words; a store that is served is not copied, and of a copy nothing is left.
+5. A disk that gets full in the middle: the first ones are gone, and with room again the rest goes (as root).
+
+It prints a line for each thing that is otherwise, and a count, and ends with 1 if there is one, else with 0. It takes some fifteen
+seconds, and needs a C compiler; where there is none it says so, and ends with 0. PROGRAM is the built `komd` unless it is named.
+"""
+import collections
+import contextlib
+import io
+import itertools
+import os
+import pathlib
+import random
+import re
+import shutil
+import signal
+import socket
+import subprocess
+import sys
+import tempfile
+import threading
+import time
+import types
+
+TOP = pathlib.Path(__file__).resolve().parents[2]
+sys.path[:0] = [str(TOP / "tools" / "common"), str(TOP / "contrib")]
+from built import make_store, program_of, script
+from clock import DAY, Clock
+from protocol import string
+from served import PATIENCE, Server, Session, folder_in_memory, limit_seconds
+from tried import Tried
+
+SWEEP = TOP / "contrib" / "komd-sweep"
+LIMIT_SECONDS, STORES, UNDER_WAY = 600, 40, 16
+FIRST = 1_500_000_000
+FOR_EVER, PERSON = 1_000_000, 5
+STORE_OPEN, UNFIT = 3, 4
+DONT_GARB, SECRET = "00001000", "00100000"
+
+
+# The model: what replies tell, read here, and which texts are due.
+
+WORD = re.compile(r" ?(?:(\d+)H|([^ ]+))")
+Stat = collections.namedtuple("Stat", "made marks recipients parents replies items others")
+Room = collections.namedtuple("Room", "letterbox presentation motd nice keep expire items")
+
+
+class Told:
+    """The words of a result, one after the other; a string is its letters."""
+
+    def __init__(self, result):
+        self.words, place = [], 0
+        while place < len(result):
+            found = WORD.match(result, place)
+            place = found.end()
+            if found[1]:
+                self.words.append(result[place : place + int(found[1])])
+                place += int(found[1])
+            else:
+                self.words.append(found[2])
+        self.words.reverse()
+
+    def some(self, count):
+        return [self.words.pop() for _ in range(count)]
+
+    def ints(self, count):
+        return [int(word) for word in self.some(count)]
+
+    def moment(self):
+        second, minute, hour, day, month, year, *_ = self.ints(9)
+        return int(time.mktime((1900 + year, month + 1, day, hour, minute, second, 0, 0, 0)) - time.mktime((1970, 1, 1, 0, 0, 0, 0, 0, 0)))
+
+    def array(self, element):
+        count, brace = self.some(2)
+        found = [element() for _ in range(int(count))] if brace == "{" else []
+        if brace == "{":
+            self.words.pop()
+        return found
+
+    def item(self):
+        """The tag, the flags and the contents of an aux-item."""
+        _, tag, _ = self.ints(3)
+        self.moment()
+        flags, _, content = self.some(3)
+        return tag, flags, content
+
+    def stat(self):
+        made, (author, lines, length, marks) = self.moment(), self.ints(4)
+        misc = self.array(lambda: (tag := self.ints(1)[0], self.moment() if tag in (7, 9) else self.ints(1)[0]))
+        kinds = {kind: [value for tag, value in misc if tag in kind] for kind in ((0, 1, 15), (2, 4), (3, 5))}
+        return Stat(made, marks, *kinds.values(), self.array(self.item), (author, lines, length))
+
+    def room(self):
+        self.some(1)
+        kind, _, _ = self.some(1)[0], self.moment(), self.moment()
+        _, presentation, _, _, _, motd, nice, keep, _, _, _, expire = self.ints(12)
+        return Room(kind[3] == "1", presentation, motd, nice, keep, expire, self.array(self.item))
+
+
+def good(session, call, numbers):
+    """The good results of a call for numbers."""
+    answers = {number: session.try_to(f"{call} {number}") for number in numbers}
+    return {number: Told(answer[1:]) for number, answer in answers.items() if answer.startswith("=")}
+
+
+def stats(session):
+    return {number: told.stat() for number, told in good(session, 90, range(1, int(session.ask("115")))).items()}
+
+
+def model(session, now):
+    """The texts that are due, of all that a server has."""
+    texts, rooms = stats(session), {}
+    for number, told in good(session, 91, range(1, int(session.ask("114")))).items():
+        rooms[number] = told.room()
+    spoken_of = {text for room in rooms.values() for text in (room.presentation, room.motd)}
+    faq = {content.lstrip("0") for room in rooms.values() for tag, _, content in room.items if tag == 14 and re.fullmatch("[0-9]+", content)}
+    spoken_of |= {int(told.some(13)[-1]) for told in good(session, 49, [number for number, room in rooms.items() if room.letterbox]).values()}
+
+    def older(text, days):
+        return now - texts[text].made >= (days + 1) * DAY
+
+    def kept_by(room, text):
+        if room.expire and older(text, room.expire):
+            return False
+        return not older(text, room.nice) or any(not older(reply, room.keep) for reply in texts[text].replies)
+
+    nobody = Room(False, 0, 0, 77, 77, 0, [])
+    return [number for number, text in sorted(texts.items())
+            if not (text.marks or number in spoken_of or str(number) in faq or any(flags[4] == "1" for _, flags, _ in text.items)
+                    or any(kept_by(rooms[to], number) for to in text.recipients) or (not text.recipients and kept_by(nobody, number)))]
+
+
+def without(texts, gone):
+    """What is to be left of texts."""
+    return {number: text._replace(parents=[one for one in text.parents if one not in gone], replies=[one for one in text.replies if one not in gone])
+            for number, text in texts.items() if number not in gone}
+
+
+# What has it at work.
+
+class Sweeping(Tried):
+    """A folder with a clock and a password, and the tool."""
+
+    def __init__(self, program, folder):
+        super().__init__(program, folder)
+        self.clock = Clock(folder, FIRST)
+        self.password = folder / "password"
+        self.password.write_text("\n")
+        self.password.chmod(0o600)
+        self.names = itertools.count()
+        self.tool = types.ModuleType("komd_sweep")
+        exec(compile(SWEEP.read_text(), SWEEP, "exec"), vars(self.tool))
+
+    @contextlib.contextmanager
+    def served(self, store=None, moment=FIRST, workers=6):
+        """A server, of a new store if none is named, from a moment on, and a strong session."""
+        store = store or make_store(self.program, str(self.folder / f"store {next(self.names)}"))
+        self.clock.set(moment)
+        server = Server(self.program, store, workers, self.clock.environment)
+        server.store = store
+        try:
+            session = Session(server.port).login()
+            session.ask("42 255")
+            yield server, session
+        finally:
+            server.kill()
+
+    def said(self, *words):
+        """What the tool prints, run in this process: the texts that it lists, and its last two lines."""
+        out = io.StringIO()
+        with contextlib.redirect_stdout(out):
+            given, sys.argv = sys.argv, ["komd-sweep", *map(str, words), str(PERSON), str(self.password)]
+            try:
+                self.tool.main()
+            finally:
+                sys.argv = given
+        *lines, first, second = out.getvalue().splitlines()
+        return [int(line.split()[1]) for line in lines], f"{first} {second}"
+
+    def begin(self, *words, environment=(), **more):
+        given = {**os.environ, "KOMD": self.program, **dict(environment)}
+        return subprocess.Popen([str(word) for word in (SWEEP, *words)], stdout=subprocess.PIPE, stderr=subprocess.PIPE, text=True, env=given, **more)
+
+    def ask(self, *words, environment=()):
+        """The status of the tool, what it prints, and what it complains of."""
+        process = self.begin(*words, environment=environment)
+        said, complained = process.communicate(timeout=PATIENCE * 4)
+        return process.returncode, said, complained
+
+    def refused(self, what, wanted, *words, status=1, environment=()):
+        returned, said, complained = self.ask(*words, environment=environment)
+        self.same(what, (status, "", True), (returned, said, wanted in complained))
+
+
+def write(session, *recipients, parents=(), items="0 { }", body="a text"):
+    """The number of a new text, to conferences, and a comment to texts."""
+    misc = [f"0 {number}" for number in recipients] + [f"2 {number}" for number in parents]
+    return int(session.ask(f"86 {string(body)} {len(misc)} {{ {' '.join(misc)} }} {items}"))
+
+
+def conference(session, name, nice=77, keep=77, expire=0):
+    number = int(session.ask(f"88 {string(name)} 00000000 0 {{ }}"))
+    days_of(session, number, nice, keep, expire)
+    return number
+
+
+def days_of(session, number, nice, keep, expire):
+    for call, days in ((22, nice), (105, keep), (97, expire)):
+        session.ask(f"{call} {number} {days}")
+
+
+def a_person(session, port, name="Anna"):
+    """A person who is not strong, and a session of it."""
+    number = int(session.ask(f"89 {string(name)} 2Hpw 00000000 0 {{ }}"))
+    return number, Session(port, "anna").login(number, "pw")
+
+
+def item(tag, flags, content):
+    return f"1 {{ {tag} {flags} 0 {string(content)} }}"
+
+
+# Part 1.
+
+def make_conditions(tried, session, port):
+    """Texts each of which one condition lets go or keeps: its name, its number, and the day from which on it is due, or none."""
+    ten, thirty, keeps = conference(session, "ten", 10, 20), conference(session, "thirty", 30, 40), conference(session, "keeps", FOR_EVER, FOR_EVER)
+    none, expires = conference(session, "none", 0, 0), conference(session, "expires", FOR_EVER, 77, 15)
+    other, others = a_person(session, port)
+    made, later = [], []
+
+    def text(name, day, *recipients, **more):
+        made.append((name, write(session, *recipients, **more), day))
+        return made[-1][1]
+
+    text("a conference that keeps 10 days", 11, ten)
+    later.append(lambda: text("one that keeps none", 6, none))
+    text("two, one of which keeps 30", 31, ten, thirty)
+    text("one that keeps for ever", None, ten, keeps)
+    text("a letterbox", 78, other)
+    text("no recipients", 78)
+    text("one that expires", 16, expires)
+    text("one that expires, and one that keeps 30", 31, expires, thirty)
+    write(session, keeps, parents=[text("a comment as old as it, which another conference keeps longer", 21, ten)])
+    late = text("a comment that is linked later", 21, ten), write(session, keeps)
+    later.append(lambda: session.ask(f"32 {late[1]} {late[0]}"))
+    commented = [text("a later comment in a conference that keeps longer", 26, ten), text("a later comment, no recipients", 83),
+                 text("a later comment, and a conference that expires", 16, expires), text("a later comment to two, one keeps 30", 46, ten, thirty)]
+    later.append(lambda: [write(session, keeps, parents=[one]) for one in commented])
+    noted = text("a later footnote in a conference that keeps longer", 26, ten)
+    later.append(lambda: session.ask(f"86 4Hnote 2 {{ 0 {keeps} 4 {noted} }} 0 {{ }}"))
+    added = text("a recipient that is added later", 11, ten)
+    later.append(lambda: session.ask(f"30 {added} {none} 0"))
+    others.ask(f"72 {text('the mark of another', None, ten)} 1")
+    session.ask(f"72 {text('the mark of oneself', None, ten)} 1")
+    gone = text("a mark that is gone", 11, ten)
+    session.ask(f"72 {gone} 1"), session.ask(f"73 {gone}")
+    text("an item that keeps it", None, ten, items=item(2, DONT_GARB, "x"))
+    text("an item that is secret", 11, ten, items=item(2, SECRET, "x"))
+    session.ask(f"57 {other} {text('a user area', None)}")
+    for number, what in ((ten, "a conference"), (other, "a letterbox")):
+        session.ask(f"16 {number} {text(f'the presentation of {what}', None, ten)}")
+        session.ask(f"17 {number} {text(f'the message of the day of {what}', None, ten)}")
+        session.ask(f"93 {number} 0 {{ }} {item(14, SECRET, str(text(f'the faq-text of {what}', None, ten)))}")
+        for spelled, day in (("000{}", None), ("{}x", 11), (" {}", 11), ("-{}", 11), ("{}" + "0" * 5000, 11), ("0" * 5000 + "{}", None)):
+            session.ask(f"93 {number} 0 {{ }} {item(14, '00000000', spelled.format(text(f'a faq-text {spelled:.9} of {what}', day, ten)))}")
+    session.ask(f"93 {ten} 0 {{ }} {item(10, '00000000', str(text('an item that names it and is no faq-text', 11, ten)))}")
+    tried.clock.go_on(5 * DAY)
+    for work in later:
+        work()
+    return made
+
+
+def try_conditions(tried):
+    """Part 1."""
+    with tried.served() as (server, session):
+        made = make_conditions(tried, session, server.port)
+        for day in sorted({day for _, _, day in made if day}):
+            for moment in (FIRST + day * DAY - 1, FIRST + day * DAY):
+                tried.clock.set(moment)
+                listed, _ = tried.said("--port", server.port)
+                for name, number, due in made:
+                    tried.same(f"whether {name} lets a text go after {(moment - FIRST) / DAY:.3f} days",
+                               due is not None and FIRST + due * DAY <= moment, number in listed)
+        wanted, texts = [number for _, number, day in made if day], stats(session)
+        tried.same("all that are due", (wanted, f"due {len(wanted)} kept {len(texts) - len(wanted)}"), tried.said("--port", server.port))
+        tried.same("what the model tells", wanted, model(session, tried.clock.moment))
+        tried.same("what is said of the sweep", ([], f"swept {len(wanted)} kept {len(texts) - len(wanted)}"), tried.said("--port", server.port, "--delete"))
+        tried.same("what is left", without(texts, wanted), stats(session))
+        tried.same("a second sweep", ([], f"swept 0 kept {len(texts) - len(wanted)}"), tried.said("--port", server.port, "--delete"))
+
+
+# Part 2.
+
+class Chance:
+    """Random calls over a small store."""
+
+    def __init__(self, tried, seed, server, session):
+        self.draw, self.clock, self.session = random.Random(seed), tried.clock, session
+        draw = self.draw
+        self.rooms = [conference(session, f"room {place}", *(draw.choice((0, 1, 2, 5, 9)) for _ in range(2)), draw.choice((0, 0, 1, 6)))
+                      for place in range(3)]
+        self.person, self.other = a_person(session, server.port)
+        self.rooms.append(self.person)
+        days_of(session, self.person, 3, 3, 0)
+        self.last = 0
+
+    def text(self):
+        return self.draw.randint(1, max(self.last, 1))
+
+    def room(self):
+        return self.draw.choice(self.rooms)
+
+    def new_text(self):
+        draw = self.draw
+        misc = [f"{draw.choice((0, 0, 1, 15))} {room}" for room in draw.sample(self.rooms, draw.choice((0, 1, 1, 1, 2, 3)))]
+        misc += [f"{draw.choice((2, 2, 4))} {text}" for text in {self.text() for _ in range(draw.choice((0, 0, 1, 1, 2)))}]
+        flags = draw.choice(("00000000", SECRET, DONT_GARB, "01000000"))
+        return f"86 4Htext {len(misc)} {{ {' '.join(misc)} }} {item(2, flags, 'x') if draw.random() < 0.15 else '0 { }'}"
+
+    def call(self):
+        draw, text, room = self.draw, self.text(), self.room()
+        return draw.choices((
+            self.new_text(), f"30 {text} {room} 0", f"32 {text} {self.text()}", f"37 {text} {self.text()}", f"33 {text} {self.text()}", f"31 {text} {room}",
+            f"72 {text} 1", f"73 {text}", f"16 {room} {text}", f"17 {room} {text}", f"57 {self.person} {text}",
+            f"93 {room} 0 {{ }} {item(14, '00000000', draw.choice(('{}', '0{}', '{}x', '')).format(text))}", f"29 {text}",
+            f"11 {self.rooms[0]}", f"{draw.choice((22, 105, 97))} {room} {draw.randrange(8)}",
+        ), (50, 6, 6, 6, 3, 3, 4, 3, 1, 1, 1, 2, 2, 0.2, 2))[0]
+
+    def live(self, count):
+        for _ in range(count):
+            self.clock.go_on(self.draw.choice((0, 1, 3600, DAY - 1, DAY, DAY + 1)))
+            session = self.other if self.draw.random() < 0.3 else self.session
+            call = self.call()
+            answer = session.try_to(call)
+            if call.startswith("86 ") and answer.startswith("="):
+                self.last = int(answer[1:])
+        self.clock.go_on(self.draw.randrange(15 * DAY))
+
+
+def try_random(tried, stores):
+    """Part 2."""
+    swept = kept = 0
+    for seed in range(stores):
+        with tried.served() as (server, session):
+            Chance(tried, seed, server, session).live(60)
+            texts, due = stats(session), model(session, tried.clock.moment)
+            rest = len(texts) - len(due)
+            tried.same(f"what is listed of store {seed}", (due, f"due {len(due)} kept {rest}"), tried.said("--port", server.port))
+            tried.same(f"what listing changes of store {seed}", texts, stats(session))
+            tried.same(f"what is swept of store {seed}", ([], f"swept {len(due)} kept {rest}"), tried.said("--port", server.port, "--delete"))
+            tried.same(f"what is left of store {seed}", without(texts, due), stats(session))
+            swept, kept = swept + len(due), kept + rest
+            store = server.store
+        os.unlink(store)
+    print(f"{stores} random stores, {swept} texts of them swept and {kept} kept")
+    tried.same("whether much was swept, and much kept", True, min(swept, kept) > 3 * stores)
+
+
+# Part 3.
+
+class Relay:
+    """A port that leads to a server. Each line that comes from the client is told to `hook` before it goes on; where that says False, the
+    connection ends. `most` is how many calls were under way at a time."""
+
+    def __init__(self, port, hook):
+        self.port, self.hook, self.under_way, self.most = port, hook, 0, 0
+        self.lock = threading.Lock()
+        self.door = socket.create_server(("127.0.0.1", 0))
+        self.thread = threading.Thread(target=self.work, daemon=True)
+
+    def __enter__(self):
+        self.thread.start()
+        return self
+
+    def __exit__(self, *_):
+        self.thread.join(PATIENCE)
+        self.door.close()
+
+    def number(self):
+        return self.door.getsockname()[1]
+
+    def count(self, more):
+        with self.lock:
+            self.under_way += more
+            self.most = max(self.most, self.under_way)
+
+    def work(self):
+        client, server = self.door.accept()[0], socket.create_connection(("127.0.0.1", self.port))
+        server.setsockopt(socket.IPPROTO_TCP, socket.TCP_NODELAY, 1)
+        back = threading.Thread(target=self.back, args=(server, client), daemon=True)
+        back.start()
+        with client.makefile("rb") as lines:
+            for line in lines:
+                if self.hook(line.decode()) is False:
+                    break
+                self.count(1)
+                server.sendall(line)
+        for end in (server, client):
+            with contextlib.suppress(OSError):
+                end.shutdown(socket.SHUT_RDWR)
+        back.join(PATIENCE)
+        server.close()
+        client.close()
+
+    def back(self, server, client):
+        with contextlib.suppress(OSError), server.makefile("rb") as lines:
+            for line in lines:
+                self.count(-1)
+                client.sendall(line)
+
+
+def at(number, call, work):
+    """A hook that does its work before the line of this number, from 1 on, that begins with a call."""
+    seen = itertools.count(1)
+
+    def hook(line):
+        words = line.split(" ", 1)
+        return work() if words[1:] and f"{words[1].strip()} ".startswith(f"{call} ") and next(seen) == number else None
+
+    return hook
+
+
+def both(one, other):
+    def hook(line):
+        told = [one(line), other(line)]
+        return False if False in told else None
+
+    return hook
+
+
+def old_texts(tried, session, count):
+    """A conference that keeps its texts for a day, and so many texts in it that are older."""
+    room = conference(session, "short", 1, 1)
+    made = [write(session, room) for _ in range(count)]
+    tried.clock.go_on(5 * DAY)
+    return room, made
+
+
+def try_changes(tried):
+    """Part 3: what changes meanwhile."""
+    with tried.served() as (server, session):
+        raised = conference(session, "raised", 1, 1)
+        kept = write(session, raised)
+        room, made = old_texts(tried, session, 40)
+        named, marked, commented, held, added, vanished = made[:6]
+        # (links to what goes before, of each kind, are no change)
+        session.ask(f"32 {made[10]} {made[39]}"), session.ask(f"32 {made[38]} {made[11]}")
+        _, other = a_person(session, server.port)
+
+        def change():
+            session.ask(f"16 {room} {named}")
+            session.ask(f"22 {raised} 100")
+
+        def change_texts():
+            other.ask(f"72 {marked} 1")
+            write(session, room, parents=[commented])
+            session.ask(f"92 {held} 0 {{ }} {item(2, DONT_GARB, 'x')}")
+            session.ask(f"30 {added} {raised} 0")
+            session.ask(f"29 {vanished}")
+
+        # (the walk over the texts asks for each once; what follows is the second look)
+        with Relay(server.port, both(at(2, "116 0", change), at(len(made) + 2, "90", change_texts))) as relay:
+            status, said, complained = tried.ask("--port", relay.number(), "--delete", PERSON, tried.password)
+        tried.same("a sweep beside others", (0, ""), (status, complained))
+        tried.same("what is said to stay", [*(f"text {number} stays: it changed meanwhile" for number in made[1:6]), f"swept {len(made) - 6}", "kept 7"],
+                   said.splitlines())
+        tried.same("what is there then", [kept, *(number for number in made[:6] if number != vanished), made[-1] + 1], sorted(stats(session)))
+        tried.same("how many calls were under way", UNDER_WAY, relay.most)
+    with tried.served() as (server, session):
+        room, made = old_texts(tried, session, 40)
+        session.ask(f"32 {made[25]} {made[0]}")
+        with Relay(server.port, at(20, "90", lambda: [session.ask(f"29 {number}") for number in made[19:30]] and None)) as relay:
+            listed = tried.said("--port", relay.number())
+        tried.same("texts that go in the middle of the walk, one a comment", (made[1:19] + made[30:], "due 28 kept 12"), listed)
+        for expire, wanted in ((0, made[:19] + made[30:-1]), (1, made[:19] + made[30:])):
+            days_of(session, room, 1, 1, expire)
+            with Relay(server.port, at(29, "90", lambda: write(session, room, parents=[made[-1]]) and None)) as relay:
+                listed = tried.said("--port", relay.number())
+            tried.same(f"a comment to the last text at the end of the walk, with expire {expire}", (wanted, f"due {len(wanted)} kept {29 - len(wanted)}"), listed)
+            session.ask(f"29 {max(stats(session))}")
+
+
+def try_breaks(tried):
+    """Part 3: what breaks."""
+    with tried.served() as (server, session):
+        _, made = old_texts(tried, session, 40)
+        gone = iter([conference(session, "gone", 1, 1), conference(session, "gone too", 1, 1)])
+        for number, what in ((1, "the walk over the names"), (2, "the second walk over them")):
+            victim = next(gone)
+            with Relay(server.port, at(number, f"91 {victim}", lambda: session.ask(f"11 {victim}") and None)) as relay:
+                tried.refused(f"a refusal in {what}", "nothing is due", "--port", relay.number(), "--delete", PERSON, tried.password)
+        for call, number in (("116 0", 1), ("49", 1), ("91", 3), ("60 0", 1), ("90", 30), ("116 0", 2), ("49", 2), ("90", 50)):
+            with Relay(server.port, at(number, call, lambda: False)) as relay:
+                tried.refused(f"an end at call {call}, time {number}", "ended the connection", "--port", relay.number(), "--delete", PERSON, tried.password)
+        for call in ("116 0", "60 0"):
+            person, _ = a_person(session, server.port, f"administrator until {call}")
+            session.ask(f"8 {person} 0H 0H"), session.ask(f"7 {person} 1111110000000000")
+            with Relay(server.port, at(1, call, lambda: session.ask(f"11 {person}") and None)) as relay:
+                tried.refused(f"a person that is gone before call {call}", "nothing is due", "--port", relay.number(), "--delete", person, tried.password)
+        tried.same("what all these leave", made, sorted(stats(session)))
+        with Relay(server.port, at(20, "29", lambda: False)) as relay:
+            status, said, complained = tried.ask("--port", relay.number(), "--delete", PERSON, tried.password)
+        left = sorted(stats(session))
+        told = int(complained.split()[1])
+        tried.same("an end in the middle of the deletions", (1, "", True, True), (status, said, UNDER_WAY <= told < 20, told <= len(made) - len(left) < 20))
+        tried.same("what that leaves", made[len(made) - len(left):], left)
+        tried.same("the rest", ([], f"swept {len(left)} kept 0"), tried.said("--port", server.port, "--delete"))
+
+
+# Part 4.
+
+def try_words(tried):
+    """Part 4: who is let in, and words."""
+    with tried.served() as (server, session):
+        room, made = old_texts(tried, session, 3)
+        person, _ = a_person(session, server.port)
+        tried.password.write_text("pw\n")
+        where = ("--port", server.port, "--delete")
+        tried.refused("a person who is not strong", f"person {person} is no administrator", *where, person, tried.password)
+        tried.refused("a password that is another", "cannot log in with this password", *where, PERSON, tried.password)
+        session.ask(f"8 {PERSON} 0H 2Hpw")
+        tried.same("a password with a line feed", (0, "due 3\nkept 0\n"), (lambda it: (it[0], it[1][-13:]))(tried.ask(*where[:2], PERSON, tried.password)))
+        tried.refused("a person that is not there", "cannot log in", *where, 77, tried.password)
+        tried.refused("no file of a password", "No such file", *where, PERSON, tried.folder / "none")
+        tried.password.chmod(0o604)
+        tried.refused("a file that all may read", "may be read by all", *where, PERSON, tried.password)
+        tried.password.chmod(0o600)
+        for words in ((), (5,), ("five", tried.password), ("--store", "x", "--delete", 5, tried.password), ("--what", 5, tried.password)):
+            tried.refused(f"the words {words}", "usage: komd-sweep", *words, status=2)
+        tried.same("what they all leave", made, sorted(stats(session)))
+        status, said, _ = tried.ask(*where[:2], PERSON, tried.password)
+        day = time.strftime("%F", time.gmtime(FIRST))
+        tried.same("a line of the list", (0, f"text 1 of {day}, 6 bytes, by 5 Administrator, to {room} short"), (status, said.splitlines()[0]))
+        session.ask(f"8 {PERSON} 2Hpw 0H")
+        tried.password.write_text("")
+        write(session)
+        tried.clock.go_on(80 * DAY)
+        tried.same("a text to nobody", f"text 4 of {time.strftime('%F', time.gmtime(FIRST + 5 * DAY))}, 6 bytes, by 5 Administrator, to nobody",
+                   tried.ask(*where[:2], PERSON, tried.password)[1].splitlines()[3])
+        store = server.store
+    tried.refused("no server", "refused", *where, PERSON, tried.password)
+    return store, made + [4]
+
+
+def try_copies(tried, store, made):
+    """Part 4: a store that nobody serves."""
+    room = tried.folder / "copies"
+    room.mkdir()
+    given, before = {**tried.clock.environment, "TMPDIR": str(room)}, pathlib.Path(store).read_bytes()
+    words = ("--store", store, PERSON, tried.password)
+    status, said, complained = tried.ask(*words, environment=given)
+    tried.same("a store that nobody serves", (0, made, ""), (status, [int(line.split()[1]) for line in said.splitlines()[:-2]], complained))
+    with tried.served(store):
+        tried.refused("one that is served", f"a komd has {store} open", *words, status=STORE_OPEN, environment=given)
+    broken = tried.folder / "broken"
+    broken.write_bytes(before[:30] + b"\xff" * 30 + before[60:])
+    broken.chmod(0o600)
+    for path, what, status in ((broken, "no whole store", UNFIT), (tried.folder / "none", "no store", 1), (room, "a folder", 1)):
+        tried.refused(what, "komd-sweep: ", "--store", path, *words[2:], status=status, environment=given)
+    tried.refused("another password for a store", "cannot log in", *words[:3], broken, environment=given)
+    for number, pause in itertools.product((signal.SIGINT, signal.SIGTERM, signal.SIGHUP), (0.1, 0.15, 0.2, 0.25)):
+        process = tried.begin(*words, environment=given)
+        time.sleep(pause)
+        process.send_signal(number)
+        process.communicate(timeout=PATIENCE)
+    tried.same("the copies that are left", [], list(room.iterdir()))
+    serving = [line for line in pathlib.Path("/proc").glob("[0-9]*/cmdline") if str(room).encode() in read(line)]
+    tried.same("the servers that are left", [], serving)
+    room.rmdir()
+
+
+def read(path):
+    with contextlib.suppress(OSError):
+        return path.read_bytes()
+    return b""
+
+
+# Part 5.
+
+def try_full_disk(tried):
+    """Part 5."""
+    room = tried.folder / "room"
+    room.mkdir()
+    if subprocess.run(["mount", "-t", "tmpfs", "-o", "size=256k", "tmpfs", room], capture_output=True, check=False).returncode:
+        print("no small file system can be made here, so none was filled")
+        return
+    try:
+        store = make_store(tried.program, str(room / "store"))
+        with tried.served(store) as (server, session):
+            _, made = old_texts(tried, session, 1500)
+            with open(room / "filler", "wb", buffering=0) as filler, contextlib.suppress(OSError):
+                while filler.write(bytes(4096)) == 4096:
+                    pass
+            status, said, complained = tried.ask("--port", server.port, "--delete", PERSON, tried.password)
+            tried.same("a sweep on a full disk", (1, "", True), (status, said, "ended the connection" in complained or "reset" in complained))
+            tried.same("the server's end", STORE_OPEN, server.process.wait(PATIENCE))
+        os.unlink(room / "filler")
+        told = int(complained.split()[1])
+        with tried.served(store, tried.clock.moment) as (server, session):
+            left = sorted(stats(session))
+            tried.same("what a full disk leaves", made[len(made) - len(left):], left)
+            tried.same("whether as many are gone as were answered", True, 0 < told <= len(made) - len(left) <= told + UNDER_WAY < len(made))
+            tried.same("the rest", ([], f"swept {len(left)} kept 0"), tried.said("--port", server.port, "--delete"))
+    finally:
+        subprocess.run(["umount", room], check=True)
+        room.rmdir()
+
+
+def main(words):
+    program = program_of(words)
+    stores = int(words[1]) if words[1:] else STORES
+    if shutil.which("cc") is None:
+        print("there is no C compiler, so no clock was told the time")
+        return 0
+    limit_seconds(LIMIT_SECONDS)
+    with tempfile.TemporaryDirectory(dir=folder_in_memory()) as folder:
+        tried = Sweeping(program, pathlib.Path(folder))
+        try_conditions(tried)
+        try_random(tried, stores)
+        try_changes(tried)
+        try_breaks(tried)
+        try_copies(tried, *try_words(tried))
+        try_full_disk(tried)
+    print(f"{tried.count} things looked at, {tried.failed} are otherwise")
+    return 1 if tried.failed else 0
+
+
+if __name__ == "__main__":
+    script(main, __doc__)
