@@ -59,7 +59,7 @@ done
 put 755 /usr/share/komd "$root/contrib/rescue.py"
 ln -s ../share/komd/rescue.py "$made/usr/sbin/komd-rescue"
 put 644 /usr/share/komd "$root"/contrib/{komd.nft,protocol_a.py,tool.py}
-for part in importing komd_front web; do
+for part in importing komd_front sweeping web; do
     (cd "$root/contrib" && find "$part" -type f ! -path '*/__pycache__/*' ! -name package.json) | while IFS= read -r file; do
         put 644 "/usr/share/komd/$(dirname "$file")" "$root/contrib/$file"
     done
@@ -136,11 +136,11 @@ cat >"$made/DEBIAN/prerm" <<'END'
 set -e
 if [ "$1" = remove ]; then
     if [ -d /run/systemd/system ]; then
-        systemctl stop komd-front.service 'komd-log@*.service' komd.service komd-backup.timer
+        systemctl stop komd-front.service 'komd-log@*.service' 'komd-sweep@*.timer' komd.service komd-backup.timer
     fi
     if command -v systemctl >/dev/null; then
         systemctl disable --quiet komd-front.service komd.service komd-backup.timer
-        rm -f /etc/systemd/system/multi-user.target.wants/komd-log@*.service
+        rm -f /etc/systemd/system/multi-user.target.wants/komd-log@*.service /etc/systemd/system/timers.target.wants/komd-sweep@*.timer
     fi
 fi
 END

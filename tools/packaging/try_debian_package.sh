@@ -74,14 +74,18 @@ same 'measures' 'komd_up 1' "$(as_komd komd-metrics --port "$port" | grep -v '^#
 same 'a mailbox' '0 texts' "$(echo 'a first one' | inside komd-mbox --port "$port" 5 /root/mailbox)"
 same 'who comes' 'komd-log: person 5 cannot log in with this password: call 62 was refused with error 4, status 5' \
     "$(echo 'another one' | inside komd-log --port "$port" 5 2>&1)"
+echo 'a first one' >"$copy/tmp/password"
+chmod 640 "$copy/tmp/password"
+same 'a sweep' 'swept 0 kept 0' "$(inside komd-sweep --delete --port "$port" 5 /tmp/password | paste -sd ' ')"
 same 'bringing over' 'conferences 6, persons 2, texts 0, recipients 0, memberships 2, marks 0, items 0' \
     "$(echo 'a first one' | as_komd komd-import "$port" 5 /var/lib/komd/brought /var/lib/komd/passwords)"
 same 'what was brought over' 'conferences 6 persons 2 texts 0' "$(as_komd komd check /var/lib/komd/brought | tail -n 3 | paste -sd ' ')"
 kill "$server"
 wait "$server" 2>/dev/null || true
 server=
+same 'a list of what nobody keeps' 'due 0 kept 0' "$(inside komd-sweep --store $store 5 /tmp/password | paste -sd ' ')"
 rm -f "$copy"/var/lib/komd/{brought,passwords} "$copy/root/mailbox"
-for tool in kom komd-{backup,first-day,front,import,log,mbox,metrics,probe,rescue,why}; do
+for tool in kom komd-{backup,first-day,front,import,log,mbox,metrics,probe,rescue,sweep,why}; do
     inside "$tool" --help >"$copy/tmp/said" 2>&1 || same "the usage of $tool" 0 $?
     same "a page of $tool" yes "$([ -e "$copy/usr/share/man/man8/$tool.8.gz" ] || [ -e "$copy/usr/share/man/man1/$tool.1.gz" ] && echo yes)"
 done

@@ -92,7 +92,7 @@ drop_in() {
 
 dpkg -i /komd.deb >/said.dpkg 2>&1 || cat /said.dpkg
 same 'the units as systemd-analyze finds them' '' \
-    "$(systemd-analyze verify --man=no /usr/lib/systemd/system/komd{.service,-backup.service,-backup.timer} 2>&1)"
+    "$(systemd-analyze verify --man=no /usr/lib/systemd/system/komd{.service,-backup.service,-backup.timer,-sweep@.service,-sweep@.timer} 2>&1)"
 echo "systemd-analyze security: $(systemd-analyze security --no-pager komd.service | tail -n 1)"
 systemctl start komd
 stands 'where there is no store' 'failed exit-code 4 0' 12
@@ -148,6 +148,15 @@ sleep 1
 journalctl --sync
 same 'who came, as the journal has it' 'login session person 5 Administrator' \
     "$(journalctl -u komd-log@6 -o cat --no-pager | grep -o 'login session [0-9]* person 5 Administrator' | head -n 1 | sed 's/ [0-9]* p/ p/')"
+echo 'a second one' >/etc/komd-sweep.password
+chmod 600 /etc/komd-sweep.password
+copies=$(find /var/lib/komd-backup -name 'store.*Z' | wc -l)
+systemctl start komd-sweep@6
+journalctl --sync
+same 'a sweep, as the journal has it' 'swept 0 kept 1' "$(journalctl -u komd-sweep@6 -o cat --no-pager | grep -E '^(swept|kept) ' | paste -sd ' ')"
+same 'the copy before it' $((copies + 1)) "$(find /var/lib/komd-backup -name 'store.*Z' | wc -l)"
+systemctl enable --now --quiet komd-sweep@6.timer
+same 'its timer' active "$(systemctl show -P ActiveState komd-sweep@6.timer)"
 # The front door; browsers want a package that is not here.
 install -m 0640 -g komd-front /cert.pem /key.pem /etc/komd-front
 mkdir -p /etc/systemd/system/komd-front.service.d
