@@ -196,6 +196,13 @@ class Sweeping(Tried):
         said, complained = process.communicate(timeout=PATIENCE * 4)
         return process.returncode, said, complained
 
+    def broken_off(self, what, port):
+        """How many texts a sweep deleted that breaks off, as it says itself, or -1 where it says nothing of that."""
+        status, said, complained = self.ask("--port", port, "--delete", PERSON, self.password)
+        self.same(what, (1, "", True), (status, said, "ended the connection" in complained or "reset" in complained))
+        found = re.match(rf"komd-sweep: (\d+) texts were deleted, and up to {UNDER_WAY} more may be\n", complained)
+        return int(found[1]) if found else -1
+
     def refused(self, what, wanted, *words, status=1, environment=()):
         returned, said, complained = self.ask(*words, environment=environment)
         self.same(what, (status, "", True), (returned, said, wanted in complained))
@@ -508,10 +515,9 @@ def try_breaks(tried):
                 tried.refused(f"a person that is gone before call {call}", "nothing is due", "--port", relay.number(), "--delete", person, tried.password)
         tried.same("what all these leave", made, sorted(stats(session)))
         with Relay(server.port, at(20, "29", lambda: False)) as relay:
-            status, said, complained = tried.ask("--port", relay.number(), "--delete", PERSON, tried.password)
+            told = tried.broken_off("an end in the middle of the deletions", relay.number())
         left = sorted(stats(session))
-        told = int(complained.split()[1])
-        tried.same("an end in the middle of the deletions", (1, "", True, True), (status, said, UNDER_WAY <= told < 20, told <= len(made) - len(left) < 20))
+        tried.same("how much was said to be gone, and was", True, UNDER_WAY <= told <= len(made) - len(left) < 20)
         tried.same("what that leaves", made[len(made) - len(left):], left)
         tried.same("the rest", ([], f"swept {len(left)} kept 0"), tried.said("--port", server.port, "--delete"))
 
@@ -600,11 +606,9 @@ def try_full_disk(tried):
             with open(room / "filler", "wb", buffering=0) as filler, contextlib.suppress(OSError):
                 while filler.write(bytes(4096)) == 4096:
                     pass
-            status, said, complained = tried.ask("--port", server.port, "--delete", PERSON, tried.password)
-            tried.same("a sweep on a full disk", (1, "", True), (status, said, "ended the connection" in complained or "reset" in complained))
+            told = tried.broken_off("a sweep on a full disk", server.port)
             tried.same("the server's end", STORE_OPEN, server.process.wait(PATIENCE))
         os.unlink(room / "filler")
-        told = int(complained.split()[1])
         with tried.served(store, tried.clock.moment) as (server, session):
             left = sorted(stats(session))
             tried.same("what a full disk leaves", made[len(made) - len(left):], left)

@@ -155,6 +155,14 @@ systemctl start komd-sweep@6
 journalctl --sync
 same 'a sweep, as the journal has it' 'swept 0 kept 1' "$(journalctl -u komd-sweep@6 -o cat --no-pager | grep -E '^(swept|kept) ' | paste -sd ' ')"
 same 'the copy before it' $((copies + 1)) "$(find /var/lib/komd-backup -name 'store.*Z' | wc -l)"
+mkdir -p /etc/systemd/system/komd-backup.service.d
+printf '[Service]\nExecStart=\nExecStart=/bin/false\n' >/etc/systemd/system/komd-backup.service.d/try.conf
+systemctl daemon-reload
+same 'a sweep where no copy can be made' '1 1' "$(systemctl start komd-sweep@6 2>/said.sweep; echo $?) $(journalctl --sync
+    journalctl -u komd-sweep@6 -o cat --no-pager | grep -c '^swept ')"
+rm -r /etc/systemd/system/komd-backup.service.d
+systemctl daemon-reload
+systemctl reset-failed komd-backup
 systemctl enable --now --quiet komd-sweep@6.timer
 same 'its timer' active "$(systemctl show -P ActiveState komd-sweep@6.timer)"
 # The front door; browsers want a package that is not here.
