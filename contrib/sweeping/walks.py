@@ -124,19 +124,19 @@ def is_as_judged(one, reply, gone):
                                        children=[child for child in row.children if child[1] not in gone])
 
 
-def delete(session, due, gone, stays):
-    """Deletes texts that are due, and adds to `gone` each one whose deletion was answered. `stays` is told of each other one, and why."""
+def delete(session, due, gone, is_left):
+    """Deletes texts that are due, and adds to `gone` each one whose deletion was answered. `is_left` is told of each other one, and why."""
     for some in parts(due):
         same = []
         for one, reply in zip(some, session.ask_all([(90, one.number) for one in some])):
             if is_as_judged(one, reply, gone):
                 same.append(one.number)
             else:
-                stays(one.number, "it changed meanwhile")
+                is_left(one.number, reply if isinstance(reply, Refused) else "it changed meanwhile")
         first = session.send_all([(29, number) for number in same])
         for place, number in enumerate(same):
             reply = session.reply(first + place, 29)
             if isinstance(reply, Refused):
-                stays(number, reply)
+                is_left(number, reply)
             else:
                 gone.add(number)

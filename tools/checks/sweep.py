@@ -478,8 +478,9 @@ def try_changes(tried):
         with Relay(server.port, both(at(2, "116 0", change), at(len(made) + 2, "90", change_texts))) as relay:
             status, said, complained = tried.ask("--port", relay.number(), "--delete", PERSON, tried.password)
         tried.same("a sweep beside others", (0, ""), (status, complained))
-        tried.same("what is said to stay", [*(f"text {number} stays: it changed meanwhile" for number in made[1:6]), f"swept {len(made) - 6}", "kept 7"],
-                   said.splitlines())
+        tried.same("what is said to be left", [*(f"text {number} was left: it changed meanwhile" for number in made[1:5]),
+                                               f"text {vanished} was left: call 90 was refused with error 14, status {vanished}",
+                                               f"swept {len(made) - 6}", "kept 7"], said.splitlines())
         tried.same("what is there then", [kept, *(number for number in made[:6] if number != vanished), made[-1] + 1], sorted(stats(session)))
         tried.same("how many calls were under way", UNDER_WAY, relay.most)
     with tried.served() as (server, session):
