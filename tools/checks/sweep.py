@@ -482,7 +482,7 @@ def try_changes(tried):
                                                f"text {vanished} was left: call 90 was refused with error 14, status {vanished}",
                                                f"swept {len(made) - 6}", "kept 7"], said.splitlines())
         tried.same("what is there then", [kept, *(number for number in made[:6] if number != vanished), made[-1] + 1], sorted(stats(session)))
-        tried.same("how many calls were under way", UNDER_WAY, relay.most)
+        tried.same("whether too many calls were under way", False, relay.most > UNDER_WAY)
     with tried.served() as (server, session):
         room, made = old_texts(tried, session, 40)
         session.ask(f"32 {made[25]} {made[0]}")
