@@ -2,7 +2,7 @@
 """Tries contrib/komd-sweep over served stores whose clock is told the time: sweep.py [PROGRAM [STORES]]
 
 1. Each condition of the rule by itself, at the second before the day on which it lets a text go, and at the second of that: what
-   conferences keep, comments, footnotes, no recipients, marks, items, each way in which a text is named.
+   conferences keep, comments, footnotes, no recipients, marks, items, each way in which a text is named. Rows worked out by hand.
 2. Stores of random calls (40, or STORES): what is listed, and then deleted, is what a second model of the rule tells, which reads the
    replies itself; and all else is as it was, but for links to what is gone.
 3. What comes between: a text that changes, or is named, after it was judged stays; where a call of the walk over the names is refused, or
@@ -15,6 +15,7 @@ seconds, and needs a C compiler; where there is none it says so, and ends with 0
 """
 import collections
 import contextlib
+import datetime
 import io
 import itertools
 import os
@@ -77,7 +78,7 @@ class Told:
 
     def moment(self):
         second, minute, hour, day, month, year, *_ = self.ints(9)
-        return int(time.mktime((1900 + year, month + 1, day, hour, minute, second, 0, 0, 0)) - time.mktime((1970, 1, 1, 0, 0, 0, 0, 0, 0)))
+        return int((datetime.datetime(1900 + year, month + 1, day, hour, minute, second) - datetime.datetime(1970, 1, 1)).total_seconds())
 
     def array(self, element):
         count, brace = self.some(2)
@@ -303,6 +304,25 @@ def try_conditions(tried):
         tried.same("what is said of the sweep", ([], f"swept {len(wanted)} kept {len(texts) - len(wanted)}"), tried.said("--port", server.port, "--delete"))
         tried.same("what is left", without(texts, wanted), stats(session))
         tried.same("a second sweep", ([], f"swept 0 kept {len(texts) - len(wanted)}"), tried.said("--port", server.port, "--delete"))
+
+
+def try_worked(tried):
+    """Part 1: three texts that were worked out by hand, of which the last comments the first on the day before it would be due."""
+    for what, change, first, left in (("as it is", None, "swept 1 kept 2", [1, 3]), ("an expire of 10 days", "97 6 10", "swept 2 kept 1", [3]),
+                                      ("a mark", "72 2 1", "swept 0 kept 3", [1, 2, 3])):
+        with tried.served() as (server, session):
+            room = conference(session, "Open")
+            write(session, room), write(session, room)
+            if change:
+                session.ask(change)
+            tried.clock.go_on(77 * DAY)
+            write(session, room, parents=[1])
+            tried.clock.go_on(DAY)
+            tried.same(f"what is swept of three texts, {what}", ([], first), tried.said("--port", server.port, "--delete"))
+            tried.same(f"what is left of three texts, {what}", left, sorted(stats(session)))
+            if not change:
+                tried.clock.go_on(77 * DAY)
+                tried.same("what is swept 77 days later", ([], "swept 2 kept 0"), tried.said("--port", server.port, "--delete"))
 
 
 # Part 2.
@@ -630,6 +650,7 @@ def main(words):
     with tempfile.TemporaryDirectory(dir=folder_in_memory()) as folder:
         tried = Sweeping(program, pathlib.Path(folder))
         try_conditions(tried)
+        try_worked(tried)
         try_random(tried, stores)
         try_changes(tried)
         try_breaks(tried)
