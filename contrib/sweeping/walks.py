@@ -11,7 +11,7 @@ LETTERBOX = 16
 
 
 class Due(NamedTuple):
-    """A text that is due, with what the server told of it: all, and what is judged of that."""
+    """A text that may be due, with what the server told of it: all, and what is judged of that."""
     number: int
     told: bytes
     recipients: list
@@ -124,7 +124,7 @@ def is_as_judged(one, reply, gone):
                                        children=[child for child in row.children if child[1] not in gone])
 
 
-def delete(session, due, gone, is_left):
+def delete(session, due, gone, is_left, progress):
     """Deletes texts that are due, and adds to `gone` each one whose deletion was answered. `is_left` is told of each other one, and why."""
     for some in parts(due):
         same = []
@@ -140,3 +140,5 @@ def delete(session, due, gone, is_left):
                 is_left(number, reply)
             else:
                 gone.add(number)
+        progress.tell(len(gone), len(due))
+    progress.end()

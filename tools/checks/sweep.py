@@ -208,6 +208,10 @@ class Sweeping(Tried):
         returned, said, complained = self.ask(*words, environment=environment)
         self.same(what, (status, "", True), (returned, said, wanted in complained))
 
+    def refused_at(self, relay, what, wanted, person=PERSON):
+        """A sweep by a relay that is to end so, and to say so."""
+        self.refused(what, wanted, "--port", relay.number(), "--delete", person, self.password)
+
 
 def write(session, *recipients, parents=(), items="0 { }", body="a text"):
     """The number of a new text, to conferences, and a comment to texts."""
@@ -301,7 +305,8 @@ def try_conditions(tried):
         wanted, texts = [number for _, number, day in made if day], stats(session)
         tried.same("all that are due", (wanted, f"due {len(wanted)} kept {len(texts) - len(wanted)}"), tried.said("--port", server.port))
         tried.same("what the model tells", wanted, model(session, tried.clock.moment))
-        tried.same("what is said of the sweep", ([], f"swept {len(wanted)} kept {len(texts) - len(wanted)}"), tried.said("--port", server.port, "--delete"))
+        said = f"swept {len(wanted)} kept {len(texts) - len(wanted)}"
+        tried.same("what is said of the sweep", ([], said), tried.said("--port", server.port, "--delete"))
         tried.same("what is left", without(texts, wanted), stats(session))
         tried.same("a second sweep", ([], f"swept 0 kept {len(texts) - len(wanted)}"), tried.said("--port", server.port, "--delete"))
 
@@ -356,8 +361,8 @@ class Chance:
     def call(self):
         draw, text, room = self.draw, self.text(), self.room()
         return draw.choices((
-            self.new_text(), f"30 {text} {room} 0", f"32 {text} {self.text()}", f"37 {text} {self.text()}", f"33 {text} {self.text()}", f"31 {text} {room}",
-            f"72 {text} 1", f"73 {text}", f"16 {room} {text}", f"17 {room} {text}", f"57 {self.person} {text}",
+            self.new_text(), f"30 {text} {room} 0", f"32 {text} {self.text()}", f"37 {text} {self.text()}", f"33 {text} {self.text()}",
+            f"31 {text} {room}", f"72 {text} 1", f"73 {text}", f"16 {room} {text}", f"17 {room} {text}", f"57 {self.person} {text}",
             f"93 {room} 0 {{ }} {item(14, '00000000', draw.choice(('{}', '0{}', '{}x', '')).format(text))}", f"29 {text}",
             f"11 {self.rooms[0]}", f"{draw.choice((22, 105, 97))} {room} {draw.randrange(8)}",
         ), (50, 6, 6, 6, 3, 3, 4, 3, 1, 1, 1, 2, 2, 0.2, 2))[0]
@@ -513,7 +518,8 @@ def try_changes(tried):
             days_of(session, room, 1, 1, expire)
             with Relay(server.port, at(29, "90", lambda: write(session, room, parents=[made[-1]]) and None)) as relay:
                 listed = tried.said("--port", relay.number())
-            tried.same(f"a comment to the last text at the end of the walk, with expire {expire}", (wanted, f"due {len(wanted)} kept {29 - len(wanted)}"), listed)
+            tried.same(f"a comment to the last text at the end of the walk, with expire {expire}",
+                       (wanted, f"due {len(wanted)} kept {29 - len(wanted)}"), listed)
             session.ask(f"29 {max(stats(session))}")
 
 
@@ -525,15 +531,15 @@ def try_breaks(tried):
         for number, what in ((1, "the walk over the names"), (2, "the second walk over them")):
             victim = next(gone)
             with Relay(server.port, at(number, f"91 {victim}", lambda: session.ask(f"11 {victim}") and None)) as relay:
-                tried.refused(f"a refusal in {what}", "nothing is due", "--port", relay.number(), "--delete", PERSON, tried.password)
+                tried.refused_at(relay, f"a refusal in {what}", "nothing is due")
         for call, number in (("116 0", 1), ("49", 1), ("91", 3), ("60 0", 1), ("90", 30), ("116 0", 2), ("49", 2), ("90", 50)):
             with Relay(server.port, at(number, call, lambda: False)) as relay:
-                tried.refused(f"an end at call {call}, time {number}", "ended the connection", "--port", relay.number(), "--delete", PERSON, tried.password)
+                tried.refused_at(relay, f"an end at call {call}, time {number}", "ended the connection")
         for call in ("116 0", "60 0"):
             person, _ = a_person(session, server.port, f"administrator until {call}")
             session.ask(f"8 {person} 0H 0H"), session.ask(f"7 {person} 1111110000000000")
             with Relay(server.port, at(1, call, lambda: session.ask(f"11 {person}") and None)) as relay:
-                tried.refused(f"a person that is gone before call {call}", "nothing is due", "--port", relay.number(), "--delete", person, tried.password)
+                tried.refused_at(relay, f"a person that is gone before call {call}", "nothing is due", person)
         tried.same("what all these leave", made, sorted(stats(session)))
         with Relay(server.port, at(20, "29", lambda: False)) as relay:
             told = tried.broken_off("an end in the middle of the deletions", relay.number())
@@ -555,7 +561,8 @@ def try_words(tried):
         tried.refused("a person who is not strong", f"person {person} is no administrator", *where, person, tried.password)
         tried.refused("a password that is another", "cannot log in with this password", *where, PERSON, tried.password)
         session.ask(f"8 {PERSON} 0H 2Hpw")
-        tried.same("a password with a line feed", (0, "due 3\nkept 0\n"), (lambda it: (it[0], it[1][-13:]))(tried.ask(*where[:2], PERSON, tried.password)))
+        status, said, _ = tried.ask(*where[:2], PERSON, tried.password)
+        tried.same("a password with a line feed", (0, ["due 3", "kept 0"]), (status, said.splitlines()[-2:]))
         tried.refused("a person that is not there", "cannot log in", *where, 77, tried.password)
         tried.refused("no file of a password", "No such file", *where, PERSON, tried.folder / "none")
         tried.password.chmod(0o604)
