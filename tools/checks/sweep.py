@@ -535,11 +535,12 @@ def try_breaks(tried):
         for call, number in (("116 0", 1), ("49", 1), ("91", 3), ("60 0", 1), ("90", 30), ("116 0", 2), ("49", 2), ("90", 50)):
             with Relay(server.port, at(number, call, lambda: False)) as relay:
                 tried.refused_at(relay, f"an end at call {call}, time {number}", "ended the connection")
-        for call in ("116 0", "60 0"):
-            person, _ = a_person(session, server.port, f"administrator until {call}")
+        for what, call, change in (("a person that is gone", "116 0", "11 {}"), ("a person that is gone", "60 0", "11 {}"),
+                                   ("a person who is strong no more", "60 0", "7 {} 0000000000000000")):
+            person, _ = a_person(session, server.port, f"{what} at {call}")
             session.ask(f"8 {person} 0H 0H"), session.ask(f"7 {person} 1111110000000000")
-            with Relay(server.port, at(1, call, lambda: session.ask(f"11 {person}") and None)) as relay:
-                tried.refused_at(relay, f"a person that is gone before call {call}", "nothing is due", person)
+            with Relay(server.port, at(1, call, lambda: session.ask(change.format(person)) and None)) as relay:
+                tried.refused_at(relay, f"{what} before call {call}", "nothing is due", person)
         tried.same("what all these leave", made, sorted(stats(session)))
         with Relay(server.port, at(20, "29", lambda: False)) as relay:
             told = tried.broken_off("an end in the middle of the deletions", relay.number())
