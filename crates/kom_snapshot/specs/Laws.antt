@@ -1,0 +1,25 @@
+-- What holds of snapshots.
+use Rattle.std.specs.Prelude.{◌≡◌, ℕ, true, List, Some}
+use Rattle.kom_types.specs.declared.effects.Effect.{Effect}
+use Rattle.kom_model.specs.Db.{Db, empty_db}
+use Rattle.kom_model.specs.Effects.{IsProtected, fits, made, apply_all}
+use Rattle.kom_model.specs.Initial.{initial}
+use Rattle.kom_model.specs.Whole.{IsWhole}
+use Rattle.kom_snapshot.specs.Listed.{IsListed}
+use Rattle.kom_snapshot.specs.Snap.{snap}
+use Rattle.kom_snapshot.specs.Snapshot.{stands_for}
+
+-- No row is listed; an effect that fits leaves whole rows listed that were; so do effects one after
+-- the other, since one that does not fit changes nothing; and the rows of a new server are listed.
+pub record StandListed : Type 0 where
+  pub empty : IsListed empty_db
+  pub one : (what : Effect) (db : Db) → fits what db ≡ true → IsWhole db → IsListed db
+      → IsListed (made what db)
+  pub all : (effects : List Effect) (db : Db) → IsWhole db → IsListed db
+      → IsListed (apply_all effects db)
+  pub initial : (password : List ℕ) (moment : ℕ) → IsListed (initial password moment)
+
+-- The snapshot of stored rows stands for them.
+abbrev pub SnapshotStands : Type 0
+SnapshotStands = (db : Db) → IsWhole db → IsProtected db → IsListed db
+    → stands_for (snap db) ≡ Some db

@@ -1,0 +1,5 @@
+pub mod Snapshot
+pub mod Snap
+pub mod Listed
+pub mod Laws
+pub mod SnapRows

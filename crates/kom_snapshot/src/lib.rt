@@ -1,0 +1,9 @@
+//! What a snapshot of the stored rows is: effects that make them from no row on, and the counters
+//! that these leave too low.
+#![tactic(auto)]
+
+mod laws;
+mod raised;
+
+pub use laws::worked_snapshots;
+pub use raised::{Raised, RaisedCounter};
