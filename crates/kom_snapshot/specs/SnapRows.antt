@@ -194,7 +194,8 @@ rows = record {
       ∷ person_row 6
       ∷ [];
   memberships = member_row 6 6 1 255 11 11 0 ∷ member_row 5 5 0 255 10 10 0
-      ∷ (record (member_row 6 1 0 100 12 50 128) { added_by = 5 }) ∷ member_row 6 5 2 50 13 13 0 ∷ [];
+      ∷ (record (member_row 6 1 0 100 12 50 128) { added_by = 5 })
+      ∷ member_row 6 5 2 50 13 13 0 ∷ [];
   reads = read_row 6 6 [] ∷ read_row 5 5 []
       ∷ read_row 6 1 (read 1 4 ∷ read 8 9 ∷ []) ∷ read_row 6 5 [] ∷ [];
   texts = text_row 3 30 (codes "one") 0 6 2 ∷ text_row 7 31 (10 ∷ 10 ∷ []) 2 1 1 ∷ [];
@@ -301,7 +302,8 @@ pub record SnapRows : Type 0 where
       option_map (λ db. map (λ row. row.sessions) db.persons) (stands_for without_counters)
       ≡ Some (1 ∷ 0 ∷ [])
   pub does_not_fit :
-      stands_for (record { effects = effect.RecipientAdded (recipient 7 1 2) ∷ []; raised = [] }) ≡ None
+      stands_for (record { effects = effect.RecipientAdded (recipient 7 1 2) ∷ []; raised = [] })
+      ≡ None
   pub raised_no_further : may_raise (raised counter.Locals 1 9) rows ≡ true
   pub lowered : may_raise (raised counter.Locals 1 8) rows ≡ false
   pub last_local : may_raise (raised counter.Locals 1 4294967295) rows ≡ true
