@@ -5,10 +5,13 @@ use Rattle.std.specs.Prelude.{map}
 use Rattle.std.specs.List.{AllByRecursion, filter, find}
 use Rattle.std.proofs.lemmas.Bool.{cases_Bool}
 
+abbrev pub one_if : Bool → ℕ
+one_if b = cond b 1 0
+
 module _ {X : Type 0} where
   -- a row, and those after it
   pub count-cons : (test : X → Bool) (row : X) (rows : List X) →
-      length (filter test (row ∷ rows)) ≡ cond (test row) 1 0 + length (filter test rows)
+      length (filter test (row ∷ rows)) ≡ one_if (test row) + length (filter test rows)
   count-cons test row rows = elim (cases_Bool (test row)) [
     | inl here ↦ rw here (omega arith)
     | inr there ↦ rw there (omega arith)

@@ -1,4 +1,5 @@
 pub mod Counting
-pub mod Places
 pub mod Rising
+pub mod Places
 pub mod Keeping
+pub mod replay

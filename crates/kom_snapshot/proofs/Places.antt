@@ -1,9 +1,9 @@
 -- The places of a person's memberships, as they are set and taken away.
-use Rattle.std.proofs.Common.{◌≡◌, ℕ, ◌+◌, ◌-◌, ◌<◌, ◌≤◌, min, Bool, true, false, cond, not, ◌==◌, ◌&&◌, List, []}
+use Rattle.std.proofs.Common.{◌≡◌, ℕ, ◌+◌, ◌-◌, ◌<◌, ◌≤◌, min, Bool, false, cond, not, ◌==◌, ◌&&◌, List, []}
 use Rattle.std.proofs.Common.{◌∷◌, length, Option, Some, None, refl, sym, ◌∙◌, ap, subst, inl, inr, arith}
 use Rattle.std.proofs.Common.{eqb-true, ⊎_elim}
 use Rattle.std.specs.Prelude.{map, nat_lt, nat_le}
-use Rattle.std.specs.List.{filter, find}
+use Rattle.std.specs.List.{filter}
 use Rattle.std.proofs.lemmas.Bool.{cases_Bool, cases_eq, cases_lt, ne_eqb, eq-eqb, lt-ltb, le-ltb}
 use Rattle.std.proofs.lemmas.Bool.{and_parts}
 use Rattle.std.proofs.lemmas.Bool.Decides.{nat_tests}
@@ -14,10 +14,8 @@ use Rattle.read_ranges.specs.Reads.{read_at}
 use Rattle.kom_model.proofs.whole.Counts.{all-of, none-counted, all-weaker}
 use Rattle.kom_snapshot.specs.Listed.{ArePlaced, is_at, count_at}
 use Rattle.kom_snapshot.proofs.Counting.{count-append, count-changed, count-split, filter-changed, found-alone}
-use Rattle.kom_snapshot.proofs.Counting.{count-replaced, count-cons}
-
-abbrev pub one_if : Bool → ℕ
-one_if b = cond b 1 0
+use Rattle.kom_snapshot.proofs.Counting.{count-replaced, count-cons, one_if}
+use Rattle.kom_snapshot.proofs.Rising.{find-passes}
 
 -- ---- one row that makes room, or closes up
 module _ (person place : ℕ) where
@@ -357,17 +355,6 @@ module _ (row : MembershipRow) (others all : List MembershipRow)
   split-placed gap =
       filled-placed row.person row.position others all gap split-at split-count split-other split-others
 
--- what is found passes the test
-find-passes : {X : Type 0} (test : X → Bool) (rows : List X) (row : X) → find test rows ≡ Some row → test row ≡ true
-find-passes test [] row found = absurd (cc)
-find-passes test (first ∷ rows) row found = elim (cases_Bool (test first)) [
-  | inl here ↦
-      let same : Some first ≡ Some row = rw here at found in
-      let is : first ≡ row = cc in
-      ap test (sym is) ∙ here
-  | inr there ↦ find-passes test rows row (rw there at found)
-]
-
 abbrev left : ℕ → ℕ → List MembershipRow → List MembershipRow
 left person conference rows = filter (λ row. not (is_membership person conference row)) rows
 
@@ -489,7 +476,8 @@ module _ (given old : MembershipRow) (rows : List MembershipRow)
       ap (λ l. length (filter test l)) (table-filter (λ row. not (key row)) (λ at row. ap not (key-up at row))
       (λ at row. ap not (key-down at row)) rows) in
       all
-      ∙ ap {B = ℕ} (λ n. cond (test put) n 0 + length (filter test (filter (λ row. not (key row)) (table rows)))) one-key
+      ∙ ap {B = ℕ} (λ n. cond (test put) n 0 + length (filter test (filter (λ row. not (key row)) (table rows))))
+      one-key
       ∙ ap {B = ℕ} (λ n. one_if (test put) + n) rest
 
   again-placed : ArePlaced (set_again given old rows)

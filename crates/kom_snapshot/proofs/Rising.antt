@@ -1,6 +1,6 @@
 -- Rows whose numbers rise by kind, as they are taken out and added.
-use Rattle.std.proofs.Common.{◌≡◌, ℕ, ◌<◌, Bool, true, List, [], ◌∷◌, ◌++◌, Option, Some, None, refl}
-use Rattle.std.proofs.Common.{subst, inl, inr, arith}
+use Rattle.std.proofs.Common.{◌≡◌, ℕ, ◌<◌, Bool, true, ap, List, [], ◌∷◌, ◌++◌, Option, Some, None, refl}
+use Rattle.std.proofs.Common.{◌∙◌, sym, subst, inl, inr, arith}
 use Rattle.std.specs.Prelude.{nat_le}
 use Rattle.std.specs.List.{AllByRecursion, filter, find}
 use Rattle.std.proofs.lemmas.Bool.{cases_Bool, cond_both, leb-true}
@@ -42,3 +42,14 @@ pub next-begun : {R : Type 0} (next : R → ℕ) (found : Option R) (number : �
 next-begun next None number begun more = let least = leb-true 1 number more in omega (arith, least)
 next-begun next (Some row) number begun more =
     let least = leb-true (next row) number more in let first = begun row refl in omega (arith, least, first)
+
+-- what is found passes the test
+pub find-passes : {X : Type 0} (test : X → Bool) (rows : List X) (row : X) → find test rows ≡ Some row → test row ≡ true
+find-passes test [] row found = absurd (cc)
+find-passes test (first ∷ rows) row found = elim (cases_Bool (test first)) [
+  | inl here ↦
+      let same : Some first ≡ Some row = rw here at found in
+      let is : first ≡ row = cc in
+      ap test (sym is) ∙ here
+  | inr there ↦ find-passes test rows row (rw there at found)
+]

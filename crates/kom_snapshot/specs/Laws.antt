@@ -9,8 +9,9 @@ use Rattle.kom_snapshot.specs.Listed.{IsListed}
 use Rattle.kom_snapshot.specs.Snap.{snap}
 use Rattle.kom_snapshot.specs.Snapshot.{stands_for}
 
--- No row is listed; an effect that fits leaves whole rows listed that were; so do effects one after
--- the other, since one that does not fit changes nothing; and the rows of a new server are listed.
+-- The rows before any effect are listed. An effect that fits leaves whole rows listed that were; so
+-- do effects one after the other, since one that does not fit changes nothing. So the rows of a new
+-- server are listed.
 pub record StandListed : Type 0 where
   pub empty : IsListed empty_db
   pub one : (what : Effect) (db : Db) → fits what db ≡ true → IsWhole db → IsListed db
@@ -19,7 +20,13 @@ pub record StandListed : Type 0 where
       → IsListed (apply_all effects db)
   pub initial : (password : List ℕ) (moment : ℕ) → IsListed (initial password moment)
 
--- The snapshot of stored rows stands for them.
+-- The snapshot of stored rows stands for them, where they are as effects leave them: whole, listed,
+-- and with each secret conference read-protected.
 abbrev pub SnapshotStands : Type 0
 SnapshotStands = (db : Db) → IsWhole db → IsProtected db → IsListed db
     → stands_for (snap db) ≡ Some db
+
+-- So the snapshot of rows that effects make, from no row on, stands for them.
+abbrev pub MadeStands : Type 0
+MadeStands = (effects : List Effect) → let made : Db = apply_all effects empty_db in
+    stands_for (snap made) ≡ Some made

@@ -1,5 +1,5 @@
 -- The snapshot of stored rows.
-use Rattle.std.specs.Prelude.{ℕ, Bool, ◌==◌, ◌&&◌, nat_lt, List, [], ◌∷◌, ◌++◌, map, count_by}
+use Rattle.std.specs.Prelude.{ℕ, Bool, ◌==◌, ◌&&◌, nat_lt, List, [], ◌∷◌, ◌++◌, length, map, filter}
 use Rattle.std.specs.Prelude.{flat_map, if◌then◌else◌}
 use Rattle.kom_types.specs.declared.conferences.ConferenceRow.{ConferenceRow}
 use Rattle.kom_types.specs.declared.effects.ConfField.TheVariants as field
@@ -66,7 +66,7 @@ is_before row other = other.person == row.person && nat_lt other.position row.po
 
 -- how many memberships are
 abbrev pub rank : MembershipRow → List MembershipRow → ℕ
-rank row rows = count_by (is_before row) rows
+rank row rows = length (filter (is_before row) rows)
 
 -- A membership after these, at the place that counts its person's earlier ones at lower places, and
 -- what was read of it.

@@ -1,4 +1,4 @@
-ghost use Rattle.kom_snapshot.specs.Laws.{StandListed};
+ghost use Rattle.kom_snapshot.specs.Laws.{StandListed, SnapshotStands, MadeStands};
 ghost use Rattle.kom_snapshot.specs.SnapRows.{SnapRows};
 
 /// A law alone: the definitions of a snapshot give what was worked out by hand.
@@ -9,4 +9,11 @@ pub fn worked_snapshots()
 /// A law alone: effects that fit leave whole rows as a snapshot needs them, from no row on.
 pub fn effects_leave_listed()
     ensures { StandListed }
+{}
+
+/// A law alone: the snapshot of stored rows stands for them; so it does for all rows that effects
+/// make.
+pub fn snapshots_stand()
+    ensures stands { SnapshotStands }
+    ensures made { MadeStands }
 {}

@@ -1,0 +1,16 @@
+pub mod Replaying
+pub mod Tables
+pub mod Conferences
+pub mod Persons
+pub mod Texts
+pub mod Drawing
+pub mod Recipients
+pub mod Links
+pub mod Marks
+pub mod Items
+pub mod Ranks
+pub mod Members
+pub mod Sorting
+pub mod Created
+pub mod Raising
+pub mod Again
