@@ -263,7 +263,7 @@ text-drawn number last row listed =
 
 -- ---- all rows, where one table is another
 module _ (db : Db) (listed : IsListed db) where
-  conferences-listed : (new : List ConferenceRow) (next : ℕ) → AllByRecursion IsListedConference new →
+  pub conferences-listed : (new : List ConferenceRow) (next : ℕ) → AllByRecursion IsListedConference new →
       IsListed (record db { conferences = new; next_conference = next })
   conferences-listed new next conferences = record {
     placed = listed.placed;
@@ -285,7 +285,8 @@ module _ (db : Db) (listed : IsListed db) where
       (all-picked IsListedConference IsListedConference (λ row. row.number == number) change
       (λ row _ here. keeps row here) (λ row here. here) db.conferences listed.conferences)
 
-  persons-listed : (new : List PersonRow) → AllByRecursion IsListedPerson new → IsListed (record db { persons = new })
+  pub persons-listed : (new : List PersonRow) → AllByRecursion IsListedPerson new →
+      IsListed (record db { persons = new })
   persons-listed new persons = record {
     placed = listed.placed;
     locals_rise = listed.locals_rise;
@@ -305,7 +306,7 @@ module _ (db : Db) (listed : IsListed db) where
       (all-picked IsListedPerson IsListedPerson (λ row. row.number == number) change
       (λ row _ here. keeps row here) (λ row here. here) db.persons listed.persons)
 
-  texts-listed : (new : List TextRow) (next : ℕ) → 0 < next → AllByRecursion IsListedText new →
+  pub texts-listed : (new : List TextRow) (next : ℕ) → 0 < next → AllByRecursion IsListedText new →
       IsListed (record db { texts = new; next_text = next })
   texts-listed new next begun texts = record {
     placed = listed.placed;

@@ -3,3 +3,4 @@ pub mod Rising
 pub mod Places
 pub mod Keeping
 pub mod replay
+pub mod Raises

@@ -5,9 +5,10 @@ use Rattle.kom_model.specs.Db.{Db, empty_db}
 use Rattle.kom_model.specs.Effects.{IsProtected, fits, made, apply_all}
 use Rattle.kom_model.specs.Initial.{initial}
 use Rattle.kom_model.specs.Whole.{IsWhole}
+use Rattle.kom_snapshot.specs.declared.raised.Raised.{Raised}
 use Rattle.kom_snapshot.specs.Listed.{IsListed}
 use Rattle.kom_snapshot.specs.Snap.{snap}
-use Rattle.kom_snapshot.specs.Snapshot.{stands_for}
+use Rattle.kom_snapshot.specs.Snapshot.{Snapshot, stands_for, may_raise, raised_in}
 
 -- The rows before any effect are listed. An effect that fits leaves whole rows listed that were; so
 -- do effects one after the other, since one that does not fit changes nothing. So the rows of a new
@@ -30,3 +31,16 @@ SnapshotStands = (db : Db) → IsWhole db → IsProtected db → IsListed db
 abbrev pub MadeStands : Type 0
 MadeStands = (effects : List Effect) → let made : Db = apply_all effects empty_db in
     stands_for (snap made) ≡ Some made
+
+-- rows that a snapshot gives again: whole, protected and listed
+pub record IsRestorable (db : Db) : Type 0 where
+  pub whole : IsWhole db
+  pub protected : IsProtected db
+  pub listed : IsListed db
+
+-- A counter that may be raised leaves such rows such. So the rows that any snapshot stands for,
+-- from wherever it was read, are such.
+pub record StandRaised : Type 0 where
+  pub one : (given : Raised) (db : Db) → may_raise given db ≡ true → IsRestorable db
+      → IsRestorable (raised_in given db)
+  pub read : (snapshot : Snapshot) (db : Db) → stands_for snapshot ≡ Some db → IsRestorable db

@@ -1,4 +1,4 @@
-ghost use Rattle.kom_snapshot.specs.Laws.{StandListed, SnapshotStands, MadeStands};
+ghost use Rattle.kom_snapshot.specs.Laws.{StandListed, SnapshotStands, MadeStands, StandRaised};
 ghost use Rattle.kom_snapshot.specs.SnapRows.{SnapRows};
 
 /// A law alone: the definitions of a snapshot give what was worked out by hand.
@@ -16,4 +16,10 @@ pub fn effects_leave_listed()
 pub fn snapshots_stand()
     ensures stands { SnapshotStands }
     ensures made { MadeStands }
+{}
+
+/// A law alone: a counter that may be raised leaves rows as a snapshot gives them again, and so are
+/// the rows that any snapshot stands for.
+pub fn raises_leave_restorable()
+    ensures { StandRaised }
 {}

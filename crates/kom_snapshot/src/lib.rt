@@ -5,5 +5,5 @@
 mod laws;
 mod raised;
 
-pub use laws::{effects_leave_listed, snapshots_stand, worked_snapshots};
+pub use laws::{effects_leave_listed, raises_leave_restorable, snapshots_stand, worked_snapshots};
 pub use raised::{Raised, RaisedCounter};
