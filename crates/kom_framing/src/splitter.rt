@@ -1,4 +1,4 @@
-ghost use Rattle.std.specs.Prelude.{◌≡◌, ◌↔◌, ℕ, List, [], ◌∷◌, ◌++◌, Err, Some, IsNone, IfNone};
+ghost use Rattle.std.specs.Prelude.{◌≡◌, ◌≢◌, ◌↔◌, true, false, ℕ, List, [], ◌∷◌, ◌++◌, Err, Some, IsNone, IfNone};
 ghost use Rattle.std.specs.Prelude.{IfSome, MatchOption};
 ghost use Rattle.kom_types.specs.declared.limits.TheConstants.{LONGEST_STREAM};
 ghost use Rattle.kom_types.specs.Stream as stream;
@@ -129,6 +129,14 @@ impl Splitter {
                 Err(Memory) => Err(FeedRefusal::Memory),
             },
         }
+    }
+
+    /// Whether a unit is complete that was not taken yet.
+    pub fn has_unit(&self) -> bool
+        ensures none { result ≡ false → self.now.held ≡ [] }
+        ensures some { result ≡ true → self.now.held ≢ [] }
+    {
+        !self.units.is_empty()
     }
 
     /// The next unit that is complete.
