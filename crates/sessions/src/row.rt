@@ -16,6 +16,8 @@ pub struct SessionRow {
     seat: Seat,
     outbox: Outbox,
     overrun: bool,
+    /// Its count of news when something last came to it unasked.
+    news: u64,
 }
 
 // A call of its own, so that whoever lets a row go has one step to prove and not one for each part.
@@ -25,6 +27,7 @@ impl Drop for SessionRow {
             seat,
             outbox,
             overrun: _,
+            news: _,
         } = self;
         drop((seat, outbox));
     }
@@ -54,6 +57,7 @@ impl SessionRow {
             seat: seat_of(alloc, number, pass, user, host, at)?,
             outbox: Outbox::new(alloc)?,
             overrun: false,
+            news: 0,
         })
     }
 
@@ -78,8 +82,14 @@ impl SessionRow {
         self.outbox.is_empty()
     }
 
-    /// Queues an item that prints to so many bytes, and says whether it waits now.
-    pub(crate) fn queue(&mut self, item: Item, len: u64, entry: u64) -> bool
+    /// Whether something came to it unasked, or it was ended, after this count of news.
+    pub(crate) fn has_news(&self, since: u64) -> bool {
+        self.news > since
+    }
+
+    /// Queues an item that prints to so many bytes, and says whether it waits now. A message, and
+    /// the first item that may not wait, raise this count of news, and the row keeps the new count.
+    pub(crate) fn queue(&mut self, item: Item, len: u64, entry: u64, news: &mut u64) -> bool
         requires { len ≡ min (length (print_of item)) (2 ^ 64 - 1) }
         ensures taken { result ≡ takes item self.old }
         ensures row { self.new ≡ queued waiting_limits entry item self.old }
@@ -87,8 +97,12 @@ impl SessionRow {
         if self.overrun {
             return false;
         }
+        let is_message = is_message(&item);
         let taken = self.outbox.queue(item, len, entry);
         self.overrun = !taken;
+        if is_message || !taken {
+            self.news = raised(news);
+        }
         taken
     }
 
@@ -102,12 +116,32 @@ impl SessionRow {
         self.outbox.drain_into(below, into);
     }
 
-    /// Makes a change of the session, at this moment.
-    pub(crate) fn change(&mut self, change: SessionChange, at: Moment)
+    /// Makes a change of the session, at this moment. Its end raises this count of news, and the
+    /// row keeps the new count.
+    pub(crate) fn change(&mut self, change: SessionChange, at: Moment, news: &mut u64)
         ensures { self.new ≡ changed change at self.old }
     {
+        if is_end(&change) {
+            self.news = raised(news);
+        }
         change_seat(&mut self.seat, change, at);
     }
+}
+
+/// Raises a count of news, and returns it.
+fn raised(news: &mut u64) -> u64 {
+    *news = news.wrapping_add(1);
+    *news
+}
+
+/// Whether a session is told an item without having asked.
+fn is_message(item: &Item) -> bool {
+    matches!(item, Item::Message(_))
+}
+
+/// Whether a change ends its session.
+fn is_end(change: &SessionChange) -> bool {
+    matches!(change, SessionChange::Ended(_))
 }
 
 /// The seat of a session that begins at this moment.

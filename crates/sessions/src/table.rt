@@ -21,13 +21,19 @@ pub struct Sessions {
     rows: Vec<SessionRow>,
     /// The sessions that accept each message.
     accepting: Accepting,
+    /// How often something came to a session unasked: a message, its end, or more than may wait.
+    news: u64,
 }
 
 // A call of its own, so that whoever lets the sessions go has one step to prove and not one for
 // each part.
 impl Drop for Sessions {
     fn drop(self) {
-        let Sessions { rows, accepting } = self;
+        let Sessions {
+            rows,
+            accepting,
+            news: _,
+        } = self;
         drop((rows, accepting));
     }
 }
@@ -52,6 +58,7 @@ impl Sessions {
         Sessions {
             rows: Vec::new(alloc),
             accepting: Accepting::new(alloc),
+            news: 0,
         }
     }
 
@@ -132,7 +139,7 @@ impl Sessions {
         ensures rows { self.new ≡ with_row session (queued waiting_limits entry item) self.old }
     {
         let place = self.place(session);
-        self.rows[place].queue(item, len, entry)
+        self.rows[place].queue(item, len, entry, &mut self.news)
     }
 
     /// Moves the first items that wait for a session, 64 at most, of entries below this one into an
@@ -158,9 +165,28 @@ impl Sessions {
         let place = self.place(session);
         let row = &mut self.rows[place];
         let was = row.seat().accepted;
-        row.change(change, at);
+        row.change(change, at, &mut self.news);
         let is = row.seat().accepted;
         self.accepting.change(session, was, is);
+    }
+
+    /// How often something came to a session unasked: a message, its end, or more than may wait.
+    pub fn news(&self) -> u64 {
+        self.news
+    }
+
+    /// The first session of a pass, above this number, to which something came unasked after this
+    /// count of news.
+    pub fn next_news(&self, pass: u32, above: u32, since: u64) -> Option<u32>
+        ensures { IfSome result (λ session. above < session) }
+    {
+        for row in self.rows.as_slice() {
+            let number = row.seat().number;
+            if number > above && row.seat().pass == pass && row.has_news(since) {
+                return Some(number);
+            }
+        }
+        None
     }
 
     /// The place of the row of a session that is there.
