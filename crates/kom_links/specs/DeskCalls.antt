@@ -10,17 +10,19 @@ use Rattle.kom_types.specs.declared.answers.Why.TheVariants as why
 use Rattle.kom_types.specs.declared.items.Item.{Item}
 use Rattle.kom_links.specs.declared.desk.DeskFault.{DeskFault}
 use Rattle.kom_links.specs.declared.desk.DeskFault.TheVariants as fault
-use Rattle.kom_links.specs.Records.{has_session, is_open}
+use Rattle.kom_links.specs.declared.deeds.Deed.{Deed}
+use Rattle.kom_links.specs.declared.deeds.Deed.TheVariants as deed
+use Rattle.kom_links.specs.Answers.{Answer, said, said_stopped, deed_of, is_nothing}
+use Rattle.kom_links.specs.Records.{has_session}
 
 -- What contracts see of a desk: the number of its pass; the records of the acts that it made; for
--- each session the lists of items that its drains gave, one for each drain, and the first fault
--- that it was answered, where 0 stands for no session; and whether it answered that no turn of the
--- server's lock is left.
+-- each session the lists of items that its drains gave, one for each drain; what it answered, in
+-- order; and whether it answered that no turn of the server's lock is left.
 pub record DeskView : Type 0 where
   pub pass : ℕ
   pub mine : List Record
   pub gave_to : ℕ → List (List Item)
-  pub fault_to : ℕ → Option DeskFault
+  pub answers : List Answer
   pub lock_full : Bool
 
 -- what is kept for each session stays as it was, but for this one
@@ -42,19 +44,6 @@ record_of pass moment act session short = record {
   session = session;
   short = short;
 }
-
--- the first fault, after this was answered
-abbrev pub first_fault : {X : Type 0} → Option DeskFault → Result X DeskFault → Option DeskFault
-first_fault (Some first) answer = Some first
-first_fault None (Ok value) = None
-first_fault None (Err fault) = Some fault
-
--- that the desk is stopped counts as a fault
-abbrev pub first_stop : Option DeskFault → Result Bool DeskFault → Option DeskFault
-first_stop (Some first) answer = Some first
-first_stop None (Ok false) = None
-first_stop None (Ok true) = Some (fault.Gone why.Stopped)
-first_stop None (Err fault) = Some fault
 
 -- an answer says that no turn of the server's lock is left
 abbrev pub is_lock_full : {X : Type 0} → Result X DeskFault → Bool
@@ -97,29 +86,30 @@ IsLockFault (fault.Gone why) = ⊥
 IsLockFault (fault.Full number) = 2 ^ 62 ≤ number
 IsLockFault fault.Memory = ⊥
 
--- A session was connected, by a number that no record of the desk has: nothing was given to it, and
--- it has no fault. Or the desk refused, which is noted where no session is meant.
+-- A deed and what was answered to it stand at the end of the desk's answers.
+abbrev pub Tells : {X : Type 0} → DeskView → Deed → Result X DeskFault → DeskView → Type 0
+Tells old deed answer new = new.answers ≡ old.answers ++ (deed, said answer) ∷ []
+
+-- A session was connected, by a number that no record of the desk has, and nothing was given to it;
+-- or the desk refused.
 pub record Connects (old : DeskView) (moment : ℕ) (user host : List ℕ)
     (answer : Result ℕ DeskFault) (new : DeskView) : Type 0 where
   pub added : IfOk answer (λ session. new.mine
       ≡ old.mine ++ record_of old.pass moment (act.Connect user host) session false ∷ [])
   pub new_number : IfOk answer (λ session. (session ≢ 0) × (has_session session old.mine ≡ false))
   pub given : IfOk answer (λ session. ChangesAt session [] old.gave_to new.gave_to)
-  pub fault : IfOk answer (λ session. ChangesAt session None old.fault_to new.fault_to)
   pub none_added : OnErr answer (new.mine ≡ old.mine)
   pub none_given : OnErr answer (StaysForAll old.gave_to new.gave_to)
-  pub noted : OnErr answer
-      (ChangesAt 0 (first_fault (old.fault_to 0) answer) old.fault_to new.fault_to)
+  pub tells : Tells old deed.Connect answer new
   pub why : IfErr answer IsConnectFault
   pub lock_full : new.lock_full ≡ (old.lock_full || is_lock_full answer)
   pub pass : new.pass ≡ old.pass
 
--- What an act of a session leaves: a fault is noted at that session, and nothing else changes.
-pub record NotesAt {X : Type 0} (old : DeskView) (session : ℕ) (answer : Result X DeskFault)
+-- What an answer to a deed leaves: a deed that is refused adds no record.
+pub record IsTold {X : Type 0} (old : DeskView) (deed : Deed) (answer : Result X DeskFault)
     (new : DeskView) : Type 0 where
   pub none_added : OnErr answer (new.mine ≡ old.mine)
-  pub noted : ChangesAt session (first_fault (old.fault_to session) answer) old.fault_to
-      new.fault_to
+  pub tells : Tells old deed answer new
   pub lock_full : new.lock_full ≡ (old.lock_full || is_lock_full answer)
   pub pass : new.pass ≡ old.pass
 
@@ -129,7 +119,7 @@ pub record Acts {X : Type 0} (old : DeskView) (moment : ℕ) (act : Act) (sessio
   pub added : OnOk answer (new.mine ≡ old.mine ++ record_of old.pass moment act session false ∷ [])
   pub given : StaysForAll old.gave_to new.gave_to
   pub why : IfErr answer IsActFault
-  pub rest : NotesAt old session answer new
+  pub rest : IsTold old (deed_of act) answer new
 
 -- The same of a call, which may have been answered that memory ran out.
 pub record Calls {X : Type 0} (old : DeskView) (moment : ℕ) (act : Act) (session : ℕ)
@@ -138,7 +128,7 @@ pub record Calls {X : Type 0} (old : DeskView) (moment : ℕ) (act : Act) (sessi
       × (new.mine ≡ old.mine ++ record_of old.pass moment act session short ∷ []))
   pub given : StaysForAll old.gave_to new.gave_to
   pub why : IfErr answer IsActFault
-  pub rest : NotesAt old session answer new
+  pub rest : IsTold old (deed_of act) answer new
 
 -- A session was drained of these items, which were given to it; or the desk refused, and there are
 -- none.
@@ -150,17 +140,7 @@ pub record Drains {X : Type 0} (old : DeskView) (moment session : ℕ) (items : 
       (ChangesAt session (old.gave_to session ++ items ∷ []) old.gave_to new.gave_to)
   pub none_given : OnErr answer (StaysForAll old.gave_to new.gave_to × (items ≡ []))
   pub why : IfErr answer IsActFault
-  pub rest : NotesAt old session answer new
-
--- whether a fault that is of no session is noted at this number: at 0, and at each open session
-abbrev pub is_noted : List Record → ℕ → Bool
-is_noted records session = session == 0 || is_open session records
-
--- a fault that is of no session is noted so
-abbrev pub NotesEverywhere : (Option DeskFault → Option DeskFault) → DeskView → DeskView → Type 0
-NotesEverywhere note old new = (session : ℕ) →
-    new.fault_to session
-    ≡ (if is_noted old.mine session then note (old.fault_to session) else old.fault_to session)
+  pub rest : IsTold old (deed.Drain session (is_nothing items)) answer new
 
 -- A flush that is refused adds nothing; one that the store refuses, for which the desk is stopped,
 -- may add its short record.
@@ -179,7 +159,7 @@ pub record Flushes {X : Type 0} (old : DeskView) (moment : ℕ) (answer : Result
   pub added : OnOk answer (new.mine ≡ old.mine ++ record_of old.pass moment act.Flush 0 false ∷ [])
   pub none_added : IfErr answer (λ fault. AddsNoneOrShort old moment fault new)
   pub given : StaysForAll old.gave_to new.gave_to
-  pub noted : NotesEverywhere (λ first. first_fault first answer) old new
+  pub tells : Tells old deed.Flush answer new
   pub why : IfErr answer IsFlushFault
   pub lock_full : new.lock_full ≡ (old.lock_full || is_lock_full answer)
   pub pass : new.pass ≡ old.pass
@@ -191,14 +171,23 @@ pub record Closes {X : Type 0} (old : DeskView) (moment session : ℕ)
       ≡ old.mine ++ record_of old.pass moment (act.Close session) session false ∷ [])
   pub given : StaysForAll old.gave_to new.gave_to
   pub why : IfErr answer IsLockFault
-  pub rest : NotesAt old session answer new
+  pub rest : IsTold old (deed.Close session) answer new
 
 -- The desk was asked whether it is stopped, which makes no act.
 pub record AsksStopped (old : DeskView) (answer : Result Bool DeskFault)
     (new : DeskView) : Type 0 where
   pub mine : new.mine ≡ old.mine
   pub given : StaysForAll old.gave_to new.gave_to
-  pub noted : NotesEverywhere (λ first. first_stop first answer) old new
+  pub answers : new.answers ≡ old.answers ++ (deed.Ask, said_stopped answer) ∷ []
   pub why : IfErr answer IsLockFault
   pub lock_full : new.lock_full ≡ (old.lock_full || is_lock_full answer)
+  pub pass : new.pass ≡ old.pass
+
+-- The desk was looked at, which makes no act and answers no fault. It may have found that no turn
+-- of the server's lock is left.
+pub record IsLookedAt (old new : DeskView) : Type 0 where
+  pub mine : new.mine ≡ old.mine
+  pub given : StaysForAll old.gave_to new.gave_to
+  pub answers : new.answers ≡ old.answers
+  pub lock_full : old.lock_full ≡ true → new.lock_full ≡ true
   pub pass : new.pass ≡ old.pass

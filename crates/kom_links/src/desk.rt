@@ -1,12 +1,9 @@
-ghost use Rattle.std.specs.Prelude.{◌≡◌, ◌≤◌, List, length, IfOk};
+ghost use Rattle.std.specs.Prelude.{◌≤◌, ◌<◌, length, IfSome};
 ghost use Rattle.kom_types.specs.declared.items.Item.{Item as Taken};
 ghost use Rattle.kom_types.specs.declared.acts.Act.TheVariants as act;
 ghost use Rattle.kom_links.specs.Records.{IsOpen};
 ghost use Rattle.kom_links.specs.DeskCalls.{DeskView, Connects, Acts, Calls, Drains, Flushes};
-ghost use Rattle.kom_links.specs.DeskCalls.{Closes, AsksStopped};
-ghost use Rattle.kom_links.specs.declared.desk_tally.DeskTally.{DeskTally};
-ghost use Rattle.kom_links.specs.DeskTally.{with_connect, with_act, with_drain, with_flush};
-ghost use Rattle.kom_links.specs.DeskTally.{with_question};
+ghost use Rattle.kom_links.specs.DeskCalls.{Closes, AsksStopped, IsLookedAt};
 
 use arrayvec::ArrayVec;
 use kom_types::{Call, Item, Moment, Why};
@@ -23,12 +20,9 @@ pub enum DeskFault {
 }
 
 /// Where one pass hands in the acts of the sessions that it serves. Each call but `stopped` makes
-/// one act, at the moment that it is handed.
+/// one act, at the moment that it is handed. What it answers is logged, for clauses alone.
 pub trait Desk {
     ghost view: { Self → DeskView };
-
-    /// What it tells beside its acts.
-    ghost tally: { Self → DeskTally };
 
     /// It goes on from before as the same desk, over the same server. No call puts another in its
     /// place.
@@ -39,7 +33,6 @@ pub trait Desk {
         requires { length user.now ≤ 1024 }
         ensures connects { Connects (view self.old) moment user.now host.now result
             (view self.new) }
-        ensures tally { tally self.new ≡ with_connect result (tally self.old) }
         ensures on { goes_on self.old self.new };
 
     /// Makes a call for a session.
@@ -53,7 +46,6 @@ pub trait Desk {
         requires { IsOpen session (view self.old).mine }
         ensures calls { Calls (view self.old) moment (act.Call session reference call) session
             result (view self.new) }
-        ensures tally { tally self.new ≡ with_act result (tally self.old) }
         ensures on { goes_on self.old self.new };
 
     /// Says that a session's stream is at fault.
@@ -61,7 +53,6 @@ pub trait Desk {
         requires { IsOpen session (view self.old).mine }
         ensures acts { Acts (view self.old) moment (act.Broken session) session result
             (view self.new) }
-        ensures tally { tally self.new ≡ with_act result (tally self.old) }
         ensures on { goes_on self.old self.new };
 
     /// Takes items that wait for a session, in place of what stood in the array.
@@ -74,30 +65,42 @@ pub trait Desk {
         requires { IsOpen session (view self.old).mine }
         ensures drains { Drains (view self.old) moment session into.new.items result
             (view self.new) }
-        ensures tally { tally self.new ≡ with_drain into.new.items result (tally self.old) }
         ensures on { goes_on self.old self.new };
 
     /// Makes stable what was done so far.
     fn flush(&mut self, moment: Moment) -> Result<(), DeskFault>
         ensures flushes { Flushes (view self.old) moment result (view self.new) }
-        ensures tally { tally self.new ≡ with_flush result (tally self.old) }
         ensures on { goes_on self.old self.new };
 
     /// Ends a session.
     fn close(&mut self, moment: Moment, session: u32) -> Result<(), DeskFault>
         requires { IsOpen session (view self.old).mine }
         ensures closes { Closes (view self.old) moment session result (view self.new) }
-        ensures tally { tally self.new ≡ with_act result (tally self.old) }
         ensures on { goes_on self.old self.new };
 
     /// Whether the server was shut down or its store refused a flush.
     fn stopped(&mut self) -> Result<bool, DeskFault>
         ensures asks { AsksStopped (view self.old) result (view self.new) }
-        ensures tally { tally self.new ≡ with_question result (tally self.old) }
         ensures on { goes_on self.old self.new };
 
     ghost goes_on_itself: { (desk : Self) → goes_on desk desk };
 
     ghost goes_on_further: { (first second third : Self) → goes_on first second
         → goes_on second third → goes_on first third };
+}
+
+/// A desk that tells to which sessions something came unasked: a message, their end by a call of
+/// another, or more than may wait. A wrong answer costs time, and no clause hangs on it.
+pub trait NewsDesk: Desk {
+    /// How often something came so to a session of the server.
+    fn news(&mut self) -> u64
+        ensures looked { IsLookedAt (Self.view self.old) (Self.view self.new) }
+        ensures on { Self.goes_on self.old self.new };
+
+    /// The first session of this pass, above this number, to which something came so after this
+    /// count of news.
+    fn next_news(&mut self, above: u32, since: u64) -> Option<u32>
+        ensures above { IfSome result (λ session. above < session) }
+        ensures looked { IsLookedAt (Self.view self.old) (Self.view self.new) }
+        ensures on { Self.goes_on self.old self.new };
 }
