@@ -1,6 +1,5 @@
 pub mod Cuts
 pub mod KeptDesks
-pub mod Marking
 pub mod OpenKept
 pub mod Opening
 pub mod Scripted

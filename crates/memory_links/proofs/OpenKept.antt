@@ -10,7 +10,7 @@ use Rattle.kom_links.specs.declared.desk.DeskFault.{DeskFault}
 use Rattle.kom_links.specs.declared.desk.DeskFault.TheVariants as fault
 use Rattle.kom_links.specs.DeskCalls.{DeskView, Connects, Acts, Calls, Drains, Flushes, AddsNoneOrShort, record_of}
 use Rattle.kom_links.specs.Records.{IsOpen, is_open, has_session}
-use Rattle.memory_links.specs.Marks.{IsBetween}
+use Rattle.memory_links.specs.Standing.{IsBetween}
 use Rattle.memory_links.proofs.Opening.{open_between, open_other, open_connected, absent_open}
 
 -- the records stay, or one more is added that neither connects nor closes a session

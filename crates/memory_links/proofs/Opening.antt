@@ -8,7 +8,7 @@ use Rattle.kom_types.specs.declared.acts.Act.TheVariants as act
 use Rattle.kom_types.specs.declared.acts.Record.{Record}
 use Rattle.kom_links.specs.DeskCalls.{record_of}
 use Rattle.kom_links.specs.Records.{is_connect, is_close, has_connect, has_close, has_session, is_open}
-use Rattle.memory_links.specs.Marks.{IsBetween}
+use Rattle.memory_links.specs.Standing.{IsBetween}
 
 pub or-false : (a : Bool) → (a || false) ≡ a
 or-false true = refl
@@ -110,3 +110,13 @@ absent_push n history made other absent =
     let no : eqb made.session n ≡ false = ne_eqb _ _ other in
     list_any-append (λ made. made.session == n) history (made ∷ [])
     ∙ ap (λ b. b || (eqb made.session n || false)) absent ∙ ap (λ b. b || false) no
+
+-- a session that is closed
+pub open_closed : (history : List Record) (pass moment session : ℕ) →
+    is_open session (history ++ record_of pass moment (act.Close session) session false ∷ []) ≡ false
+open_closed history pass moment session =
+    let here : eqb session session ≡ true = eq-eqb _ _ refl in
+    open_push session history (record_of pass moment (act.Close session) session false)
+    ∙ ap (λ b. (has_connect session history || false) && not (has_close session history || b)) here
+    ∙ ap (λ b. (has_connect session history || false) && not b) (or-true (has_close session history))
+    ∙ and-false (has_connect session history || false)

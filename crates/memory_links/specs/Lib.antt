@@ -1,5 +1,5 @@
 pub mod Script
 pub mod PlannedItems
-pub mod Marks
+pub mod Standing
 pub mod Memories
 pub mod Files

@@ -1,11 +1,12 @@
 -- What contracts see of the objects in memory: what each was made with, how far it has come, and
 -- what a link gives and takes by its plan.
 use Rattle.std.specs.Prelude.{◌≡◌, ◌≤◌, ◌+◌, ◌-◌, ◌==◌, ◌⊎◌, ◌||◌, ℕ, min, if◌then◌else◌, Bool}
-use Rattle.std.specs.Prelude.{true}
-use Rattle.std.specs.Prelude.{false, List, [], ◌∷◌, length, take, drop, map, Option, Some, None}
+use Rattle.std.specs.Prelude.{true, Err}
+use Rattle.std.specs.Prelude.{false, List, [], ◌∷◌, ◌++◌, length, take, drop, map, Option, Some, None}
 use Rattle.std.specs.Prelude.{option_map, codes}
 use Rattle.std.specs.List.{AllByRecursion}
 use Rattle.std.specs.VecDeque.{deque_len}
+use Rattle.kom_links.specs.declared.deeds.Deed.{Deed}
 use Rattle.kom_links.specs.declared.desk.DeskFault.{DeskFault}
 use Rattle.kom_links.specs.declared.gate.Next.{Next}
 use Rattle.kom_links.specs.declared.gate.Next.TheVariants as next
@@ -13,7 +14,7 @@ use Rattle.kom_links.specs.declared.link.Got.{Got}
 use Rattle.kom_links.specs.declared.link.Got.TheVariants as got
 use Rattle.kom_links.specs.declared.link.Took.{Took}
 use Rattle.kom_links.specs.declared.link.Took.TheVariants as took
-use Rattle.kom_links.specs.DeskCalls.{DeskView, StaysForAll, ChangesAt, NotesEverywhere}
+use Rattle.kom_links.specs.DeskCalls.{DeskView, StaysForAll}
 use Rattle.kom_links.specs.Doors.{GateView}
 use Rattle.kom_links.specs.Outside.{Look, LinkView}
 use Rattle.memory_links.specs.declared.memory_link.LinkPlan.{LinkPlan}
@@ -28,7 +29,7 @@ use Rattle.memory_links.specs.declared.memory_desk.MemoryDesk.{MemoryDesk}
 use Rattle.memory_links.specs.declared.file_plan.FilePlan.{FilePlan}
 use Rattle.memory_links.specs.declared.memory_world.GatePlan.{GatePlan}
 use Rattle.memory_links.specs.declared.memory_world.MemoryWorld.{MemoryWorld}
-use Rattle.memory_links.specs.Marks.{first_of, says_lock_full, fault_in}
+use Rattle.memory_links.specs.Standing.{says_lock_full}
 use Rattle.memory_links.specs.PlannedItems.{given_in}
 
 -- how a link gives and takes its bytes
@@ -178,16 +179,16 @@ desk_view desk = record {
   pass = desk.pass;
   mine = desk.records.items;
   gave_to = given_in desk.drains.items;
-  fault_to = fault_in desk.marks.items;
+  answers = desk.answers.items;
   lock_full = desk.is_lock_full;
 }
 
--- a desk of this pass that has made no act and returned no fault
+-- a desk of this pass that was asked for nothing
 pub record IsNewDesk (number : ℕ) (desk : DeskView) : Type 0 where
   pub pass : desk.pass ≡ number
   pub none_made : desk.mine ≡ []
   pub none_given : (session : ℕ) → desk.gave_to session ≡ []
-  pub no_fault : (session : ℕ) → desk.fault_to session ≡ None
+  pub no_answer : desk.answers ≡ []
   pub lock : desk.lock_full ≡ false
 
 -- contracts see the same of two desks
@@ -195,25 +196,16 @@ pub record IsSameDesk (old new : DeskView) : Type 0 where
   pub pass : new.pass ≡ old.pass
   pub mine : new.mine ≡ old.mine
   pub given : StaysForAll old.gave_to new.gave_to
-  pub faults : StaysForAll old.fault_to new.fault_to
+  pub answers : new.answers ≡ old.answers
   pub lock_full : new.lock_full ≡ old.lock_full
 
--- a fault was noted at this session, and nothing else changed
-pub record NotesFault (old : DeskView) (session : ℕ) (fault : DeskFault)
+-- a deed was refused, and nothing else changed
+pub record Refuses (old : DeskView) (deed : Deed) (fault : DeskFault)
     (new : DeskView) : Type 0 where
   pub pass : new.pass ≡ old.pass
   pub mine : new.mine ≡ old.mine
   pub given : StaysForAll old.gave_to new.gave_to
-  pub noted : ChangesAt session (first_of (old.fault_to session) fault) old.fault_to new.fault_to
-  pub lock_full : new.lock_full ≡ (old.lock_full || says_lock_full fault)
-
--- a fault that is of no session was noted, and nothing else changed
-pub record NotesFaultEverywhere (old : DeskView) (fault : DeskFault)
-    (new : DeskView) : Type 0 where
-  pub pass : new.pass ≡ old.pass
-  pub mine : new.mine ≡ old.mine
-  pub given : StaysForAll old.gave_to new.gave_to
-  pub noted : NotesEverywhere (λ first. first_of first fault) old new
+  pub answers : new.answers ≡ old.answers ++ (deed, Err fault) ∷ []
   pub lock_full : new.lock_full ≡ (old.lock_full || says_lock_full fault)
 
 -- what contracts see of a new link in memory whose client sends these bytes

@@ -1,5 +1,6 @@
 ghost use Rattle.std.specs.Prelude.{◌≡◌, ◌≤◌, ◌^◌, [], IfSome, IfErr, IsTrue};
 ghost use Rattle.kom_links.specs.DeskCalls.{IsConnectFault, IsActFault, IsFlushFault, IsLockFault};
+ghost use Rattle.memory_links.specs.Standing.{says_lock_full};
 
 use kom_links::DeskFault;
 use kom_types::Why;
@@ -7,7 +8,7 @@ use kom_types::limits::MOST_SESSIONS;
 use std::alloc::Global;
 
 /// The number that says that no turn of the server's lock is left.
-pub(crate) const LOCK_FULL: u64 = 1 << 62;
+const LOCK_FULL: u64 = 1 << 62;
 
 /// How many items a drain gives at most, whatever the plan says.
 const MOST_DRAINED: usize = 64;
@@ -139,6 +140,17 @@ impl Course {
             0 => MOST_DRAINED,
             most => most.min(MOST_DRAINED),
         }
+    }
+}
+
+/// Whether a fault says that no turn of the server's lock is left.
+pub(crate) fn says_lock_full(fault: DeskFault) -> bool
+    ensures { result ≡ says_lock_full fault }
+{
+    match fault {
+        DeskFault::Gone(_) => false,
+        DeskFault::Full(number) => LOCK_FULL <= number,
+        DeskFault::Memory => false,
     }
 }
 

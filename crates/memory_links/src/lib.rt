@@ -5,7 +5,6 @@
 mod desk_plan;
 mod file_plan;
 mod flags;
-mod marks;
 mod memory_clock;
 mod memory_desk;
 mod memory_gate;

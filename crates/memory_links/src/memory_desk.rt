@@ -1,16 +1,16 @@
-ghost use Rattle.std.specs.Prelude.{◌≡◌, ◌-◌, ◌+◌, ◌<◌, ◌≤◌, [], OnOk, IfOk, IsTrue, false};
+ghost use Rattle.std.specs.Prelude.{◌≡◌, ◌-◌, ◌+◌, ◌<◌, false, OnOk, IfOk};
 ghost use Rattle.std.specs.Prelude.{vec_len, vec_capacity};
 ghost use Rattle.kom_types.specs.declared.acts.Act.TheVariants as act;
+ghost use Rattle.kom_links.specs.Answers.{deed_of};
 ghost use Rattle.kom_links.specs.Records.{IsOpen};
-ghost use Rattle.kom_links.specs.DeskCalls.{Acts, Drains, is_noted, record_of};
-ghost use Rattle.kom_links.specs.DeskTally.{faulted, refused, with_act};
-ghost use Rattle.memory_links.specs.Marks.{Stands, IsBetween, fault_in};
+ghost use Rattle.kom_links.specs.DeskCalls.{Acts, record_of};
+ghost use Rattle.memory_links.specs.Standing.{Stands};
 
-use crate::desk_plan::{Course, DeskPlan};
-use crate::marks::{Mark, is_lock_full, note_in_open};
+use crate::desk_plan::{Course, DeskPlan, says_lock_full};
 use crate::planned_items::{Drained, PlannedItem, Waiting, put_items, take_waiting};
 use arrayvec::ArrayVec;
-use kom_links::{Desk, DeskFault, DeskTally};
+use http_server::Log;
+use kom_links::{Deed, Desk, DeskFault};
 use kom_types::limits::MOST_SESSIONS;
 use kom_types::{Act, Bytes, Call, Entry, Item, Memory, Moment, Record, Why};
 use std::alloc::Global;
@@ -24,13 +24,13 @@ pub struct MemoryDesk {
     course: Course,
     pass: u32,
     records: Vec<Record>,
-    // What is noted of each session, by its number; the first mark is of no session.
-    marks: Vec<Mark>,
+    // How many sessions were connected.
+    sessions: u32,
     drains: Vec<Drained>,
     waiting: Vec<Waiting>,
     is_lock_full: bool,
-    tally: DeskTally,
-    ghost stands: { Stands marks.items records.items drains.items
+    answers: Log<Deed, Result<(), DeskFault>>,
+    ghost stands: { Stands sessions records.items drains.items
         (vec_capacity records - vec_len records) },
 }
 
@@ -43,41 +43,35 @@ impl Drop for MemoryDesk {
             course,
             pass: _,
             records,
-            marks,
+            sessions: _,
             drains,
             waiting,
             is_lock_full: _,
-            tally: _,
+            answers,
         } = self;
-        drop((course, records, marks));
+        drop((course, records, answers));
         drop((drains, waiting));
     }
 }
 
 impl MemoryDesk {
-    ghost use Rattle.memory_links.specs.Memories.{desk_view, IsNewDesk, IsSameDesk, NotesFault};
-    ghost use Rattle.memory_links.specs.Memories.{NotesFaultEverywhere};
+    ghost use Rattle.memory_links.specs.Memories.{desk_view, IsNewDesk, IsSameDesk, Refuses};
 
     /// A desk of this pass that has made no act.
-    pub fn new(alloc: Global, pass: u32, plan: DeskPlan) -> Result<MemoryDesk, Memory>
-        ensures { IfOk result (λ desk. IsNewDesk pass (⟦<MemoryDesk as Desk>⟧.view desk)) }
+    pub fn new(alloc: Global, pass: u32, plan: DeskPlan) -> MemoryDesk
+        ensures { IsNewDesk pass (⟦<MemoryDesk as Desk>⟧.view result) }
     {
-        let mut marks = Vec::with_capacity(alloc, 1)?;
-        marks.push_reserved(Mark {
-            is_open: true,
-            fault: None,
-        });
-        Ok(MemoryDesk {
+        MemoryDesk {
             alloc,
             course: Course::new(plan),
             pass,
             records: Vec::new(alloc),
-            marks,
+            sessions: 0,
             drains: Vec::new(alloc),
             waiting: Vec::new(alloc),
             is_lock_full: false,
-            tally: DeskTally::nothing(),
-        })
+            answers: Log::new(),
+        }
     }
 
     /// The records of the acts that were made, in order.
@@ -87,76 +81,30 @@ impl MemoryDesk {
         self.records.as_slice()
     }
 
-    /// The first fault that was returned at a session, or, at 0, where no session was meant.
-    pub fn first_fault(&self, session: u32) -> Option<DeskFault>
-        ensures { result ≡ (⟦<MemoryDesk as Desk>⟧.view self.now).fault_to session }
-    {
-        match self.marks.get(session as usize) {
-            Some(mark) => mark.fault,
-            None => None,
-        }
-    }
-
-    /// Takes room for one more of all that is kept, and for the Close of each open session.
+    /// Takes room for one more of all that is kept, and for a Close of each number up to the next
+    /// session's.
     fn reserve(&mut self) -> Result<(), Memory>
         ensures same { IsSameDesk (desk_view self.old) (desk_view self.new) }
-        ensures records { OnOk result (vec_len self.new.records + vec_len self.new.marks
+        ensures sessions { self.new.sessions ≡ self.old.sessions }
+        ensures records { OnOk result (vec_len self.new.records + self.new.sessions + 2
             < vec_capacity self.new.records) }
-        ensures marks { OnOk result (vec_len self.new.marks < vec_capacity self.new.marks) }
         ensures drains { OnOk result (vec_len self.new.drains < vec_capacity self.new.drains) }
         ensures waiting { OnOk result (vec_len self.new.waiting < vec_capacity self.new.waiting) }
-        ensures tally { self.new.tally ≡ self.old.tally }
     {
-        self.records.reserve(self.marks.len() + 1)?;
-        self.marks.reserve(1)?;
+        self.records.reserve(self.sessions as usize + 3)?;
         self.drains.reserve(1)?;
         self.waiting.reserve(1)?;
         Ok(())
     }
 
-    /// Notes a fault at a session, or, at 0, where no session was meant.
-    fn note(&mut self, session: u32, fault: DeskFault) -> DeskFault
-        requires { IsTrue (is_noted self.old.records.items session) }
+    /// Logs that a deed was refused.
+    fn refuse(&mut self, deed: Deed, fault: DeskFault) -> DeskFault
         ensures result { result ≡ fault }
-        ensures noted { NotesFault (desk_view self.old) session fault (desk_view self.new) }
-        ensures tally { self.new.tally ≡ self.old.tally }
+        ensures refused { Refuses (desk_view self.old) deed fault (desk_view self.new) }
     {
-        let place = session as usize;
-        self.marks[place] = self.marks[place].with(fault);
-        self.is_lock_full = is_lock_full(self.is_lock_full, fault);
+        self.answers = self.answers.and(&deed, &Err(fault));
+        self.is_lock_full = self.is_lock_full || says_lock_full(fault);
         fault
-    }
-
-    /// The same of a fault that is the answer to neither a flush nor a drain.
-    fn fault(&mut self, session: u32, fault: DeskFault) -> DeskFault
-        requires { IsTrue (is_noted self.old.records.items session) }
-        ensures result { result ≡ fault }
-        ensures noted { NotesFault (desk_view self.old) session fault (desk_view self.new) }
-        ensures tally { self.new.tally ≡ faulted self.old.tally }
-    {
-        self.tally.faulted();
-        self.note(session, fault)
-    }
-
-    /// Notes a fault that is of no session.
-    fn note_everywhere(&mut self, fault: DeskFault) -> DeskFault
-        ensures result { result ≡ fault }
-        ensures noted { NotesFaultEverywhere (desk_view self.old) fault (desk_view self.new) }
-        ensures tally { self.new.tally ≡ self.old.tally }
-    {
-        note_in_open(self.marks.as_mut_slice(), fault);
-        self.is_lock_full = is_lock_full(self.is_lock_full, fault);
-        fault
-    }
-
-    /// The same of a fault that is the answer to a flush.
-    fn refuse_flush(&mut self, fault: DeskFault) -> DeskFault
-        ensures result { result ≡ fault }
-        ensures noted { NotesFaultEverywhere (desk_view self.old) fault (desk_view self.new) }
-        ensures tally { self.new.tally ≡ refused self.old.tally }
-    {
-        self.tally.refused();
-        self.note_everywhere(fault)
     }
 
     /// Makes an act of a session for which an item waits then.
@@ -165,52 +113,24 @@ impl MemoryDesk {
         moment: Moment,
         session: u32,
         act: Act,
+        deed: Deed,
         item: PlannedItem,
     ) -> Result<(), DeskFault>
         requires open { IsOpen session self.old.records.items }
-        requires between { IsBetween act }
-        ensures acts { Acts (desk_view self.old) moment act session result (desk_view self.new) }
-        ensures tally { self.new.tally ≡ with_act result self.old.tally }
+        requires deed { deed ≡ deed_of act }
+        ensures { Acts (desk_view self.old) moment act session result (desk_view self.new) }
     {
         if let Some(fault) = self.course.refuse_act() {
             wait_if_gone(&mut self.waiting, Waiting { session, item }, fault);
-            return Err(self.fault(session, fault));
+            return Err(self.refuse(deed, fault));
         }
         if self.reserve().is_err() {
-            return Err(self.fault(session, DeskFault::Memory));
+            return Err(self.refuse(deed, DeskFault::Memory));
         }
         self.records
             .push_reserved(record_of(self.pass, moment, act, session));
         self.waiting.push_reserved(Waiting { session, item });
-        Ok(())
-    }
-
-    /// Takes items that wait for a session, in place of what stood in the array.
-    fn drain_waiting(
-        &mut self,
-        moment: Moment,
-        session: u32,
-        into: &mut ArrayVec<Item, 64>,
-    ) -> Result<(), DeskFault>
-        requires { IsOpen session self.old.records.items }
-        ensures drains { Drains (desk_view self.old) moment session into.new.items result
-            (desk_view self.new) }
-        ensures tally { self.new.tally ≡ self.old.tally }
-    {
-        into.clear();
-        if let Some(fault) = self.course.refuse_act() {
-            return Err(self.note(session, fault));
-        }
-        let Ok(mut items) = Vec::with_capacity(self.alloc, self.course.most_drained()) else {
-            return Err(self.note(session, DeskFault::Memory));
-        };
-        if self.reserve().is_err() {
-            return Err(self.note(session, DeskFault::Memory));
-        }
-        take_waiting(&mut self.waiting, session, &mut items);
-        put_items(items.as_slice(), into);
-        self.records.push_reserved(record_of(self.pass, moment, Act::Drain { session }, session));
-        self.drains.push_reserved(Drained { session, items });
+        self.answers = self.answers.and(&deed, &Ok(()));
         Ok(())
     }
 }
@@ -249,8 +169,6 @@ impl Desk for MemoryDesk {
 
     ghost view = { λ desk. desk_view desk };
 
-    ghost tally = { λ desk. desk.tally };
-
     // There is one desk, and no server below it.
     ghost goes_on = { λ old new. Unit {0} };
 
@@ -260,29 +178,26 @@ impl Desk for MemoryDesk {
 
     fn connect(&mut self, moment: Moment, user: &[u8], host: &[u8]) -> Result<u32, DeskFault> {
         if let Some(fault) = self.course.refuse_connect() {
-            return Err(self.fault(0, fault));
+            return Err(self.refuse(Deed::Connect, fault));
         }
         let Ok(act) = greeting(self.alloc, user, host) else {
-            return Err(self.fault(0, DeskFault::Memory));
+            return Err(self.refuse(Deed::Connect, DeskFault::Memory));
         };
         if self.reserve().is_err() {
-            return Err(self.fault(0, DeskFault::Memory));
+            return Err(self.refuse(Deed::Connect, DeskFault::Memory));
         }
-        let Ok(number) = u32::try_from(self.marks.len()) else {
-            return Err(self.fault(0, DeskFault::Full(u64::from(MOST_SESSIONS))));
+        let Some(session) = self.sessions.checked_add(1) else {
+            return Err(self.refuse(Deed::Connect, DeskFault::Full(u64::from(MOST_SESSIONS))));
         };
         self.records
-            .push_reserved(record_of(self.pass, moment, act, number));
-        self.marks.push_reserved(Mark {
-            is_open: true,
-            fault: None,
-        });
+            .push_reserved(record_of(self.pass, moment, act, session));
+        self.sessions = session;
         self.waiting.push_reserved(Waiting {
-            session: number,
+            session,
             item: PlannedItem::Hello,
         });
-        self.tally.connected();
-        Ok(number)
+        self.answers = self.answers.and(&Deed::Connect, &Ok(()));
+        Ok(session)
     }
 
     fn call(
@@ -297,16 +212,19 @@ impl Desk for MemoryDesk {
             reference,
             call,
         };
+        let item = PlannedItem::Reply { reference, session };
+        self.act(moment, session, act, Deed::Call(session), item)
+    }
+
+    fn broken(&mut self, moment: Moment, session: u32) -> Result<(), DeskFault> {
+        let act = Act::Broken { session };
         self.act(
             moment,
             session,
             act,
-            PlannedItem::Reply { reference, session },
+            Deed::Broken(session),
+            PlannedItem::Fault,
         )
-    }
-
-    fn broken(&mut self, moment: Moment, session: u32) -> Result<(), DeskFault> {
-        self.act(moment, session, Act::Broken { session }, PlannedItem::Fault)
     }
 
     fn drain_into(
@@ -315,55 +233,60 @@ impl Desk for MemoryDesk {
         session: u32,
         into: &mut ArrayVec<Item, 64>,
     ) -> Result<(), DeskFault> {
-        match self.drain_waiting(moment, session, into) {
-            Ok(()) => {
-                self.tally.drained(into.is_empty());
-                Ok(())
-            }
-            Err(fault) => {
-                self.tally.refused();
-                Err(fault)
-            }
+        into.clear();
+        let refused = Deed::Drain(session, true);
+        if let Some(fault) = self.course.refuse_act() {
+            return Err(self.refuse(refused, fault));
         }
+        let Ok(mut items) = Vec::with_capacity(self.alloc, self.course.most_drained()) else {
+            return Err(self.refuse(refused, DeskFault::Memory));
+        };
+        if self.reserve().is_err() {
+            return Err(self.refuse(refused, DeskFault::Memory));
+        }
+        take_waiting(&mut self.waiting, session, &mut items);
+        put_items(items.as_slice(), into);
+        self.records.push_reserved(record_of(self.pass, moment, Act::Drain { session }, session));
+        self.drains.push_reserved(Drained { session, items });
+        self.answers = self
+            .answers
+            .and(&Deed::Drain(session, into.is_empty()), &Ok(()));
+        Ok(())
     }
 
     fn flush(&mut self, moment: Moment) -> Result<(), DeskFault> {
         if let Some(fault) = self.course.refuse_flush() {
-            return Err(self.refuse_flush(fault));
+            return Err(self.refuse(Deed::Flush, fault));
         }
         if self.reserve().is_err() {
-            return Err(self.refuse_flush(DeskFault::Memory));
+            return Err(self.refuse(Deed::Flush, DeskFault::Memory));
         }
         self.records
             .push_reserved(record_of(self.pass, moment, Act::Flush, 0));
-        self.tally.flushed();
+        self.answers = self.answers.and(&Deed::Flush, &Ok(()));
         Ok(())
     }
 
     fn close(&mut self, moment: Moment, session: u32) -> Result<(), DeskFault> {
         if let Some(fault) = self.course.refuse_close() {
-            return Err(self.fault(session, fault));
+            return Err(self.refuse(Deed::Close(session), fault));
         }
         self.records.push_reserved(record_of(self.pass, moment, Act::Close { session }, session));
-        self.marks[session as usize].is_open = false;
+        self.answers = self.answers.and(&Deed::Close(session), &Ok(()));
         Ok(())
     }
 
     fn stopped(&mut self) -> Result<bool, DeskFault> {
         match self.course.next_question() {
             Ok(false) => {
-                self.tally.asked(false);
+                self.answers = self.answers.and(&Deed::Ask, &Ok(()));
                 Ok(false)
             }
             Ok(true) => {
-                self.tally.asked(true);
-                self.note_everywhere(DeskFault::Gone(Why::Stopped));
+                self.refuse(Deed::Ask, DeskFault::Gone(Why::Stopped));
                 Ok(true)
             }
-            Err(fault) => {
-                self.tally.asked(true);
-                Err(self.note_everywhere(fault))
-            }
+            Err(fault) => Err(self.refuse(Deed::Ask, fault)),
         }
     }
 }

@@ -1,5 +1,5 @@
 -- The gates of the last plans are there in order, and there is room for the others.
-use Rattle.std.proofs.Common.{◌≡◌, ◌≤◌, ◌+◌, ◌++◌, map, length, vec_len, vec_capacity}
+use Rattle.std.proofs.Common.{◌≡◌, ◌+◌, ◌++◌, map, length, vec_len, vec_capacity}
 use Rattle.std.specs.List.{AllByRecursion}
 use Rattle.kom_links.specs.Doors.{IsNewGate}
 use Rattle.memory_links.specs.Memories.{gate_view, clients_of, script_of, calls_of}
