@@ -1,5 +1,5 @@
 //! The session loop over a desk in memory.
-ghost use Rattle.std.specs.Prelude.{◌≡◌, None, IfOk};
+ghost use Rattle.std.specs.Prelude.{◌≡◌, [], None, IfOk};
 ghost use Rattle.kom_session.specs.Ends.{IsUntouched};
 
 use kom_links::{Desk, DeskFault, Got, Link, Served, SessionEnd, Took};
@@ -96,7 +96,7 @@ fn letter_of(act: &Act) -> u8 {
 
 /// The desk of a row.
 fn desk_of(alloc: Global, row: &Row) -> Result<MemoryDesk, Fail>
-    ensures { IfOk result (λ desk. (⟦<MemoryDesk as Desk>⟧.view desk).fault_to 0 ≡ None) }
+    ensures { IfOk result (λ desk. (⟦<MemoryDesk as Desk>⟧.view desk).answers ≡ []) }
 {
     let mut plan = DeskPlan::new(alloc);
     plan.refusals = Vec::from_slice(alloc, row.refusals)?;
@@ -104,7 +104,7 @@ fn desk_of(alloc: Global, row: &Row) -> Result<MemoryDesk, Fail>
     plan.stops = row.stops;
     plan.lock_ends = row.lock_ends;
     plan.most_drained = row.most_drained;
-    Ok(MemoryDesk::new(alloc, 0, plan)?)
+    Ok(MemoryDesk::new(alloc, 0, plan))
 }
 
 /// The link of a row.
