@@ -1,6 +1,8 @@
 -- What the calls of a desk are answered, by how their turns ended.
-use Rattle.std.proofs.Common.{◌≡◌, ℕ, inl, inr, Bool, true, false, List, Option, refl, sym, ap, subst, ◌∙◌}
-use Rattle.std.specs.Prelude.{Ok, Err}
+use Rattle.std.proofs.Common.{◌≡◌, ℕ, inl, inr, Bool, true, false, ◌||◌, List, [], ◌∷◌, ◌++◌, Option, refl, sym, ap}
+use Rattle.std.proofs.Common.{subst, ◌∙◌}
+use Rattle.std.proofs.Common.{if◌then◌else◌}
+use Rattle.std.specs.Prelude.{Result, Ok, Err, ⊤}
 use Rattle.kom_types.specs.declared.acts.Act.{Act}
 use Rattle.kom_types.specs.declared.acts.Act.TheVariants as act
 use Rattle.kom_types.specs.declared.acts.Entry.{Entry}
@@ -8,15 +10,19 @@ use Rattle.kom_types.specs.declared.acts.Record.{Record}
 use Rattle.kom_types.specs.declared.answers.Refusal.{Refusal}
 use Rattle.kom_types.specs.declared.answers.Why.TheVariants as why
 use Rattle.kom_types.specs.declared.items.Item.{Item}
+use Rattle.kom_links.specs.declared.deeds.Deed.TheVariants as deed
 use Rattle.kom_links.specs.declared.desk.DeskFault.{DeskFault}
 use Rattle.kom_links.specs.declared.desk.DeskFault.TheVariants as fault
+use Rattle.kom_links.specs.Answers.{said}
 use Rattle.kom_model.specs.State.{State}
 use Rattle.kom_model.specs.Refusal.{refusal_of}
 use Rattle.kom_model.specs.Legal.{state_after}
 use Rattle.hall_desk.specs.declared.turning.Made.{Made}
 use Rattle.hall_desk.specs.Passes.{PassView}
-use Rattle.hall_desk.specs.Turns.{WasMade, WasRefused, HasNoTurn, IsConnect, Ends}
-use Rattle.hall_desk.specs.Rows.{WasPossible, IsLastTicket, IsAnswer}
+use Rattle.hall_desk.specs.Desks.{Kept}
+use Rattle.hall_desk.specs.Turns.{WasMade, WasRefused, HasNoTurn, IsConnect, Ends, entry_of, HadTurn, IsActed}
+use Rattle.hall_desk.specs.Turns.{said_flush, Tells}
+use Rattle.hall_desk.specs.Rows.{WasPossible, IsLastTicket, IsAnswer, IsStopped}
 
 possible_made : (start : State) (old new : PassView) (entry : Entry) (items : List Item) (made : Made)
     (short : Bool) → WasMade start old new entry items made → (entry.act ≡ act.Flush → made.short ≡ short) →
@@ -29,14 +35,6 @@ possible_made start old new entry items made short (history, sees, logs, taken) 
   logs.follows.possible,
   whole,
 )
-
--- an act that was made
-pub answers_made : (X : Type 0) (start : State) (old new : PassView) (pass moment : ℕ) (what : Act)
-    (items : List Item) (made : Made) (value : X) →
-    Ends start old new (record { pass = pass; moment = moment; act = what }) items (Ok made) →
-    (what ≡ act.Flush → made.short ≡ false) → IsAnswer start new what (Ok value)
-answers_made X start old new pass moment what items made value was whole =
-    possible_made start old new _ items made false was whole
 
 refused_now : (start : State) (old new : PassView) (what : Act) (refusal : Option Refusal) →
     WasRefused start old new what refusal → refusal_of (state_after start new.seen) what ≡ refusal
@@ -63,22 +61,78 @@ refused_is X start old new what entry items (fault.Full number) is (inl none) = 
 refused_is X start old new what entry items (fault.Full number) is (inr was) =
     inr (refused_now start old new entry.act _ was)
 
--- one that was not, after the fault was noted
-pub answers_refused : (X : Type 0) (start : State) (old mid new : PassView) (pass moment : ℕ) (what : Act)
-    (items : List Item) (one given : DeskFault) →
-    Ends start old mid (record { pass = pass; moment = moment; act = what }) items (Err one) → new ≡ mid →
-    given ≡ one → IsAnswer {X = X} start new what (Err given)
-answers_refused X start old mid new pass moment what items one given ends same is =
-    subst (λ (given : DeskFault). IsAnswer {X = X} start new what (Err given)) (sym is)
-    (subst (λ (view : PassView). IsAnswer {X = X} start view what (Err one)) (sym same)
-    (refused_is X start old mid what (record { pass = pass; moment = moment; act = what }) items one refl ends))
+-- any act but a flush
+answers_turn : (start : State) (old new : PassView) (pass moment : ℕ) (what : Act) (items : List Item)
+    (made : Result Made DeskFault) →
+    Ends start old new (record { pass = pass; moment = moment; act = what }) items made → (what ≡ act.Flush → ⊥) →
+    IsAnswer {X = ⊤} start new what (said made)
+answers_turn start old new pass moment what items (Ok made) ends other =
+    possible_made start old new _ items made false ends (λ flush. absurd (other flush))
+answers_turn start old new pass moment what items (Err one) ends other =
+    refused_is ⊤ start old new what (record { pass = pass; moment = moment; act = what }) items one refl ends
 
--- a flush that the store refused
-pub answers_short : (X : Type 0) (start : State) (old mid new : PassView) (pass moment : ℕ) (items : List Item)
-    (made : Made) (given : DeskFault) →
-    Ends start old mid (record { pass = pass; moment = moment; act = act.Flush }) items (Ok made) →
-    made.short ≡ true → new ≡ mid → given ≡ fault.Gone why.Stopped → IsAnswer {X = X} start new act.Flush (Err given)
-answers_short X start old mid new pass moment items made given was short same is =
-    subst (λ (given : DeskFault). IsAnswer {X = X} start new act.Flush (Err given)) (sym is)
-    (subst (λ (pass : PassView). IsAnswer {X = X} start pass act.Flush (Err (fault.Gone why.Stopped))) (sym same)
-    (inr (refl, refl, possible_made start old mid _ items made true was (λ e. short))))
+pub answers_told : (old new : Kept) (moment : ℕ) (what : Act) (items : List Item) (made : Result Made DeskFault)
+    (answer : Result ⊤ DeskFault) → HadTurn old moment what items made new → (what ≡ act.Flush → ⊥) →
+    answer ≡ said made → IsAnswer old.start new.pass what answer
+answers_told old new moment what items made answer turn other is =
+    subst (λ (answer : Result ⊤ DeskFault). IsAnswer old.start new.pass what answer) (sym is)
+    (answers_turn old.start old.pass new.pass old.pass.number moment what items made turn.ends other)
+
+-- a Connect
+pub answers_connected : (old new : Kept) (moment : ℕ) (what : Act) (user host : List ℕ) (made : Made) →
+    what ≡ act.Connect user host → IsActed old moment what (Ok made) new →
+    IsAnswer old.start new.pass (act.Connect user host) (Ok made.session)
+answers_connected old new moment what user host made is acted =
+    subst (λ (what : Act). IsAnswer old.start new.pass what (Ok made.session)) is
+    (possible_made old.start old.pass new.pass _ acted.items made false acted.turn.ends
+    (λ flush. let wrong : act.Connect user host ≡ act.Flush = sym is ∙ flush in cc))
+
+pub answers_unconnected : (old new : Kept) (moment : ℕ) (what : Act) (user host : List ℕ) (one : DeskFault) →
+    what ≡ act.Connect user host → IsActed old moment what (Err one) new →
+    IsAnswer {X = ℕ} old.start new.pass (act.Connect user host) (Err one)
+answers_unconnected old new moment what user host one is acted =
+    subst (λ (what : Act). IsAnswer {X = ℕ} old.start new.pass what (Err one)) is
+    (refused_is ℕ old.start old.pass new.pass what (entry_of old moment what) acted.items one refl acted.turn.ends)
+
+-- a flush, which the store may have refused
+flush_short : (start : State) (old new : PassView) (entry : Entry) (items : List Item) (made : Made) (short : Bool) →
+    entry.act ≡ act.Flush → WasMade start old new entry items made → made.short ≡ short →
+    IsAnswer {X = ⊤} start new entry.act (if short then Err (fault.Gone why.Stopped) else Ok tt)
+flush_short start old new entry items made true flush was is =
+    inr (refl, flush, possible_made start old new entry items made true was (λ e. is))
+flush_short start old new entry items made false flush was is =
+    possible_made start old new entry items made false was (λ e. is)
+
+flush_turn : (start : State) (old new : PassView) (pass moment : ℕ) (items : List Item)
+    (made : Result Made DeskFault) →
+    Ends start old new (record { pass = pass; moment = moment; act = act.Flush }) items made →
+    IsAnswer {X = ⊤} start new act.Flush (said_flush made)
+flush_turn start old new pass moment items (Ok made) ends =
+    flush_short start old new (record { pass = pass; moment = moment; act = act.Flush }) items made made.short refl
+    ends refl
+flush_turn start old new pass moment items (Err one) ends =
+    refused_is ⊤ start old new act.Flush (record { pass = pass; moment = moment; act = act.Flush }) items one refl ends
+
+pub answers_flush : (old new : Kept) (moment : ℕ) (items : List Item) (made : Result Made DeskFault)
+    (answer : Result ⊤ DeskFault) → HadTurn old moment act.Flush items made new → answer ≡ said_flush made →
+    IsAnswer old.start new.pass act.Flush answer
+answers_flush old new moment items made answer turn is =
+    subst (λ (answer : Result ⊤ DeskFault). IsAnswer old.start new.pass act.Flush answer) (sym is)
+    (flush_turn old.start old.pass new.pass old.pass.number moment items made turn.ends)
+
+-- the question whether the server is stopped
+stopped_turn : (start : State) (old new : PassView) (answer : Result Bool DeskFault) → Tells start old new answer →
+    IsStopped start new answer
+stopped_turn start old new (Ok stopped) (history, sees, logs, is) =
+    is ∙ ap (λ (seen : List Record). (state_after start seen).stopped || (state_after start seen).store_refused)
+    (sym logs.seen)
+stopped_turn start old new (Err fault.Memory) tells = tells
+stopped_turn start old new (Err (fault.Gone told)) tells = tells
+stopped_turn start old new (Err (fault.Full number)) tells = last_ticket old new number tells
+
+pub answers_stopped : (old mid new : Kept) (answer : Result Bool DeskFault) (said' : Result ⊤ DeskFault) →
+    Tells old.start old.pass mid.pass answer → new ≡ record mid { answers = mid.answers ++ (deed.Ask, said') ∷ [] } →
+    IsStopped old.start new.pass answer
+answers_stopped old mid new answer said' tells told =
+    subst (λ (kept : Kept). IsStopped old.start kept.pass answer) (sym told)
+    (stopped_turn old.start old.pass mid.pass answer tells)

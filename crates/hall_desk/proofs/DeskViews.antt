@@ -1,65 +1,162 @@
--- What contracts see of the desk after each of its acts.
-use Rattle.std.proofs.Common.{◌≡◌, ◌≢◌, ℕ, ◌+◌, ◌<◌, ◌≤◌, inl, inr, Bool, true, false, ◌||◌, ◌==◌, eqb, List, [], ◌∷◌}
-use Rattle.std.proofs.Common.{◌++◌, Option, Some, None, refl, sym, ap, subst, ◌∙◌, arith, append-nil, if◌then◌else◌}
-use mathlib.Core.Path.{fun_ext}
-use Rattle.std.specs.Prelude.{Result, Ok, Err, IfErr, ⊤}
-use Rattle.std.proofs.lemmas.Bool.{eq-eqb}
+-- What contracts see of the desk after each of its calls.
+use Rattle.std.proofs.Common.{◌≡◌, ℕ, ◌+◌, ◌<◌, inl, inr, Bool, true, false, ◌||◌, ◌==◌, eqb, List, [], ◌∷◌}
+use Rattle.std.proofs.Common.{◌++◌, length, suc, None, refl, sym, ap, subst, ◌∙◌, arith, append-nil, if◌then◌else◌}
+use Rattle.std.specs.Prelude.{Result, Ok, Err, OnErr, ⊤}
+use Rattle.std.proofs.lemmas.Bool.{eq-eqb, ne_eqb}
 use Rattle.kom_types.specs.declared.acts.Act.{Act}
 use Rattle.kom_types.specs.declared.acts.Act.TheVariants as act
-use Rattle.kom_types.specs.declared.acts.Entry.{Entry}
 use Rattle.kom_types.specs.declared.acts.Record.{Record}
 use Rattle.kom_types.specs.declared.answers.Why.TheVariants as why
 use Rattle.kom_types.specs.declared.calls.Call.{Call}
 use Rattle.kom_types.specs.declared.items.Item.{Item}
+use Rattle.kom_links.specs.declared.deeds.Deed.{Deed}
+use Rattle.kom_links.specs.declared.deeds.Deed.TheVariants as deed
 use Rattle.kom_links.specs.declared.desk.DeskFault.{DeskFault}
 use Rattle.kom_links.specs.declared.desk.DeskFault.TheVariants as fault
-use Rattle.kom_links.specs.DeskCalls.{DeskView, StaysForAll, record_of, first_fault, first_stop, is_lock_full}
-use Rattle.kom_links.specs.DeskCalls.{IsActFault, IsLockFault, IsConnectFault, IsFlushFault, Connects, NotesAt, Acts}
-use Rattle.kom_links.specs.DeskCalls.{Calls, Drains, is_noted, AddsNoneOrShort, Flushes, Closes, AsksStopped}
-use Rattle.kom_links.specs.Records.{is_open, IsOpen, has_session}
+use Rattle.kom_links.specs.Answers.{Answer, said, said_stopped, deed_of, is_nothing}
+use Rattle.kom_links.specs.DeskCalls.{DeskView, StaysForAll, record_of, is_lock_full, IsTold, Connects, Acts, Calls}
+use Rattle.kom_links.specs.DeskCalls.{Drains, AddsNoneOrShort, Flushes, Closes, AsksStopped, IsLookedAt}
+use Rattle.kom_links.specs.Records.{IsOpen, has_session}
 use Rattle.kom_model.specs.State.{State}
 use Rattle.kom_model.specs.Refusal.{refusal_of}
-use Rattle.kom_model.specs.After.{MayFollow, after}
+use Rattle.kom_model.specs.After.{MayFollow}
 use Rattle.kom_model.specs.Legal.{state_after}
 use Rattle.kom_model.specs.Out.{given_by, given_by_pass, given_from, taken_by}
 use Rattle.hall_desk.specs.declared.turning.Made.{Made}
 use Rattle.hall_desk.specs.Passes.{PassView, connects_in, Knows}
-use Rattle.hall_desk.specs.Faults.{FaultTable, first_of, fault_in, is_open_in, noted_at, noted_at_none}
-use Rattle.hall_desk.specs.Faults.{noted_everywhere, closed_at}
-use Rattle.hall_desk.specs.Desks.{WasStopped, IsKnown, Kept, desk_view, Stands, IsSame}
-use Rattle.hall_desk.specs.Turns.{WasMade, Ends, Tells}
+use Rattle.hall_desk.specs.Desks.{IsKnownAnswer, Kept, desk_view, Stands, GoesOn}
+use Rattle.hall_desk.specs.Turns.{entry_of, IsOfOpen, HadTurn, IsActed, said_flush, Tells, Looks}
 use Rattle.hall_desk.proofs.Starting.{IsStart, starts}
 use Rattle.hall_desk.proofs.Stepping.{connects_in-append}
 use Rattle.hall_desk.proofs.Histories.{gives_none, given_before, undrawn_absent, absent_of, connects-state_after}
-use Rattle.hall_desk.proofs.Histories.{state_after-append}
-use Rattle.hall_desk.proofs.Growing.{Keeps, Adds, made_adds, fault_keeps, tells_keeps, given_keeps, given_adds}
-use Rattle.hall_desk.proofs.ChangedFaults.{noted_here, noted_there, everywhere_noted, closed_fault, fault_same}
-use Rattle.hall_desk.proofs.ChangedFaults.{open_same, row_some, none_there, fault_connected, first_is}
-use Rattle.hall_desk.proofs.Refusals.{IsTurnTold, lock_any, ask_told}
-
--- the entry that a desk hands in
-abbrev pub entry_of : Kept → ℕ → Act → Entry
-entry_of old moment what = record { pass = old.pass.number; moment = moment; act = what }
+use Rattle.hall_desk.proofs.Growing.{Grows, Keeps, Adds, made_adds, fault_keeps, tells_keeps, looks_keeps, ended_grows}
+use Rattle.hall_desk.proofs.Growing.{given_keeps, given_adds}
+use Rattle.hall_desk.proofs.Causes.{refusal_known, flush_known, question_known}
+use Rattle.hall_desk.proofs.Refusals.{MayRefuse, act_told, lock_any, ask_told}
 
 -- the state in which the desk's history begins
 abbrev pub begins : (kept : Kept) → Stands kept → IsStart kept.start
 begins kept stands = starts kept.start stands.opening
 
+-- an answer stands at the end of the log
+abbrev pub Logged : Kept → Deed → Result ⊤ DeskFault → Kept → Type 0
+Logged old what answer new = new.answers ≡ old.answers ++ (what, answer) ∷ []
+
+-- ---- a later state of the same desk
+
+pub goes_by : (old new : Kept) → new.table ≡ old.table → (same : new.start ≡ old.start) →
+    Grows old.start old.pass new.pass → GoesOn old new
+goes_by old new table same on = record {
+  table = table;
+  start = same;
+  number = on.number;
+  seen = (on.more, on.seen);
+  drawn = on.drawn;
+}
+
+pub goes_turn : (old new : Kept) (moment : ℕ) (what : Act) (items : List Item) (made : Result Made DeskFault) →
+    HadTurn old moment what items made new → GoesOn old new
+goes_turn old new moment what items made turn =
+    goes_by old new turn.table turn.start
+    (ended_grows old.start old.pass new.pass (entry_of old moment what) items made turn.stood.knows refl turn.ends)
+
+-- then an answer is logged
+pub turn_told : (old mid new : Kept) (moment : ℕ) (what : Act) (items : List Item) (made : Result Made DeskFault)
+    (done : Deed) (answer : Result ⊤ DeskFault) → HadTurn old moment what items made mid →
+    new ≡ record mid { answers = mid.answers ++ (done, answer) ∷ [] } → HadTurn old moment what items made new
+turn_told old mid new moment what items made done answer turn is =
+    subst (λ (new : Kept). HadTurn old moment what items made new) (sym is)
+    (record { stood = turn.stood; ends = turn.ends; table = turn.table; start = turn.start })
+
+pub logged_after : (old mid new : Kept) (what : Deed) (answer : Result ⊤ DeskFault) → mid.answers ≡ old.answers →
+    new ≡ record mid { answers = mid.answers ++ (what, answer) ∷ [] } → Logged old what answer new
+logged_after old mid new what answer same is = ap (λ (kept : Kept). kept.answers) is
+    ∙ ap (λ (answers : List Answer). answers ++ (what, answer) ∷ []) same
+
+pub acted_told : (old mid new : Kept) (moment : ℕ) (what : Act) (items : List Item) (made : Result Made DeskFault)
+    (done : Deed) (answer : Result ⊤ DeskFault) → HadTurn old moment what items made mid → done ≡ deed_of what →
+    answer ≡ said made → mid.answers ≡ old.answers →
+    new ≡ record mid { answers = mid.answers ++ (done, answer) ∷ [] } → IsActed old moment what made new
+acted_told old mid new moment what items made done answer turn of_act is same told = record {
+  items = items;
+  turn = turn_told old mid new moment what items made done answer turn told;
+  tells = logged_after old mid new done answer same told
+      ∙ ap (λ (done : Deed). old.answers ++ (done, answer) ∷ []) of_act
+      ∙ ap (λ (answer : Result ⊤ DeskFault). old.answers ++ (deed_of what, answer) ∷ []) is;
+}
+
+-- ---- the causes of what is logged
+
+none_is : (items : List Item) → (length items == 0) ≡ is_nothing items
+none_is [] = refl
+none_is (item ∷ items) = ne_eqb (suc (length items)) 0 (λ e. omega arith)
+
+known_turn : (old mid : Kept) (moment : ℕ) (what : Act) (items : List Item) (one : DeskFault) (done : Deed) →
+    IsOfOpen old.pass.mine what → HadTurn old moment what items (Err one) mid → done ≡ deed_of what →
+    IsKnownAnswer old.start mid.pass (done, Err one)
+known_turn old mid moment what items one done open' turn of_act =
+    subst (λ (done : Deed). IsKnownAnswer old.start mid.pass (done, Err one)) (sym of_act)
+    (refusal_known old.start (begins old turn.stood) old.pass mid.pass old.pass.number moment what items one open'
+    turn.ends)
+
+-- where the state in which the history begins is the same
+known_start : (old mid : Kept) (done : Deed) (answer told : Result ⊤ DeskFault) → mid.start ≡ old.start →
+    told ≡ answer → IsKnownAnswer old.start mid.pass (done, answer) → IsKnownAnswer mid.start mid.pass (done, told)
+known_start old mid done answer told same is known =
+    subst (λ (start : State). IsKnownAnswer start mid.pass (done, told)) (sym same)
+    (subst (λ (answer : Result ⊤ DeskFault). IsKnownAnswer old.start mid.pass (done, answer)) (sym is) known)
+
+pub act_known : (old mid : Kept) (moment : ℕ) (what : Act) (items : List Item) (made : Result Made DeskFault)
+    (done : Deed) (answer : Result ⊤ DeskFault) → IsOfOpen old.pass.mine what →
+    HadTurn old moment what items made mid → done ≡ deed_of what → answer ≡ said made →
+    IsKnownAnswer mid.start mid.pass (done, answer)
+act_known old mid moment what items (Ok made) done answer open' turn of_act is =
+    known_start old mid done (Ok tt) answer turn.start is tt
+act_known old mid moment what items (Err one) done answer open' turn of_act is =
+    known_start old mid done (Err one) answer turn.start is
+    (known_turn old mid moment what items one done open' turn of_act)
+
+pub drain_known : (old mid : Kept) (moment session : ℕ) (items : List Item) (made : Result Made DeskFault)
+    (answer : Result ⊤ DeskFault) (is_empty : Bool) → IsOpen session old.pass.mine →
+    HadTurn old moment (act.Drain session) items made mid → OnErr made (items ≡ []) → answer ≡ said made →
+    is_empty ≡ (length items == 0) → IsKnownAnswer mid.start mid.pass (deed.Drain session is_empty, answer)
+drain_known old mid moment session items (Ok made) answer is_empty is_open turn nothing is empty =
+    known_start old mid (deed.Drain session is_empty) (Ok tt) answer turn.start is tt
+drain_known old mid moment session items (Err one) answer is_empty is_open turn nothing is empty =
+    known_start old mid (deed.Drain session is_empty) (Err one) answer turn.start is
+    (known_turn old mid moment (act.Drain session) items one (deed.Drain session is_empty) is_open turn
+    (ap (λ (nothing : Bool). deed.Drain session nothing) (empty ∙ none_is items ∙ ap is_nothing nothing)))
+
+pub flush_answer_known : (old mid : Kept) (moment : ℕ) (items : List Item) (made : Result Made DeskFault)
+    (answer : Result ⊤ DeskFault) → HadTurn old moment act.Flush items made mid → answer ≡ said_flush made →
+    IsKnownAnswer mid.start mid.pass (deed.Flush, answer)
+flush_answer_known old mid moment items made answer turn is =
+    known_start old mid deed.Flush (said_flush made) answer turn.start is
+    (flush_known old.start (begins old turn.stood) old.pass mid.pass old.pass.number moment items made turn.stood.knows
+    refl turn.ends)
+
+pub question_answer_known : (old mid : Kept) (answer : Result Bool DeskFault) (told : Result ⊤ DeskFault) →
+    Tells old.start old.pass mid.pass answer → mid.start ≡ old.start → told ≡ said_stopped answer →
+    IsKnownAnswer mid.start mid.pass (deed.Ask, told)
+question_answer_known old mid answer told tells same is =
+    known_start old mid deed.Ask (said_stopped answer) told same is
+    (question_known old.start old.pass mid.pass answer tells)
+
 -- ---- what was given
 
-given_start : (old new : Kept) (session : ℕ) → IsSame old new →
+given_start : (old new : Kept) (session : ℕ) → new.start ≡ old.start →
     (desk_view new).gave_to session ≡ given_by_pass old.start new.pass.number session new.pass.seen
 given_start old new session same =
-    ap (λ (start : State). given_by_pass start new.pass.number session new.pass.seen) same.start
+    ap (λ (start : State). given_by_pass start new.pass.number session new.pass.seen) same
 
 -- where the pass added nothing
-kept_given : (old new : Kept) → IsSame old new → Keeps old.start old.pass new.pass →
+kept_given : (old new : Kept) → new.start ≡ old.start → Keeps old.start old.pass new.pass →
     StaysForAll (desk_view old).gave_to (desk_view new).gave_to
 kept_given old new same keeps session =
     given_start old new session same ∙ given_keeps old.start old.pass new.pass session keeps
 
 -- where it added a record that gives this to the session
-added_given : (old new : Kept) (made : Record) (session : ℕ) → IsSame old new →
+added_given : (old new : Kept) (made : Record) (session : ℕ) → new.start ≡ old.start →
     (adds : Adds old.start old.pass new.pass made) →
     (desk_view new).gave_to session
     ≡ (desk_view old).gave_to session
@@ -69,7 +166,7 @@ added_given old new made session same adds =
 
 -- where it added a record that gives it nothing
 still_given : (old new : Kept) (pass moment : ℕ) (what : Act) (named : ℕ) (short : Bool) (session : ℕ) →
-    IsSame old new → Adds old.start old.pass new.pass (record_of pass moment what named short) →
+    new.start ≡ old.start → Adds old.start old.pass new.pass (record_of pass moment what named short) →
     (what ≡ act.Drain session → ⊥) → (desk_view new).gave_to session ≡ (desk_view old).gave_to session
 still_given old new pass moment what named short session same adds other =
     added_given old new (record_of pass moment what named short) session same adds
@@ -77,160 +174,109 @@ still_given old new pass moment what named short session same adds other =
     (gives_none session (state_after old.start (old.pass.seen ++ adds.between)) pass moment what named short other)
     ∙ append-nil ((desk_view old).gave_to session)
 
--- ---- acts of a session
+-- ---- an act that was made, and one that was refused
 
-ok_first : {X : Type 0} (first : Option DeskFault) (value : X) → first ≡ first_fault first (Ok value)
-ok_first None value = refl
-ok_first (Some first) value = refl
+adds_all : (old new : Kept) (moment : ℕ) (what : Act) (items : List Item) (made : Made) →
+    HadTurn old moment what items (Ok made) new →
+    (adds : Adds old.start old.pass new.pass (record_of old.pass.number moment what made.session made.short))
+    × (items ≡ taken_by (state_after old.start (old.pass.seen ++ adds.between)) what)
+adds_all old new moment what items made turn =
+    made_adds old.start old.pass new.pass (entry_of old moment what) items made turn.stood.knows refl turn.ends
 
-same_faults : {table table' : FaultTable} → table' ≡ table → (session : ℕ) →
-    fault_in table' session ≡ fault_in table session
-same_faults same session = ap (λ (table : FaultTable). fault_in table session) same
+adds_of : (old new : Kept) (moment : ℕ) (what : Act) (items : List Item) (made : Made) →
+    HadTurn old moment what items (Ok made) new →
+    Adds old.start old.pass new.pass (record_of old.pass.number moment what made.session made.short)
+adds_of old new moment what items made turn = (adds_all old new moment what items made turn).0
+
+-- the record that was added, with the session and the mark that it must have
+added_as : (old new : Kept) (moment : ℕ) (what : Act) (made : Made) (session : ℕ) (short : Bool) →
+    Adds old.start old.pass new.pass (record_of old.pass.number moment what made.session made.short) →
+    made.session ≡ session → made.short ≡ short →
+    new.pass.mine ≡ old.pass.mine ++ record_of old.pass.number moment what session short ∷ []
+added_as old new moment what made session short adds named whole =
+    adds.mine
+    ∙ ap (λ (named : ℕ). old.pass.mine ++ record_of old.pass.number moment what named made.short ∷ []) named
+    ∙ ap (λ (short : Bool). old.pass.mine ++ record_of old.pass.number moment what session short ∷ []) whole
 
 ok_lock : (old new : Bool) → old ≡ false → new ≡ false → new ≡ (old || false)
 ok_lock old new rested rests = rw (rested, rests) refl
 
--- where no fault was answered, and none noted
-notes_none : {X : Type 0} (old new : Kept) (session : ℕ) (value : X) (made : Record) →
-    Adds old.start old.pass new.pass made →
-    ((number : ℕ) → fault_in new.faults number ≡ fault_in old.faults number) →
-    NotesAt (desk_view old) session (Ok value) (desk_view new)
-notes_none old new session value made adds same = record {
+ok_told : {X : Type 0} (old new : Kept) (what : Deed) (value : X) (made : Record) →
+    Adds old.start old.pass new.pass made → Logged old what (Ok tt) new →
+    IsTold (desk_view old) what (Ok value) (desk_view new)
+ok_told old new what value made adds tells = record {
   none_added = tt;
-  noted = (same session ∙ ok_first (fault_in old.faults session) value, λ other differs. same other);
+  tells = tells;
   lock_full = ok_lock old.pass.waits new.pass.waits adds.rested adds.rests;
-  pass = adds.number;
+  pass = adds.on.number;
 }
 
-open_in : (old : Kept) (session : ℕ) → Stands old → IsOpen session old.pass.mine →
-    (session ≢ 0) × (is_open_in old.faults session ≡ true)
-open_in old session stands is_open =
-    let is : is_open_in old.faults session ≡ true = stands.noted.opened session ∙ is_open in
-    (λ zero. row_some (connects_in old.pass.seen) old.faults session stands.noted.drawn is zero, is)
+-- What a refused act leaves.
+record IsLeft (P : DeskFault → Type 0) (old new : Kept) (one : DeskFault) : Type 0 where
+  pub mine : new.pass.mine ≡ old.pass.mine
+  pub given : StaysForAll (desk_view old).gave_to (desk_view new).gave_to
+  pub why : P one
+  pub lock : new.pass.waits ≡ (old.pass.waits || is_lock_full {X = ⊤} (Err one))
+  pub number : new.pass.number ≡ old.pass.number
 
--- A desk refused an act and has noted nothing yet; then it noted the fault.
-pub record Refuses (P : DeskFault → Type 0) (old mid new : Kept) (session : ℕ) (one given : DeskFault) : Type 0 where
-  pub keeps : Keeps old.start old.pass mid.pass
-  pub told : IsTurnTold old.start P old.pass mid.pass session one
-  pub none : mid.faults.none ≡ old.faults.none
-  pub rows : mid.faults.rows ≡ old.faults.rows
-  pub same : IsSame old mid
-  pub handed : given ≡ one
-  pub pass : new.pass ≡ mid.pass
-  pub again : IsSame mid new
+left_by : (old new : Kept) (moment : ℕ) (what : Act) (items : List Item) (one : DeskFault) →
+    IsOfOpen old.pass.mine what → HadTurn old moment what items (Err one) new → IsLeft (MayRefuse what) old new one
+left_by old new moment what items one open' turn =
+    let keeps : Keeps old.start old.pass new.pass =
+    fault_keeps old.start old.pass new.pass (entry_of old moment what) items one turn.stood.knows turn.ends in
+    let told = act_told old.start (begins old turn.stood) old.pass new.pass old.pass.number moment what items one open'
+    turn.ends in
+    record {
+      mine = keeps.mine;
+      given = kept_given old new turn.start keeps;
+      why = told.may;
+      lock = told.lock;
+      number = keeps.on.number;
+    }
 
-keeps_on : {P : DeskFault → Type 0} (old mid new : Kept) (session : ℕ) (one given : DeskFault) →
-    Refuses P old mid new session one given → Keeps old.start old.pass new.pass
-keeps_on old mid new session one given refuses =
-    subst (λ (pass : PassView). Keeps old.start old.pass pass) (sym refuses.pass) refuses.keeps
-
-same_on : {P : DeskFault → Type 0} (old mid new : Kept) (session : ℕ) (one given : DeskFault) →
-    Refuses P old mid new session one given → IsSame old new
-same_on old mid new session one given refuses = record {
-  table = refuses.again.table ∙ refuses.same.table;
-  start = refuses.again.start ∙ refuses.same.start;
-  tally = refuses.again.tally ∙ refuses.same.tally;
+err_told : {P : DeskFault → Type 0} (old new : Kept) (what : Deed) (one : DeskFault) → IsLeft P old new one →
+    Logged old what (Err one) new → IsTold {X = ⊤} (desk_view old) what (Err one) (desk_view new)
+err_told old new what one left tells = record {
+  none_added = left.mine;
+  tells = tells;
+  lock_full = left.lock;
+  pass = left.number;
 }
-
-locks_on : {P : DeskFault → Type 0} (X : Type 0) (old mid new : Kept) (session : ℕ) (one given : DeskFault) →
-    Refuses P old mid new session one given →
-    new.pass.waits ≡ (old.pass.waits || is_lock_full {X = X} (Err one))
-locks_on X old mid new session one given refuses =
-    ap (λ (pass : PassView). pass.waits) refuses.pass ∙ refuses.told.lock
-    ∙ ap (λ b. old.pass.waits || b) (sym (lock_any X one))
-
--- a fault was noted at a session that is open
-notes_at : {P : DeskFault → Type 0} (old mid new : Kept) (session : ℕ) (one given : DeskFault) → Stands old →
-    IsOpen session old.pass.mine → Refuses P old mid new session one given →
-    new.faults ≡ noted_at session one mid.faults →
-    NotesAt {X = ⊤} (desk_view old) session (Err given) (desk_view new)
-notes_at old mid new session one given stands is_open refuses faults =
-    let opened = open_in old session stands is_open in
-    let before : (number : ℕ) → fault_in mid.faults number ≡ fault_in old.faults number =
-    fault_same old.faults mid.faults refuses.none refuses.rows in
-    let opened' : is_open_in mid.faults session ≡ true =
-    open_same old.faults mid.faults refuses.rows session ∙ opened.1 in
-    let keeps : Keeps old.start old.pass new.pass = keeps_on old mid new session one given refuses in
-    subst (λ given. NotesAt {X = ⊤} (desk_view old) session (Err given) (desk_view new)) (sym refuses.handed) (record {
-      none_added = keeps.mine;
-      noted = (
-        same_faults faults session ∙ noted_here session one mid.faults opened.0 opened'
-            ∙ ap (λ first. first_of first one) (before session) ∙ first_is (fault_in old.faults session) one ⊤,
-        λ number other. same_faults faults number ∙ noted_there session number one mid.faults other ∙ before number,
-      );
-      lock_full = locks_on ⊤ old mid new session one given refuses;
-      pass = keeps.number;
-    })
-
-refused_given : {P : DeskFault → Type 0} (old mid new : Kept) (session : ℕ) (one given : DeskFault) →
-    Refuses P old mid new session one given → StaysForAll (desk_view old).gave_to (desk_view new).gave_to
-refused_given old mid new session one given refuses =
-    kept_given old new (same_on old mid new session one given refuses)
-    (keeps_on old mid new session one given refuses)
-
--- how the parts come from what the methods say
-pub refuses_of : (P : DeskFault → Type 0) (old mid new : Kept) (moment session : ℕ) (what : Act) (items : List Item)
-    (one given : DeskFault) → Stands old →
-    Ends old.start old.pass mid.pass (entry_of old moment what) items (Err one) →
-    IsTurnTold old.start P old.pass mid.pass session one → mid.faults ≡ old.faults → IsSame old mid → given ≡ one →
-    new.pass ≡ mid.pass → IsSame mid new → Refuses P old mid new session one given
-refuses_of P old mid new moment session what items one given stands ends told faults same is pass again = record {
-  keeps = fault_keeps old.start old.pass mid.pass (entry_of old moment what) items one stands.knows ends;
-  told = told;
-  none = ap (λ (table : FaultTable). table.none) faults;
-  rows = ap (λ (table : FaultTable). table.rows) faults;
-  same = same;
-  handed = is;
-  pass = pass;
-  again = again;
-}
-
-adds_all : (old new : Kept) (moment : ℕ) (what : Act) (items : List Item) (made : Made) → Stands old →
-    WasMade old.start old.pass new.pass (entry_of old moment what) items made →
-    (adds : Adds old.start old.pass new.pass (record_of old.pass.number moment what made.session made.short))
-    × (items ≡ taken_by (state_after old.start (old.pass.seen ++ adds.between)) what)
-adds_all old new moment what items made stands was =
-    made_adds old.start old.pass new.pass (entry_of old moment what) items made stands.knows refl was
-
-adds_of : (old new : Kept) (moment : ℕ) (what : Act) (items : List Item) (made : Made) → Stands old →
-    WasMade old.start old.pass new.pass (entry_of old moment what) items made →
-    Adds old.start old.pass new.pass (record_of old.pass.number moment what made.session made.short)
-adds_of old new moment what items made stands was =
-    (adds_all old new moment what items made stands was).0
 
 -- ---- a call
 
-pub calls_made : (old new : Kept) (moment session reference : ℕ) (call : Call) (items : List Item) (made : Made)
-    (value : ⊤) → Stands old →
-    Ends old.start old.pass new.pass (entry_of old moment (act.Call session reference call)) items (Ok made) →
-    new.faults ≡ old.faults → IsSame old new →
-    Calls (desk_view old) moment (act.Call session reference call) session (Ok value) (desk_view new)
-calls_made old new moment session reference call items made value stands was faults same =
+calls_turn : (old new : Kept) (moment session reference : ℕ) (call : Call) (items : List Item)
+    (made : Result Made DeskFault) → IsOpen session old.pass.mine →
+    HadTurn old moment (act.Call session reference call) items made new →
+    Logged old (deed.Call session) (said made) new →
+    Calls {X = ⊤} (desk_view old) moment (act.Call session reference call) session (said made) (desk_view new)
+calls_turn old new moment session reference call items (Ok made) is_open turn tells =
     let what : Act = act.Call session reference call in
-    let adds = adds_of old new moment what items made stands was in
-    let named : made.session ≡ session = adds.follows.session in
+    let adds = adds_of old new moment what items made turn in
     record {
-      added = (
-        made.short,
-        adds.mine ∙ ap (λ (named : ℕ).
-            old.pass.mine ++ record_of old.pass.number moment what named made.short ∷ []) named,
-      );
-      given = λ number. still_given old new old.pass.number moment what made.session made.short number same adds
+      added = (made.short, added_as old new moment what made session made.short adds adds.follows.session refl);
+      given = λ number. still_given old new old.pass.number moment what made.session made.short number turn.start adds
           (λ e. cc);
       why = tt;
-      rest = notes_none old new session value _ adds (same_faults faults);
+      rest = ok_told old new (deed.Call session) tt _ adds tells;
+    }
+calls_turn old new moment session reference call items (Err one) is_open turn tells =
+    let left = left_by old new moment (act.Call session reference call) items one is_open turn in
+    record {
+      added = tt;
+      given = left.given;
+      why = left.why;
+      rest = err_told old new (deed.Call session) one left tells;
     }
 
-pub calls_refused : (old mid new : Kept) (moment session reference : ℕ) (call : Call) (one given : DeskFault) →
-    Stands old → IsOpen session old.pass.mine → Refuses IsActFault old mid new session one given →
-    new.faults ≡ noted_at session one mid.faults →
-    Calls {X = ⊤} (desk_view old) moment (act.Call session reference call) session (Err given) (desk_view new)
-calls_refused old mid new moment session reference call one given stands is_open refuses faults = record {
-  added = tt;
-  given = refused_given old mid new session one given refuses;
-  why = subst IsActFault (sym refuses.handed) refuses.told.may;
-  rest = notes_at old mid new session one given stands is_open refuses faults;
-}
+pub calls_acted : (old new : Kept) (moment session reference : ℕ) (call : Call) (made : Result Made DeskFault)
+    (answer : Result ⊤ DeskFault) → IsOpen session old.pass.mine →
+    IsActed old moment (act.Call session reference call) made new → answer ≡ said made →
+    Calls (desk_view old) moment (act.Call session reference call) session answer (desk_view new)
+calls_acted old new moment session reference call made answer is_open acted is =
+    subst (λ (answer : Result ⊤ DeskFault).
+    Calls (desk_view old) moment (act.Call session reference call) session answer (desk_view new)) (sym is)
+    (calls_turn old new moment session reference call acted.items made is_open acted.turn acted.tells)
 
 -- ---- that a stream is at fault
 
@@ -239,36 +285,37 @@ broken_whole : (state : State) (pass moment number session : ℕ) (short : Bool)
 broken_whole state pass moment number session true may = absurd may.short
 broken_whole state pass moment number session false may = refl
 
-pub broken_made : (old new : Kept) (moment session : ℕ) (items : List Item) (made : Made) (value : ⊤) → Stands old →
-    Ends old.start old.pass new.pass (entry_of old moment (act.Broken session)) items (Ok made) →
-    new.faults ≡ old.faults → IsSame old new →
-    Acts (desk_view old) moment (act.Broken session) session (Ok value) (desk_view new)
-broken_made old new moment session items made value stands was faults same =
+broken_turn : (old new : Kept) (moment session : ℕ) (items : List Item) (made : Result Made DeskFault) →
+    IsOpen session old.pass.mine → HadTurn old moment (act.Broken session) items made new →
+    Logged old (deed.Broken session) (said made) new →
+    Acts {X = ⊤} (desk_view old) moment (act.Broken session) session (said made) (desk_view new)
+broken_turn old new moment session items (Ok made) is_open turn tells =
     let what : Act = act.Broken session in
-    let adds = adds_of old new moment what items made stands was in
-    let named : made.session ≡ session = adds.follows.session in
-    let whole : made.short ≡ false = broken_whole _ old.pass.number moment session made.session made.short
-    adds.follows in
+    let adds = adds_of old new moment what items made turn in
     record {
-      added = adds.mine
-          ∙ ap (λ (named : ℕ). old.pass.mine ++ record_of old.pass.number moment what named made.short ∷ []) named
-          ∙ ap (λ (short : Bool). old.pass.mine ++ record_of old.pass.number moment what session short ∷ []) whole;
-      given = λ number. still_given old new old.pass.number moment what made.session made.short number same adds
+      added = added_as old new moment what made session false adds adds.follows.session
+          (broken_whole _ old.pass.number moment session made.session made.short adds.follows);
+      given = λ number. still_given old new old.pass.number moment what made.session made.short number turn.start adds
           (λ e. cc);
       why = tt;
-      rest = notes_none old new session value _ adds (same_faults faults);
+      rest = ok_told old new (deed.Broken session) tt _ adds tells;
+    }
+broken_turn old new moment session items (Err one) is_open turn tells =
+    let left = left_by old new moment (act.Broken session) items one is_open turn in
+    record {
+      added = tt;
+      given = left.given;
+      why = left.why;
+      rest = err_told old new (deed.Broken session) one left tells;
     }
 
-pub broken_refused : (old mid new : Kept) (moment session : ℕ) (one given : DeskFault) →
-    Stands old → IsOpen session old.pass.mine → Refuses IsActFault old mid new session one given →
-    new.faults ≡ noted_at session one mid.faults →
-    Acts {X = ⊤} (desk_view old) moment (act.Broken session) session (Err given) (desk_view new)
-broken_refused old mid new moment session one given stands is_open refuses faults = record {
-  added = tt;
-  given = refused_given old mid new session one given refuses;
-  why = subst IsActFault (sym refuses.handed) refuses.told.may;
-  rest = notes_at old mid new session one given stands is_open refuses faults;
-}
+pub broken_acted : (old new : Kept) (moment session : ℕ) (made : Result Made DeskFault)
+    (answer : Result ⊤ DeskFault) → IsOpen session old.pass.mine → IsActed old moment (act.Broken session) made new →
+    answer ≡ said made → Acts (desk_view old) moment (act.Broken session) session answer (desk_view new)
+broken_acted old new moment session made answer is_open acted is =
+    subst (λ (answer : Result ⊤ DeskFault).
+    Acts (desk_view old) moment (act.Broken session) session answer (desk_view new)) (sym is)
+    (broken_turn old new moment session acted.items made is_open acted.turn acted.tells)
 
 -- ---- a drain
 
@@ -284,50 +331,57 @@ drained_items state session made may is =
     subst (λ (what : Act). refusal_of state what ≡ None) is may.possible in
     rw (taken_by, possible) refl
 
-pub drains_made : (old new : Kept) (moment session : ℕ) (items : List Item) (made : Made) (value : ⊤) →
-    Stands old → Ends old.start old.pass new.pass (entry_of old moment (act.Drain session)) items (Ok made) →
-    new.faults ≡ old.faults → IsSame old new →
-    Drains (desk_view old) moment session items (Ok value) (desk_view new)
-drains_made old new moment session items made value stands was faults same =
+drains_turn : (old new : Kept) (moment session : ℕ) (items : List Item) (made : Result Made DeskFault) →
+    IsOpen session old.pass.mine → HadTurn old moment (act.Drain session) items made new →
+    OnErr made (items ≡ []) → Logged old (deed.Drain session (is_nothing items)) (said made) new →
+    Drains {X = ⊤} (desk_view old) moment session items (said made) (desk_view new)
+drains_turn old new moment session items (Ok made) is_open turn nothing tells =
     let what : Act = act.Drain session in
-    let both = adds_all old new moment what items made stands was in
+    let both = adds_all old new moment what items made turn in
     let adds = both.0 in
     let one : Record = record_of old.pass.number moment what made.session made.short in
     let state : State = state_after old.start (old.pass.seen ++ adds.between) in
-    let named : made.session ≡ session = adds.follows.session in
-    let whole : made.short ≡ false = drain_whole _ old.pass.number moment session made.session made.short adds.follows
-    in
     let taken : items ≡ given_from session state =
     both.1 ∙ drained_items state session one adds.follows refl in
     let here : eqb session session ≡ true = eq-eqb _ _ refl in
     let gives : given_by state session one ≡ given_from session state ∷ [] = rw here refl in
     record {
-      added = adds.mine
-          ∙ ap (λ (named : ℕ). old.pass.mine ++ record_of old.pass.number moment what named made.short ∷ []) named
-          ∙ ap (λ (short : Bool). old.pass.mine ++ record_of old.pass.number moment what session short ∷ []) whole;
+      added = added_as old new moment what made session false adds adds.follows.session
+          (drain_whole _ old.pass.number moment session made.session made.short adds.follows);
       given = (
-        added_given old new one session same adds
+        added_given old new one session turn.start adds
             ∙ ap (λ (more : List (List Item)). (desk_view old).gave_to session ++ more) gives
             ∙ ap (λ (items : List Item). (desk_view old).gave_to session ++ items ∷ []) (sym taken),
-        λ number other. still_given old new old.pass.number moment what made.session made.short number same adds
+        λ number other. still_given old new old.pass.number moment what made.session made.short number turn.start adds
             (λ e. other (let same : session ≡ number = cc in sym same)),
       );
       none_given = tt;
       why = tt;
-      rest = notes_none old new session value _ adds (same_faults faults);
+      rest = ok_told old new (deed.Drain session (is_nothing items)) tt _ adds tells;
+    }
+drains_turn old new moment session items (Err one) is_open turn nothing tells =
+    let left = left_by old new moment (act.Drain session) items one is_open turn in
+    record {
+      added = tt;
+      given = tt;
+      none_given = (left.given, nothing);
+      why = left.why;
+      rest = err_told old new (deed.Drain session (is_nothing items)) one left tells;
     }
 
-pub drains_refused : (old mid new : Kept) (moment session : ℕ) (items : List Item) (one given : DeskFault) →
-    Stands old → IsOpen session old.pass.mine → Refuses IsActFault old mid new session one given → items ≡ [] →
-    new.faults ≡ noted_at session one mid.faults →
-    Drains {X = ⊤} (desk_view old) moment session items (Err given) (desk_view new)
-drains_refused old mid new moment session items one given stands is_open refuses nothing faults = record {
-  added = tt;
-  given = tt;
-  none_given = (refused_given old mid new session one given refuses, nothing);
-  why = subst IsActFault (sym refuses.handed) refuses.told.may;
-  rest = notes_at old mid new session one given stands is_open refuses faults;
-}
+pub drains_told : (old mid new : Kept) (moment session : ℕ) (items : List Item) (made : Result Made DeskFault)
+    (answer : Result ⊤ DeskFault) (is_empty : Bool) → IsOpen session old.pass.mine →
+    HadTurn old moment (act.Drain session) items made mid → OnErr made (items ≡ []) → answer ≡ said made →
+    is_empty ≡ (length items == 0) → mid.answers ≡ old.answers →
+    new ≡ record mid { answers = mid.answers ++ (deed.Drain session is_empty, answer) ∷ [] } →
+    Drains (desk_view old) moment session items answer (desk_view new)
+drains_told old mid new moment session items made answer is_empty is_open turn nothing is empty same told =
+    subst (λ (answer : Result ⊤ DeskFault). Drains (desk_view old) moment session items answer (desk_view new)) (sym is)
+    (drains_turn old new moment session items made is_open
+    (turn_told old mid new moment (act.Drain session) items made (deed.Drain session is_empty) answer turn told) nothing
+    (logged_after old mid new (deed.Drain session is_empty) answer same told
+    ∙ ap (λ (nothing : Bool). old.answers ++ (deed.Drain session nothing, answer) ∷ []) (empty ∙ none_is items)
+    ∙ ap (λ (answer : Result ⊤ DeskFault). old.answers ++ (deed.Drain session (is_nothing items), answer) ∷ []) is))
 
 -- ---- a close
 
@@ -336,115 +390,38 @@ close_whole : (state : State) (pass moment number session : ℕ) (short : Bool) 
 close_whole state pass moment number session true may = absurd may.short
 close_whole state pass moment number session false may = refl
 
-pub closes_made : (old new : Kept) (moment session : ℕ) (items : List Item) (made : Made) (value : ⊤) → Stands old →
-    Ends old.start old.pass new.pass (entry_of old moment (act.Close session)) items (Ok made) →
-    new.faults ≡ closed_at session old.faults → IsSame old new →
-    Closes (desk_view old) moment session (Ok value) (desk_view new)
-closes_made old new moment session items made value stands was faults same =
+closes_turn : (old new : Kept) (moment session : ℕ) (items : List Item) (made : Result Made DeskFault) →
+    IsOpen session old.pass.mine → HadTurn old moment (act.Close session) items made new →
+    Logged old (deed.Close session) (said made) new →
+    Closes {X = ⊤} (desk_view old) moment session (said made) (desk_view new)
+closes_turn old new moment session items (Ok made) is_open turn tells =
     let what : Act = act.Close session in
-    let adds = adds_of old new moment what items made stands was in
-    let named : made.session ≡ session = adds.follows.session in
-    let whole : made.short ≡ false = close_whole _ old.pass.number moment session made.session made.short adds.follows
-    in
+    let adds = adds_of old new moment what items made turn in
     record {
-      added = adds.mine
-          ∙ ap (λ (named : ℕ). old.pass.mine ++ record_of old.pass.number moment what named made.short ∷ []) named
-          ∙ ap (λ (short : Bool). old.pass.mine ++ record_of old.pass.number moment what session short ∷ []) whole;
-      given = λ number. still_given old new old.pass.number moment what made.session made.short number same adds
+      added = added_as old new moment what made session false adds adds.follows.session
+          (close_whole _ old.pass.number moment session made.session made.short adds.follows);
+      given = λ number. still_given old new old.pass.number moment what made.session made.short number turn.start adds
           (λ e. cc);
       why = tt;
-      rest = notes_none old new session value _ adds
-          (λ number. same_faults faults number ∙ closed_fault session number old.faults);
+      rest = ok_told old new (deed.Close session) tt _ adds tells;
     }
-
-pub closes_refused : (old mid new : Kept) (moment session : ℕ) (one given : DeskFault) →
-    Stands old → IsOpen session old.pass.mine → Refuses IsLockFault old mid new session one given →
-    new.faults ≡ noted_at session one mid.faults →
-    Closes {X = ⊤} (desk_view old) moment session (Err given) (desk_view new)
-closes_refused old mid new moment session one given stands is_open refuses faults = record {
-  added = tt;
-  given = refused_given old mid new session one given refuses;
-  why = subst IsLockFault (sym refuses.handed) refuses.told.may;
-  rest = notes_at old mid new session one given stands is_open refuses faults;
-}
-
--- ---- a flush, and whether the server is stopped
-
-everywhere : (old : Kept) (table : FaultTable) (one : DeskFault) → Stands old →
-    table.none ≡ old.faults.none → table.rows ≡ old.faults.rows → (session : ℕ) →
-    fault_in (noted_everywhere one table) session
-    ≡ (if is_noted old.pass.mine session then first_of (fault_in old.faults session) one
-    else fault_in old.faults session)
-everywhere old table one stands none rows session =
-    everywhere_noted session one table
-    ∙ ap (λ b. if (session == 0 || b) then first_of (fault_in table session) one else fault_in table session)
-    (open_same old.faults table rows session ∙ stands.noted.opened session)
-    ∙ ap (λ first. if is_noted old.pass.mine session then first_of first one else first)
-    (fault_same old.faults table none rows session)
-
-if_same : (b : Bool) (one other : Option DeskFault) → one ≡ other → one ≡ (if b then other else one)
-if_same true one other same = same
-if_same false one other same = refl
-
--- what a flush leaves that was made, short or not
-flush_added : (old new : Kept) (moment : ℕ) (made : Made) →
-    Adds old.start old.pass new.pass (record_of old.pass.number moment act.Flush made.session made.short) →
-    new.pass.mine ≡ old.pass.mine ++ record_of old.pass.number moment act.Flush 0 made.short ∷ []
-flush_added old new moment made adds =
-    adds.mine
-    ∙ ap (λ (named : ℕ). old.pass.mine ++ record_of old.pass.number moment act.Flush named made.short ∷ [])
-    adds.follows.session
-
-pub flushes_made : (old new : Kept) (moment : ℕ) (items : List Item) (made : Made) (value : ⊤) → Stands old →
-    Ends old.start old.pass new.pass (entry_of old moment act.Flush) items (Ok made) → made.short ≡ false →
-    new.faults ≡ old.faults → IsSame old new → Flushes (desk_view old) moment (Ok value) (desk_view new)
-flushes_made old new moment items made value stands was whole faults same =
-    let adds = adds_of old new moment act.Flush items made stands was in
+closes_turn old new moment session items (Err one) is_open turn tells =
+    let left = left_by old new moment (act.Close session) items one is_open turn in
     record {
-      added = flush_added old new moment made adds
-          ∙ ap (λ (short : Bool). old.pass.mine ++ record_of old.pass.number moment act.Flush 0 short ∷ []) whole;
-      none_added = tt;
-      given = λ number. still_given old new old.pass.number moment act.Flush made.session made.short number same adds
-          (λ e. cc);
-      noted = λ session. same_faults faults session
-          ∙ if_same (is_noted old.pass.mine session) (fault_in old.faults session) _
-          (ok_first (fault_in old.faults session) value);
-      why = tt;
-      lock_full = ok_lock old.pass.waits new.pass.waits adds.rested adds.rests;
-      pass = adds.number;
-    }
-
--- one that the store refused
-pub flushes_short : (old mid new : Kept) (moment : ℕ) (items : List Item) (made : Made) (given : DeskFault) →
-    Stands old → Ends old.start old.pass mid.pass (entry_of old moment act.Flush) items (Ok made) →
-    made.short ≡ true → mid.faults ≡ old.faults → IsSame old mid → given ≡ fault.Gone why.Stopped →
-    new.pass ≡ mid.pass → IsSame mid new → new.faults ≡ noted_everywhere (fault.Gone why.Stopped) mid.faults →
-    Flushes {X = ⊤} (desk_view old) moment (Err given) (desk_view new)
-flushes_short old mid new moment items made given stands was short kept same is pass again faults =
-    let adds : Adds old.start old.pass new.pass (record_of old.pass.number moment act.Flush made.session made.short) =
-    subst (λ (pass : PassView).
-    Adds old.start old.pass pass (record_of old.pass.number moment act.Flush made.session made.short)) (sym pass)
-    (adds_of old mid moment act.Flush items made stands was) in
-    let same' : IsSame old new = record {
-      table = again.table ∙ same.table;
-      start = again.start ∙ same.start;
-      tally = again.tally ∙ same.tally;
-    } in
-    subst (λ given. Flushes {X = ⊤} (desk_view old) moment (Err given) (desk_view new)) (sym is) (record {
       added = tt;
-      none_added = inr (flush_added old new moment made adds
-          ∙ ap (λ (short : Bool). old.pass.mine ++ record_of old.pass.number moment act.Flush 0 short ∷ []) short);
-      given = λ number. still_given old new old.pass.number moment act.Flush made.session made.short number same' adds
-          (λ e. cc);
-      noted = λ session. same_faults faults session
-          ∙ everywhere old mid.faults (fault.Gone why.Stopped) stands
-          (ap (λ (table : FaultTable). table.none) kept) (ap (λ (table : FaultTable). table.rows) kept) session
-          ∙ ap (λ first. if is_noted old.pass.mine session then first else fault_in old.faults session)
-          (first_is (fault_in old.faults session) (fault.Gone why.Stopped) ⊤);
-      why = tt;
-      lock_full = ok_lock old.pass.waits new.pass.waits adds.rested adds.rests;
-      pass = adds.number;
-    })
+      given = left.given;
+      why = left.why;
+      rest = err_told old new (deed.Close session) one left tells;
+    }
+
+pub closes_acted : (old new : Kept) (moment session : ℕ) (made : Result Made DeskFault)
+    (answer : Result ⊤ DeskFault) → IsOpen session old.pass.mine → IsActed old moment (act.Close session) made new →
+    answer ≡ said made → Closes (desk_view old) moment session answer (desk_view new)
+closes_acted old new moment session made answer is_open acted is =
+    subst (λ (answer : Result ⊤ DeskFault). Closes (desk_view old) moment session answer (desk_view new)) (sym is)
+    (closes_turn old new moment session acted.items made is_open acted.turn acted.tells)
+
+-- ---- a flush
 
 adds_none : (old new : DeskView) (moment : ℕ) (one : DeskFault) → new.mine ≡ old.mine →
     AddsNoneOrShort old moment one new
@@ -455,107 +432,132 @@ adds_none old new moment (fault.Gone why.Overrun) same = same
 adds_none old new moment (fault.Full number) same = same
 adds_none old new moment fault.Memory same = same
 
-pub flushes_refused : (old mid new : Kept) (moment : ℕ) (one given : DeskFault) → Stands old →
-    Refuses IsFlushFault old mid new 0 one given → new.faults ≡ noted_everywhere one mid.faults →
-    Flushes {X = ⊤} (desk_view old) moment (Err given) (desk_view new)
-flushes_refused old mid new moment one given stands refuses faults =
-    let keeps : Keeps old.start old.pass new.pass = keeps_on old mid new 0 one given refuses in
-    subst (λ given. Flushes {X = ⊤} (desk_view old) moment (Err given) (desk_view new)) (sym refuses.handed) (record {
-      added = tt;
-      none_added = adds_none (desk_view old) (desk_view new) moment one keeps.mine;
-      given = refused_given old mid new 0 one given refuses;
-      noted = λ session. same_faults faults session
-          ∙ everywhere old mid.faults one stands refuses.none refuses.rows session
-          ∙ ap (λ first. if is_noted old.pass.mine session then first else fault_in old.faults session)
-          (first_is (fault_in old.faults session) one ⊤);
-      why = refuses.told.may;
-      lock_full = locks_on ⊤ old mid new 0 one given refuses;
-      pass = keeps.number;
-    })
-
-stop_noted : (first : Option DeskFault) → first_of first (fault.Gone why.Stopped) ≡ first_stop first (Ok true)
-stop_noted None = refl
-stop_noted (Some first) = refl
-
-stop_first : (first : Option DeskFault) → first ≡ first_stop first (Ok false)
-stop_first None = refl
-stop_first (Some first) = refl
-
-stop_fault : (first : Option DeskFault) (one : DeskFault) → first_of first one ≡ first_stop first (Err one)
-stop_fault None one = refl
-stop_fault (Some first) one = refl
-
-told_waits : (start : State) (old new : PassView) (stopped : Bool) → Tells start old new (Ok stopped) →
-    new.waits ≡ (old.waits || false)
-told_waits start old new stopped (history, sees, logs, is) = ok_lock old.waits new.waits sees.rested sees.rests
-
-pub asks_runs : (old new : Kept) (told : Bool) → Stands old → told ≡ false →
-    Tells old.start old.pass new.pass (Ok told) → new.faults ≡ old.faults → IsSame old new →
-    AsksStopped (desk_view old) (Ok told) (desk_view new)
-asks_runs old new told stands runs tells faults same =
-    let keeps : Keeps old.start old.pass new.pass = tells_keeps old.start old.pass new.pass (Ok told) stands.knows
-    tells in
-    let waits : new.pass.waits ≡ (old.pass.waits || false) = told_waits old.start old.pass new.pass told tells in
-    subst (λ told. AsksStopped (desk_view old) (Ok told) (desk_view new)) (sym runs) (record {
-      mine = keeps.mine;
-      given = kept_given old new same keeps;
-      noted = λ session. same_faults faults session
-          ∙ if_same (is_noted old.pass.mine session) (fault_in old.faults session) _
-          (stop_first (fault_in old.faults session));
-      why = tt;
-      lock_full = waits;
-      pass = keeps.number;
-    })
-
--- where the answer was noted everywhere
-asks_noted : (old mid new : Kept) (one : DeskFault) (answer : Result Bool DeskFault) → Stands old →
-    Keeps old.start old.pass mid.pass → mid.faults ≡ old.faults → IsSame old mid → new.pass ≡ mid.pass →
-    IsSame mid new → new.faults ≡ noted_everywhere one mid.faults →
-    ((first : Option DeskFault) → first_of first one ≡ first_stop first answer) → IfErr answer IsLockFault →
-    mid.pass.waits ≡ (old.pass.waits || is_lock_full answer) → AsksStopped (desk_view old) answer (desk_view new)
-asks_noted old mid new one answer stands kept same same' pass again faults first why waits =
-    let keeps : Keeps old.start old.pass new.pass =
-    subst (λ (pass : PassView). Keeps old.start old.pass pass) (sym pass) kept in
+-- one that was made, short where the store refused it
+flush_made : (old new : Kept) (moment : ℕ) (items : List Item) (made : Made) (short : Bool) → made.short ≡ short →
+    HadTurn old moment act.Flush items (Ok made) new →
+    Logged old deed.Flush (if short then Err (fault.Gone why.Stopped) else Ok tt) new →
+    Flushes {X = ⊤} (desk_view old) moment (if short then Err (fault.Gone why.Stopped) else Ok tt) (desk_view new)
+flush_made old new moment items made false is turn tells =
+    let adds = adds_of old new moment act.Flush items made turn in
     record {
-      mine = keeps.mine;
-      given = kept_given old new (record {
-        table = again.table ∙ same'.table;
-        start = again.start ∙ same'.start;
-        tally = again.tally ∙ same'.tally;
-      }) keeps;
-      noted = λ session. same_faults faults session
-          ∙ everywhere old mid.faults one stands (ap (λ (table : FaultTable). table.none) same)
-          (ap (λ (table : FaultTable). table.rows) same) session
-          ∙ ap (λ first. if is_noted old.pass.mine session then first else fault_in old.faults session)
-          (first (fault_in old.faults session));
-      why = why;
-      lock_full = ap (λ (pass : PassView). pass.waits) pass ∙ waits;
-      pass = keeps.number;
+      added = added_as old new moment act.Flush made 0 false adds adds.follows.session is;
+      none_added = tt;
+      given = λ number. still_given old new old.pass.number moment act.Flush made.session made.short number turn.start
+          adds (λ e. cc);
+      tells = tells;
+      why = tt;
+      lock_full = ok_lock old.pass.waits new.pass.waits adds.rested adds.rests;
+      pass = adds.on.number;
+    }
+flush_made old new moment items made true is turn tells =
+    let adds = adds_of old new moment act.Flush items made turn in
+    record {
+      added = tt;
+      none_added = inr (added_as old new moment act.Flush made 0 true adds adds.follows.session is);
+      given = λ number. still_given old new old.pass.number moment act.Flush made.session made.short number turn.start
+          adds (λ e. cc);
+      tells = tells;
+      why = tt;
+      lock_full = ok_lock old.pass.waits new.pass.waits adds.rested adds.rests;
+      pass = adds.on.number;
     }
 
-pub asks_stopped : (old mid new : Kept) (told : Bool) → Stands old → told ≡ true →
-    Tells old.start old.pass mid.pass (Ok told) → mid.faults ≡ old.faults → IsSame old mid → new.pass ≡ mid.pass →
-    IsSame mid new → new.faults ≡ noted_everywhere (fault.Gone why.Stopped) mid.faults →
-    AsksStopped (desk_view old) (Ok told) (desk_view new)
-asks_stopped old mid new told stands stopped tells kept same pass again faults =
-    let keeps : Keeps old.start old.pass mid.pass = tells_keeps old.start old.pass mid.pass (Ok told) stands.knows
-    tells in
-    let waits : mid.pass.waits ≡ (old.pass.waits || false) = told_waits old.start old.pass mid.pass told tells in
-    subst (λ told. AsksStopped (desk_view old) (Ok told) (desk_view new)) (sym stopped)
-    (asks_noted old mid new (fault.Gone why.Stopped) (Ok true) stands keeps kept same pass again faults stop_noted tt
-    waits)
+flush_turn : (old new : Kept) (moment : ℕ) (items : List Item) (made : Result Made DeskFault) →
+    HadTurn old moment act.Flush items made new → Logged old deed.Flush (said_flush made) new →
+    Flushes {X = ⊤} (desk_view old) moment (said_flush made) (desk_view new)
+flush_turn old new moment items (Ok made) turn tells =
+    flush_made old new moment items made made.short refl turn tells
+flush_turn old new moment items (Err one) turn tells =
+    let left = left_by old new moment act.Flush items one tt turn in
+    record {
+      added = tt;
+      none_added = adds_none (desk_view old) (desk_view new) moment one left.mine;
+      given = left.given;
+      tells = tells;
+      why = left.why;
+      lock_full = left.lock;
+      pass = left.number;
+    }
 
-pub asks_full : (old mid new : Kept) (one given : DeskFault) → Stands old →
-    Tells old.start old.pass mid.pass (Err one) → mid.faults ≡ old.faults → IsSame old mid → given ≡ one →
-    new.pass ≡ mid.pass → IsSame mid new → new.faults ≡ noted_everywhere one mid.faults →
-    AsksStopped (desk_view old) (Err given) (desk_view new)
-asks_full old mid new one given stands tells kept same is pass again faults =
-    let keeps : Keeps old.start old.pass mid.pass = tells_keeps old.start old.pass mid.pass (Err one) stands.knows
-    tells in
-    let told = ask_told old.start old.pass mid.pass 0 one tells in
-    subst (λ given. AsksStopped (desk_view old) (Err given) (desk_view new)) (sym is)
-    (asks_noted old mid new one (Err one) stands keeps kept same pass again faults
-    (λ first. stop_fault first one) told.may (told.lock ∙ ap (λ b. old.pass.waits || b) (sym (lock_any Bool one))))
+pub flush_told : (old mid new : Kept) (moment : ℕ) (items : List Item) (made : Result Made DeskFault)
+    (answer : Result ⊤ DeskFault) → HadTurn old moment act.Flush items made mid → answer ≡ said_flush made →
+    mid.answers ≡ old.answers → new ≡ record mid { answers = mid.answers ++ (deed.Flush, answer) ∷ [] } →
+    Flushes (desk_view old) moment answer (desk_view new)
+flush_told old mid new moment items made answer turn is same told =
+    subst (λ (answer : Result ⊤ DeskFault). Flushes (desk_view old) moment answer (desk_view new)) (sym is)
+    (flush_turn old new moment items made
+    (turn_told old mid new moment act.Flush items made deed.Flush answer turn told)
+    (logged_after old mid new deed.Flush answer same told
+    ∙ ap (λ (answer : Result ⊤ DeskFault). old.answers ++ (deed.Flush, answer) ∷ []) is))
+
+-- ---- whether the server is stopped, and what is new
+
+asks_told : (old new : Kept) (answer : Result Bool DeskFault) → Stands old → new.start ≡ old.start →
+    Tells old.start old.pass new.pass answer → Logged old deed.Ask (said_stopped answer) new →
+    AsksStopped (desk_view old) answer (desk_view new)
+asks_told old new (Ok stopped) stands same tells logged =
+    let keeps = tells_keeps old.start old.pass new.pass (Ok stopped) stands.knows tells in
+    record {
+      mine = keeps.mine;
+      given = kept_given old new same keeps;
+      answers = logged;
+      why = tt;
+      lock_full = ok_lock old.pass.waits new.pass.waits tells.1.rested tells.1.rests;
+      pass = keeps.on.number;
+    }
+asks_told old new (Err one) stands same tells logged =
+    let keeps = tells_keeps old.start old.pass new.pass (Err one) stands.knows tells in
+    let told = ask_told old.start old.pass new.pass 0 one tells in
+    record {
+      mine = keeps.mine;
+      given = kept_given old new same keeps;
+      answers = logged;
+      why = told.may;
+      lock_full = told.lock ∙ ap (λ b. old.pass.waits || b) (sym (lock_any Bool one));
+      pass = keeps.on.number;
+    }
+
+-- What a question leaves, before its answer is logged.
+pub record HasAsked (old : Kept) (answer : Result Bool DeskFault) (mid : Kept) : Type 0 where
+  pub tells : Tells old.start old.pass mid.pass answer
+  pub table : mid.table ≡ old.table
+  pub start : mid.start ≡ old.start
+  pub answers : mid.answers ≡ old.answers
+  pub stood : Stands old
+
+pub stopped_told : (old mid new : Kept) (answer : Result Bool DeskFault) (said' : Result ⊤ DeskFault) →
+    HasAsked old answer mid → said' ≡ said_stopped answer →
+    new ≡ record mid { answers = mid.answers ++ (deed.Ask, said') ∷ [] } →
+    AsksStopped (desk_view old) answer (desk_view new)
+stopped_told old mid new answer said' asked is told =
+    asks_told old new answer asked.stood (ap (λ (kept : Kept). kept.start) told ∙ asked.start)
+    (subst (λ (kept : Kept). Tells old.start old.pass kept.pass answer) (sym told) asked.tells)
+    (logged_after old mid new deed.Ask said' asked.answers told
+    ∙ ap (λ (answer : Result ⊤ DeskFault). old.answers ++ (deed.Ask, answer) ∷ []) is)
+
+pub stopped_on : (old mid new : Kept) (answer : Result Bool DeskFault) (said' : Result ⊤ DeskFault) →
+    HasAsked old answer mid → new ≡ record mid { answers = mid.answers ++ (deed.Ask, said') ∷ [] } → GoesOn old new
+stopped_on old mid new answer said' asked told =
+    subst (λ (new : Kept). GoesOn old new) (sym told)
+    (goes_by old (record mid { answers = mid.answers ++ (deed.Ask, said') ∷ [] }) asked.table asked.start
+    (tells_keeps old.start old.pass mid.pass answer asked.stood.knows asked.tells).on)
+
+looks_lock : (old new : PassView) (start : State) → Looks start old new → old.waits ≡ true → new.waits ≡ true
+looks_lock old new start (inl (history, sees, logs)) waits =
+    let wrong : false ≡ true = sym sees.rested ∙ waits in cc
+looks_lock old new start (inr (ticket, none)) waits = none.waits
+
+pub looked_at : (old new : Kept) → Stands old → new.start ≡ old.start → new.answers ≡ old.answers →
+    Looks old.start old.pass new.pass → IsLookedAt (desk_view old) (desk_view new)
+looked_at old new stands same answers looks =
+    let keeps = looks_keeps old.start old.pass new.pass stands.knows looks in
+    record {
+      mine = keeps.mine;
+      given = kept_given old new same keeps;
+      answers = answers;
+      lock_full = looks_lock old.pass new.pass old.start looks;
+      pass = keeps.on.number;
+    }
 
 -- ---- a connect
 
@@ -565,13 +567,12 @@ connect_whole state pass moment user host session true may = absurd may.short
 connect_whole state pass moment user host session false may = refl
 
 -- the number of a session that is connected now
-pub record IsDrawn (start : State) (old new : PassView) (session : ℕ) : Type 0 where
+record IsDrawn (start : State) (old new : PassView) (session : ℕ) : Type 0 where
   pub above : connects_in old.seen < session
-  pub within : session ≤ connects_in new.seen
   pub absent : has_session session old.mine ≡ false
   pub ungiven : given_by_pass start old.number session old.seen ≡ []
 
-pub drawn_number : (start : State) → IsStart start → (old new : PassView) (moment : ℕ) (user host : List ℕ)
+drawn_number : (start : State) → IsStart start → (old new : PassView) (moment : ℕ) (user host : List ℕ)
     (session : ℕ) (short : Bool) → Knows start old →
     Adds start old new (record_of old.number moment (act.Connect user host) session short) →
     IsDrawn start old new session
@@ -592,140 +593,72 @@ drawn_number start begins old new moment user host session short knows adds =
     let above : (state_after start old.seen).connects < session = omega arith in
     record {
       above = omega arith;
-      within = omega arith;
       absent = subst (λ (mine : List Record). has_session session mine ≡ false) (sym knows.mine)
           (absent_of session old.number old.seen
           (undrawn_absent session start old.seen begins.drawn knows.legal above));
       ungiven = given_before session old.number start old.seen begins.drawn knows.legal above;
     }
 
-pub connects_made : (old new : Kept) (moment : ℕ) (user host : List ℕ) (items : List Item) (made : Made) →
-    Stands old → Ends old.start old.pass new.pass (entry_of old moment (act.Connect user host)) items (Ok made) →
-    new.faults.none ≡ old.faults.none →
-    new.faults.rows ≡ old.faults.rows ++ record { session = made.session; is_open = true; fault = None } ∷ [] →
-    IsSame old new → Connects (desk_view old) moment user host (Ok made.session) (desk_view new)
-connects_made old new moment user host items made stands was none rows same =
+connects_turn : (old new : Kept) (moment : ℕ) (user host : List ℕ) (items : List Item) (made : Made) →
+    HadTurn old moment (act.Connect user host) items (Ok made) new → Logged old deed.Connect (Ok tt) new →
+    Connects (desk_view old) moment user host (Ok made.session) (desk_view new)
+connects_turn old new moment user host items made turn tells =
     let what : Act = act.Connect user host in
-    let adds = adds_of old new moment what items made stands was in
-    let whole : made.short ≡ false =
-    connect_whole _ old.pass.number moment user host made.session made.short adds.follows in
+    let adds = adds_of old new moment what items made turn in
     let drawn : IsDrawn old.start old.pass new.pass made.session =
-    drawn_number old.start (begins old stands) old.pass new.pass moment user host made.session made.short stands.knows
-    adds in
+    drawn_number old.start (begins old turn.stood) old.pass new.pass moment user host made.session made.short
+    turn.stood.knows adds in
     record {
-      added = adds.mine
-          ∙ ap (λ (short : Bool). old.pass.mine ++ record_of old.pass.number moment what made.session short ∷ []) whole;
+      added = added_as old new moment what made made.session false adds refl
+          (connect_whole _ old.pass.number moment user host made.session made.short adds.follows);
       new_number = (λ zero. omega (arith, drawn.above, zero), drawn.absent);
       given = (
-        still_given old new old.pass.number moment what made.session made.short made.session same adds (λ e. cc)
+        still_given old new old.pass.number moment what made.session made.short made.session turn.start adds (λ e. cc)
             ∙ drawn.ungiven,
-        λ number other. still_given old new old.pass.number moment what made.session made.short number same adds
+        λ number other. still_given old new old.pass.number moment what made.session made.short number turn.start adds
             (λ e. cc),
       );
-      fault = fault_connected (connects_in old.pass.seen) made.session old.faults new.faults stands.noted.drawn
-          drawn.above none rows;
       none_added = tt;
       none_given = tt;
-      noted = tt;
+      tells = tells;
       why = tt;
       lock_full = ok_lock old.pass.waits new.pass.waits adds.rested adds.rests;
-      pass = adds.number;
+      pass = adds.on.number;
     }
 
-pub connects_refused : (old mid new : Kept) (moment : ℕ) (user host : List ℕ) (one given : DeskFault) →
-    Refuses IsConnectFault old mid new 0 one given → new.faults ≡ noted_at_none one mid.faults →
-    Connects (desk_view old) moment user host (Err given) (desk_view new)
-connects_refused old mid new moment user host one given refuses faults =
-    let before : (number : ℕ) → fault_in mid.faults number ≡ fault_in old.faults number =
-    fault_same old.faults mid.faults refuses.none refuses.rows in
-    let keeps : Keeps old.start old.pass new.pass = keeps_on old mid new 0 one given refuses in
-    subst (λ given. Connects (desk_view old) moment user host (Err given) (desk_view new)) (sym refuses.handed)
-    (record {
+-- the act of a greeting
+acted_as : (old new : Kept) (moment : ℕ) (what : Act) (user host : List ℕ) (made : Result Made DeskFault) →
+    what ≡ act.Connect user host → IsActed old moment what made new →
+    IsActed old moment (act.Connect user host) made new
+acted_as old new moment what user host made is acted =
+    subst (λ (what : Act). IsActed old moment what made new) is acted
+
+pub connects_made : (old new : Kept) (moment : ℕ) (what : Act) (user host : List ℕ) (made : Made) →
+    what ≡ act.Connect user host → IsActed old moment what (Ok made) new →
+    Connects (desk_view old) moment user host (Ok made.session) (desk_view new)
+connects_made old new moment what user host made is acted =
+    let same = acted_as old new moment what user host (Ok made) is acted in
+    connects_turn old new moment user host same.items made same.turn same.tells
+
+pub connects_refused : (old new : Kept) (moment : ℕ) (what : Act) (user host : List ℕ) (one : DeskFault) →
+    what ≡ act.Connect user host → IsActed old moment what (Err one) new →
+    Connects (desk_view old) moment user host (Err one) (desk_view new)
+connects_refused old new moment what user host one is acted =
+    let same = acted_as old new moment what user host (Err one) is acted in
+    let left = left_by old new moment (act.Connect user host) same.items one tt same.turn in
+    record {
       added = tt;
       new_number = tt;
       given = tt;
-      fault = tt;
-      none_added = keeps.mine;
-      none_given = refused_given old mid new 0 one given refuses;
-      noted = (
-        same_faults faults 0 ∙ ap (λ first. first_of first one) (before 0) ∙ first_is (fault_in old.faults 0) one ℕ,
-        λ number other. same_faults faults number ∙ none_there number one mid.faults other ∙ before number,
-      );
-      why = refuses.told.may;
-      lock_full = locks_on ℕ old mid new 0 one given refuses;
-      pass = keeps.number;
-    })
+      none_added = left.mine;
+      none_given = left.given;
+      tells = same.tells;
+      why = left.why;
+      lock_full = left.lock ∙ ap (λ b. old.pass.waits || b) (sym (lock_any ℕ one));
+      pass = left.number;
+    }
 
--- the cause of a refusal, before it is noted
-pub known_mid : {P : DeskFault → Type 0} (old mid : Kept) (session : ℕ) (one : DeskFault) → IsSame old mid →
-    IsTurnTold old.start P old.pass mid.pass session one →
-    IsKnown mid.start mid.pass.seen mid.pass.drawn session (Some one)
-known_mid old mid session one same told =
-    subst (λ (start : State). IsKnown start mid.pass.seen mid.pass.drawn session (Some one)) (sym same.start) told.known
-
--- a flush that the store refused stops the server
-short_stops : (state : State) (pass moment session : ℕ) (short : Bool) → short ≡ true →
-    (after state (record_of pass moment act.Flush session short)).store_refused ≡ true
-short_stops state pass moment session short is = rw is refl
-
-pub short_known : (old mid : Kept) (moment session : ℕ) (items : List Item) (made : Made) → Stands old →
-    Ends old.start old.pass mid.pass (entry_of old moment act.Flush) items (Ok made) → made.short ≡ true →
-    IsSame old mid → IsKnown mid.start mid.pass.seen mid.pass.drawn session (Some (fault.Gone why.Stopped))
-short_known old mid moment session items made stands was short same =
-    let adds = adds_of old mid moment act.Flush items made stands was in
-    let history : List Record = old.pass.seen ++ adds.between in
-    let one : Record = record_of old.pass.number moment act.Flush made.session made.short in
-    subst (λ (start : State). WasStopped start mid.pass.seen) (sym same.start) (
-      mid.pass.seen,
-      [],
-      sym (append-nil mid.pass.seen),
-      inr (ap (λ (seen : List Record). (state_after old.start seen).store_refused) adds.seen
-          ∙ ap (λ (state : State). state.store_refused) (state_after-append old.start history (one ∷ []))
-          ∙ short_stops (state_after old.start history) old.pass.number moment made.session made.short short),
-    )
-
--- ---- a connect that was prepared
-
-abbrev view_at : State → PassView → (ℕ → Option DeskFault) → DeskView
-view_at start pass faults = record {
-  pass = pass.number;
-  mine = pass.mine;
-  gave_to = λ session. given_by_pass start pass.number session pass.seen;
-  fault_to = faults;
-  lock_full = pass.waits;
-}
-
--- with room for a row more, contracts see the same
-pub view_prepared : (old mid : Kept) → mid.pass ≡ old.pass → IsSame old mid → mid.faults.none ≡ old.faults.none →
-    mid.faults.rows ≡ old.faults.rows → desk_view mid ≡ desk_view old
-view_prepared old mid pass same none rows =
-    ap (λ (start : State). view_at start mid.pass (fault_in mid.faults)) same.start
-    ∙ ap (λ (pass : PassView). view_at old.start pass (fault_in mid.faults)) pass
-    ∙ ap (λ (faults : ℕ → Option DeskFault). view_at old.start old.pass faults)
-    (fun_ext (λ session. fault_same old.faults mid.faults none rows session))
-
--- the entry of a greeting
-pub connect_ends : (old mid : Kept) (moment : ℕ) (what : Act) (user host : List ℕ) (items : List Item)
-    (result : Result Made DeskFault) → what ≡ act.Connect user host →
-    Ends old.start old.pass mid.pass (entry_of old moment what) items result →
-    Ends old.start old.pass mid.pass (entry_of old moment (act.Connect user host)) items result
-connect_ends old mid moment what user host items result is ends =
-    subst (λ (what : Act). Ends old.start old.pass mid.pass (entry_of old moment what) items result) is ends
-
-pub connect_refuses : (old mid new : Kept) (moment : ℕ) (user host : List ℕ) (items : List Item)
-    (one given : DeskFault) → Stands old →
-    Ends old.start old.pass mid.pass (entry_of old moment (act.Connect user host)) items (Err one) →
-    IsTurnTold old.start IsConnectFault old.pass mid.pass 0 one → mid.faults.none ≡ old.faults.none →
-    mid.faults.rows ≡ old.faults.rows → IsSame old mid → given ≡ one → new.pass ≡ mid.pass → IsSame mid new →
-    Refuses IsConnectFault old mid new 0 one given
-connect_refuses old mid new moment user host items one given stands ends told none rows same is pass again = record {
-  keeps = fault_keeps old.start old.pass mid.pass (entry_of old moment (act.Connect user host)) items one stands.knows
-      ends;
-  told = told;
-  none = none;
-  rows = rows;
-  same = same;
-  handed = is;
-  pass = pass;
-  again = again;
-}
+-- what was acted is a later state
+pub acted_on : (old new : Kept) (moment : ℕ) (what : Act) (made : Result Made DeskFault) →
+    IsActed old moment what made new → GoesOn old new
+acted_on old new moment what made acted = goes_turn old new moment what acted.items made acted.turn

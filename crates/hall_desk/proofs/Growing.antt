@@ -17,11 +17,12 @@ use Rattle.kom_model.specs.Legal.{IsLegal, state_after}
 use Rattle.kom_model.specs.Out.{given_by, given_by_pass, taken_by}
 use Rattle.hall_desk.specs.declared.turning.Made.{Made}
 use Rattle.hall_desk.specs.Passes.{PassView, of_pass, Knows}
-use Rattle.hall_desk.specs.Turns.{Sees, LogsNone, HasNoTurn, record_in, WasMade, WasRefused, Ends, Tells}
+use Rattle.hall_desk.specs.Turns.{Sees, LogsNone, HasNoTurn, record_in, WasMade, WasRefused, Ends, Tells, Looks}
 use Rattle.hall_desk.proofs.Histories.{legal-append, of_pass-append, given-append, given_others}
 
 -- what a pass has seen goes on, legally, and so do the tickets that it knows
-pub record GoesOn (start : State) (old new : PassView) : Type 0 where
+pub record Grows (start : State) (old new : PassView) : Type 0 where
+  pub number : new.number ≡ old.number
   pub more : List Record
   pub seen : new.seen ≡ old.seen ++ more
   pub legal : IsLegal start new.seen
@@ -29,21 +30,19 @@ pub record GoesOn (start : State) (old new : PassView) : Type 0 where
 
 -- by records of others alone
 pub record Keeps (start : State) (old new : PassView) : Type 0 where
-  pub on : GoesOn start old new
+  pub on : Grows start old new
   pub others : of_pass old.number on.more ≡ []
-  pub number : new.number ≡ old.number
   pub mine : new.mine ≡ old.mine
 
 -- by records of others, and then one of its own
 pub record Adds (start : State) (old new : PassView) (made : Record) : Type 0 where
-  pub on : GoesOn start old new
+  pub on : Grows start old new
   pub between : List Record
   pub others : of_pass old.number between ≡ []
   pub seen : new.seen ≡ (old.seen ++ between) ++ made ∷ []
   pub own : made.entry.pass ≡ old.number
   pub follows : MayFollow (state_after start (old.seen ++ between)) made
   pub before : IsLegal start (old.seen ++ between)
-  pub number : new.number ≡ old.number
   pub mine : new.mine ≡ old.mine ++ made ∷ []
   pub rested : old.waits ≡ false
   pub rests : new.waits ≡ false
@@ -73,6 +72,7 @@ made_adds start old new entry items made knows own (history, sees, logs, taken) 
     legal-append start history (one ∷ []) sees.legal (logs.follows, tt) in (
       record {
         on = record {
+          number = sees.number;
           more = more ++ one ∷ [];
           seen = seen ∙ append_assoc old.seen more (one ∷ []);
           legal = subst (λ (all : List Record). IsLegal start all) (sym logs.seen) legal;
@@ -84,7 +84,6 @@ made_adds start old new entry items made knows own (history, sees, logs, taken) 
         own = own;
         follows = subst (λ (all : List Record). MayFollow (state_after start all) one) sees.goes_on.1 logs.follows;
         before = subst (λ (all : List Record). IsLegal start all) sees.goes_on.1 sees.legal;
-        number = sees.number;
         mine = logs.mine;
         rested = sees.rested;
         rests = sees.rests;
@@ -96,13 +95,13 @@ pub none_keeps : (start : State) (old new : PassView) (history : List Record) �
     Sees start old new history → LogsNone old new history → Keeps start old new
 none_keeps start old new history knows sees logs = record {
   on = record {
+    number = sees.number;
     more = sees.goes_on.0;
     seen = logs.seen ∙ sees.goes_on.1;
     legal = subst (λ (all : List Record). IsLegal start all) (sym logs.seen) sees.legal;
     drawn = sees.drawn;
   };
   others = seen_others start old new history knows sees;
-  number = sees.number;
   mine = logs.mine;
 }
 
@@ -110,13 +109,13 @@ pub no_turn_keeps : (start : State) (old new : PassView) (ticket : ℕ) → Know
     Keeps start old new
 no_turn_keeps start old new ticket knows none = record {
   on = record {
+    number = none.number;
     more = [];
     seen = none.seen ∙ sym (append-nil old.seen);
     legal = subst (λ (all : List Record). IsLegal start all) (sym none.seen) knows.legal;
     drawn = none.drawn;
   };
   others = refl;
-  number = none.number;
   mine = none.mine;
 }
 
@@ -142,12 +141,25 @@ tells_keeps start old new (Err fault.Memory) knows tells = absurd tells
 tells_keeps start old new (Err (fault.Gone told)) knows tells = absurd tells
 tells_keeps start old new (Err (fault.Full number)) knows tells = no_turn_keeps start old new number knows tells
 
+pub looks_keeps : (start : State) (old new : PassView) → Knows start old → Looks start old new → Keeps start old new
+looks_keeps start old new knows (inl (history, sees, logs)) = none_keeps start old new history knows sees logs
+looks_keeps start old new knows (inr (ticket, none)) = no_turn_keeps start old new ticket knows none
+
+-- after an act, made or not
+pub ended_grows : (start : State) (old new : PassView) (entry : Entry) (items : List Item)
+    (result : Result Made DeskFault) → Knows start old → entry.pass ≡ old.number →
+    Ends start old new entry items result → Grows start old new
+ended_grows start old new entry items (Ok made) knows own ends =
+    (made_adds start old new entry items made knows own ends).0.on
+ended_grows start old new entry items (Err one) knows own ends =
+    (fault_keeps start old new entry items one knows ends).on
+
 -- ---- what the drains of the pass gave
 
 pub given_keeps : (start : State) (old new : PassView) (session : ℕ) → Keeps start old new →
     given_by_pass start new.number session new.seen ≡ given_by_pass start old.number session old.seen
 given_keeps start old new session keeps =
-    ap (λ (number : ℕ). given_by_pass start number session new.seen) keeps.number
+    ap (λ (number : ℕ). given_by_pass start number session new.seen) keeps.on.number
     ∙ ap (λ (seen : List Record). given_by_pass start old.number session seen) keeps.on.seen
     ∙ given-append start old.number session old.seen keeps.on.more
     ∙ ap (λ (more : List (List Item)). given_by_pass start old.number session old.seen ++ more)
@@ -170,7 +182,7 @@ given_adds start old new made session adds =
     ∙ ap (λ (more : List (List Item)). given_by_pass start old.number session old.seen ++ more)
     (given_others (state_after start old.seen) old.number session adds.between adds.others)
     ∙ append-nil (given_by_pass start old.number session old.seen) in
-    ap (λ (number : ℕ). given_by_pass start number session new.seen) adds.number
+    ap (λ (number : ℕ). given_by_pass start number session new.seen) adds.on.number
     ∙ ap (λ (seen : List Record). given_by_pass start old.number session seen) adds.seen
     ∙ given-append start old.number session history (made ∷ [])
     ∙ ap (λ (first : List (List Item)).

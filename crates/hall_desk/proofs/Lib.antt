@@ -1,16 +1,11 @@
-pub mod Writing
 pub mod Seats
 pub mod Stepping
 pub mod Starting
 pub mod Histories
 pub mod Growing
-pub mod ChangedFaults
-pub mod TrueFaults
 pub mod Refusals
+pub mod Causes
 pub mod DeskViews
-pub mod Standing
 pub mod Locking
 pub mod Answering
 pub mod Resting
-pub mod Telling
-pub mod GoingOn

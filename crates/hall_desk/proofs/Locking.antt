@@ -24,7 +24,7 @@ use Rattle.hall_desk.specs.Acts.{IsMadeBy, IsLed}
 use Rattle.hall_desk.specs.Passes.{PassView, pass_view, of_pass, Knows}
 use Rattle.hall_desk.specs.declared.turning.Made.{Made}
 use Rattle.hall_desk.specs.Turns.{IsOfOpen, Sees, Logs, LogsNone, record_in, fault_from, WasMade, WasRefused, IsConnect}
-use Rattle.hall_desk.specs.Turns.{Ends, Tells}
+use Rattle.hall_desk.specs.Turns.{Ends, Tells, Looks}
 use Rattle.hall_desk.proofs.Starting.{IsStart}
 use Rattle.hall_desk.proofs.Stepping.{by_owner}
 use Rattle.hall_desk.proofs.Histories.{legal-append, owners-append, entries-state_after, of_pass-append, of_own}
@@ -328,6 +328,17 @@ module _ {B E : Type 0} (made : E → Record) (server : B → State) (pass_of : 
           ends.2,
           is ∙ ap (λ (state : State). state.stopped || state.store_refused) state,
         ),
+      )
+
+  -- it was asked for anything else
+  pub turn_looked : (hall : HallModel B) (old : PassModel B E) (value : B) (new : PassModel B E) →
+      Knows (server hall.opening) (pass_view made old) → LookedTurn hall old value new →
+      Knows (server hall.opening) (pass_view made new)
+      × Looks (server hall.opening) (pass_view made old) (pass_view made new)
+  turn_looked hall old value new knows turn =
+      let ends = looked_ends hall old value new knows turn in (
+        knows_none (server hall.opening) (pass_view made old) (pass_view made new) ends.0 ends.1 ends.2,
+        inl (ends.0, ends.1, ends.2),
       )
 
 -- ---- by the fault of a refusal

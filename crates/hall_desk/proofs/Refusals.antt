@@ -4,6 +4,7 @@ use Rattle.std.proofs.Common.{None, refl, sym, ap, subst, ◌∙◌, arith, appe
 use Rattle.std.specs.Prelude.{Err, ⊤}
 use Rattle.std.proofs.lemmas.Bool.{cases_Bool, ltb-false, le-leb}
 use Rattle.kom_types.specs.declared.limits.TheConstants.{MOST_SESSIONS}
+use Rattle.kom_types.specs.declared.acts.Act.{Act}
 use Rattle.kom_types.specs.declared.acts.Act.TheVariants as act
 use Rattle.kom_types.specs.declared.acts.Entry.{Entry}
 use Rattle.kom_types.specs.declared.acts.Record.{Record}
@@ -23,7 +24,7 @@ use Rattle.kom_model.specs.Refusal.{connect_refused, unless_store_refused, refus
 use Rattle.kom_model.specs.Legal.{IsLegal, state_after}
 use Rattle.hall_desk.specs.Passes.{PassView, connects_in}
 use Rattle.hall_desk.specs.Desks.{WasStopped, IsKnown}
-use Rattle.hall_desk.specs.Turns.{Sees, LogsNone, HasNoTurn, Ends, Tells, IsConnect}
+use Rattle.hall_desk.specs.Turns.{IsOfOpen, Sees, LogsNone, HasNoTurn, Ends, Tells, IsConnect}
 use Rattle.hall_desk.proofs.Starting.{IsStart}
 use Rattle.hall_desk.proofs.Stepping.{Has}
 use Rattle.hall_desk.proofs.Histories.{and_both, or_second, open_has, connects-state_after, connects_within}
@@ -205,13 +206,13 @@ module _ (start : State) where
 
   -- ---- at a session that the pass has open
 
-  pub has_open : IsStart start → (old new : PassView) (history : List Record) (session : ℕ) →
+  has_open : IsStart start → (old new : PassView) (history : List Record) (session : ℕ) →
       Sees start old new history → IsOpen session old.mine → Has session old.number (state_after start history)
   has_open begins old new history session sees is_open =
       open_has start begins.drawn session old.number history sees.legal sees.owned
       (subst (λ (mine : List Record). IsOpen session mine) sees.own is_open)
 
-  pub call_told : IsStart start → (old new : PassView) (pass moment session reference : ℕ) (call : Call)
+  call_told : IsStart start → (old new : PassView) (pass moment session reference : ℕ) (call : Call)
       (items : List Item) (one : DeskFault) → IsOpen session old.mine →
       Ends start old new (record { pass = pass; moment = moment; act = act.Call session reference call }) items
       (Err one) → IsTurnTold start IsActFault old new session one
@@ -233,7 +234,7 @@ module _ (start : State) where
       unless_store_refused state.store_refused (call_refused state.stopped row) ≡ Some (Full number)) has.1 is)))
       ends
 
-  pub broken_told : IsStart start → (old new : PassView) (pass moment session : ℕ) (items : List Item)
+  broken_told : IsStart start → (old new : PassView) (pass moment session : ℕ) (items : List Item)
       (one : DeskFault) → IsOpen session old.mine →
       Ends start old new (record { pass = pass; moment = moment; act = act.Broken session }) items (Err one) →
       IsTurnTold start IsActFault old new session one
@@ -255,7 +256,7 @@ module _ (start : State) where
       unless_store_refused state.store_refused (call_refused state.stopped row) ≡ Some (Full number)) has.1 is)))
       ends
 
-  pub drain_told : IsStart start → (old new : PassView) (pass moment session : ℕ) (items : List Item)
+  drain_told : IsStart start → (old new : PassView) (pass moment session : ℕ) (items : List Item)
       (one : DeskFault) → IsOpen session old.mine →
       Ends start old new (record { pass = pass; moment = moment; act = act.Drain session }) items (Err one) →
       IsTurnTold start IsActFault old new session one
@@ -277,7 +278,7 @@ module _ (start : State) where
       unless_store_refused state.store_refused (drain_refused row) ≡ Some (Full number)) has.1 is)))
       ends
 
-  pub close_told : IsStart start → (old new : PassView) (pass moment session : ℕ) (items : List Item)
+  close_told : IsStart start → (old new : PassView) (pass moment session : ℕ) (items : List Item)
       (one : DeskFault) → IsOpen session old.mine →
       Ends start old new (record { pass = pass; moment = moment; act = act.Close session }) items (Err one) →
       IsTurnTold start IsLockFault old new session one
@@ -297,7 +298,7 @@ module _ (start : State) where
 
   -- ---- of no session
 
-  pub flush_told : (old new : PassView) (pass moment : ℕ) (items : List Item) (session : ℕ) (one : DeskFault) →
+  flush_told : (old new : PassView) (pass moment : ℕ) (items : List Item) (session : ℕ) (one : DeskFault) →
       Ends start old new (record { pass = pass; moment = moment; act = act.Flush }) items (Err one) →
       IsTurnTold start IsFlushFault old new session one
   flush_told old new pass moment items session one ends =
@@ -334,7 +335,7 @@ module _ (start : State) where
         no_lock = rw all refl;
       }
 
-  pub connect_told : IsStart start → (old new : PassView) (pass moment : ℕ) (user host : List ℕ) (items : List Item)
+  connect_told : IsStart start → (old new : PassView) (pass moment : ℕ) (user host : List ℕ) (items : List Item)
       (one : DeskFault) →
       Ends start old new (record { pass = pass; moment = moment; act = act.Connect user host }) items (Err one) →
       IsTurnTold start IsConnectFault old new 0 one
@@ -356,3 +357,40 @@ module _ (start : State) where
   ask_told old new session (fault.Gone told) tells = absurd tells
   ask_told old new session (fault.Full number) tells =
       no_turn_told IsLockFault old new session number tells tells.large
+
+-- ---- of any act
+
+-- why it may be refused
+abbrev pub MayRefuse : Act → DeskFault → Type 0
+MayRefuse (act.Connect user host) = IsConnectFault
+MayRefuse (act.Call session reference call) = IsActFault
+MayRefuse (act.Broken session) = IsActFault
+MayRefuse (act.Drain session) = IsActFault
+MayRefuse act.Flush = IsFlushFault
+MayRefuse (act.Close session) = IsLockFault
+
+-- its session before it, or 0
+abbrev pub acting : Act → ℕ
+acting (act.Connect user host) = 0
+acting (act.Call session reference call) = session
+acting (act.Broken session) = session
+acting (act.Drain session) = session
+acting act.Flush = 0
+acting (act.Close session) = session
+
+pub act_told : (start : State) → IsStart start → (old new : PassView) (pass moment : ℕ) (what : Act)
+    (items : List Item) (one : DeskFault) → IsOfOpen old.mine what →
+    Ends start old new (record { pass = pass; moment = moment; act = what }) items (Err one) →
+    IsTurnTold start (MayRefuse what) old new (acting what) one
+act_told start begins old new pass moment (act.Connect user host) items one open' ends =
+    connect_told start begins old new pass moment user host items one ends
+act_told start begins old new pass moment (act.Call session reference call) items one open' ends =
+    call_told start begins old new pass moment session reference call items one open' ends
+act_told start begins old new pass moment (act.Broken session) items one open' ends =
+    broken_told start begins old new pass moment session items one open' ends
+act_told start begins old new pass moment (act.Drain session) items one open' ends =
+    drain_told start begins old new pass moment session items one open' ends
+act_told start begins old new pass moment act.Flush items one open' ends =
+    flush_told start old new pass moment items 0 one ends
+act_told start begins old new pass moment (act.Close session) items one open' ends =
+    close_told start begins old new pass moment session items one open' ends

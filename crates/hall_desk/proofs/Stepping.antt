@@ -25,7 +25,6 @@ use Rattle.kom_model.proofs.Queueing.{queue_all-rows}
 use Rattle.kom_model.proofs.Changing.{make_changes-rows}
 use Rattle.kom_model.proofs.Numbers.{drawn-added, drawn-filtered}
 use Rattle.hall_desk.specs.Passes.{connects_in}
-use Rattle.hall_desk.specs.Turns.{IsBetween}
 use Rattle.hall_desk.proofs.Seats.{KeepsSeats, seats-same, seats-changed, seats-queued, seats-changes, AllDrawn}
 use Rattle.hall_desk.proofs.Seats.{drawn-seats, IsOwned, owned-seats}
 
@@ -58,6 +57,15 @@ possible_connect false false connects possible =
     ]
 
 -- ---- rows that keep their seats
+
+-- an act that neither connects nor closes a session
+abbrev pub IsBetween : Act → Type 0
+IsBetween (act.Connect user host) = ⊥
+IsBetween (act.Call session reference call) = Unit {0}
+IsBetween (act.Broken session) = Unit {0}
+IsBetween (act.Drain session) = Unit {0}
+IsBetween act.Flush = Unit {0}
+IsBetween (act.Close session) = ⊥
 
 -- what an act sends
 pub sent-seats : (state : State) (made : Record) → KeepsSeats (acted state made).sessions (after state made).sessions

@@ -1,6 +1,5 @@
 pub mod Acts
 pub mod Passes
-pub mod Faults
 pub mod Desks
 pub mod Going
 pub mod Turns

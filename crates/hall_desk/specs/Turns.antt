@@ -1,15 +1,17 @@
 -- What one turn of a desk leaves.
 use Rattle.std.specs.Prelude.{◌≡◌, ℕ, ◌^◌, ◌<◌, ◌≤◌, ◌⊎◌, ◌||◌, Bool, true, false, List, [], ◌∷◌}
-use Rattle.std.specs.Prelude.{◌++◌, Option, Some, None, Result, Ok, Err}
+use Rattle.std.specs.Prelude.{◌++◌, Option, Some, None, Result, Ok, Err, ⊤, if◌then◌else◌}
 use Rattle.kom_types.specs.declared.acts.Act.{Act}
 use Rattle.kom_types.specs.declared.acts.Act.TheVariants as act
 use Rattle.kom_types.specs.declared.acts.Entry.{Entry}
 use Rattle.kom_types.specs.declared.acts.Record.{Record}
 use Rattle.kom_types.specs.declared.answers.Refusal.{Refusal}
 use Rattle.kom_types.specs.declared.answers.Refusal.TheVariants.{Gone, Full}
+use Rattle.kom_types.specs.declared.answers.Why.TheVariants as why
 use Rattle.kom_types.specs.declared.items.Item.{Item}
 use Rattle.kom_links.specs.declared.desk.DeskFault.{DeskFault}
 use Rattle.kom_links.specs.declared.desk.DeskFault.TheVariants as fault
+use Rattle.kom_links.specs.Answers.{said, deed_of}
 use Rattle.kom_links.specs.Records.{IsOpen}
 use Rattle.kom_model.specs.State.{State}
 use Rattle.kom_model.specs.Refusal.{refusal_of}
@@ -18,20 +20,12 @@ use Rattle.kom_model.specs.Legal.{IsLegal, AreByOwners, state_after}
 use Rattle.kom_model.specs.Out.{taken_by}
 use Rattle.hall_desk.specs.declared.turning.Made.{Made}
 use Rattle.hall_desk.specs.Passes.{PassView, of_pass}
+use Rattle.hall_desk.specs.Desks.{Kept, Stands}
 
 -- the fault of a refusal
 abbrev pub fault_from : Refusal → DeskFault
 fault_from (Gone told) = fault.Gone told
 fault_from (Full number) = fault.Full number
-
--- an act that neither connects nor closes a session
-abbrev pub IsBetween : Act → Type 0
-IsBetween (act.Connect user host) = ⊥
-IsBetween (act.Call session reference call) = Unit {0}
-IsBetween (act.Broken session) = Unit {0}
-IsBetween (act.Drain session) = Unit {0}
-IsBetween act.Flush = Unit {0}
-IsBetween (act.Close session) = ⊥
 
 -- the session of an act, if it has one before it, is open in these records
 abbrev pub IsOfOpen : List Record → Act → Type 0
@@ -112,6 +106,30 @@ Ends start old new entry items (Err (fault.Full number)) =
 Ends start old new entry items (Err fault.Memory) =
     WasRefused start old new entry.act None × IsConnect entry.act
 
+-- the entry that a desk hands in
+abbrev pub entry_of : Kept → ℕ → Act → Entry
+entry_of old moment what = record { pass = old.pass.number; moment = moment; act = what }
+
+-- A desk had a turn for an act, which ended so and took these items.
+pub record HadTurn (old : Kept) (moment : ℕ) (what : Act) (items : List Item)
+    (made : Result Made DeskFault) (new : Kept) : Type 0 where
+  pub stood : Stands old
+  pub ends : Ends old.start old.pass new.pass (entry_of old moment what) items made
+  pub table : new.table ≡ old.table
+  pub start : new.start ≡ old.start
+
+-- It had one for an act that gives nothing, and logged how that was answered.
+pub record IsActed (old : Kept) (moment : ℕ) (what : Act) (made : Result Made DeskFault)
+    (new : Kept) : Type 0 where
+  pub items : List Item
+  pub turn : HadTurn old moment what items made new
+  pub tells : new.answers ≡ old.answers ++ (deed_of what, said made) ∷ []
+
+-- what a flush is answered: the desk is stopped where the store refused it
+abbrev pub said_flush : Result Made DeskFault → Result ⊤ DeskFault
+said_flush (Ok made) = if made.short then Err (fault.Gone why.Stopped) else Ok tt
+said_flush (Err one) = Err one
+
 -- How the question whether the server is stopped ended.
 abbrev pub Tells : State → PassView → PassView → Result Bool DeskFault → Type 0
 Tells start old new (Ok stopped) =
@@ -120,3 +138,9 @@ Tells start old new (Ok stopped) =
 Tells start old new (Err (fault.Gone told)) = ⊥
 Tells start old new (Err (fault.Full number)) = HasNoTurn old new number
 Tells start old new (Err fault.Memory) = ⊥
+
+-- A turn in which the server was looked at, or for which none was left.
+abbrev pub Looks : State → PassView → PassView → Type 0
+Looks start old new =
+    ((history : List Record) × Sees start old new history × LogsNone old new history)
+    ⊎ ((ticket : ℕ) × HasNoTurn old new ticket)

@@ -1,4 +1,4 @@
-ghost use Rattle.std.specs.Prelude.{◌≡◌, ◌<◌, ◌^◌, ◌||◌, List, IfOk, IsOk, OnErr};
+ghost use Rattle.std.specs.Prelude.{◌≡◌, ◌<◌, ◌^◌, ◌||◌, List, IfOk, IfSome, IsOk, OnErr};
 ghost use Rattle.kom_types.specs.declared.acts.Record.{Record as Made};
 ghost use Rattle.kom_model.specs.State.{State as Server};
 ghost use Rattle.kom_model.specs.Legal.{HasUser, IsByOwner};
@@ -38,6 +38,15 @@ pub trait Acts: Booked {
     /// Whether the server was shut down or its store refused a flush.
     fn stopped(&self) -> bool
         ensures { result ≡ ((server self.now).stopped || (server self.now).store_refused) };
+
+    /// How often something came to a session of the server unasked. A wrong answer costs time, and
+    /// no clause hangs on it.
+    fn news(&self) -> u64;
+
+    /// The first session of a pass, above this number, to which something came so after this count
+    /// of news.
+    fn next_news(&self, pass: u32, above: u32, since: u64) -> Option<u32>
+        ensures { IfSome result (λ session. above < session) };
 
     /// The session of an entry's record.
     fn session(entry: &Self::Entry) -> u32

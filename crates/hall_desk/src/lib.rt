@@ -3,7 +3,7 @@
 #![tactic(auto)]
 
 mod acts;
-mod faults;
+mod answers;
 mod hall_desk;
 mod turning;
 

@@ -1,9 +1,9 @@
-ghost use Rattle.std.specs.Prelude.{◌≡◌, OnErr, []};
+ghost use Rattle.std.specs.Prelude.{◌≡◌, ◌<◌, OnErr, IfSome, []};
 ghost use Rattle.kom_state_lock.specs.Passes.{IsPassOf, HoldsNoTurn};
 ghost use Rattle.kom_model.specs.Legal.{HasUser};
 ghost use Rattle.hall_desk.specs.Acts.{IsOpening};
 ghost use Rattle.hall_desk.specs.Passes.{pass_view, Knows};
-ghost use Rattle.hall_desk.specs.Turns.{IsOfOpen, Ends, Tells, fault_from};
+ghost use Rattle.hall_desk.specs.Turns.{IsOfOpen, Ends, Tells, Looks, fault_from};
 
 use crate::acts::Acts;
 use arrayvec::ArrayVec;
@@ -93,6 +93,55 @@ pub(crate) fn ask<R: Wait, B: Acts>(
     let stopped = held.value().stopped();
     hall.put(pass, held);
     Ok(stopped)
+}
+
+/// Asks in one turn, which logs nothing, how often something came to a session of the server
+/// unasked. Where no turn is left it is u64::MAX, and the next act meets the fault.
+pub(crate) fn news<R: Wait, B: Acts>(rt: &R, hall: &Hall<B>, pass: &mut Pass<B>) -> u64
+    requires pass { IsPassOf hall.now pass.old }
+    requires free { HoldsNoTurn pass.old.turn }
+    requires knows { Knows (B.server hall.now.opening) (pass_view B.made pass.old) }
+    ensures pass { IsPassOf hall.now pass.new }
+    ensures free { HoldsNoTurn pass.new.turn }
+    ensures knows { Knows (B.server hall.now.opening) (pass_view B.made pass.new) }
+    ensures looks { Looks (B.server hall.now.opening) (pass_view B.made pass.old)
+        (pass_view B.made pass.new) }
+{
+    let Ok(mut held) = hall.take(rt, pass) else {
+        return u64::MAX;
+    };
+    let news = held.value().news();
+    hall.put(pass, held);
+    news
+}
+
+/// Asks in one turn, which logs nothing, for the first session of the pass, above this number, to
+/// which something came unasked after this count of news. Where no turn is left it finds none, and
+/// the next act meets the fault.
+pub(crate) fn next_news<R: Wait, B: Acts>(
+    rt: &R,
+    hall: &Hall<B>,
+    pass: &mut Pass<B>,
+    above: u32,
+    since: u64,
+) -> Option<u32>
+    requires pass { IsPassOf hall.now pass.old }
+    requires free { HoldsNoTurn pass.old.turn }
+    requires knows { Knows (B.server hall.now.opening) (pass_view B.made pass.old) }
+    ensures pass { IsPassOf hall.now pass.new }
+    ensures free { HoldsNoTurn pass.new.turn }
+    ensures knows { Knows (B.server hall.now.opening) (pass_view B.made pass.new) }
+    ensures looks { Looks (B.server hall.now.opening) (pass_view B.made pass.old)
+        (pass_view B.made pass.new) }
+    ensures above { IfSome result (λ session. above < session) }
+{
+    let number = pass.number();
+    let Ok(mut held) = hall.take(rt, pass) else {
+        return None;
+    };
+    let next = held.value().next_news(number, above, since);
+    hall.put(pass, held);
+    next
 }
 
 /// The fault of a refusal.

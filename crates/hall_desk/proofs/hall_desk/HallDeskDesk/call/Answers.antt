@@ -1,74 +1,16 @@
-use Rattle.std.proofs.Common.{Ok, Err, refl, subst, ◌∙◌}
-use Rattle.std.specs.Prelude.{⊤}
 use Rattle.kom_types.specs.declared.acts.Act.{Act}
 use Rattle.kom_types.specs.declared.acts.Act.TheVariants as act
-use Rattle.kom_links.specs.DeskCalls.{DeskView, Calls, IsActFault}
-use Rattle.kom_links.specs.DeskTally.{faulted}
-use Rattle.hall_desk.specs.Desks.{desk_view}
-use Rattle.hall_desk.proofs.Refusals.{IsTurnTold, call_told}
-use Rattle.hall_desk.proofs.DeskViews.{begins, Refuses, refuses_of, known_mid, calls_made, calls_refused}
-use Rattle.hall_desk.proofs.Answering.{answers_made, answers_refused}
-use Rattle.hall_desk.proofs.Telling.{view_told, pass_told, tally_noted}
-use Rattle.hall_desk.proofs.GoingOn.{on_made, on_refused}
+use Rattle.hall_desk.proofs.DeskViews.{calls_acted, acted_on}
+use Rattle.hall_desk.proofs.Answering.{answers_told}
 use Rattle.hall_desk.proofs.hall_desk.HallDeskDesk.call.Goals as goal
 
-pub note_at-fault-requires : goal.note_at-fault-requires
-note_at-fault-requires g c =
-    known_mid c.args.self.now c.make_alone.new.self c.args.session c.in-Err.fault c.in-Err.ensures.same
-    (call_told c.args.self.now.start (begins c.args.self.now c.in-Err.ensures.stood) c.args.self.now.pass
-    c.make_alone.new.self.pass
-    c.args.self.now.pass.number c.args.moment c.args.session c.args.reference c.args.call c.in-Err.ensures.ends.0
-    c.in-Err.fault c.requires c.in-Err.ensures.ends.1)
-
-pub returns-in-Ok : goal.returns-in-Ok
-returns-in-Ok g c = record {
-  calls = calls_made c.args.self.now c.make_alone.new.self c.args.moment c.args.session c.args.reference c.args.call
-      c.in-Ok.ensures.ends.0 c.in-Ok._made _
-      c.in-Ok.ensures.stood c.in-Ok.ensures.ends.1 c.in-Ok.ensures.faults c.in-Ok.ensures.same;
-  tally = c.in-Ok.ensures.same.tally;
-  on = on_made c.args.self.now c.make_alone.new.self c.args.moment (act.Call c.args.session c.args.reference
-      c.args.call) c.in-Ok.ensures.ends.0 (Ok c.in-Ok._made)
-      c.in-Ok.ensures.same c.in-Ok.ensures.ends.1;
-  answer = answers_made ⊤ c.args.self.now.start c.args.self.now.pass c.make_alone.new.self.pass
-      c.args.self.now.pass.number c.args.moment
-      (act.Call c.args.session c.args.reference c.args.call) c.in-Ok.ensures.ends.0 c.in-Ok._made _
-      c.in-Ok.ensures.ends.1 (λ flush. cc);
-}
-
-pub returns-in-Err : goal.returns-in-Err
-returns-in-Err g c =
+pub returns : goal.returns
+returns g c =
     let what : Act = act.Call c.args.session c.args.reference c.args.call in
-    let told : IsTurnTold c.args.self.now.start IsActFault c.args.self.now.pass c.make_alone.new.self.pass
-    c.args.session c.in-Err.fault =
-    call_told c.args.self.now.start (begins c.args.self.now c.in-Err.ensures.stood) c.args.self.now.pass
-    c.make_alone.new.self.pass
-    c.args.self.now.pass.number c.args.moment c.args.session c.args.reference c.args.call c.in-Err.ensures.ends.0
-    c.in-Err.fault c.requires c.in-Err.ensures.ends.1 in
-    let refuses : Refuses IsActFault c.args.self.now c.make_alone.new.self c.note_at-fault.new.self c.args.session
-    c.in-Err.fault c.note_at-fault.result =
-    refuses_of IsActFault c.args.self.now c.make_alone.new.self c.note_at-fault.new.self c.args.moment
-    c.args.session what
-    c.in-Err.ensures.ends.0
-    c.in-Err.fault c.note_at-fault.result c.in-Err.ensures.stood c.in-Err.ensures.ends.1 told c.in-Err.ensures.faults
-    c.in-Err.ensures.same
-    c.note_at-fault.ensures.result c.note_at-fault.ensures.pass c.note_at-fault.ensures.same in
     record {
-      calls = subst (λ (view : DeskView). Calls {X = ⊤} (desk_view c.args.self.now) c.args.moment what c.args.session
-          (Err c.note_at-fault.result) view)
-          (view_told c.note_at-fault.new.self c.tell_faulted.new.self c.tell_faulted.ensures)
-          (calls_refused c.args.self.now c.make_alone.new.self c.note_at-fault.new.self c.args.moment c.args.session
-          c.args.reference c.args.call c.in-Err.fault c.note_at-fault.result
-          c.in-Err.ensures.stood c.requires refuses c.note_at-fault.ensures.faults);
-      tally = tally_noted c.args.self.now c.make_alone.new.self c.note_at-fault.new.self c.tell_faulted.new.self faulted
-          c.in-Err.ensures.same c.note_at-fault.ensures.same c.tell_faulted.ensures;
-      on = on_refused c.args.self.now c.make_alone.new.self c.note_at-fault.new.self c.tell_faulted.new.self
-          c.args.moment what
-          c.in-Err.ensures.ends.0 (Err c.in-Err.fault) c.in-Err.ensures.same c.in-Err.ensures.ends.1
-          c.note_at-fault.ensures.same c.note_at-fault.ensures.pass c.tell_faulted.ensures refl;
-      answer = answers_refused ⊤ c.args.self.now.start c.args.self.now.pass c.make_alone.new.self.pass
-          c.tell_faulted.new.self.pass c.args.self.now.pass.number
-          c.args.moment what c.in-Err.ensures.ends.0 c.in-Err.fault c.note_at-fault.result c.in-Err.ensures.ends.1
-          (pass_told c.note_at-fault.new.self c.tell_faulted.new.self c.tell_faulted.ensures ∙
-          c.note_at-fault.ensures.pass)
-          c.note_at-fault.ensures.result;
+      calls = calls_acted c.args.self.now c.act.new.self c.args.moment c.args.session c.args.reference c.args.call
+          c.act.result c.answer_of.result c.requires c.act.ensures c.answer_of.ensures;
+      on = acted_on c.args.self.now c.act.new.self c.args.moment what c.act.result c.act.ensures;
+      answer = answers_told c.args.self.now c.act.new.self c.args.moment what c.act.ensures.items c.act.result
+          c.answer_of.result c.act.ensures.turn (λ flush. cc) c.answer_of.ensures;
     }

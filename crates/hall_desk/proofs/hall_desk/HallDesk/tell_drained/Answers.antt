@@ -1,8 +1,0 @@
-use Rattle.kom_links.specs.DeskTally.{drained}
-use Rattle.hall_desk.proofs.Resting.{tally_outside}
-use Rattle.hall_desk.proofs.hall_desk.HallDesk.tell_drained.Goals as goal
-
-pub returns : goal.returns
-returns g c =
-    tally_outside g.B.Acts.made g.B.Acts.server c.self.inside.hall.now c.self.inside.pass c.self.inside.faults
-    c.self.inside.tally c.drained.new.self c.args.self.now (drained c.args.is_empty) c.self.view_is c.drained.ensures

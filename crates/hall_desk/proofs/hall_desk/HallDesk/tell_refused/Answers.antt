@@ -1,8 +1,0 @@
-use Rattle.kom_links.specs.DeskTally.{refused}
-use Rattle.hall_desk.proofs.Resting.{tally_outside}
-use Rattle.hall_desk.proofs.hall_desk.HallDesk.tell_refused.Goals as goal
-
-pub returns : goal.returns
-returns g c =
-    tally_outside g.B.Acts.made g.B.Acts.server c.self.inside.hall.now c.self.inside.pass c.self.inside.faults
-    c.self.inside.tally c.refused.new.self c.args.self.now refused c.self.view_is c.refused.ensures
