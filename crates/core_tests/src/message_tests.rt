@@ -66,7 +66,12 @@ fn say_something(rt: &impl Abort, alloc: Global, tried: &mut Tried) -> Result<()
         (2, b"", b":3 12 7 5 2Hyo\n"),
         (3, b"", b""),
     ];
-    check_steps(rt, alloc, tried, &steps)
+    check_steps(rt, alloc, tried, &steps)?;
+    // The message alone is news, and no reply is.
+    assert!(rt; tried.core.news() == 1);
+    assert!(rt; tried.core.next_news(3, 1, 0) == Some(2));
+    assert!(rt; tried.core.next_news(3, 0, 1) == None);
+    Ok(())
 }
 
 /// The session's call for its number, under reference 2, is answered so.

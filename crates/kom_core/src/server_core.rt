@@ -15,6 +15,7 @@ ghost use Rattle.kom_core.specs.Acts.{Answered, Kinded, IsUnchanged, refused_flu
 ghost use Rattle.kom_core.specs.Acts.{KeepsRowsIfRefused};
 ghost use Rattle.kom_core.specs.Worlds.{IsConsistent, RespectsGroups};
 
+mod news;
 mod reading;
 
 use crate::answer_kind::AnswerKind;

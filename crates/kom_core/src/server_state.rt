@@ -12,6 +12,7 @@ ghost use Rattle.kom_core.specs.Steps.{Steps, counted};
 
 mod acting;
 mod calling;
+mod news;
 mod queueing;
 mod reading;
 mod refusing;
