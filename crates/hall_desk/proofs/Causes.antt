@@ -47,25 +47,25 @@ module _ (start : State) where
       connects-state_after start history in
       omega arith
 
-  once_more : (test : Session → Bool) (session : ℕ) (a b : List Record) → WasOnce start test session a →
+  pub was_more : (test : Session → Bool) (session : ℕ) (a b : List Record) → WasOnce start test session a →
       WasOnce start test session (a ++ b)
-  once_more test session a b was =
+  was_more test session a b was =
       (was.0, was.1 ++ b, was.2, ap (λ all. all ++ b) was.3 ∙ append_assoc was.0 was.1 b, was.4, was.5)
 
   once_at_more : (test : Session → Bool) (a b : List Record) (what : Deed) → WasOnceAt start test a what →
       WasOnceAt start test (a ++ b) what
   once_at_more test a b deed.Connect was = was
-  once_at_more test a b (deed.Call session) was = once_more test session a b was
-  once_at_more test a b (deed.Broken session) was = once_more test session a b was
-  once_at_more test a b (deed.Drain session nothing) was = once_more test session a b was
+  once_at_more test a b (deed.Call session) was = was_more test session a b was
+  once_at_more test a b (deed.Broken session) was = was_more test session a b was
+  once_at_more test a b (deed.Drain session nothing) was = was_more test session a b was
   once_at_more test a b deed.Flush was = was
-  once_at_more test a b (deed.Close session) was = once_more test session a b was
+  once_at_more test a b (deed.Close session) was = was_more test session a b was
   once_at_more test a b deed.Ask was = was
 
-  stopped_more : (a b : List Record) → WasStopped start a → WasStopped start (a ++ b)
+  pub stopped_more : (a b : List Record) → WasStopped start a → WasStopped start (a ++ b)
   stopped_more a b was = (was.0, was.1 ++ b, ap (λ all. all ++ b) was.2 ∙ append_assoc was.0 was.1 b, was.3)
 
-  full_more : IsStart start → (number drawn drawn' : ℕ) (a b : List Record) → IsLegal start (a ++ b) →
+  pub full_more : IsStart start → (number drawn drawn' : ℕ) (a b : List Record) → IsLegal start (a ++ b) →
       drawn ≤ drawn' → WasFull number drawn a → WasFull number drawn' (a ++ b)
   full_more begins number drawn drawn' a b legal more (inl was) =
       let within : connects_in (a ++ b) ≤ MOST_SESSIONS = connects_in_within begins (a ++ b) legal in
