@@ -1,4 +1,4 @@
-ghost use Rattle.std.specs.Prelude.{◌≡◌, ◌<◌, ◌^◌, ◌||◌, IfOk, IsOk, OnErr};
+ghost use Rattle.std.specs.Prelude.{◌≡◌, ◌<◌, ◌^◌, ◌||◌, IfOk, IfSome, IsOk, OnErr};
 ghost use Rattle.kom_model.specs.Legal.{HasUser, IsByOwner};
 ghost use Rattle.kom_model.specs.Out.{taken_by};
 ghost use Rattle.kom_model.specs.Refusal.{TakesNoMemory};
@@ -45,6 +45,16 @@ impl<D: Disk + Drop> Acts for Book<D> {
         ensures { result ≡ ((state_in self.now).stopped || (state_in self.now).store_refused) }
     {
         self.inner.stopped()
+    }
+
+    fn news(&self) -> u64 {
+        self.inner.news()
+    }
+
+    fn next_news(&self, pass: u32, above: u32, since: u64) -> Option<u32>
+        ensures { IfSome result (λ session. above < session) }
+    {
+        self.inner.next_news(pass, above, since)
     }
 
     fn session(entry: &Ticked<D>) -> u32 {

@@ -93,6 +93,19 @@ impl<D: Disk + Drop> Inner<D> {
         self.core.stopped()
     }
 
+    /// How often something came to a session of the server unasked.
+    pub(crate) fn news(&self) -> u64 {
+        self.core.news()
+    }
+
+    /// The first session of a pass, above this number, to which something came unasked after this
+    /// count of news.
+    pub(crate) fn next_news(&self, pass: u32, above: u32, since: u64) -> Option<u32>
+        ensures { IfSome result (λ session. above < session) }
+    {
+        self.core.next_news(pass, above, since)
+    }
+
     /// The store as it is now.
     pub(crate) fn store(&self) -> Snapshot<Option<Journal<D>>>
         ensures { result.value ≡ self.now.journal }
