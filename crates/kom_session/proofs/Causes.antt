@@ -1,6 +1,6 @@
 -- Why a service ends: of each end its cause, that a stream at fault is answered so, and what the link says of it.
-use Rattle.std.proofs.Common.{◌≡◌, ◌≢◌, ℕ, ◌^◌, ◌<◌, ◌⊎◌, Bool, true, false, inl, inr, List, Option, Some, None, refl}
-use Rattle.std.proofs.Common.{ap, subst, arith}
+use Rattle.std.proofs.Common.{◌≡◌, ◌≢◌, ℕ, ◌⊎◌, Bool, true, false, inl, inr, List, Option, Some, None, refl}
+use Rattle.std.proofs.Common.{ap, subst}
 use Rattle.kom_types.specs.declared.answers.Why.TheVariants as why
 use Rattle.kom_types.specs.Reading.{fault_of}
 use Rattle.kom_links.specs.declared.desk.DeskFault.{DeskFault}
@@ -10,7 +10,8 @@ use Rattle.kom_links.specs.declared.served.SessionEnd.TheVariants as end
 use Rattle.kom_links.specs.Outside.{Rose}
 use Rattle.kom_session.specs.Ends.{IsEndOf, HasCause, TellsFault, end_at, ending_of, ending}
 use Rattle.kom_session.specs.Known.{Known, Seen}
-use Rattle.kom_session.specs.Serving.{Party, Nobody, Somebody, Past, Climbs, Plans, IsHeard, IsOver}
+use Rattle.kom_session.specs.Serving.{Party, Nobody, Somebody, Past, Plans, IsHeard}
+use Rattle.kom_session.specs.Kept.{IsOver}
 
 -- ---- the cause
 
@@ -127,13 +128,6 @@ has_cause false planned cause before after ended is_planned rises still lost tol
       has_ended = λ e. so.has_ended e;
     }
 
--- a count that fits tells each fault
-pub lost_risen : (risen : Bool) (before after : ℕ) → (risen ≡ false → Rose before after → ⊥)
-    → Climbs before after → after < 2 ^ 64 → risen ≡ true
-lost_risen true before after still climbs fits = refl
-lost_risen false before after still (inl rose) fits = absurd (still refl (inl rose))
-lost_risen false before after still (inr top) fits = absurd (still refl (inr (omega arith)))
-
 -- ---- a stream at fault is answered so
 
 planned_tells : (planned : SessionEnd) (found : Option ℕ) (place : ℕ) → found ≡ Some place
@@ -193,7 +187,7 @@ tells_fault {past = past} {known = known} {planned = planned} over false before 
 -- what the link says of an end
 pub heard_lost : {start : Seen} {past : Past} {known : Known} {now : Seen} {planned : SessionEnd}
     → IsOver start past known now planned → planned ≡ end.LinkFault
-    → Climbs start.link.faults now.link.faults
+    → Rose start.link.faults now.link.faults
 heard_lost {start} {past} {known} {now} over e =
     subst (λ (planned : SessionEnd). IsHeard planned known.cause start.link now.link) e over.heard
 

@@ -1,8 +1,8 @@
--- From the end that the loop gives to the end of the service.
-use Rattle.std.proofs.Common.{◌≡◌, ◌≢◌, ℕ, zero, suc, ◌^◌, ◌<◌, ◌⊎◌, ◌==◌, ◌&&◌, ◌||◌, ◌↔◌, not, Bool, true, false, inl}
-use Rattle.std.proofs.Common.{inr, List, [], ◌∷◌, ◌++◌, length, Option, Some, None, Result, Ok, Err, refl, sym, ◌∙◌, ap}
-use Rattle.std.proofs.Common.{ap₂, subst, append-nil, append_assoc, ne_eqb, le-leb, arith}
-use Rattle.std.specs.Prelude.{⊤, IfSome, IsSome, IsTrue}
+-- From the end that a machine plans to the end of the service.
+use Rattle.std.proofs.Common.{◌≡◌, ◌≢◌, ℕ, ◌^◌, ◌⊎◌, ◌==◌, ◌&&◌, ◌||◌, not, Bool, true, false, inl, inr, List, []}
+use Rattle.std.proofs.Common.{◌∷◌, ◌++◌, length, Option, Some, None, Result, Ok, Err, refl, sym, ◌∙◌, ap, ap₂, subst}
+use Rattle.std.proofs.Common.{append-nil, append_assoc, eq-eqb, ne_eqb, le-leb}
+use Rattle.std.specs.Prelude.{⊤, IfErr, IfSome, IsSome, IsTrue}
 use Rattle.std.specs.List.{AllByRecursion}
 use Rattle.std.proofs.lemmas.List.Folds.{list_any-append}
 use Rattle.kom_types.specs.declared.acts.Act.TheVariants as act
@@ -13,33 +13,36 @@ use Rattle.kom_types.specs.declared.items.Item.TheVariants as item
 use Rattle.kom_types.specs.Printing.{print_of}
 use Rattle.kom_types.specs.Stream.{stream_of}
 use Rattle.kom_types.specs.Reading.{Request, fault_of}
-use Rattle.kom_framing.specs.Splitting.{IsAt}
+use Rattle.kom_links.specs.declared.deeds.Deed.TheVariants as deed
 use Rattle.kom_links.specs.declared.desk.DeskFault.{DeskFault}
 use Rattle.kom_links.specs.declared.desk.DeskFault.TheVariants as fault
 use Rattle.kom_links.specs.declared.served.SessionEnd.{SessionEnd}
 use Rattle.kom_links.specs.declared.served.SessionEnd.TheVariants as end
-use Rattle.kom_links.specs.Outside.{Look, LinkView, Rose, grown, IsNothing}
+use Rattle.kom_links.specs.Answers.{Answer, refused}
+use Rattle.kom_links.specs.Outside.{Look, grown}
 use Rattle.kom_links.specs.Doors.{Gains}
 use Rattle.kom_links.specs.Records.{is_connect, is_open, has_connect, has_close, IsOpen}
-use Rattle.kom_links.specs.DeskCalls.{DeskView, record_of, first_fault, is_lock_full, IsLockFault, IsConnectFault}
+use Rattle.kom_links.specs.DeskCalls.{DeskView, record_of, is_lock_full, IsLockFault, IsConnectFault}
 use Rattle.kom_links.specs.DeskCalls.{Closes as ClosesOf}
 use Rattle.kom_links.specs.Talk.{Step, Closes, steps_of, printed, lines_before, IsPrefix, IsDrained, AreTimed, IsTalk}
-use Rattle.kom_session.specs.declared.flow.Phase.{Phase}
-use Rattle.kom_session.specs.declared.flow.Phase.TheVariants as phase
+use Rattle.kom_session.specs.declared.phase.Phase.{Phase}
+use Rattle.kom_session.specs.declared.phase.Phase.TheVariants as phase
 use Rattle.kom_session.specs.Course.{IsSettled}
-use Rattle.kom_session.specs.Ends.{HasCause, TellsFault, IsOwn, IsUntouched, given_to, end_at, ending}
-use Rattle.kom_session.specs.Known.{Known, Seen, seen, State, IsClosed, LeavesOthers}
+use Rattle.kom_session.specs.Ends.{IsOwn, IsUntouched, given_to, end_at, ending}
+use Rattle.kom_session.specs.Known.{Known, Seen, seen, LeavesOthers, noted}
+use Rattle.kom_session.specs.Left.{IsSending}
 use Rattle.kom_session.specs.Serving.{Party, Nobody, Somebody, Past, owed_to, IsFaultAfter, IsSomebody, IsParty}
-use Rattle.kom_session.specs.Serving.{IsPhase, IsServed, IsBetween, Climbs, Plans, IsOver, IsBegun, ServesLink}
+use Rattle.kom_session.specs.Serving.{IsPhase, IsSince, IsServed, Plans}
+use Rattle.kom_session.specs.Kept.{IsOver}
 use Rattle.kom_session.specs.Waits.{AreAnswered, NoneWaits}
-use Rattle.kom_session.proofs.Times.{timed_none, timed_more, timed_skip}
+use Rattle.kom_session.proofs.Answered.{with_answer, refused_push, since_kept}
+use Rattle.kom_session.proofs.Times.{timed_more, timed_skip}
 use Rattle.kom_session.proofs.Talks.{EndFacts, SilentFacts, settled_drained, settled_closed, talk_closed, talk_open}
 use Rattle.kom_session.proofs.Talks.{talk_silent}
 use Rattle.kom_session.proofs.Courses.{and_left, or_true, own_step-same}
-use Rattle.kom_session.proofs.Others.{others_trans, others_none, others_open, act_leaves}
-use Rattle.kom_session.proofs.Stepped.{first_nil, ok_fault}
+use Rattle.kom_session.proofs.Others.{others_trans, others_open, act_leaves}
+use Rattle.kom_session.proofs.Served.{first_nil}
 use Rattle.kom_session.proofs.Steps.{steps_push, steps_connected}
-use Rattle.kom_session.proofs.Causes.{over_planned, has_cause, lost_risen, tells_fault, heard_lost, heard_ended}
 
 -- ---- the facts of the end
 
@@ -168,7 +171,7 @@ session_facts false (end.Full number) cause fed user bytes ended requests broken
 plan_later : (planned : SessionEnd) (cause : Option DeskFault) (reason : DeskFault)
     (fed user : List ℕ) (requests : List Request) (broken : Bool) (known : Known) →
     Plans planned cause (record { fed = fed; party = Somebody user requests broken }) known
-    → Plans planned (first_fault {X = ⊤} cause (Err reason))
+    → Plans planned (noted cause reason)
     (record { fed = fed; party = Somebody user requests broken }) known
 plan_later planned (Some first) reason fed user requests broken known plan = plan
 plan_later end.End None reason fed user requests broken known plan = (plan.0, tt)
@@ -206,12 +209,15 @@ flat fed requests fault at_fault e = let found = at_fault e in (found.0, found.1
 pub record Told (start : Seen) (fed : List ℕ) (session : ℕ) (cause : Option DeskFault)
     (reached : Phase) (after : Seen) (final : SessionEnd) : Type 0 where
   pub added : List Record
+  pub more : List Answer
   pub bytes : List ℕ
-  pub mine_is : after.desk.mine ≡ start.desk.mine ++ added
+  pub mine : after.desk.mine ≡ start.desk.mine ++ added
+  pub answers : after.desk.answers ≡ start.desk.answers ++ more
   pub own : AllByRecursion (IsOwn session) added
   pub connects : session ≢ 0 → IsTrue (has_connect session added)
   pub timed : AreTimed start.gave after.gave added
-  pub put_is : after.link.put ≡ grown bytes start.link.put
+  pub taken : after.link.taken ≡ grown fed start.link.taken
+  pub put : after.link.put ≡ grown bytes start.link.put
   pub talk : IsTalk start.link.host fed bytes after.link.ended added session
       (given_to session (after.desk.gave_to session)) final after.desk.lock_full
   pub waits : IfSome after.link.reads
@@ -219,8 +225,10 @@ pub record Told (start : Seen) (fed : List ℕ) (session : ℕ) (cause : Option 
       (steps_of session added (given_to session (after.desk.gave_to session))) looks)
   pub drained : session ≢ 0 → reached ≡ phase.Calm
       → IsDrained (steps_of session added (given_to session (after.desk.gave_to session)))
-  pub cause_is : after.desk.fault_to session ≡ cause
+  pub cause_is : refused session more ≡ cause
+  pub since : session ≢ 0 → IsSending cause → IsSince reached session more
   pub others : LeavesOthers session start after
+  pub untouched : IsUntouched start.link
 
 -- a look's place, whatever comes after it
 waits_so : (told : Option (List Look)) (waited : Bool) (place after steps : List Step)
@@ -231,24 +239,19 @@ waits_so (Some looks) waited place after steps e looked = (waited, place, after,
 
 -- no session was connected
 pub silent_told : {start : Seen} {past : Past} {known : Known} {now : Seen} {planned : SessionEnd}
-    (over : IsOver start past known now planned) → known.session ≡ 0 → (risen : Bool) →
+    (s : IsServed start past known now) → IsOver start past known now planned
+    → known.session ≡ 0 → (risen : Bool) → AreTimed start.gave now.gave s.added →
     (planned ≡ end.LinkFault → risen ≡ true)
     → (planned ≡ end.End → known.cause ≡ None → now.link.ended ≡ true)
     → Told start past.fed known.session known.cause known.phase now (ending risen planned known.cause)
-silent_told {start} {past} {known} {now} {planned} over none risen lost has_ended =
-    go past.party over.served.party over.served.owed over.plan
+silent_told {start} {past} {known} {now} {planned} s over none risen timed lost has_ended =
+    go past.party s.party s.owed over.plan
   where
-    final : SessionEnd
-    final = ending risen planned known.cause
-
-    go : (party : Party) → IsParty past.fed party start known now over.served.added
-        → over.served.bytes ++ known.pending ≡ owed_to party (now.desk.gave_to known.session) →
+    go : (party : Party) → IsParty past.fed party start known now s.added
+        → s.bytes ++ known.pending ≡ owed_to party (now.desk.gave_to known.session) →
         Plans planned known.cause (record { fed = past.fed; party = party }) known
         → Told start past.fed known.session known.cause known.phase now (ending risen planned known.cause)
     go (Nobody told) is owed plan =
-        let s = over.served in
-        let mine : now.desk.mine ≡ start.desk.mine ++ [] =
-        s.mine ∙ ap (λ added. start.desk.mine ++ added) is.nothing in
         let talk : IsTalk start.link.host past.fed s.bytes now.link.ended [] 0
         (given_to 0 (now.desk.gave_to known.session))
         (ending risen planned known.cause) now.desk.lock_full
@@ -262,12 +265,15 @@ silent_told {start} {past} {known} {now} {planned} over none risen lost has_ende
         (sym is.nothing) ∙ s.steps in
         record {
           added = [];
+          more = s.more;
           bytes = s.bytes;
-          mine_is = mine;
+          mine = s.mine ∙ ap (λ added. start.desk.mine ++ added) is.nothing;
+          answers = s.answers;
           own = tt;
           connects = λ some. absurd (some none);
-          timed = subst (λ added. AreTimed start.gave now.gave added) is.nothing s.timed;
-          put_is = s.put;
+          timed = subst (λ added. AreTimed start.gave now.gave added) is.nothing timed;
+          taken = s.taken;
+          put = s.put;
           talk =
               subst (λ (session : ℕ). IsTalk start.link.host past.fed s.bytes
               now.link.ended [] session (given_to session (now.desk.gave_to known.session))
@@ -275,7 +281,9 @@ silent_told {start} {past} {known} {now} {planned} over none risen lost has_ende
           waits = waits_so now.link.reads s.waited s.place s.recent [] steps s.looked;
           drained = λ some calm. absurd (some none);
           cause_is = s.cause;
+          since = s.since;
           others = s.others;
+          untouched = s.untouched;
         }
     go (Somebody user requests broken) is owed plan = absurd (is.some none)
 
@@ -299,57 +307,87 @@ own_push : {session : ℕ} (added : List Record) → AllByRecursion (IsOwn sessi
 own_push [] own made of = (inl of, tt)
 own_push (first ∷ added) own made of = (own.0, own_push added own.1 made of)
 
+-- the Close meets no fault after which what waits is still sent
+closed_sending : (cause : Option DeskFault) (answer : Result ⊤ DeskFault)
+    → IfErr answer IsLockFault → IsSending (with_answer cause answer) → IsSending cause
+closed_sending (Some first) (Ok done) may sending = sending
+closed_sending (Some first) (Err reason) may sending = sending
+closed_sending None (Ok done) may sending = sending
+closed_sending None (Err (fault.Gone reason)) may sending = absurd may
+closed_sending None (Err (fault.Full number)) may sending = absurd sending
+closed_sending None (Err fault.Memory) may sending = absurd may
+
 -- a session was closed, or no turn of the lock is left
 pub session_told : {start : Seen} {past : Past} {known : Known} {now : Seen} {planned : SessionEnd}
-    (over : IsOver start past known now planned) → known.session ≢ 0 → (risen : Bool) →
+    (s : IsServed start past known now) → IsOver start past known now planned
+    → known.session ≢ 0 → (risen : Bool) → AreTimed start.gave now.gave s.added →
     (moment : ℕ) (answer : Result ⊤ DeskFault) (desk : DeskView) (gave : Option (List ℕ))
     → ClosesOf now.desk moment known.session answer desk → Gains now.gave moment gave →
     (planned ≡ end.LinkFault → risen ≡ true)
-    → (planned ≡ end.End → first_fault known.cause answer ≡ None → now.link.ended ≡ true) →
-    Told start past.fed known.session (first_fault known.cause answer) known.phase
-    (seen desk now.link gave) (ending risen planned (first_fault known.cause answer))
-session_told {start} {past} {known} {now} {planned} over some risen moment answer desk gave closes
-    gains lost has_ended = go past.party over.served.party over.served.owed over.plan answer closes
-    has_ended
+    → (planned ≡ end.End → with_answer known.cause answer ≡ None → now.link.ended ≡ true) →
+    Told start past.fed known.session (with_answer known.cause answer) known.phase
+    (seen desk now.link gave) (ending risen planned (with_answer known.cause answer))
+session_told {start} {past} {known} {now} {planned} s over some risen timed moment answer desk gave
+    closes gains lost has_ended = go past.party s.party s.owed over.plan answer closes has_ended
   where
+    given : List (List Item)
+    given = now.desk.gave_to known.session
+
     leaves : (answer : Result ⊤ DeskFault) → ClosesOf now.desk moment known.session answer desk
         → ((number : ℕ) → number ≢ known.session
         → is_open number desk.mine ≡ is_open number now.desk.mine)
         → LeavesOthers known.session start (seen desk now.link gave)
     leaves answer closes opened =
-        others_trans over.served.others
-        (act_leaves {X = ⊤} known.session now answer desk gave closes.rest
+        others_trans s.others
+        (act_leaves known.session now desk gave closes.rest.pass
         (λ number other. closes.given number) opened)
 
     begun : (user : List ℕ) (requests : List Request) (broken : Bool)
         → IsSomebody start.link.host past.fed user requests broken known.session now.desk.mine
-        over.served.added (now.desk.gave_to known.session)
-        → over.served.place ++ over.served.recent ≡ [] → ⊥
+        s.added given → s.place ++ s.recent ≡ [] → ⊥
     begun user requests broken is none =
         let first = is.course.connected in
         cc (
           none,
-          sym over.served.steps
+          sym s.steps
               ∙ ap (λ added. steps_of known.session added (now.desk.gave_to known.session)) first.2
               ∙ steps_connected known.session user start.link.host first.0 first.1
               (now.desk.gave_to known.session) first.3 first.4,
         )
 
-    go : (party : Party) → IsParty past.fed party start known now over.served.added
-        → over.served.bytes ++ known.pending ≡ owed_to party (now.desk.gave_to known.session) →
+    tells : (answer : Result ⊤ DeskFault) → desk.answers
+        ≡ now.desk.answers ++ (deed.Close known.session, answer) ∷ []
+        → desk.answers ≡ start.desk.answers ++ (s.more ++ (deed.Close known.session, answer) ∷ [])
+    tells answer told =
+        told ∙ ap (λ first. first ++ (deed.Close known.session, answer) ∷ []) s.answers
+        ∙ append_assoc start.desk.answers s.more ((deed.Close known.session, answer) ∷ [])
+
+    cause : (answer : Result ⊤ DeskFault)
+        → refused known.session (s.more ++ (deed.Close known.session, answer) ∷ [])
+        ≡ with_answer known.cause answer
+    cause answer =
+        refused_push known.session s.more (deed.Close known.session) answer
+        (eq-eqb known.session known.session refl)
+        ∙ ap (λ cause. with_answer cause answer) s.cause
+
+    since : (answer : Result ⊤ DeskFault) → IfErr answer IsLockFault
+        → IsSending (with_answer known.cause answer) → IsSince known.phase known.session
+        (s.more ++ (deed.Close known.session, answer) ∷ [])
+    since answer may sending =
+        since_kept known.phase known.session s.more ((deed.Close known.session, answer) ∷ [])
+        (s.since some (closed_sending known.cause answer may sending))
+
+    go : (party : Party) → IsParty past.fed party start known now s.added
+        → s.bytes ++ known.pending ≡ owed_to party given →
         Plans planned known.cause (record { fed = past.fed; party = party }) known
         → (answer : Result ⊤ DeskFault) → ClosesOf now.desk moment known.session answer desk →
-        (planned ≡ end.End → first_fault known.cause answer ≡ None → now.link.ended ≡ true)
-        → Told start past.fed known.session (first_fault known.cause answer) known.phase
-        (seen desk now.link gave) (ending risen planned (first_fault known.cause answer))
+        (planned ≡ end.End → with_answer known.cause answer ≡ None → now.link.ended ≡ true)
+        → Told start past.fed known.session (with_answer known.cause answer) known.phase
+        (seen desk now.link gave) (ending risen planned (with_answer known.cause answer))
     go (Nobody told) is owed plan answer closes has_ended = absurd (some is.none)
     go (Somebody user requests broken) is owed plan (Ok done) closes has_ended =
-        let s = over.served in
         let last : Record =
         record_of now.desk.pass moment (act.Close known.session) known.session false in
-        let given : List (List Item) = now.desk.gave_to known.session in
-        let prefix : IsPrefix s.bytes (printed given) = (known.pending, owed) in
-        let same : first_fault known.cause (Ok done) ≡ known.cause = ok_fault known.cause done in
         let now_given : given_to known.session (desk.gave_to known.session) ≡ given =
         given_some known.session (desk.gave_to known.session) some
         ∙ closes.given known.session in
@@ -361,30 +399,30 @@ session_told {start} {past} {known} {now} {planned} over some risen moment answe
         ∙ append_assoc s.place s.recent (Closes ∷ []) in
         record {
           added = s.added ++ last ∷ [];
+          more = s.more ++ (deed.Close known.session, Ok tt) ∷ [];
           bytes = s.bytes;
-          mine_is =
+          mine =
               closes.added ∙ ap (λ first. first ++ last ∷ []) s.mine
               ∙ append_assoc start.desk.mine s.added (last ∷ []);
+          answers = tells (Ok tt) closes.rest.tells;
           own = own_push s.added s.own last refl;
           connects = λ some. connected_more known.session s.added last is.course.is_open;
-          timed = timed_more start.gave now.gave gave s.added moment last s.timed gains refl;
-          put_is = s.put;
+          timed = timed_more start.gave now.gave gave s.added moment last timed gains refl;
+          taken = s.taken;
+          put = s.put;
           talk =
               subst (λ (given : List (List Item)). IsTalk start.link.host past.fed s.bytes
               now.link.ended (s.added ++ last ∷ []) known.session given
-              (ending risen planned (first_fault known.cause (Ok done))) desk.lock_full)
-              (sym now_given)
-              (talk_closed (ending risen planned (first_fault known.cause (Ok done))) past.fed
+              (ending risen planned known.cause) desk.lock_full) (sym now_given)
+              (talk_closed (ending risen planned known.cause) past.fed
               s.bytes now.link.ended desk.lock_full now.desk.pass moment some is.course
-              is.first.greeting is.first.calls prefix (flat past.fed requests broken is.at_fault)
-              (session_facts risen planned (first_fault known.cause (Ok done)) past.fed user s.bytes
+              is.first.greeting is.first.calls (known.pending, owed)
+              (flat past.fed requests broken is.at_fault)
+              (session_facts risen planned known.cause past.fed user s.bytes
               now.link.ended requests broken known (steps_of known.session s.added given) given
               owed
               (λ calm. subst (λ steps. IsSettled steps) (sym s.steps)
-              (settled_of s (begun user requests broken is) calm))
-              (subst (λ (cause : Option DeskFault). Plans planned cause
-              (record { fed = past.fed; party = Somebody user requests broken }) known)
-              (sym same) plan) lost has_ended));
+              (settled_of s (begun user requests broken is) calm)) plan lost has_ended));
           waits =
               subst (λ (given : List (List Item)). IfSome now.link.reads
               (λ looks. NoneWaits (steps_of known.session (s.added ++ last ∷ []) given) looks))
@@ -399,40 +437,39 @@ session_told {start} {past} {known} {now} {planned} over some risen moment answe
               (settled_drained ((s.place ++ s.recent) ++ Closes ∷ [])
               (settled_closed (s.place ++ s.recent)
               (settled_of s (begun user requests broken is) calm))));
-          cause_is =
-              closes.rest.noted.0
-              ∙ ap (λ (first : Option DeskFault). first_fault {X = ⊤} first (Ok done)) s.cause;
+          cause_is = cause (Ok tt);
+          since = λ some. since (Ok tt) tt;
           others =
               leaves (Ok done) closes
               (λ number other. ap (is_open number) closes.added
               ∙ others_open number now.desk.mine last (λ e. other (sym e)));
+          untouched = s.untouched;
         }
     go (Somebody user requests broken) is owed plan (Err reason) closes has_ended =
-        let s = over.served in
-        let given : List (List Item) = now.desk.gave_to known.session in
         let now_given : given_to known.session (desk.gave_to known.session) ≡ given =
         given_some known.session (desk.gave_to known.session) some
         ∙ closes.given known.session in
         record {
           added = s.added;
+          more = s.more ++ (deed.Close known.session, Err reason) ∷ [];
           bytes = s.bytes;
-          mine_is = closes.rest.none_added ∙ s.mine;
+          mine = closes.rest.none_added ∙ s.mine;
+          answers = tells (Err reason) closes.rest.tells;
           own = s.own;
           connects =
               λ some. and_left (has_connect known.session s.added)
               (not (has_close known.session s.added)) is.course.is_open;
-          timed = timed_skip start.gave now.gave gave s.added moment s.timed gains;
-          put_is = s.put;
+          timed = timed_skip start.gave now.gave gave s.added moment timed gains;
+          taken = s.taken;
+          put = s.put;
           talk =
               subst (λ (given : List (List Item)). IsTalk start.link.host past.fed s.bytes
               now.link.ended s.added known.session given
-              (ending risen planned
-              (first_fault {X = ⊤} known.cause (Err reason))) desk.lock_full) (sym now_given)
-              (talk_open (ending risen planned
-              (first_fault {X = ⊤} known.cause (Err reason))) past.fed s.bytes now.link.ended
-              desk.lock_full some is.course is.first.greeting is.first.calls
+              (ending risen planned (noted known.cause reason)) desk.lock_full) (sym now_given)
+              (talk_open (ending risen planned (noted known.cause reason)) past.fed s.bytes
+              now.link.ended desk.lock_full some is.course is.first.greeting is.first.calls
               (known.pending, owed) (flat past.fed requests broken is.at_fault)
-              (session_facts risen planned (first_fault {X = ⊤} known.cause (Err reason)) past.fed
+              (session_facts risen planned (noted known.cause reason) past.fed
               user s.bytes now.link.ended requests broken known
               (steps_of known.session s.added given) given owed
               (λ calm. subst (λ steps. IsSettled steps) (sym s.steps)
@@ -451,173 +488,10 @@ session_told {start} {past} {known} {now} {planned} over some risen moment answe
               (subst (λ steps. IsDrained steps) (sym s.steps)
               (settled_drained (s.place ++ s.recent)
               (settled_of s (begun user requests broken is) calm)));
-          cause_is =
-              closes.rest.noted.0
-              ∙ ap (λ (first : Option DeskFault). first_fault {X = ⊤} first
-              (Err reason)) s.cause;
+          cause_is = cause (Err reason);
+          since = λ some. since (Err reason) closes.why;
           others =
               leaves (Err reason) closes
               (λ number other. ap (is_open number) closes.rest.none_added);
+          untouched = s.untouched;
         }
-
--- ---- the beginning
-
--- nothing was done yet
-pub begun : (at : State) → IsUntouched at.seen.link → at.seen.desk.fault_to 0 ≡ None
-    → IsAt at.known.splitting [] []
-    → at.known ≡ record {
-      splitting = at.known.splitting;
-      pending = [];
-      session = 0;
-      cause = None;
-      phase = phase.Calm;
-    } →
-    IsBegun at
-begun at untouched none is_at same =
-    let start : Seen = at.seen in
-    subst (λ (known : Known). IsBetween start (record { fed = []; party = Nobody [] }) [] known
-    start) (sym same)
-    (record {
-      serving = record {
-        served = record {
-          added = [];
-          bytes = [];
-          waited = false;
-          place = [];
-          recent = [];
-          mine = sym (append-nil start.desk.mine);
-          timed = timed_none start.gave;
-          own = tt;
-          taken = sym (grown-nil start.link.taken);
-          put = sym (grown-nil start.link.put);
-          owed = refl;
-          party = record { none = refl; calm = refl; nothing = refl; may_tell = inl refl };
-          steps = refl;
-          looked = no_look start.link.reads untouched.no_read;
-          phase = (inl refl, λ waited some. absurd (cc (waited)));
-          cause = none;
-          others = others_none 0 start;
-          untouched = untouched;
-        };
-        at = is_at;
-        called = (refl, refl);
-        nothing = refl;
-        sound = refl;
-      };
-      all = sym is_at.units;
-      sound = refl;
-      calm = refl;
-    })
-  where
-    grown-nil : (told : Option (List ℕ)) → grown [] told ≡ told
-    grown-nil None = refl
-    grown-nil (Some before) = ap Some (append-nil before)
-
-    no_look : (told : Option (List Look)) → IfSome told (λ looks. looks ≡ [])
-        → IfSome told (λ looks. AreAnswered false [] looks false [])
-    no_look None none = tt
-    no_look (Some looks) none =
-        subst (λ looks. AreAnswered false [] looks false []) (sym none) (refl, refl)
-
--- what is told, where nothing was before
-pub told_so : (bytes : List ℕ) (before after : Option (List ℕ)) → IsNothing before
-    → after ≡ grown bytes before → IfSome after (λ told. told ≡ bytes)
-told_so bytes None after nothing e =
-    subst (λ (told : Option (List ℕ)). IfSome told (λ told. told ≡ bytes)) (sym e) tt
-told_so bytes (Some first) after nothing e =
-    subst (λ (told : Option (List ℕ)). IfSome told (λ told. told ≡ bytes)) (sym e)
-    (ap (λ first. first ++ bytes) nothing)
-
-pub is_zero : (n : ℕ) → (n ≡ 0) ⊎ (n ≢ 0)
-is_zero zero = inl refl
-is_zero (suc n) = inr (λ e. omega arith)
-
-first_kept : (cause : Option DeskFault) (answer : Result ⊤ DeskFault)
-    → first_fault cause answer ≡ None → cause ≡ None
-first_kept None answer e = refl
-first_kept (Some first) answer e = absurd (cc (e))
-
--- the Close meets no fault where there is none
-pub none_before : (old new : State) → IsClosed old new → new.known.cause ≡ None
-    → old.known.cause ≡ None
-none_before old new close e = go (is_zero old.known.session)
-  where
-    go : (old.known.session ≡ 0) ⊎ (old.known.session ≢ 0) → old.known.cause ≡ None
-    go (inl none) = ap (λ (at : State). at.known.cause) (sym (close.silent none)) ∙ e
-    go (inr some) =
-        let closed = close.closed some in first_kept old.known.cause closed.1
-        (ap (λ (at : State). at.known.cause) (sym closed.6) ∙ e)
-
-pub over_told : {start : Seen} {past : Past} {planned : SessionEnd} (old new : State)
-    (over : IsOver start past old.known old.seen planned) → (risen : Bool) → IsClosed old new →
-    (planned ≡ end.LinkFault → risen ≡ true)
-    → Told start past.fed new.known.session new.known.cause old.known.phase new.seen
-    (ending risen planned new.known.cause)
-over_told {start} {past} {planned} old new over risen close lost = go (is_zero old.known.session)
-  where
-    go : (old.known.session ≡ 0) ⊎ (old.known.session ≢ 0)
-        → Told start past.fed new.known.session new.known.cause old.known.phase new.seen
-        (ending risen planned new.known.cause)
-    go (inl none) =
-        subst (λ (at : State). Told start past.fed at.known.session at.known.cause old.known.phase at.seen
-        (ending risen planned at.known.cause)) (sym (close.silent none))
-        (silent_told over none risen lost (heard_ended over))
-    go (inr some) =
-        let closed = close.closed some in
-        subst (λ (at : State). Told start past.fed at.known.session at.known.cause old.known.phase at.seen
-        (ending risen planned at.known.cause)) (sym closed.6)
-        (session_told over some risen closed.0 closed.1 closed.2 closed.3 closed.5 closed.4 lost
-        (λ e none. heard_ended over e (first_kept old.known.cause closed.1 none)))
-
--- what a link's service comes to, once its session was closed
-pub served_link : (begun before after : State) (past : Past) (planned : SessionEnd) (risen : Bool)
-    → IsOver begun.seen past before.known before.seen planned → IsClosed before after
-    → (IsTrue risen ↔ Rose begun.seen.link.faults after.seen.link.faults)
-    → after.seen.link.faults < 2 ^ 64 →
-    ServesLink begun.seen
-    (record { session = after.known.session; end = ending risen planned after.known.cause })
-    after.seen
-served_link begun before after past planned risen over close rises fits =
-    let start : Seen = begun.seen in
-    let link : LinkView = after.seen.link in
-    let cause : Option DeskFault = after.known.cause in
-    let still : risen ≡ false → Rose start.link.faults link.faults → ⊥ =
-    λ e rose. let so = rises.1 rose in cc in
-    let lost : planned ≡ end.LinkFault → risen ≡ true =
-    λ e. lost_risen risen start.link.faults link.faults still
-    (subst (λ (link : LinkView). Climbs start.link.faults link.faults) (sym close.link)
-    (heard_lost over e)) fits in
-    let told = over_told before after over risen close lost in
-    record {
-      talk = (
-        told.added,
-        told.mine_is,
-        told.own,
-        told.timed,
-        past.fed,
-        told.bytes,
-        (
-          told_so past.fed start.link.taken link.taken over.served.untouched.nothing_taken
-              (ap (λ (link : LinkView). link.taken) close.link ∙ over.served.taken),
-          told_so told.bytes start.link.put link.put over.served.untouched.nothing_put
-              told.put_is,
-        ),
-        subst
-            (λ (first : Option DeskFault). TellsFault start.link.faults link.faults first past.fed
-            (ending risen planned cause)) (sym told.cause_is)
-            (tells_fault over risen start.link.faults link.faults cause rises.0 lost
-            (none_before before after close)),
-        told.talk,
-      );
-      session = (told.added, told.mine_is, told.connects);
-      waits = (told.added, told.mine_is, told.waits);
-      cause =
-          subst
-          (λ (first : Option DeskFault). HasCause start.link.faults link.faults first link.ended
-          (ending risen planned cause)) (sym told.cause_is)
-          (has_cause risen planned cause start.link.faults link.faults link.ended
-          (over_planned over) rises.0 still lost
-          (λ e none. ap (λ (link : LinkView). link.ended) close.link
-          ∙ heard_ended over e (none_before before after close none)));
-      others = told.others;
-    }

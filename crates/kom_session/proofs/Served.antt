@@ -1,8 +1,8 @@
 -- The service of a link, one step more at a time.
-use Rattle.std.proofs.Common.{◌≡◌, ◌≢◌, ℕ, ◌==◌, ◌⊎◌, ◌||◌, Bool, true, false, inl, inr, List, [], ◌∷◌, ◌++◌, Option}
+use Rattle.std.proofs.Common.{◌≡◌, ◌≢◌, ℕ, ◌⊎◌, Bool, true, false, inl, inr, List, [], ◌∷◌, ◌++◌, Option}
 use Rattle.std.proofs.Common.{Some, None, Result, Ok, Err, refl, sym, ◌∙◌, ap, ap₂, subst, append-nil, append_assoc}
 use Rattle.std.proofs.Common.{eq-eqb}
-use Rattle.std.specs.Prelude.{IfSome, flat_map}
+use Rattle.std.specs.Prelude.{⊤, IfSome, flat_map}
 use Rattle.std.specs.List.{AllByRecursion}
 use Rattle.std.proofs.lemmas.Grind.{flat_map-append}
 use Rattle.kom_types.specs.declared.acts.Act.TheVariants as act
@@ -12,69 +12,32 @@ use Rattle.kom_types.specs.declared.items.Item.{Item}
 use Rattle.kom_types.specs.Printing.{print_of}
 use Rattle.kom_types.specs.Reading.{Request}
 use Rattle.kom_framing.specs.Splitting.{Splitting}
+use Rattle.kom_links.specs.declared.deeds.Deed.{Deed}
+use Rattle.kom_links.specs.declared.deeds.Deed.TheVariants as deed
 use Rattle.kom_links.specs.declared.desk.DeskFault.{DeskFault}
 use Rattle.kom_links.specs.declared.desk.DeskFault.TheVariants as fault
+use Rattle.kom_links.specs.Answers.{Answer, said, said_stopped, is_nothing, concerns, refused}
 use Rattle.kom_links.specs.Outside.{Look, LinkView, grown}
-use Rattle.kom_links.specs.Doors.{Gains}
 use Rattle.kom_links.specs.Records.{is_open, IsOpen}
-use Rattle.kom_links.specs.DeskCalls.{DeskView, record_of, first_fault, first_stop, is_noted, AddsNoneOrShort}
-use Rattle.kom_links.specs.DeskCalls.{Drains as DrainsOf, Flushes as FlushesOf, AsksStopped}
-use Rattle.kom_links.specs.Talk.{Step, Flushes, Drains, steps_of, printed, AreTimed}
-use Rattle.kom_session.specs.declared.flow.Phase.{Phase}
-use Rattle.kom_session.specs.declared.flow.Phase.TheVariants as phase
-use Rattle.kom_session.specs.Course.{IsFlushed, IsSettled, IsRecent, IsCourse}
+use Rattle.kom_links.specs.DeskCalls.{DeskView, record_of, AddsNoneOrShort, AsksStopped}
+use Rattle.kom_links.specs.DeskCalls.{Drains as DrainsOf, Flushes as FlushesOf}
+use Rattle.kom_links.specs.Talk.{Step, Flushes, Drains, steps_of, printed}
+use Rattle.kom_session.specs.declared.phase.Phase.{Phase}
+use Rattle.kom_session.specs.declared.phase.Phase.TheVariants as phase
+use Rattle.kom_session.specs.declared.phase.Stage.{Stage}
+use Rattle.kom_session.specs.Course.{IsFlushed, IsSettled, IsCourse}
 use Rattle.kom_session.specs.Ends.{IsOwn}
-use Rattle.kom_session.specs.Known.{Known, Seen, seen, awake, Puts, HasSession, LeavesOthers}
-use Rattle.kom_session.specs.Serving.{Party, Nobody, Somebody, Past, owed_to, IsSomebody, IsParty, IsPhase, IsServed}
+use Rattle.kom_session.specs.Known.{Known, Seen, seen, Puts, LeavesOthers, noted, with_flush}
+use Rattle.kom_session.specs.Left.{IsSending}
+use Rattle.kom_session.specs.Serving.{Party, Nobody, Somebody, Past, owed_to, IsSomebody, IsParty, IsPhase, IsSince}
+use Rattle.kom_session.specs.Serving.{IsServed}
 use Rattle.kom_session.specs.Waits.{AreAnswered}
+use Rattle.kom_session.proofs.Answered.{with_answer, refused_push, unrefused_push, since_kept, flushed_after}
+use Rattle.kom_session.proofs.Answered.{drained_after, refused_after, sending_some}
 use Rattle.kom_session.proofs.Steps.{steps-append}
-use Rattle.kom_session.proofs.Times.{timed_more, timed_skip}
-use Rattle.kom_session.proofs.Courses.{open_push, drain_steps, course_flushed, course_drained, recent_settled}
-use Rattle.kom_session.proofs.Courses.{recent_other, flushed_push, flushed_drained, settled_drained, settled_after}
-use Rattle.kom_session.proofs.Courses.{settled_settles}
+use Rattle.kom_session.proofs.Courses.{open_push, drain_steps, course_flushed, course_drained}
+use Rattle.kom_session.proofs.Courses.{flushed_push, flushed_drained, settled_drained, settled_after, settled_settles}
 use Rattle.kom_session.proofs.Others.{others_trans, puts_leaves, stop_leaves, flush_leaves, act_leaves, others_open}
-use Rattle.kom_session.proofs.Others.{noted_here}
-
--- ---- what is put
-
-pub grown-append : (first second : List ℕ) (told : Option (List ℕ))
-    → grown second (grown first told) ≡ grown (first ++ second) told
-grown-append first second None = refl
-grown-append first second (Some before) = ap Some (append_assoc before first second)
-
--- These bytes of what was pending were put.
-pub served_sent : {start : Seen} {past : Past} {known : Known} {now : Seen}
-    → IsServed start past known now → (bytes pending : List ℕ) (link : LinkView) →
-    known.pending ≡ bytes ++ pending → Puts now.link bytes link
-    → IsServed start past (record known { pending = pending }) (record now { link = link })
-served_sent {start} {past} {known} {now} s bytes pending link e puts = record {
-  added = s.added;
-  bytes = s.bytes ++ bytes;
-  waited = s.waited;
-  place = s.place;
-  recent = s.recent;
-  mine = s.mine;
-  timed = s.timed;
-  own = s.own;
-  taken = puts.taken ∙ s.taken;
-  put = puts.put ∙ ap (grown bytes) s.put ∙ grown-append s.bytes bytes start.link.put;
-  owed = append_assoc s.bytes bytes pending ∙ ap (λ rest. s.bytes ++ rest) (sym e) ∙ s.owed;
-  party = party past.party s.party;
-  steps = s.steps;
-  looked =
-      subst (λ (reads : Option (List Look)). IfSome reads
-      (λ looks. AreAnswered false [] looks s.waited s.place)) (sym puts.reads) s.looked;
-  phase = s.phase;
-  cause = s.cause;
-  others = others_trans s.others (puts_leaves known.session now bytes link puts);
-  untouched = s.untouched;
-}
-  where
-    party : (party : Party) → IsParty past.fed party start known now s.added
-        → IsParty past.fed party start (record known { pending = pending })
-        (record now { link = link }) s.added
-    party (Nobody told) is = is
-    party (Somebody user requests broken) is = is
 
 -- ---- the party
 
@@ -90,161 +53,286 @@ somebody {start} {past} {known} {now} s some = go past.party s.party
     go (Nobody told) is = absurd (some is.none)
     go (Somebody user requests broken) is = (user, requests, broken, refl)
 
-or_left : (a b : Bool) → a ≡ true → (a || b) ≡ true
-or_left true b e = refl
-or_left false b e = cc
-
-or_right : (a b : Bool) → b ≡ true → (a || b) ≡ true
-or_right true b e = refl
-or_right false b e = e
-
--- what is of no session is noted of the party's
-noted_of : {start : Seen} {past : Past} {known : Known} {now : Seen} → IsServed start past known now
-    → is_noted now.desk.mine known.session ≡ true
-noted_of {start} {past} {known} {now} s = go past.party s.party
-  where
-    go : (party : Party) → IsParty past.fed party start known now s.added
-        → is_noted now.desk.mine known.session ≡ true
-    go (Nobody told) is =
-        or_left (known.session == 0) (is_open known.session now.desk.mine)
-        (eq-eqb known.session 0 is.none)
-    go (Somebody user requests broken) is =
-        or_right (known.session == 0) (is_open known.session now.desk.mine) is.is_open
-
 pub served_open : {start : Seen} {past : Past} {known : Known} {now : Seen}
-    → IsServed start past known now → known.session ≢ 0 →
-    HasSession (record { known = known; seen = now })
+    → IsServed start past known now → known.session ≢ 0 → IsOpen known.session now.desk.mine
 served_open {start} {past} {known} {now} s some = go past.party s.party
   where
     go : (party : Party) → IsParty past.fed party start known now s.added
-        → HasSession (record { known = known; seen = now })
+        → IsOpen known.session now.desk.mine
     go (Nobody told) is = absurd (some is.none)
-    go (Somebody user requests broken) is = record { some = some; is_open = is.is_open }
+    go (Somebody user requests broken) is = is.is_open
 
--- ---- no record more
-
--- The desk made no act, and gave nothing, and the clock may have been read.
-pub served_still : {start : Seen} {past : Past} {known : Known} {now : Seen}
-    (s : IsServed start past known now)
-    → (desk : DeskView) (gave : Option (List ℕ)) (cause : Option DeskFault) →
-    desk.mine ≡ now.desk.mine → desk.gave_to known.session ≡ now.desk.gave_to known.session
-    → desk.fault_to known.session ≡ cause →
-    ((added : List Record) → AllByRecursion (IsOwn known.session) added → (gave ≡ now.gave)
-    ⊎ ((moment : ℕ) × Gains now.gave moment gave)) →
-    LeavesOthers known.session now (seen desk now.link gave)
-    → IsServed start past (record known { cause = cause }) (seen desk now.link gave)
-served_still {start} {past} {known} {now} s desk gave cause mine given noted times leaves = record {
-  added = s.added;
-  bytes = s.bytes;
-  waited = s.waited;
-  place = s.place;
-  recent = s.recent;
-  mine = mine ∙ s.mine;
-  timed = timed (times s.added s.own);
-  own = s.own;
-  taken = s.taken;
-  put = s.put;
-  owed = s.owed ∙ ap (owed_to past.party) (sym given);
-  party = party past.party s.party;
-  steps = ap (steps_of known.session s.added) given ∙ s.steps;
-  looked = s.looked;
-  phase = s.phase;
-  cause = noted;
-  others = others_trans s.others leaves;
-  untouched = s.untouched;
-}
+-- without a session it is calm
+pub served_calm : {start : Seen} {past : Past} {known : Known} {now : Seen}
+    → IsServed start past known now → known.session ≡ 0 → known.phase ≡ phase.Calm
+served_calm {start} {past} {known} {now} s none = go past.party s.party
   where
-    timed : (gave ≡ now.gave) ⊎ ((moment : ℕ) × Gains now.gave moment gave)
-        → AreTimed start.gave gave s.added
-    timed (inl same) = subst (λ gave. AreTimed start.gave gave s.added) (sym same) s.timed
-    timed (inr (moment, gains)) = timed_skip start.gave now.gave gave s.added moment s.timed gains
+    go : (party : Party) → IsParty past.fed party start known now s.added
+        → known.phase ≡ phase.Calm
+    go (Nobody told) is = is.calm
+    go (Somebody user requests broken) is = absurd (is.some none)
 
-    party : (party : Party) → IsParty past.fed party start known now s.added
-        → IsParty past.fed party start (record known { cause = cause })
-        (seen desk now.link gave) s.added
-    party (Nobody told) is = is
-    party (Somebody user requests broken) is = record {
+-- the same party, where no record was added
+pub same_party : (start : Seen) (known : Known) (now : Seen) (added : List Record) (fed : List ℕ)
+    (party : Party) (known' : Known) (now' : Seen) → IsParty fed party start known now added
+    → known'.session ≡ known.session → (known.session ≡ 0 → known'.phase ≡ phase.Calm)
+    → now'.desk.mine ≡ now.desk.mine
+    → now'.desk.gave_to known.session ≡ now.desk.gave_to known.session →
+    IsParty fed party start known' now' added
+same_party start known now added fed (Nobody told) known' now' is same calm mine given = record {
+  none = same ∙ is.none;
+  calm = calm is.none;
+  nothing = is.nothing;
+  may_tell = is.may_tell;
+}
+same_party start known now added fed (Somebody user requests broken) known' now' is same
+    calm mine given =
+    subst (λ (session : ℕ). IsSomebody start.link.host fed user requests broken session
+    now'.desk.mine added (now'.desk.gave_to session)) (sym same)
+    (record {
       some = is.some;
       course =
           subst (λ (lists : List (List Item)). IsCourse known.session start.link.host user requests
-          broken s.added lists) (sym given) is.course;
+          broken added lists) (sym given) is.course;
       is_open = subst (λ (mine : List Record). IsOpen known.session mine) (sym mine) is.is_open;
       first = is.first;
       at_fault = is.at_fault;
-    }
+    })
 
--- the desk was asked whether it is stopped
-pub served_asked : {start : Seen} {past : Past} {known : Known} {now : Seen}
-    → IsServed start past known now → (answer : Result Bool DeskFault) (desk : DeskView)
-    → AsksStopped now.desk answer desk →
-    IsServed start past (record known { cause = first_stop known.cause answer })
-    (seen desk now.link now.gave)
-served_asked {past = past} {known = known} {now = now} s answer desk asks =
-    served_still s desk now.gave (first_stop known.cause answer) asks.mine
-    (asks.given known.session)
-    (noted_here (λ first. first_stop first answer) now.desk desk asks.noted known.session
-    (noted_of s) ∙ ap (λ first. first_stop first answer) s.cause)
-    (λ added own. inl refl) (stop_leaves known.session now answer desk asks)
+-- ---- what is put
 
--- the splitter is not looked at
-pub served_split : {start : Seen} {past : Past} {known : Known} {now : Seen}
-    → IsServed start past known now → (splitting : Splitting)
-    → IsServed start past (record known { splitting = splitting }) now
-served_split {start} {past} {known} {now} s splitting = record {
+pub first_nil : {X : Type 0} (first second : List X) → first ++ second ≡ [] → first ≡ []
+first_nil [] second e = refl
+first_nil (one ∷ first) second e = absurd (cc e)
+
+pub second_nil : {X : Type 0} (first second : List X) → first ++ second ≡ [] → second ≡ []
+second_nil [] second e = e
+second_nil (one ∷ first) second e = absurd (cc e)
+
+pub grown-append : (first second : List ℕ) (told : Option (List ℕ))
+    → grown second (grown first told) ≡ grown (first ++ second) told
+grown-append first second None = refl
+grown-append first second (Some before) = ap Some (append_assoc before first second)
+
+-- These bytes of what was pending were put.
+pub served_sent : {start : Seen} {past : Past} {known : Known} {now : Seen}
+    → IsServed start past known now → (bytes pending : List ℕ) (link : LinkView) →
+    known.pending ≡ bytes ++ pending → Puts now.link bytes link
+    → IsServed start past (record known { pending = pending }) (record now { link = link })
+served_sent {start} {past} {known} {now} s bytes pending link e puts = record {
   added = s.added;
+  more = s.more;
+  bytes = s.bytes ++ bytes;
+  waited = s.waited;
+  place = s.place;
+  recent = s.recent;
+  mine = s.mine;
+  answers = s.answers;
+  own = s.own;
+  taken = puts.taken ∙ s.taken;
+  put = puts.put ∙ ap (grown bytes) s.put ∙ grown-append s.bytes bytes start.link.put;
+  owed = append_assoc s.bytes bytes pending ∙ ap (λ rest. s.bytes ++ rest) (sym e) ∙ s.owed;
+  party = same_party start known now s.added past.fed past.party (record known { pending = pending })
+      (record now { link = link }) s.party refl (served_calm s) refl refl;
+  steps = s.steps;
+  looked =
+      subst (λ (reads : Option (List Look)). IfSome reads
+      (λ looks. AreAnswered false [] looks s.waited s.place)) (sym puts.reads) s.looked;
+  phase = s.phase;
+  cause = s.cause;
+  unrefused = s.unrefused;
+  since = s.since;
+  others = others_trans s.others (puts_leaves known.session now bytes link puts);
+  untouched = s.untouched;
+}
+
+-- ---- no record more
+
+-- What the service does not look at may change.
+pub served_known : {start : Seen} {past : Past} {known : Known} {now : Seen}
+    → IsServed start past known now → (splitting : Splitting) (stage : Stage) (bad : Option ℕ)
+    → IsServed start past (record known { splitting = splitting; stage = stage; bad = bad }) now
+served_known {start} {past} {known} {now} s splitting stage bad = record {
+  added = s.added;
+  more = s.more;
   bytes = s.bytes;
   waited = s.waited;
   place = s.place;
   recent = s.recent;
   mine = s.mine;
-  timed = s.timed;
+  answers = s.answers;
   own = s.own;
   taken = s.taken;
   put = s.put;
   owed = s.owed;
-  party = party past.party s.party;
+  party = same_party start known now s.added past.fed past.party
+      (record known { splitting = splitting; stage = stage; bad = bad }) now s.party refl
+      (served_calm s) refl refl;
   steps = s.steps;
   looked = s.looked;
   phase = s.phase;
   cause = s.cause;
+  unrefused = s.unrefused;
+  since = s.since;
   others = s.others;
   untouched = s.untouched;
 }
+
+-- A deed that concerns the session was answered, and added no record; and this phase was reached.
+pub record Answers {start : Seen} {past : Past} {known : Known} {now : Seen}
+    (s : IsServed start past known now) (desk : DeskView) (deed : Deed)
+    (answer : Result ⊤ DeskFault) (reached : Phase) : Type 0 where
+  pub mine : desk.mine ≡ now.desk.mine
+  pub given : desk.gave_to known.session ≡ now.desk.gave_to known.session
+  pub tells : desk.answers ≡ now.desk.answers ++ (deed, answer) ∷ []
+  pub concerns : concerns known.session deed ≡ true
+  pub calm : known.session ≡ 0 → reached ≡ phase.Calm
+  pub is_phase : IsPhase reached s.waited s.place s.recent
+  pub since : known.session ≢ 0 → IsSending (with_answer known.cause answer)
+      → IsSince reached known.session (s.more ++ (deed, answer) ∷ [])
+
+pub served_still : {start : Seen} {past : Past} {known : Known} {now : Seen}
+    (s : IsServed start past known now) (desk : DeskView) (gave : Option (List ℕ)) (deed : Deed)
+    (answer : Result ⊤ DeskFault) (reached : Phase) → Answers s desk deed answer reached
+    → LeavesOthers known.session now (seen desk now.link gave)
+    → IsServed start past
+    (record known { cause = with_answer known.cause answer; phase = reached })
+    (seen desk now.link gave)
+served_still {start} {past} {known} {now} s desk gave deed answer reached a leaves = record {
+  added = s.added;
+  more = s.more ++ (deed, answer) ∷ [];
+  bytes = s.bytes;
+  waited = s.waited;
+  place = s.place;
+  recent = s.recent;
+  mine = a.mine ∙ s.mine;
+  answers =
+      a.tells ∙ ap (λ first. first ++ (deed, answer) ∷ []) s.answers
+      ∙ append_assoc start.desk.answers s.more ((deed, answer) ∷ []);
+  own = s.own;
+  taken = s.taken;
+  put = s.put;
+  owed = s.owed ∙ ap (owed_to past.party) (sym a.given);
+  party = same_party start known now s.added past.fed past.party
+      (record known { cause = with_answer known.cause answer; phase = reached })
+      (seen desk now.link gave) s.party refl a.calm a.mine a.given;
+  steps = ap (steps_of known.session s.added) a.given ∙ s.steps;
+  looked = s.looked;
+  phase = a.is_phase;
+  cause =
+      refused_push known.session s.more deed answer a.concerns
+      ∙ ap (λ cause. with_answer cause answer) s.cause;
+  unrefused = λ none e. unrefused_push s.more deed answer known.cause (s.unrefused none) e;
+  since = a.since;
+  others = others_trans s.others leaves;
+  untouched = s.untouched;
+}
+
+-- The desk was asked whether it is stopped: the phase is kept, or, where a fault of a session is
+-- new, what waits is sent once more.
+pub served_asked : {start : Seen} {past : Past} {known : Known} {now : Seen}
+    → IsServed start past known now → (answer : Result Bool DeskFault) (desk : DeskView)
+    → AsksStopped now.desk answer desk → with_answer known.cause (said_stopped answer) ≡ known.cause
+    → IsServed start past known (seen desk now.link now.gave)
+served_asked {start} {past} {known} {now} s answer desk asks same =
+    subst (λ (cause : Option DeskFault). IsServed start past (record known { cause = cause })
+    (seen desk now.link now.gave)) same
+    (served_still s desk now.gave deed.Ask (said_stopped answer) known.phase
+    (record {
+      mine = asks.mine;
+      given = asks.given known.session;
+      tells = asks.answers;
+      concerns = refl;
+      calm = served_calm s;
+      is_phase = s.phase;
+      since = λ some sending. since_kept known.phase known.session s.more
+          ((deed.Ask, said_stopped answer) ∷ [])
+          (s.since some (subst (λ cause. IsSending cause) same sending));
+    })
+    (stop_leaves known.session now answer desk asks))
+
+-- the desk answered a question with a fault
+pub asked_fault : {start : Seen} {past : Past} {known : Known} {now : Seen}
+    → IsServed start past known now → (answer : Result Bool DeskFault) (fault : DeskFault)
+    (desk : DeskView) → AsksStopped now.desk answer desk → said_stopped answer ≡ Err fault →
+    (reached : Phase) → ((known.session ≢ 0) × (reached ≡ phase.Owing))
+    ⊎ ((known.session ≡ 0) × (reached ≡ known.phase)) →
+    IsServed start past (record known { cause = noted known.cause fault; phase = reached })
+    (seen desk now.link now.gave)
+asked_fault {start} {past} {known} {now} s answer fault desk asks said reached which =
+    served_still s desk now.gave deed.Ask (Err fault) reached
+    (record {
+      mine = asks.mine;
+      given = asks.given known.session;
+      tells = asks.answers
+          ∙ ap (λ (said : Result ⊤ DeskFault). now.desk.answers ++ (deed.Ask, said) ∷ []) said;
+      concerns = refl;
+      calm = calm which;
+      is_phase = is_phase which;
+      since = λ some sending. since which some;
+    })
+    (stop_leaves known.session now answer desk asks)
   where
-    party : (party : Party) → IsParty past.fed party start known now s.added
-        → IsParty past.fed party start (record known { splitting = splitting }) now s.added
-    party (Nobody told) is = is
-    party (Somebody user requests broken) is = is
+    calm : ((known.session ≢ 0) × (reached ≡ phase.Owing))
+        ⊎ ((known.session ≡ 0) × (reached ≡ known.phase)) → known.session ≡ 0
+        → reached ≡ phase.Calm
+    calm (inl (some, e)) none = absurd (some none)
+    calm (inr (none, e)) none' = e ∙ served_calm s none
+
+    is_phase : ((known.session ≢ 0) × (reached ≡ phase.Owing))
+        ⊎ ((known.session ≡ 0) × (reached ≡ known.phase)) →
+        IsPhase reached s.waited s.place s.recent
+    is_phase (inl (some, e)) =
+        subst (λ (reached : Phase). IsPhase reached s.waited s.place s.recent) (sym e) tt
+    is_phase (inr (none, e)) =
+        subst (λ (reached : Phase). IsPhase reached s.waited s.place s.recent) (sym e) s.phase
+
+    since : ((known.session ≢ 0) × (reached ≡ phase.Owing))
+        ⊎ ((known.session ≡ 0) × (reached ≡ known.phase)) → known.session ≢ 0 →
+        IsSince reached known.session (s.more ++ (deed.Ask, Err fault) ∷ [])
+    since (inl (some, e)) some' =
+        subst (λ (reached : Phase). IsSince reached known.session
+        (s.more ++ (deed.Ask, Err fault) ∷ [])) (sym e) tt
+    since (inr (none, e)) some = absurd (some none)
 
 -- ---- one record more
 
--- What one record more is, with its step: the session's own or a flush, at a reading of the clock.
-pub record Pushes (session : ℕ) (now : Seen) (desk : DeskView) (gave : Option (List ℕ))
-    (made : Record) (lists : List (List Item)) (step : Step) : Type 0 where
+-- What one record more is, with its step and its answer: the session's own or a flush; and this
+-- phase was reached.
+pub record Pushes {start : Seen} {past : Past} {known : Known} {now : Seen}
+    (s : IsServed start past known now) (desk : DeskView) (gave : Option (List ℕ))
+    (made : Record) (lists : List (List Item)) (step : Step) (deed : Deed)
+    (answer : Result ⊤ DeskFault) (reached : Phase) : Type 0 where
   pub mine : desk.mine ≡ now.desk.mine ++ made ∷ []
-  pub given : desk.gave_to session ≡ now.desk.gave_to session ++ lists
-  pub step_is : steps_of session (made ∷ []) lists ≡ step ∷ []
-  pub gains : Gains now.gave made.entry.moment gave
-  pub own : IsOwn session made
-  pub leaves : LeavesOthers session now (seen desk now.link gave)
+  pub given : desk.gave_to known.session ≡ now.desk.gave_to known.session ++ lists
+  pub tells : desk.answers ≡ now.desk.answers ++ (deed, answer) ∷ []
+  pub concerns : concerns known.session deed ≡ true
+  pub step_is : steps_of known.session (made ∷ []) lists ≡ step ∷ []
+  pub own : IsOwn known.session made
+  pub is_phase : IsPhase reached s.waited s.place (s.recent ++ step ∷ [])
+  pub since : IsSending (with_answer known.cause answer)
+      → IsSince reached known.session (s.more ++ (deed, answer) ∷ [])
+  pub leaves : LeavesOthers known.session now (seen desk now.link gave)
 
 pub push : {start : Seen} {known : Known} {now : Seen} (fed user : List ℕ)
     (requests requests' : List Request) (broken broken' : Bool) →
     (s : IsServed start (record { fed = fed; party = Somebody user requests broken }) known now)
     → (desk : DeskView) (gave : Option (List ℕ)) (made : Record) (lists : List (List Item))
-    (step : Step) →
-    Pushes known.session now desk gave made lists step
-    → (pending : List ℕ) (cause : Option DeskFault) (reached : Phase) →
-    s.bytes ++ pending ≡ printed (desk.gave_to known.session) → desk.fault_to known.session ≡ cause
-    → IsPhase reached s.waited s.place (s.recent ++ step ∷ []) →
+    (step : Step) (deed : Deed) (answer : Result ⊤ DeskFault) (reached : Phase) →
+    Pushes s desk gave made lists step deed answer reached → (pending : List ℕ) →
+    s.bytes ++ pending ≡ printed (desk.gave_to known.session) →
     IsSomebody start.link.host fed user requests' broken' known.session desk.mine
     (s.added ++ made ∷ []) (desk.gave_to known.session) →
     IsServed start (record { fed = fed; party = Somebody user requests' broken' })
-    (record known { pending = pending; cause = cause; phase = reached })
-    (seen desk now.link gave)
+    (record known {
+      pending = pending;
+      cause = with_answer known.cause answer;
+      phase = reached;
+    }) (seen desk now.link gave)
 push {start} {known} {now} fed user requests requests' broken broken' s desk gave made lists step
-    pushes pending cause reached owed noted is_phase party = record {
+    deed answer reached pushes pending owed party = record {
       added = s.added ++ made ∷ [];
+      more = s.more ++ (deed, answer) ∷ [];
       bytes = s.bytes;
       waited = s.waited;
       place = s.place;
@@ -252,8 +340,9 @@ push {start} {known} {now} fed user requests requests' broken broken' s desk gav
       mine =
           pushes.mine ∙ ap (λ first. first ++ made ∷ []) s.mine
           ∙ append_assoc start.desk.mine s.added (made ∷ []);
-      timed =
-          timed_more start.gave now.gave gave s.added made.entry.moment made s.timed pushes.gains refl;
+      answers =
+          pushes.tells ∙ ap (λ first. first ++ (deed, answer) ∷ []) s.answers
+          ∙ append_assoc start.desk.answers s.more ((deed, answer) ∷ []);
       own = own_push s.added s.own;
       taken = s.taken;
       put = s.put;
@@ -265,8 +354,12 @@ push {start} {known} {now} fed user requests requests' broken broken' s desk gav
           ∙ ap₂ (λ first last. first ++ last) s.steps pushes.step_is
           ∙ append_assoc s.place s.recent (step ∷ []);
       looked = s.looked;
-      phase = is_phase;
-      cause = noted;
+      phase = pushes.is_phase;
+      cause =
+          refused_push known.session s.more deed answer pushes.concerns
+          ∙ ap (λ cause. with_answer cause answer) s.cause;
+      unrefused = λ none. absurd (s.party.some none);
+      since = λ some. pushes.since;
       others = others_trans s.others pushes.leaves;
       untouched = s.untouched;
     }
@@ -278,44 +371,36 @@ push {start} {known} {now} fed user requests requests' broken broken' s desk gav
 
 -- ---- a flush
 
-flush_pushes : {X : Type 0} (known : Known) (now : Seen) (moment : ℕ) (answer : Result X DeskFault)
-    (short : Bool) (desk : DeskView) (gave : Option (List ℕ))
-    → FlushesOf now.desk moment answer desk → Gains now.gave moment gave →
-    desk.mine ≡ now.desk.mine ++ record_of now.desk.pass moment act.Flush 0 short ∷ []
-    → Pushes known.session now desk gave
-    (record_of now.desk.pass moment act.Flush 0 short) [] Flushes
-flush_pushes known now moment answer short desk gave flushes gains mine = record {
-  mine = mine;
-  given = flushes.given known.session ∙ sym (append-nil (now.desk.gave_to known.session));
-  step_is = refl;
-  gains = gains;
-  own = inr refl;
-  leaves = flush_leaves known.session now moment answer desk gave flushes;
-}
-
--- after a flush that was made, whether or not its record is short
+-- after a flush whose record was added, which may be short, with an answer of it
 flush_more : {X : Type 0} {start : Seen} {known : Known} {now : Seen} (fed user : List ℕ)
     (requests : List Request) (broken : Bool)
     (s : IsServed start (record { fed = fed; party = Somebody user requests broken }) known now) →
     (moment : ℕ) (answer : Result X DeskFault) (short : Bool) (desk : DeskView)
-    (gave : Option (List ℕ)) → FlushesOf now.desk moment answer desk
-    → Gains now.gave moment gave →
+    (gave : Option (List ℕ)) → FlushesOf now.desk moment answer desk →
     desk.mine ≡ now.desk.mine ++ record_of now.desk.pass moment act.Flush 0 short ∷ []
     → (reached : Phase) → IsPhase reached s.waited s.place (s.recent ++ Flushes ∷ []) →
+    (IsSending (with_answer known.cause (said answer))
+    → IsSince reached known.session (s.more ++ (deed.Flush, said answer) ∷ [])) →
     IsServed start (record { fed = fed; party = Somebody user requests broken })
-    (record known { cause = first_fault known.cause answer; phase = reached })
+    (record known { cause = with_answer known.cause (said answer); phase = reached })
     (seen desk now.link gave)
 flush_more {start = start} {known = known} {now = now} fed user requests broken s moment answer
-    short desk gave flushes gains mine reached is_phase =
+    short desk gave flushes mine reached is_phase since =
     let made : Record = record_of now.desk.pass moment act.Flush 0 short in
-    push fed user requests requests broken broken s desk gave made [] Flushes
-    (flush_pushes known now moment answer short desk gave flushes gains mine)
-    known.pending (first_fault known.cause answer) reached
-    (s.owed ∙ ap printed (sym (flushes.given known.session)))
-    (noted_here (λ first. first_fault first answer) now.desk desk flushes.noted known.session
-    (or_right (known.session == 0) (is_open known.session now.desk.mine) s.party.is_open)
-    ∙ ap (λ first. first_fault first answer) s.cause)
-    is_phase
+    push fed user requests requests broken broken s desk gave made [] Flushes deed.Flush
+    (said answer) reached
+    (record {
+      mine = mine;
+      given = flushes.given known.session ∙ sym (append-nil (now.desk.gave_to known.session));
+      tells = flushes.tells;
+      concerns = refl;
+      step_is = refl;
+      own = inr refl;
+      is_phase = is_phase;
+      since = since;
+      leaves = flush_leaves known.session now moment answer desk gave flushes;
+    })
+    known.pending (s.owed ∙ ap printed (sym (flushes.given known.session)))
     (record {
       some = s.party.some;
       course =
@@ -329,122 +414,102 @@ flush_more {start = start} {known = known} {now = now} fed user requests broken 
       at_fault = s.party.at_fault;
     })
 
-pub flush_made : {X : Type 0} {start : Seen} {fed : List ℕ} {known : Known} {now : Seen}
-    (party : Party) (s : IsServed start (record { fed = fed; party = party }) known now)
-    → known.session ≢ 0 →
+-- a flush was made: the session is to be drained, unless the desk refused it something
+flush_phase : (reached : Phase) (waited : Bool) (place recent : List Step)
+    → IsPhase (with_flush reached) waited place (recent ++ Flushes ∷ [])
+flush_phase phase.Calm waited place recent = flushed_push recent
+flush_phase (phase.Due lines) waited place recent = flushed_push recent
+flush_phase phase.Owing waited place recent = flushed_push recent
+flush_phase phase.Draining waited place recent = flushed_push recent
+flush_phase phase.Denied waited place recent = tt
+
+flush_since : (reached : Phase) (session : ℕ) (more : List Answer)
+    → IsSince reached session more → refused session more ≢ None
+    → IsSince (with_flush reached) session (more ++ (deed.Flush, Ok tt) ∷ [])
+flush_since phase.Calm session more since some = flushed_after session more some
+flush_since (phase.Due lines) session more since some = flushed_after session more some
+flush_since phase.Owing session more since some = flushed_after session more some
+flush_since phase.Draining session more since some = flushed_after session more some
+flush_since phase.Denied session more since some =
+    since_kept phase.Denied session more ((deed.Flush, Ok tt) ∷ []) since
+
+pub flush_made : {X : Type 0} {start : Seen} {past : Past} {known : Known} {now : Seen}
+    → IsServed start past known now → known.session ≢ 0 →
     (moment : ℕ) (done : X) (desk : DeskView) (gave : Option (List ℕ))
-    → FlushesOf now.desk moment (Ok done) desk → Gains now.gave moment gave →
-    IsServed start (record { fed = fed; party = party })
-    (record known { cause = first_fault {X = X} known.cause (Ok done); phase = phase.Draining })
+    → FlushesOf now.desk moment (Ok done) desk →
+    IsServed start past (record known { phase = with_flush known.phase })
     (seen desk now.link gave)
-flush_made (Nobody told) s some moment done desk gave flushes gains = absurd (some s.party.none)
-flush_made {fed = fed} (Somebody user requests broken) s some moment done desk gave flushes gains =
-    flush_more fed user requests broken s moment (Ok done) false desk gave flushes gains
-    flushes.added phase.Draining (flushed_push s.recent)
-
--- ---- what is to be settled
-
-phase_awake : (reached : Phase) (waited : Bool) (place recent : List Step)
-    → IsPhase reached waited place recent → IsPhase (awake reached) waited place recent
-phase_awake phase.Calm waited place recent is = recent_settled (place ++ recent) is.0
-phase_awake (phase.Due lines) waited place recent is = is
-phase_awake phase.Draining waited place recent is = is
-
-phase_flush : (reached : Phase) (waited : Bool) (place recent : List Step)
-    → IsPhase (awake reached) waited place recent
-    → IsPhase (awake reached) waited place (recent ++ Flushes ∷ [])
-phase_flush phase.Calm waited place recent is =
-    subst (λ steps. IsRecent 0 steps) (append_assoc place recent (Flushes ∷ []))
-    (recent_other 0 (place ++ recent) Flushes refl is)
-phase_flush (phase.Due lines) waited place recent is =
-    subst (λ steps. IsRecent lines steps) (append_assoc place recent (Flushes ∷ []))
-    (recent_other lines (place ++ recent) Flushes refl is)
-phase_flush phase.Draining waited place recent is = flushed_push recent
-
-pub served_awake : {start : Seen} {past : Past} {known : Known} {now : Seen}
-    (s : IsServed start past known now) → known.session ≢ 0
-    → IsServed start past (record known { phase = awake known.phase }) now
-served_awake {start} {past} {known} {now} s some = record {
-  added = s.added;
-  bytes = s.bytes;
-  waited = s.waited;
-  place = s.place;
-  recent = s.recent;
-  mine = s.mine;
-  timed = s.timed;
-  own = s.own;
-  taken = s.taken;
-  put = s.put;
-  owed = s.owed;
-  party = party past.party s.party;
-  steps = s.steps;
-  looked = s.looked;
-  phase = phase_awake known.phase s.waited s.place s.recent s.phase;
-  cause = s.cause;
-  others = s.others;
-  untouched = s.untouched;
-}
+flush_made {X} {start} {past} {known} {now} s some moment done desk gave flushes =
+    go past.party s
   where
-    party : (party : Party) → IsParty past.fed party start known now s.added
-        → IsParty past.fed party start (record known { phase = awake known.phase }) now s.added
-    party (Nobody told) is = absurd (some is.none)
-    party (Somebody user requests broken) is = is
+    go : (party : Party)
+        → (s : IsServed start (record { fed = past.fed; party = party }) known now) →
+        IsServed start (record { fed = past.fed; party = party })
+        (record known { phase = with_flush known.phase }) (seen desk now.link gave)
+    go (Nobody told) s = absurd (some s.party.none)
+    go (Somebody user requests broken) s =
+        flush_more past.fed user requests broken s moment (Ok done) false desk gave flushes
+        flushes.added (with_flush known.phase)
+        (flush_phase known.phase s.waited s.place s.recent)
+        (λ sending. flush_since known.phase known.session s.more (s.since some sending)
+        (λ none. sending_some known.cause sending (sym s.cause ∙ none)))
 
-pub flush_refused : {X : Type 0} {start : Seen} {fed : List ℕ} {known : Known} {now : Seen}
-    (party : Party) (s : IsServed start (record { fed = fed; party = party }) known now)
-    → known.session ≢ 0 →
+-- a flush was refused: the session is only to be closed
+pub flush_refused : {X : Type 0} {start : Seen} {past : Past} {known : Known} {now : Seen}
+    → IsServed start past known now → known.session ≢ 0 →
     (moment : ℕ) (reason : DeskFault) (desk : DeskView) (gave : Option (List ℕ))
-    → FlushesOf {X = X} now.desk moment (Err reason) desk → Gains now.gave moment gave →
-    IsServed start (record { fed = fed; party = party })
-    (record known {
-      cause = first_fault {X = X} known.cause (Err reason);
-      phase = awake
-          known.phase;
-    }) (seen desk now.link gave)
-flush_refused (Nobody told) s some moment reason desk gave flushes gains =
-    absurd (some s.party.none)
-flush_refused {X} {start} {fed} {known} {now} (Somebody user requests broken) before some moment
-    reason desk gave flushes gains = go reason flushes flushes.none_added
+    → FlushesOf {X = X} now.desk moment (Err reason) desk →
+    IsServed start past (record known { cause = noted known.cause reason; phase = phase.Denied })
+    (seen desk now.link gave)
+flush_refused {X} {start} {past} {known} {now} s some moment reason desk gave flushes =
+    go past.party s reason flushes flushes.none_added
   where
-    s : IsServed start (record { fed = fed; party = Somebody user requests broken })
-        (record known { phase = awake known.phase }) now
-    s = served_awake before some
-
     still : (reason : DeskFault) → FlushesOf {X = X} now.desk moment (Err reason) desk
         → desk.mine ≡ now.desk.mine →
-        IsServed start (record { fed = fed; party = Somebody user requests broken })
-        (record known {
-          cause = first_fault {X = X} known.cause (Err reason);
-          phase = awake
-              known.phase;
-        }) (seen desk now.link gave)
+        IsServed start past
+        (record known { cause = noted known.cause reason; phase = phase.Denied })
+        (seen desk now.link gave)
     still reason flushes same =
-        served_still s desk gave (first_fault {X = X} known.cause (Err reason)) same
-        (flushes.given known.session)
-        (noted_here (λ first. first_fault {X = X} first (Err reason)) now.desk desk flushes.noted
-        known.session (noted_of before)
-        ∙ ap (λ first. first_fault {X = X} first (Err reason)) before.cause)
-        (λ added own. inr (moment, gains))
+        served_still s desk gave deed.Flush (Err reason) phase.Denied
+        (record {
+          mine = same;
+          given = flushes.given known.session;
+          tells = flushes.tells;
+          concerns = refl;
+          calm = λ none. absurd (some none);
+          is_phase = tt;
+          since = λ some sending. refused_after known.session s.more deed.Flush reason refl;
+        })
         (flush_leaves {X = X} known.session now moment (Err reason) desk gave flushes)
 
-    go : (reason : DeskFault) → FlushesOf {X = X} now.desk moment (Err reason) desk
+    short : (reason : DeskFault) → FlushesOf {X = X} now.desk moment (Err reason) desk
+        → desk.mine ≡ now.desk.mine ++ record_of now.desk.pass moment act.Flush 0 true ∷ [] →
+        (party : Party)
+        → (s : IsServed start (record { fed = past.fed; party = party }) known now) →
+        IsServed start (record { fed = past.fed; party = party })
+        (record known { cause = noted known.cause reason; phase = phase.Denied })
+        (seen desk now.link gave)
+    short reason flushes mine (Nobody told) s = absurd (some s.party.none)
+    short reason flushes mine (Somebody user requests broken) s =
+        flush_more {X = X} past.fed user requests broken s moment (Err reason) true desk gave
+        flushes mine phase.Denied tt
+        (λ sending. refused_after known.session s.more deed.Flush reason refl)
+
+    go : (party : Party) → IsServed start past known now → (reason : DeskFault)
+        → FlushesOf {X = X} now.desk moment (Err reason) desk
         → AddsNoneOrShort now.desk moment reason desk →
-        IsServed start (record { fed = fed; party = Somebody user requests broken })
-        (record known {
-          cause = first_fault {X = X} known.cause (Err reason);
-          phase = awake
-              known.phase;
-        }) (seen desk now.link gave)
-    go (fault.Gone why.Stopped) flushes (inl same) = still (fault.Gone why.Stopped) flushes same
-    go (fault.Gone why.Stopped) flushes (inr short) =
-        flush_more fed user requests broken s moment (Err (fault.Gone why.Stopped)) true desk gave
-        flushes gains short (awake known.phase)
-        (phase_flush known.phase s.waited s.place s.recent s.phase)
-    go (fault.Gone why.Absent) flushes same = still (fault.Gone why.Absent) flushes same
-    go (fault.Gone why.Dropped) flushes same = still (fault.Gone why.Dropped) flushes same
-    go (fault.Gone why.Overrun) flushes same = still (fault.Gone why.Overrun) flushes same
-    go (fault.Full number) flushes same = still (fault.Full number) flushes same
-    go fault.Memory flushes same = still fault.Memory flushes same
+        IsServed start past
+        (record known { cause = noted known.cause reason; phase = phase.Denied })
+        (seen desk now.link gave)
+    go party s (fault.Gone why.Stopped) flushes (inl same) =
+        still (fault.Gone why.Stopped) flushes same
+    go party s (fault.Gone why.Stopped) flushes (inr mine) =
+        short (fault.Gone why.Stopped) flushes mine past.party s
+    go party s (fault.Gone why.Absent) flushes same = still (fault.Gone why.Absent) flushes same
+    go party s (fault.Gone why.Dropped) flushes same = still (fault.Gone why.Dropped) flushes same
+    go party s (fault.Gone why.Overrun) flushes same = still (fault.Gone why.Overrun) flushes same
+    go party s (fault.Full number) flushes same = still (fault.Full number) flushes same
+    go party s fault.Memory flushes same = still fault.Memory flushes same
 
 -- ---- a drain
 
@@ -454,55 +519,45 @@ printed_push lists items =
     flat_map-append (flat_map print_of) lists (items ∷ [])
     ∙ ap (λ rest. printed lists ++ rest) (append-nil (flat_map print_of items))
 
-drain_pushes : {X : Type 0} (known : Known) (now : Seen) (moment : ℕ) (done : X) (items : List Item)
-    (desk : DeskView) (gave : Option (List ℕ))
-    → DrainsOf now.desk moment known.session items (Ok done) desk → Gains now.gave moment gave
-    → known.session ≢ 0 →
-    Pushes known.session now desk gave
-    (record_of now.desk.pass moment (act.Drain known.session) known.session false) (items ∷ [])
-    (Drains items)
-drain_pushes {X} known now moment done items desk gave drains gains some = record {
-  mine = drains.added;
-  given = drains.given.0;
-  step_is = drain_steps known.session now.desk.pass moment items;
-  gains = gains;
-  own = inl refl;
-  leaves =
-      act_leaves {X = X} known.session now (Ok done) desk gave drains.rest
-      (λ number other. drains.given.1 number (other some))
-      (λ number other. ap (is_open number) drains.added
-      ∙ others_open number now.desk.mine
-      (record_of now.desk.pass moment (act.Drain known.session) known.session false)
-      (λ e. other (sym e)));
-}
-
-pub drained : {X : Type 0} {start : Seen} {fed : List ℕ} {known : Known} {now : Seen}
+-- what was given comes after what is pending
+drained : {X : Type 0} {start : Seen} {fed : List ℕ} {known : Known} {now : Seen}
     (party : Party) (s : IsServed start (record { fed = fed; party = party }) known now)
-    → known.session ≢ 0 → known.pending ≡ [] →
+    → known.session ≢ 0 →
     (moment : ℕ) (done : X) (items : List Item) (desk : DeskView) (gave : Option (List ℕ))
-    → DrainsOf now.desk moment known.session items (Ok done) desk → Gains now.gave moment gave →
+    → DrainsOf now.desk moment known.session items (Ok done) desk →
     (reached : Phase) → IsPhase reached s.waited s.place (s.recent ++ Drains items ∷ []) →
+    (IsSending known.cause → IsSince reached known.session
+    (s.more ++ (deed.Drain known.session (is_nothing items), Ok tt) ∷ [])) →
     IsServed start (record { fed = fed; party = party })
-    (record known {
-      pending = flat_map print_of items;
-      cause = first_fault {X = X} known.cause
-          (Ok done);
-      phase = reached;
-    }) (seen desk now.link gave)
-drained (Nobody told) s some nothing moment done items desk gave drains gains reached is_phase =
+    (record known { pending = known.pending ++ flat_map print_of items; phase = reached })
+    (seen desk now.link gave)
+drained (Nobody told) s some moment done items desk gave drains reached is_phase since =
     absurd (some s.party.none)
-drained {X} {start} {fed} {known} {now} (Somebody user requests broken) s some nothing moment done
-    items desk gave drains gains reached is_phase =
+drained {X} {start} {fed} {known} {now} (Somebody user requests broken) s some moment done
+    items desk gave drains reached is_phase since =
     let made : Record =
     record_of now.desk.pass moment (act.Drain known.session) known.session false in
     push fed user requests requests broken broken s desk gave made (items ∷ []) (Drains items)
-    (drain_pushes known now moment done items desk gave drains gains some)
-    (flat_map print_of items) (first_fault {X = X} known.cause (Ok done)) reached
-    (ap (λ first. first ++ flat_map print_of items)
-    (sym (append-nil s.bytes) ∙ ap (λ rest. s.bytes ++ rest) (sym nothing) ∙ s.owed)
+    (deed.Drain known.session (is_nothing items)) (Ok tt) reached
+    (record {
+      mine = drains.added;
+      given = drains.given.0;
+      tells = drains.rest.tells;
+      concerns = eq-eqb known.session known.session refl;
+      step_is = drain_steps known.session now.desk.pass moment items;
+      own = inl refl;
+      is_phase = is_phase;
+      since = since;
+      leaves =
+          act_leaves known.session now desk gave drains.rest.pass
+          (λ number other. drains.given.1 number (other some))
+          (λ number other. ap (is_open number) drains.added
+          ∙ others_open number now.desk.mine made (λ e. other (sym e)));
+    })
+    (known.pending ++ flat_map print_of items)
+    (sym (append_assoc s.bytes known.pending (flat_map print_of items))
+    ∙ ap (λ first. first ++ flat_map print_of items) s.owed
     ∙ sym (printed_push (now.desk.gave_to known.session) items) ∙ ap printed (sym drains.given.0))
-    (drains.rest.noted.0 ∙ ap (λ first. first_fault {X = X} first (Ok done)) s.cause)
-    is_phase
     (record {
       some = some;
       course =
@@ -516,63 +571,62 @@ drained {X} {start} {fed} {known} {now} (Somebody user requests broken) s some n
       at_fault = s.party.at_fault;
     })
 
--- a drain that gave items, which are to be sent
+-- a drain that gave items, of a session that was flushed
 pub drained_some : {X : Type 0} {start : Seen} {past : Past} {known : Known} {now : Seen}
-    (s : IsServed start past known now) → known.session ≢ 0 → known.pending ≡ []
-    → known.phase ≡ phase.Draining →
+    (s : IsServed start past known now) → known.session ≢ 0 → known.phase ≡ phase.Draining →
     (moment : ℕ) (done : X) (items : List Item) (desk : DeskView) (gave : Option (List ℕ))
-    → DrainsOf now.desk moment known.session items (Ok done) desk → Gains now.gave moment gave →
+    → DrainsOf now.desk moment known.session items (Ok done) desk →
     IsServed start past
-    (record known {
-      pending = flat_map print_of items;
-      cause = first_fault {X = X} known.cause
-          (Ok done);
-    }) (seen desk now.link gave)
-drained_some {past = past} {known = known} s some nothing draining moment done items desk gave
-    drains gains =
-    drained past.party s some nothing moment done items desk gave drains gains known.phase
+    (record known { pending = known.pending ++ flat_map print_of items }) (seen desk now.link gave)
+drained_some {past = past} {known = known} s some draining moment done items desk gave drains =
+    drained past.party s some moment done items desk gave drains known.phase
     (subst (λ reached. IsPhase reached s.waited s.place (s.recent ++ Drains items ∷ []))
     (sym draining)
     (flushed_drained s.recent items
     (subst (λ reached. IsPhase reached s.waited s.place s.recent) draining s.phase)))
+    (λ sending. since_kept known.phase known.session s.more
+    ((deed.Drain known.session (is_nothing items), Ok tt) ∷ []) (s.since some sending))
 
 -- a drain that gave nothing, which settles
 pub drained_none : {X : Type 0} {start : Seen} {past : Past} {known : Known} {now : Seen}
-    (s : IsServed start past known now) → known.session ≢ 0 → known.pending ≡ []
-    → known.phase ≡ phase.Draining →
+    (s : IsServed start past known now) → known.session ≢ 0 → known.phase ≡ phase.Draining →
     (moment : ℕ) (done : X) (desk : DeskView) (gave : Option (List ℕ))
-    → DrainsOf now.desk moment known.session [] (Ok done) desk → Gains now.gave moment gave →
-    IsServed start past
-    (record known {
-      pending = [];
-      cause = first_fault {X = X} known.cause (Ok done);
-      phase = phase.Calm;
-    }) (seen desk now.link gave)
-drained_none {past = past} {known = known} s some nothing draining moment done desk gave drains
-    gains =
+    → DrainsOf now.desk moment known.session [] (Ok done) desk →
+    IsServed start past (record known { phase = phase.Calm }) (seen desk now.link gave)
+drained_none {X} {start} {past} {known} {now} s some draining moment done desk gave drains =
     let flushed : IsFlushed s.recent =
     subst (λ reached. IsPhase reached s.waited s.place s.recent) draining s.phase in
     let settled : IsSettled (s.recent ++ Drains [] ∷ []) = settled_drained s.recent flushed in
-    drained past.party s some nothing moment done [] desk gave drains gains phase.Calm (
-      inr (settled_after s.place
-          (s.recent ++ Drains [] ∷ []) settled),
-      λ waited some. settled_settles
-          (s.recent ++ Drains [] ∷ []) settled,
+    subst (λ (pending : List ℕ). IsServed start past
+    (record known { pending = pending; phase = phase.Calm }) (seen desk now.link gave))
+    (append-nil known.pending)
+    (drained past.party s some moment done [] desk gave drains phase.Calm (
+      inr (settled_after s.place (s.recent ++ Drains [] ∷ []) settled),
+      λ waited some. settled_settles (s.recent ++ Drains [] ∷ []) settled,
     )
+    (λ sending. drained_after known.session s.more
+    (subst (λ reached. IsSince reached known.session s.more) draining (s.since some sending))))
 
--- a drain that was refused
+-- a drain that was refused: the session is only to be closed
 pub drain_refused : {X : Type 0} {start : Seen} {past : Past} {known : Known} {now : Seen}
     (s : IsServed start past known now) → known.session ≢ 0 →
-    (moment : ℕ) (reason : DeskFault) (items : List Item) (desk : DeskView) (gave : Option (List ℕ))
-    → DrainsOf {X = X} now.desk moment known.session items (Err reason) desk
-    → Gains now.gave moment gave →
-    IsServed start past (record known { cause = first_fault {X = X} known.cause (Err reason) })
+    (moment : ℕ) (fault : DeskFault) (items : List Item) (desk : DeskView) (gave : Option (List ℕ))
+    → DrainsOf {X = X} now.desk moment known.session items (Err fault) desk →
+    IsServed start past (record known { cause = noted known.cause fault; phase = phase.Denied })
     (seen desk now.link gave)
-drain_refused {X} {known = known} {now = now} s some moment reason items desk gave drains gains =
-    served_still s desk gave (first_fault {X = X} known.cause (Err reason)) drains.rest.none_added
-    (drains.none_given.0 known.session)
-    (drains.rest.noted.0 ∙ ap (λ first. first_fault {X = X} first (Err reason)) s.cause)
-    (λ added own. inr (moment, gains))
-    (act_leaves {X = X} known.session now (Err reason) desk gave drains.rest
+drain_refused {X} {known = known} {now = now} s some moment fault items desk gave drains =
+    served_still s desk gave (deed.Drain known.session (is_nothing items)) (Err fault) phase.Denied
+    (record {
+      mine = drains.rest.none_added;
+      given = drains.none_given.0 known.session;
+      tells = drains.rest.tells;
+      concerns = eq-eqb known.session known.session refl;
+      calm = λ none. absurd (some none);
+      is_phase = tt;
+      since = λ some sending. refused_after known.session s.more
+          (deed.Drain known.session (is_nothing items)) fault
+          (eq-eqb known.session known.session refl);
+    })
+    (act_leaves known.session now desk gave drains.rest.pass
     (λ number other. drains.none_given.0 number)
     (λ number other. ap (is_open number) drains.rest.none_added))

@@ -1,37 +1,53 @@
 -- What is known of a conversation, and of what is outside it.
-use Rattle.std.specs.Prelude.{◌≡◌, ◌≢◌, ℕ, ◌+◌, ◌≤◌, ◌<◌, ◌⊎◌, ◌++◌, false, List, drop, flat_map}
-use Rattle.std.specs.Prelude.{Option, None, IsSome, Result, ⊤}
+use Rattle.std.specs.Prelude.{◌≡◌, ◌≢◌, ℕ, ◌+◌, ◌≤◌, ◌<◌, ◌++◌, List, drop, flat_map}
+use Rattle.std.specs.Prelude.{Option, Some, None}
+use Rattle.kom_types.specs.declared.items.Item.{Item}
 use Rattle.kom_types.specs.Printing.{print_of}
 use Rattle.kom_framing.specs.Splitting.{Splitting}
+use Rattle.kom_types.specs.declared.answers.Why.TheVariants as why
 use Rattle.kom_links.specs.declared.desk.DeskFault.{DeskFault}
-use Rattle.kom_links.specs.DeskCalls.{DeskView, Closes, first_fault}
-use Rattle.kom_links.specs.Doors.{Gains}
-use Rattle.kom_links.specs.declared.link.Got.{Got}
-use Rattle.kom_links.specs.Outside.{LinkView, Reads, grown}
-use Rattle.kom_links.specs.Records.{is_open, IsOpen}
-use Rattle.kom_session.specs.declared.conversation.Conversation.{Conversation}
-use Rattle.kom_session.specs.declared.flow.Phase.{Phase}
-use Rattle.kom_session.specs.declared.flow.Phase.TheVariants as phase
+use Rattle.kom_links.specs.declared.desk.DeskFault.TheVariants as fault
+use Rattle.kom_links.specs.declared.served.SessionEnd.TheVariants as end
+use Rattle.kom_links.specs.DeskCalls.{DeskView}
+use Rattle.kom_links.specs.Outside.{LinkView, grown}
+use Rattle.kom_links.specs.Records.{is_open}
+use Rattle.kom_session.specs.declared.machine.Machine.{Machine}
+use Rattle.kom_session.specs.declared.phase.Phase.{Phase}
+use Rattle.kom_session.specs.declared.phase.Phase.TheVariants as phase
+use Rattle.kom_session.specs.declared.phase.Stage.{Stage}
+use Rattle.kom_session.specs.declared.phase.Stage.TheVariants as stage
 
 -- What is known of a link that is served: what its splitter holds; the bytes of items that were
 -- drained and are yet to be written; its session, 0 for none, with the first fault that the desk
--- answered; and how far that is settled.
+-- answered; how far that is settled; how far the stream is served; and where it is at fault, if it
+-- is so far.
 pub record Known : Type 0 where
   pub splitting : Splitting
   pub pending : List ℕ
   pub session : ℕ
   pub cause : Option DeskFault
   pub phase : Phase
+  pub stage : Stage
+  pub bad : Option ℕ
 
--- what a conversation knows
-abbrev pub known : Conversation → Known
-known talk = record {
-  splitting = talk.splitter;
-  pending =
-      drop talk.written talk.writer.bytes ++ flat_map print_of (drop talk.printed talk.items.items);
-  session = talk.session;
-  cause = talk.cause;
-  phase = talk.phase;
+-- the items of a machine that are yet to be printed
+abbrev pub unprinted : Machine → List Item
+unprinted machine = drop machine.printed machine.items.items
+
+-- the bytes of a machine that are yet to be written
+abbrev pub unwritten : Machine → List ℕ
+unwritten machine = drop machine.written machine.writer.bytes
+
+-- what a machine knows
+abbrev pub known : Machine → Known
+known machine = record {
+  splitting = machine.splitter;
+  pending = unwritten machine ++ flat_map print_of (unprinted machine);
+  session = machine.session;
+  cause = machine.cause;
+  phase = machine.phase;
+  stage = machine.stage;
+  bad = machine.bad;
 }
 
 -- what is seen of a desk, a link and a clock at a moment
@@ -43,52 +59,66 @@ pub record Seen : Type 0 where
 abbrev pub seen : DeskView → LinkView → Option (List ℕ) → Seen
 seen desk link gave = record { desk = desk; link = link; gave = gave }
 
--- What is known of a service, and what is seen of its desk, link and clock.
+-- What is known of a link, and what is seen of its desk, link and clock.
 pub record State : Type 0 where
   pub known : Known
   pub seen : Seen
 
--- the same with this known
-abbrev pub knowing : State → Known → State
-knowing at known = record { known = known; seen = at.seen }
+abbrev pub state : Known → Seen → State
+state known seen = record { known = known; seen = seen }
 
--- which desk, link and clock a service has borrowed
-pub record Doors : Type 0 where
-  pub desk : ℕ
-  pub link : ℕ
-  pub clock : ℕ
-
-abbrev pub doors : ℕ → ℕ → ℕ → Doors
-doors desk link clock = record { desk = desk; link = link; clock = clock }
-
--- a session is connected, and open
-pub record HasSession (at : State) : Type 0 where
-  pub some : at.known.session ≢ 0
-  pub is_open : IsOpen at.known.session at.seen.desk.mine
+-- the first fault that was answered, after this one
+abbrev pub noted : Option DeskFault → DeskFault → Option DeskFault
+noted (Some first) fault = Some first
+noted None fault = Some fault
 
 -- one more line can be called before it must be settled
 abbrev pub HasRoom : Phase → Type 0
 HasRoom phase.Calm = Unit {0}
 HasRoom (phase.Due lines) = lines < 4
+HasRoom phase.Owing = ⊥
 HasRoom phase.Draining = ⊥
+HasRoom phase.Denied = ⊥
 
 -- the phase after one more line was called
 abbrev pub with_line : Phase → Phase
 with_line phase.Calm = phase.Due 1
 with_line (phase.Due lines) = phase.Due (lines + 1)
+with_line phase.Owing = phase.Owing
 with_line phase.Draining = phase.Draining
+with_line phase.Denied = phase.Denied
 
--- the phase after something was done that is to be settled
-abbrev pub awake : Phase → Phase
-awake phase.Calm = phase.Due 0
-awake (phase.Due lines) = phase.Due lines
-awake phase.Draining = phase.Draining
+-- the phase after a flush was made
+abbrev pub with_flush : Phase → Phase
+with_flush phase.Calm = phase.Draining
+with_flush (phase.Due lines) = phase.Draining
+with_flush phase.Owing = phase.Draining
+with_flush phase.Draining = phase.Draining
+with_flush phase.Denied = phase.Denied
+
+-- The phase after a call was refused so: what waits is sent where it ended the session or found the
+-- server stopped.
+abbrev pub phase_after : DeskFault → Phase
+phase_after (fault.Gone why.Absent) = phase.Denied
+phase_after (fault.Gone why.Dropped) = phase.Owing
+phase_after (fault.Gone why.Overrun) = phase.Denied
+phase_after (fault.Gone why.Stopped) = phase.Owing
+phase_after (fault.Full number) = phase.Denied
+phase_after fault.Memory = phase.Denied
+
+-- the stage after the desk answered a session a fault: what waits is sent
+abbrev pub after_fault : Stage → Stage
+after_fault stage.Serving = stage.Last end.End
+after_fault (stage.Last ending) = stage.Last ending
+after_fault (stage.Over ending) = stage.Over ending
 
 -- What the steps that settle leave alone: the session and the stream; and a fault stays one.
+-- Without a session none is answered any more.
 pub record Keeps (old new : Known) : Type 0 where
   pub session : new.session ≡ old.session
   pub splitting : new.splitting ≡ old.splitting
   pub first : new.cause ≡ None → old.cause ≡ None
+  pub silent : old.session ≡ 0 → new.cause ≡ old.cause
 
 -- These bytes were put to a link, and nothing else changed of it, but that it may have failed.
 pub record Puts (before : LinkView) (bytes : List ℕ) (after : LinkView) : Type 0 where
@@ -99,35 +129,8 @@ pub record Puts (before : LinkView) (bytes : List ℕ) (after : LinkView) : Type
   pub reads : after.reads ≡ before.reads
   pub faults : before.faults ≤ after.faults
 
--- The link was read, and nothing else was done.
-abbrev pub ReadsLink : State → List ℕ → Got → State → Type 0
-ReadsLink old buffer answer new = Reads old.seen.link buffer answer new.seen.link
-    × (new ≡ record { known = old.known; seen = record old.seen { link = new.seen.link } })
-
--- Some of what was pending was put to the link, and nothing else was done.
-abbrev pub IsSent : State → State → Type 0
-IsSent old new = (bytes : List ℕ) × (old.known.pending ≡ bytes ++ new.known.pending)
-    × Puts old.seen.link bytes new.seen.link
-    × (new ≡ record {
-      known = record old.known { pending = new.known.pending };
-      seen = record old.seen { link = new.seen.link };
-    })
-
--- The session was closed, if there was one.
-pub record IsClosed (old new : State) : Type 0 where
-  pub link : new.seen.link ≡ old.seen.link
-  pub silent : old.known.session ≡ 0 → new ≡ old
-  pub closed : old.known.session ≢ 0 → (moment : ℕ) × (answer : Result ⊤ DeskFault)
-      × (desk : DeskView) × (gave : Option (List ℕ)) × Gains old.seen.gave moment gave
-      × Closes old.seen.desk moment old.known.session answer desk
-      × (new ≡ record {
-        known = record old.known { cause = first_fault old.known.cause answer };
-        seen = record old.seen { desk = desk; gave = gave };
-      })
-
 -- What the service of a session leaves alone of a desk and a link: the pass and the host; what is
--- given to others, who stays open, and what is noted of others, unless it is the first fault of an
--- open session.
+-- given to others, and which of them are open.
 pub record LeavesOthers (session : ℕ) (before after : Seen) : Type 0 where
   pub pass : after.desk.pass ≡ before.desk.pass
   pub host : after.link.host ≡ before.link.host
@@ -136,6 +139,3 @@ pub record LeavesOthers (session : ℕ) (before after : Seen) : Type 0 where
       → after.desk.gave_to number ≡ before.desk.gave_to number
   pub opened : (number : ℕ) → number ≢ 0 → number ≢ session →
       is_open number after.desk.mine ≡ is_open number before.desk.mine
-  pub noted : (number : ℕ) → number ≢ 0 → number ≢ session →
-      (is_open number before.desk.mine ≡ false) ⊎ IsSome (before.desk.fault_to number) →
-      after.desk.fault_to number ≡ before.desk.fault_to number

@@ -1,6 +1,6 @@
 pub mod Course
 pub mod Ends
-pub mod Flows
+pub mod Kept
 pub mod Known
 pub mod Left
 pub mod Serving

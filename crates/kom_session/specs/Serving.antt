@@ -1,7 +1,6 @@
 -- How far the service of a link has come.
-use Rattle.std.specs.Prelude.{◌≡◌, ◌≢◌, ℕ, ◌-◌, ◌^◌, ◌<◌, ◌≤◌, ◌⊎◌, Bool, true, false, List, []}
-use Rattle.std.specs.Prelude.{◌∷◌, ◌++◌, length, map, take, Option, Some, None, IsSome, IfSome}
-use Rattle.std.specs.Prelude.{IsTrue}
+use Rattle.std.specs.Prelude.{◌≡◌, ◌≢◌, ℕ, ◌⊎◌, Bool, true, false, List, [], ◌∷◌, ◌++◌, length, map}
+use Rattle.std.specs.Prelude.{take, Option, Some, None, IsSome, IfSome, IsTrue}
 use Rattle.std.specs.List.{AllByRecursion}
 use Rattle.kom_types.specs.declared.acts.Record.{Record}
 use Rattle.kom_types.specs.declared.items.Item.{Item}
@@ -11,24 +10,21 @@ use Rattle.kom_types.specs.Reading.{Request, reading_of, fault_of}
 use Rattle.kom_types.specs.Printing.{print_of}
 use Rattle.kom_framing.specs.declared.units.Unit.{Unit as StreamUnit}
 use Rattle.kom_framing.specs.declared.units.Unit.TheVariants as unit
-use Rattle.kom_framing.specs.Splitting.{IsAt}
 use Rattle.kom_links.specs.declared.desk.DeskFault.{DeskFault}
 use Rattle.kom_links.specs.declared.served.Served.{Served}
 use Rattle.kom_links.specs.declared.served.SessionEnd.{SessionEnd}
 use Rattle.kom_links.specs.declared.served.SessionEnd.TheVariants as end
-use Rattle.kom_links.specs.Outside.{LinkView, grown}
+use Rattle.kom_links.specs.Outside.{LinkView, Rose, grown}
 use Rattle.kom_links.specs.Records.{IsOpen, has_connect}
-use Rattle.kom_links.specs.DeskCalls.{IsConnectFault}
+use Rattle.kom_links.specs.DeskCalls.{DeskView, IsConnectFault}
+use Rattle.kom_links.specs.Answers.{Answer, refused, IsFlushedAfter, IsSettledAfter, HasRefused}
 use Rattle.kom_links.specs.Talk.{Step, steps_of, lines_before, printed, AreTimed, IsTalk}
-use Rattle.kom_session.specs.declared.flow.Next.{Next}
-use Rattle.kom_session.specs.declared.flow.Next.TheVariants as next
-use Rattle.kom_session.specs.declared.flow.Phase.{Phase}
-use Rattle.kom_session.specs.declared.flow.Phase.TheVariants as phase
-use Rattle.kom_session.specs.declared.flow.UnitDone.{UnitDone}
-use Rattle.kom_session.specs.declared.flow.UnitDone.TheVariants as done
+use Rattle.kom_session.specs.declared.phase.Phase.{Phase}
+use Rattle.kom_session.specs.declared.phase.Phase.TheVariants as phase
 use Rattle.kom_session.specs.Course.{IsFlushed, IsSettled, IsRecent, IsCourse}
 use Rattle.kom_session.specs.Ends.{IsOwn, IsUntouched, HasCause, Tells, TellsFault, given_to}
-use Rattle.kom_session.specs.Known.{Known, Seen, State, HasRoom, Keeps, LeavesOthers}
+use Rattle.kom_session.specs.Known.{Known, Seen, LeavesOthers}
+use Rattle.kom_session.specs.Left.{IsSending, IfSending, IsSentAll}
 use Rattle.kom_session.specs.Waits.{IsChecked, AreAnswered, NoneWaits}
 
 -- Who is served: nobody, who is told these bytes; or the session of a user, with the calls that it
@@ -88,19 +84,31 @@ abbrev pub IsPhase : Phase → Bool → List Step → List Step → Type 0
 IsPhase phase.Calm waited place recent =
     ((place ++ recent ≡ []) ⊎ IsSettled (place ++ recent)) × IsChecked waited place recent
 IsPhase (phase.Due lines) waited place recent = IsRecent lines (place ++ recent)
+IsPhase phase.Owing waited place recent = Unit {0}
 IsPhase phase.Draining waited place recent = IsFlushed recent
+IsPhase phase.Denied waited place recent = Unit {0}
 
--- A link was served since the start so far: these records were added, each with a reading of the
--- clock of its own; what was put, with what is pending, is what is owed; and each read has its
--- place.
+-- What a phase says of the desk's answers since the first fault of a session, where what waits for
+-- it is still sent: a flush was made since; and after it a drain gave nothing; or one was refused.
+abbrev pub IsSince : Phase → ℕ → List Answer → Type 0
+IsSince phase.Calm session answers = IsSettledAfter session answers
+IsSince (phase.Due lines) session answers = Unit {0}
+IsSince phase.Owing session answers = Unit {0}
+IsSince phase.Draining session answers = IsFlushedAfter session answers
+IsSince phase.Denied session answers = HasRefused session answers
+
+-- A link was served since the start so far: these records and answers were added; what was put,
+-- with what is pending, is what is owed; each read has its place; the cause is the first fault that
+-- concerns the session, and where there is no session and no cause, no answer is a fault.
 pub record IsServed (start : Seen) (past : Past) (known : Known) (now : Seen) : Type 0 where
   pub added : List Record
+  pub more : List Answer
   pub bytes : List ℕ
   pub waited : Bool
   pub place : List Step
   pub recent : List Step
   pub mine : now.desk.mine ≡ start.desk.mine ++ added
-  pub timed : AreTimed start.gave now.gave added
+  pub answers : now.desk.answers ≡ start.desk.answers ++ more
   pub own : AllByRecursion (IsOwn known.session) added
   pub taken : now.link.taken ≡ grown past.fed start.link.taken
   pub put : now.link.put ≡ grown bytes start.link.put
@@ -109,14 +117,12 @@ pub record IsServed (start : Seen) (past : Past) (known : Known) (now : Seen) : 
   pub steps : steps_of known.session added (now.desk.gave_to known.session) ≡ place ++ recent
   pub looked : IfSome now.link.reads (λ looks. AreAnswered false [] looks waited place)
   pub phase : IsPhase known.phase waited place recent
-  pub cause : now.desk.fault_to known.session ≡ known.cause
+  pub cause : refused known.session more ≡ known.cause
+  pub unrefused : known.session ≡ 0 → known.cause ≡ None →
+      (number : ℕ) → refused number more ≡ None
+  pub since : known.session ≢ 0 → IsSending known.cause → IsSince known.phase known.session more
   pub others : LeavesOthers known.session start now
   pub untouched : IsUntouched start.link
-
--- From every start since which a link was served so far, it is served on.
-abbrev pub ServesOn : State → State → Type 0
-ServesOn old new = (start : Seen) (past : Past)
-    → IsServed start past old.known old.seen → IsServed start past new.known new.seen
 
 -- The units taken are the greeting and these calls, or none.
 abbrev pub AreCalled : Party → List StreamUnit → Type 0
@@ -124,43 +130,6 @@ AreCalled (Nobody told) units = (told ≡ []) × (units ≡ [])
 AreCalled (Somebody user requests broken) units =
     (lines : List Line) × (units ≡ unit.Hello user ∷ map unit.Line lines)
     × (map Some requests ≡ map (λ line. reading_of line.tokens) lines) × (broken ≡ false)
-
--- A link is served further: of the bytes that were fed to its splitter these units were served, and
--- nothing is pending.
-pub record IsServing (start : Seen) (past : Past) (fed : List ℕ) (units : List StreamUnit)
-    (known : Known) (now : Seen) : Type 0 where
-  pub served : IsServed start past known now
-  pub at : IsAt known.splitting fed units
-  pub called : AreCalled past.party units
-  pub nothing : known.pending ≡ []
-  pub sound : known.cause ≡ None
-
--- Between two reads all that came was served and settled.
-pub record IsBetween (start : Seen) (past : Past) (units : List StreamUnit) (known : Known)
-    (now : Seen) : Type 0 where
-  pub serving : IsServing start past past.fed units known now
-  pub all : known.splitting.held ≡ []
-  pub sound : (stream_of past.fed).fault ≡ None
-  pub calm : known.phase ≡ phase.Calm
-
--- A piece was read after the bytes that were fed, and is to be fed.
-pub record HasRead (piece : List ℕ) (start : Seen) (past : Past) (at : State) : Type 0 where
-  pub fed : List ℕ
-  pub units : List StreamUnit
-  pub whole : past.fed ≡ fed ++ piece
-  pub serving : IsServing start past fed units at.known at.seen
-  pub all : at.known.splitting.held ≡ []
-  pub calm : at.known.phase ≡ phase.Calm
-
--- A read found nothing, so that a session is to be settled again.
-pub record HasWaited (start : Seen) (past : Past) (units : List StreamUnit)
-    (at : State) : Type 0 where
-  pub silent : at.known.session ≡ 0 → IsServing start past past.fed units at.known at.seen
-  pub connected : at.known.session ≢ 0 →
-      IsServing start past past.fed units (record at.known { phase = phase.Due 0 }) at.seen
-  pub all : at.known.splitting.held ≡ []
-  pub sound : (stream_of past.fed).fault ≡ None
-  pub calm : at.known.phase ≡ phase.Calm
 
 -- the whole stream was served, and it has no fault
 abbrev pub IsWhole : List ℕ → Party → Phase → Type 0
@@ -200,28 +169,17 @@ Plans end.Dropped cause past known = ⊥
 Plans end.Stopped cause past known = ⊥
 Plans (end.Full number) cause past known = ⊥
 
--- the link failed between two moments; a count may have been at its end already
-abbrev pub Climbs : ℕ → ℕ → Type 0
-Climbs before after = (before < after) ⊎ (2 ^ 64 - 1 ≤ after)
-
 -- what an end says of the link: it failed, or it has ended, where the desk answered no fault
 abbrev pub IsHeard : SessionEnd → Option DeskFault → LinkView → LinkView → Type 0
 IsHeard end.End None before after = after.ended ≡ true
 IsHeard end.End (Some why) before after = Unit {0}
 IsHeard (end.Broken place) cause before after = Unit {0}
-IsHeard end.LinkFault cause before after = Climbs before.faults after.faults
+IsHeard end.LinkFault cause before after = Rose before.faults after.faults
 IsHeard end.Memory cause before after = Unit {0}
 IsHeard end.Overrun cause before after = Unit {0}
 IsHeard end.Dropped cause before after = Unit {0}
 IsHeard end.Stopped cause before after = Unit {0}
 IsHeard (end.Full number) cause before after = Unit {0}
-
--- The loop is over, and so ends.
-pub record IsOver (start : Seen) (past : Past) (known : Known) (now : Seen)
-    (ending : SessionEnd) : Type 0 where
-  pub served : IsServed start past known now
-  pub plan : Plans ending known.cause past known
-  pub heard : IsHeard ending known.cause start.link now.link
 
 -- an end before which what waits is sent: the desk answered a fault, or the stream is at fault
 abbrev pub IsFinal : SessionEnd → Option DeskFault → Type 0
@@ -234,129 +192,30 @@ IsFinal end.Dropped cause = ⊥
 IsFinal end.Stopped cause = ⊥
 IsFinal (end.Full number) cause = ⊥
 
--- Once what waits was sent, the loop is over, and so ends.
-pub record IsLast (start : Seen) (past : Past) (known : Known) (now : Seen)
-    (ending : SessionEnd) : Type 0 where
-  pub served : IsServed start past known now
-  pub some : known.session ≢ 0
-  pub nothing : known.pending ≡ []
-  pub final : IsFinal ending known.cause
-  pub plan : (later : Known) → Keeps known later → later.pending ≡ []
-      → (later.cause ≡ None → later.phase ≡ phase.Calm) →
-      Plans ending later.cause past later
+-- These records and answers were added to a desk, and a fact of them.
+abbrev pub Adds : DeskView → DeskView → (List Record → List Answer → Type 0) → Type 0
+Adds old new P = (added : List Record) × (answers : List Answer)
+    × (new.mine ≡ old.mine ++ added) × (new.answers ≡ old.answers ++ answers) × P added answers
 
--- This unit was taken and is to be served.
-pub record IsTaking (start : Seen) (past : Past) (units : List StreamUnit) (next : StreamUnit)
-    (known : Known) (now : Seen) : Type 0 where
-  pub served : IsServed start past known now
-  pub at : IsAt known.splitting past.fed (units ++ next ∷ [])
-  pub called : AreCalled past.party units
-  pub nothing : known.pending ≡ []
-  pub sound : known.cause ≡ None
-
--- A session's stream is at fault at this place, which is to be told.
-pub record IsFaulty (place : ℕ) (start : Seen) (past : Past) (known : Known)
-    (now : Seen) : Type 0 where
-  pub served : IsServed start past known now
-  pub user : List ℕ
-  pub requests : List Request
-  pub party : past.party ≡ Somebody user requests false
-  pub fault : IsFaultAfter past.fed place requests
-  pub nothing : known.pending ≡ []
-  pub sound : known.cause ≡ None
-
--- The loop is over at this state, and so ends.
-abbrev pub IsEnded : SessionEnd → Seen → State → Type 0
-IsEnded ending start at = (later : Past) × IsOver start later at.known at.seen ending
-
--- a link is served since some start, and a fact of each such start
-abbrev pub CanServe : State → Type 0
-CanServe at = (start : Seen) × (past : Past) × (units : List StreamUnit)
-    × IsServing start past past.fed units at.known at.seen
-
-abbrev pub IfServing : State → (Seen → Past → List StreamUnit → Type 0) → Type 0
-IfServing at P = (start : Seen) (past : Past) (units : List StreamUnit)
-    → IsServing start past past.fed units at.known at.seen → P start past units
-
--- the same between two reads, and of a unit that was taken
-abbrev pub CanRead : State → Type 0
-CanRead at = (start : Seen) × (past : Past) × (units : List StreamUnit)
-    × IsBetween start past units at.known at.seen
-
-abbrev pub IfBetween : State → (Seen → Past → List StreamUnit → Type 0) → Type 0
-IfBetween at P = (start : Seen) (past : Past) (units : List StreamUnit)
-    → IsBetween start past units at.known at.seen → P start past units
-
-abbrev pub IfTaking : StreamUnit → State → (Seen → Past → List StreamUnit → Type 0) → Type 0
-IfTaking next at P = (start : Seen) (past : Past) (units : List StreamUnit)
-    → IsTaking start past units next at.known at.seen → P start past units
-
--- What serving one unit leaves: none was left, or one was served, or it was the last.
-abbrev pub ServesUnit : UnitDone → Seen → Past → State → Type 0
-ServesUnit done.Idle start past at =
-    (units : List StreamUnit) × IsServing start past past.fed units at.known at.seen
-    × (at.known.splitting.held ≡ []) × HasRoom at.known.phase
-ServesUnit done.Made start past at =
-    (later : Past) × (units : List StreamUnit) × (later.fed ≡ past.fed)
-    × IsServing start later later.fed units at.known at.seen
-ServesUnit (done.Last ending) start past at =
-    (later : Past) × (later.fed ≡ past.fed) × IsLast start later at.known at.seen ending
-ServesUnit (done.Ends ending) start past at =
-    (later : Past) × (later.fed ≡ past.fed) × IsOver start later at.known at.seen ending
-
--- The units that were taken are served on, and one more line can be, or the loop is over.
-abbrev pub ServesBatch : Next → Seen → Past → List StreamUnit → State → Type 0
-ServesBatch next.GoesOn start past units at =
-    IsServing start past past.fed units at.known at.seen × HasRoom at.known.phase
-ServesBatch (next.Ends ending) start past units at = IsOver start past at.known at.seen ending
-
--- What all units that were fed leave: each was served, or the loop is over.
-abbrev pub ServesUnits : Next → Seen → List ℕ → State → Type 0
-ServesUnits next.GoesOn start fed at =
-    (past : Past) × (units : List StreamUnit) × (past.fed ≡ fed)
-    × IsServing start past past.fed units at.known at.seen × (at.known.splitting.held ≡ [])
-    × HasRoom at.known.phase
-ServesUnits (next.Ends ending) start fed at = IsEnded ending start at
-
--- The link is read again, or the loop is over.
-abbrev pub GoesOn : Next → Seen → State → Type 0
-GoesOn next.GoesOn start at =
-    (past : Past) × (units : List StreamUnit) × IsBetween start past units at.known at.seen
-GoesOn (next.Ends ending) start at = IsEnded ending start at
-
--- What settling a session leaves: it is settled, or the desk answered a fault, or the link or
--- memory failed.
-abbrev pub Settled : Next → State → State → Type 0
-Settled next.GoesOn old new =
-    (new.known.pending ≡ []) × (new.known.cause ≡ None) × (new.known.phase ≡ phase.Calm)
-Settled (next.Ends end.End) old new = (new.known.pending ≡ []) × (new.known.cause ≢ None)
-Settled (next.Ends end.LinkFault) old new = Climbs old.seen.link.faults new.seen.link.faults
-Settled (next.Ends end.Memory) old new = Unit {0}
-Settled (next.Ends (end.Broken place)) old new = ⊥
-Settled (next.Ends end.Overrun) old new = ⊥
-Settled (next.Ends end.Dropped) old new = ⊥
-Settled (next.Ends end.Stopped) old new = ⊥
-Settled (next.Ends (end.Full number)) old new = ⊥
-
--- Nothing was said yet, and the link is untouched.
-abbrev pub IsBegun : State → Type 0
-IsBegun at =
-    IsBetween at.seen (record { fed = []; party = Nobody [] }) [] at.known at.seen
+-- the steps of the served session among these records
+abbrev pub steps_in : Seen → ℕ → List Record → List Step
+steps_in now session added =
+    steps_of session added (given_to session (now.desk.gave_to session))
 
 -- A link was served from its greeting to its end, as the contract of serve_link says.
 pub record ServesLink (old : Seen) (result : Served) (new : Seen) : Type 0 where
-  pub talk : (added : List Record) × (new.desk.mine ≡ old.desk.mine ++ added)
-      × AllByRecursion (IsOwn result.session) added × AreTimed old.gave new.gave added
+  pub talk : Adds old.desk new.desk (λ added answers. AllByRecursion (IsOwn result.session) added
+      × AreTimed old.gave new.gave added
       × (input output : List ℕ) × Tells new.link input output
-      × TellsFault old.link.faults new.link.faults (new.desk.fault_to result.session) input
-      result.end
+      × TellsFault old.link.faults new.link.faults (refused result.session answers) input result.end
       × IsTalk old.link.host input output new.link.ended added result.session
-      (given_to result.session (new.desk.gave_to result.session)) result.end new.desk.lock_full
-  pub session : (added : List Record) × (new.desk.mine ≡ old.desk.mine ++ added)
-      × (result.session ≢ 0 → IsTrue (has_connect result.session added))
-  pub waits : (added : List Record) × (new.desk.mine ≡ old.desk.mine ++ added)
-      × IfSome new.link.reads (λ looks. NoneWaits (steps_of result.session added
-      (given_to result.session (new.desk.gave_to result.session))) looks)
-  pub cause : HasCause old.link.faults new.link.faults (new.desk.fault_to result.session)
-      new.link.ended result.end
+      (given_to result.session (new.desk.gave_to result.session)) result.end new.desk.lock_full)
+  pub session : Adds old.desk new.desk (λ added answers.
+      result.session ≢ 0 → IsTrue (has_connect result.session added))
+  pub waits : Adds old.desk new.desk (λ added answers.
+      IfSome new.link.reads (NoneWaits (steps_in new result.session added)))
+  pub cause : Adds old.desk new.desk (λ added answers. HasCause old.link.faults new.link.faults
+      (refused result.session answers) new.link.ended result.end)
+  pub left : Adds old.desk new.desk (λ added answers. result.session ≢ 0 →
+      IfSending result.end (IsSentAll (steps_in new result.session added) result.session answers))
   pub others : LeavesOthers result.session old new

@@ -1,12 +1,15 @@
-//! The session loop: what a link gives and takes is the print of one session's entries.
+//! The service of a link: what it gives and takes is the print of one session's entries. A machine
+//! that never waits, and a loop that drives one over one link.
 #![tactic(auto)]
 
-mod conversation;
+mod acting;
 mod ending;
-mod flow;
-mod serve;
-mod service;
+mod events;
+mod machine;
+mod phase;
+mod resting;
 mod serving;
-mod settling;
 
+pub use machine::{Machine, Wants};
+pub use phase::{Phase, Stage};
 pub use serving::serve_link;

@@ -1,34 +1,68 @@
-use Rattle.std.proofs.Common.{rules, ◌≡◌}
-use Rattle.kom_session.proofs.Ends.{begun}
+use Rattle.kom_session.specs.Known.{seen}
+use Rattle.kom_session.specs.Serving.{ServesLink, steps_in}
+use Rattle.kom_session.specs.Waits.{NoneWaits}
+use Rattle.kom_session.proofs.Asking.{asked_all}
+use Rattle.kom_session.proofs.serving.serve_link.Given as given
 use Rattle.kom_session.proofs.serving.serve_link.Goals as goal
 
-pub serve-requires : goal.serve-requires
-serve-requires g c =
-    begun _ c.requires.untouched c.requires.no_fault c.new-talk.ensures.at c.new-talk.ensures.known
+pub drive-requires-clause-can : goal.drive-requires-clause-can
+drive-requires-clause-can g c =
+    let start = seen (g.K.Desk.view c.args.desk.now) (g.L.Link.view c.args.link.now)
+    (g.C.Clock.gave c.args.clock.now) in (start, c.new-machine.ensures.kept start c.requires.untouched)
 
-pub returns-clause-talk : goal.returns-clause-talk
-returns-clause-talk g c =
-    let served = c.serve.ensures.serves.talk in (
-      served.0,
-      let mine = served.1 in search rules,
-      served.2,
-      let timed = served.3 in search rules,
-      served.4,
-      served.5,
-      let told = served.6 in search rules,
-      let faults = served.7 in search rules,
-      let talk = served.8 in search rules,
+pub close-requires-clause-can : goal.close-requires-clause-can
+close-requires-clause-can g c =
+    let start = seen (g.K.Desk.view c.args.desk.now) (g.L.Link.view c.args.link.now)
+    (g.C.Clock.gave c.args.clock.now) in (
+      start,
+      g.L.Link.view c.drive.new.link,
+      c.drive.ensures.goes.kept start (c.new-machine.ensures.kept start c.requires.untouched),
     )
 
-pub returns-clause-left : goal.returns-clause-left
-returns-clause-left g c =
-    let left = c.serve.ensures.left in
-    let same : g.K.Desk.tally c.desk-1.given.0 ≡ g.K.Desk.tally c.serve.new.service.desk.now
-    = search rules in
-    let view : g.K.Desk.view c.desk-1.given.0 ≡ g.K.Desk.view c.serve.new.service.desk.now
-    = search rules in
-    (left.0, let mine = left.1 in search rules, rw (view, same) left.2)
+-- all that is told of the link
+served : (g : given.Over) (c : goal.After-drop-machine g) →
+    ServesLink (seen (g.K.Desk.view c.args.desk.now) (g.L.Link.view c.args.link.now)
+    (g.C.Clock.gave c.args.clock.now)) c.close.result
+    (seen (g.K.Desk.view c.close.new.desk) (g.L.Link.view c.drive.new.link)
+    (g.C.Clock.gave c.close.new.clock))
+served g c =
+    let start = seen (g.K.Desk.view c.args.desk.now) (g.L.Link.view c.args.link.now)
+    (g.C.Clock.gave c.args.clock.now) in
+    let goes = c.drive.ensures.goes in
+    c.close.ensures.closed start (g.L.Link.view c.drive.new.link)
+    (rw (c.faults-faults.ensures, c.faults.ensures) at c.has_risen.ensures)
+    (goes.added, goes.mine, goes.timed)
+    (goes.kept start (c.new-machine.ensures.kept start c.requires.untouched))
 
-pub returns-clause-goes_on : goal.returns-clause-goes_on
-returns-clause-goes_on g c =
-    let on = c.serve.ensures.on.1 in search rules
+pub returns-clause-talk : goal.returns-clause-talk
+returns-clause-talk g c = (served g c).talk
+
+pub returns-clause-session : goal.returns-clause-session
+returns-clause-session g c = (served g c).session
+
+pub returns-clause-waits : goal.returns-clause-waits
+returns-clause-waits g c =
+    let waits = (served g c).waits in
+    let more = c.close.ensures.answers in (
+      waits.0,
+      waits.1,
+      waits.2,
+      waits.3,
+      asked_all
+          (NoneWaits (steps_in (seen (g.K.Desk.view c.close.new.desk)
+          (g.L.Link.view c.drive.new.link) (g.C.Clock.gave c.close.new.clock))
+          c.close.result.session waits.0))
+          (g.L.Link.view c.args.link.now).reads (g.L.Link.view c.drive.new.link).reads
+          (g.K.Desk.view c.args.desk.now).answers (g.K.Desk.view c.drive.new.desk).answers
+          (g.K.Desk.view c.close.new.desk).answers waits.1 more.0 c.requires.untouched.no_read
+          c.drive.ensures.asked more.1 waits.3 waits.4,
+    )
+
+pub returns-clause-cause : goal.returns-clause-cause
+returns-clause-cause g c = (served g c).cause
+
+pub returns-clause-left : goal.returns-clause-left
+returns-clause-left g c = (served g c).left
+
+pub returns-clause-others : goal.returns-clause-others
+returns-clause-others g c = (served g c).others

@@ -1,0 +1,142 @@
+-- The session of a service that is over is closed.
+use Rattle.std.proofs.Common.{◌≡◌, ◌≢◌, ℕ, ◌↔◌, Bool, true, List, ◌++◌, Option, Some, None, Result, Ok, Err}
+use Rattle.std.proofs.Common.{refl, sym, ◌∙◌, ap, subst}
+use Rattle.std.specs.Prelude.{⊤, IfSome, IsTrue}
+use Rattle.std.proofs.lemmas.List.{append_cancel_left}
+use Rattle.kom_types.specs.declared.acts.Record.{Record}
+use Rattle.kom_links.specs.declared.desk.DeskFault.{DeskFault}
+use Rattle.kom_links.specs.declared.served.SessionEnd.{SessionEnd}
+use Rattle.kom_links.specs.declared.served.SessionEnd.TheVariants as end
+use Rattle.kom_links.specs.Doors.{Gains}
+use Rattle.kom_links.specs.DeskCalls.{DeskView}
+use Rattle.kom_links.specs.DeskCalls.{Closes as ClosesOf}
+use Rattle.kom_links.specs.Outside.{Rose, grown, IsNothing}
+use Rattle.kom_links.specs.Talk.{AreTimed}
+use Rattle.kom_session.specs.declared.phase.Stage.{Stage}
+use Rattle.kom_session.specs.declared.phase.Stage.TheVariants as stage
+use Rattle.kom_session.specs.Ends.{HasCause, TellsFault, ending}
+use Rattle.kom_session.specs.Known.{Known, Seen, seen}
+use Rattle.kom_session.specs.Serving.{Past, IsServed, ServesLink}
+use Rattle.kom_session.specs.Kept.{IsOver, IsStage, IfClosed}
+use Rattle.kom_session.proofs.Answered.{with_answer}
+use Rattle.kom_session.proofs.Causes.{over_planned, has_cause, tells_fault, heard_lost, heard_ended}
+use Rattle.kom_session.proofs.Ends.{Told, silent_told, session_told}
+use Rattle.kom_session.proofs.Leaving.{left_link}
+
+-- what is told, where nothing was before
+told_so : (bytes : List ℕ) (before after : Option (List ℕ)) → IsNothing before
+    → after ≡ grown bytes before → IfSome after (λ told. told ≡ bytes)
+told_so bytes None after nothing e =
+    subst (λ (told : Option (List ℕ)). IfSome told (λ told. told ≡ bytes)) (sym e) tt
+told_so bytes (Some first) after nothing e =
+    subst (λ (told : Option (List ℕ)). IfSome told (λ told. told ≡ bytes)) (sym e)
+    (ap (λ first. first ++ bytes) nothing)
+
+-- what a link's service comes to, once its session was closed
+served_link : {start : Seen} {past : Past} {known : Known} {now : Seen} {planned : SessionEnd}
+    → IsOver start past known now planned → (risen : Bool)
+    → (IsTrue risen ↔ Rose start.link.faults now.link.faults) →
+    (desk : DeskView) (gave : Option (List ℕ)) (cause : Option DeskFault)
+    → (cause ≡ None → known.cause ≡ None) →
+    Told start past.fed known.session cause known.phase (seen desk now.link gave)
+    (ending risen planned cause) →
+    ServesLink start (record { session = known.session; end = ending risen planned cause })
+    (seen desk now.link gave)
+served_link {start} {past} {known} {now} {planned} over risen rises desk gave cause first told =
+    let lost : planned ≡ end.LinkFault → risen ≡ true = λ e. rises.1 (heard_lost over e) in
+    record {
+      talk = (
+        told.added,
+        told.more,
+        told.mine,
+        told.answers,
+        (
+          told.own,
+          told.timed,
+          past.fed,
+          told.bytes,
+          (
+            told_so past.fed start.link.taken now.link.taken told.untouched.nothing_taken told.taken,
+            told_so told.bytes start.link.put now.link.put told.untouched.nothing_put told.put,
+          ),
+          subst
+              (λ (first : Option DeskFault). TellsFault start.link.faults now.link.faults first
+              past.fed (ending risen planned cause)) (sym told.cause_is)
+              (tells_fault over risen start.link.faults now.link.faults cause rises.0 lost first),
+          told.talk,
+        ),
+      );
+      session = (told.added, told.more, told.mine, told.answers, told.connects);
+      waits = (told.added, told.more, told.mine, told.answers, told.waits);
+      cause = (
+        told.added,
+        told.more,
+        told.mine,
+        told.answers,
+        subst
+            (λ (first : Option DeskFault). HasCause start.link.faults now.link.faults first
+            now.link.ended (ending risen planned cause)) (sym told.cause_is)
+            (has_cause risen planned cause start.link.faults now.link.faults now.link.ended
+            (over_planned over) rises.0 (λ e rose. let so = rises.1 rose in cc) lost
+            (λ e none. heard_ended over e (first none))),
+      );
+      left = (
+        told.added,
+        told.more,
+        told.mine,
+        told.answers,
+        left_link risen planned told (over_planned over) lost over.sent,
+      );
+      others = told.others;
+    }
+
+over_now : {start : Seen} {past : Past} {known : Known} {now : Seen} (planned : SessionEnd)
+    → known.stage ≡ stage.Over planned → IsStage known.stage start past known now
+    → IsOver start past known now planned
+over_now {start} {past} {known} {now} planned over is =
+    subst (λ (stage : Stage). IsStage stage start past known now) over is
+
+-- the records that were added are timed, whichever way they are known
+times_so : {start : Seen} {past : Past} {known : Known} {now : Seen}
+    (s : IsServed start past known now) → (added : List Record)
+    → now.desk.mine ≡ start.desk.mine ++ added → AreTimed start.gave now.gave added
+    → AreTimed start.gave now.gave s.added
+times_so {start} {now = now} s added mine timed =
+    subst (λ added. AreTimed start.gave now.gave added)
+    (append_cancel_left start.desk.mine added s.added (sym mine ∙ s.mine)) timed
+
+first_kept : (cause : Option DeskFault) (answer : Result ⊤ DeskFault)
+    → with_answer cause answer ≡ None → cause ≡ None
+first_kept None answer e = refl
+first_kept (Some first) (Ok done) e = absurd (cc e)
+first_kept (Some first) (Err reason) e = absurd (cc e)
+
+-- there is no session
+pub closed_none : (risen : Bool) (planned : SessionEnd) (known : Known) (desk : DeskView)
+    (gave : Option (List ℕ)) → known.stage ≡ stage.Over planned → known.session ≡ 0 →
+    IfClosed risen known desk gave
+    (record { session = known.session; end = ending risen planned known.cause }) desk gave
+closed_none risen planned known desk gave over none start link rises (added, mine, timed) kept =
+    let is = over_now planned over kept.stage in
+    served_link is risen rises desk gave known.cause (λ none. none)
+    (silent_told kept.served is none risen (times_so kept.served added mine timed)
+    (λ e. rises.1 (heard_lost is e)) (heard_ended is))
+
+-- the session was closed, or no turn of the lock is left
+pub closed_some : (risen : Bool) (planned : SessionEnd) (known : Known) (desk desk' : DeskView)
+    (gave gave' : Option (List ℕ)) → known.stage ≡ stage.Over planned → known.session ≢ 0 →
+    (moment : ℕ) (answer : Result ⊤ DeskFault)
+    → ClosesOf desk moment known.session answer desk' → Gains gave moment gave' →
+    IfClosed risen known desk gave
+    (record {
+      session = known.session;
+      end = ending risen planned (with_answer known.cause answer);
+    }) desk' gave'
+closed_some risen planned known desk desk' gave gave' over some moment answer closes gains start
+    link rises (added, mine, timed) kept =
+    let is = over_now planned over kept.stage in
+    let first = first_kept known.cause answer in
+    served_link is risen rises desk' gave' (with_answer known.cause answer) first
+    (session_told kept.served is some risen (times_so kept.served added mine timed) moment answer
+    desk' gave' closes gains (λ e. rises.1 (heard_lost is e))
+    (λ e none. heard_ended is e (first none)))
