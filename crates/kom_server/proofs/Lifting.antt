@@ -17,7 +17,7 @@ use Rattle.hall_desk.specs.Passes.{PassView, pass_view, of_pass}
 use Rattle.hall_desk.specs.Desks.{Kept, Stands, GoesOn}
 use Rattle.hall_desk.proofs.Starting.{IsStart, starts}
 use Rattle.hall_desk.proofs.Histories.{of_pass-append}
-use Rattle.hall_desk.proofs.TrueFaults.{stopped_more}
+use Rattle.hall_desk.proofs.Causes.{stopped_more}
 use Rattle.kom_server.specs.Runs.{Talks, sessions_of, IsOfOne, AllGivenBack, IsWorker, IsDone}
 use Rattle.kom_server.specs.Serving.{Serves}
 use Rattle.kom_server.specs.Workers.{HasServed}
@@ -89,16 +89,6 @@ serves_on {L} view old new returned gave on mine stands serves =
       closed = λ free session.
           ap (is_open session) mine ∙ serves'.closed (lock_before old.pass.drawn new.pass.drawn on.drawn free) session;
     }
-
--- the same, once the desk has forgotten its faults
-pub serves_forgotten : {L : Type 0} (view : L → LinkView) (old new last : Kept)
-    (returned : Option (List (L × Served))) (gave : Option (List ℕ)) → GoesOn old new →
-    new.pass.mine ≡ old.pass.mine → Stands new → last.start ≡ new.start → last.pass ≡ new.pass →
-    Serves view old.start old.pass returned gave → Serves view last.start last.pass returned gave
-serves_forgotten view old new last returned gave on mine stands start pass serves =
-    subst (λ (pass : PassView). Serves view last.start pass returned gave) (sym pass)
-    (subst (λ (start : State). Serves view start new.pass returned gave) (sym start)
-    (serves_on view old new returned gave on mine stands serves))
 
 -- a gate that gave no link has as many back as before
 pub serves_same : {L : Type 0} (view : L → LinkView) (start : State) (pass : PassView)

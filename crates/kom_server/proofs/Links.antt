@@ -34,7 +34,7 @@ use Rattle.hall_desk.specs.Passes.{PassView, of_pass}
 use Rattle.hall_desk.specs.Desks.{WasOverrun, WasDropped, WasStopped, WasFull, IsKnown, IsUndrained}
 use Rattle.hall_desk.proofs.Starting.{IsStart}
 use Rattle.hall_desk.proofs.Histories.{or_second, of_pass-append, absent_of}
-use Rattle.hall_desk.proofs.TrueFaults.{was_more, stopped_more, full_more}
+use Rattle.hall_desk.proofs.Causes.{was_more, stopped_more, full_more}
 use Rattle.kom_server.specs.Runs.{given_of, GaveAll, IsCause, TellsOf, Talks, is_lock_full, sessions_of, IsOfOne}
 use Rattle.kom_server.specs.Runs.{IsFirstReading}
 use Rattle.kom_server.specs.Serving.{Serves, KeepsFirst}
@@ -387,12 +387,11 @@ talks_on start begins pass history more mine added drawn drawn' link served lega
       told = talks.told;
     }
 
--- Why the pass was refused a flush or a drain since this history.
-abbrev pub IsDenied : State → ℕ → List Record → List Record → ℕ → Type 0
-IsDenied start pass history seen drawn =
+-- Why a pass was refused a flush, or a drain of a session.
+abbrev pub IsDenied : State → ℕ → ℕ → List Record → ℕ → Type 0
+IsDenied start pass session seen drawn =
     (2 ^ 62 < drawn) ⊎ (WasStopped start seen
-    ⊎ ((session : ℕ) × (between rest : List Record) × (seen ≡ (history ++ between) ++ rest)
-    × IsUndrained start pass session (history ++ between)))
+    ⊎ ((before rest : List Record) × (seen ≡ before ++ rest) × IsUndrained start pass session before))
 
 -- What the service of a link left: by how much the history goes on, the records that the pass added to its own,
 -- and why it ended.
@@ -416,7 +415,7 @@ pub record Service (start : State) (pass : ℕ) (history more mine added : List 
   pub known : IsKnown start (history ++ more) drawn served.session noted
   pub sent : served.session ≢ 0 → served.end ≡ end.Dropped →
       IsDrained (steps_of served.session added (given_by_pass start pass served.session (history ++ more)))
-      ⊎ IsDenied start pass history (history ++ more) drawn
+      ⊎ IsDenied start pass served.session (history ++ more) drawn
 
 waits_before : (drawn : ℕ) (waits : Bool) → (waits ≡ true → 2 ^ 62 < drawn) → is_lock_full drawn ≡ false →
     waits ≡ false
@@ -456,28 +455,6 @@ module _ (start : State) (begins : IsStart start) (pass : ℕ) (history more min
       ap (λ first. first ++ added) service.mine_is ∙ ap (λ last. of_pass pass history ++ last) service.added_is
       ∙ sym (of_pass-append pass history more)
 
-  -- the session that the pass had open is the served one
-  open_served : is_lock_full drawn ≡ false → (session : ℕ) (between rest : List Record) →
-      history ++ more ≡ (history ++ between) ++ rest → IsOpen session (of_pass pass (history ++ between)) →
-      session ≡ served.session
-  open_served free session between rest is open' =
-      let later : more ≡ between ++ rest =
-      append_cancel_left history more (between ++ rest) (is ∙ append_assoc history between rest) in
-      let parts : added ≡ of_pass pass between ++ of_pass pass rest =
-      service.added_is ∙ ap (of_pass pass) later ∙ of_pass-append pass between rest in
-      let open'' : IsOpen session (mine ++ of_pass pass between) =
-      subst (λ (records : List Record). IsOpen session records)
-      (of_pass-append pass history between
-      ∙ ap (λ (first : List Record). first ++ of_pass pass between) (sym service.mine_is)) open' in
-      let connects : has_connect session added ≡ true =
-      subst (λ (records : List Record). has_connect session records ≡ true) (sym parts)
-      (connect_more session (of_pass pass between) (of_pass pass rest)
-      (opened_later session mine (of_pass pass between) (closed free session) open'')) in
-      elim (cases_eq session served.session) [
-        | inl same ↦ same
-        | inr other ↦ absurd (not_both _ connects (own_connects session served.session added service.own other))
-      ]
-
   -- a session that was dropped
   left_new : served.end ≡ end.Dropped → WasDropped start served.session (history ++ more) →
       Left start served.session (history ++ more) drawn
@@ -495,30 +472,22 @@ module _ (start : State) (begins : IsStart start) (pass : ℕ) (history more min
             ]
         | inr (inl full) ↦ inr (inr (inr (lt-ltb (2 ^ 62) drawn full)))
         | inr (inr (inl stopped)) ↦ inr (inl stopped)
-        | inr (inr (inr (session, between, rest, is, (open', refused)))) ↦
-            elim (cases_Bool (is_lock_full drawn)) [
-              | inl full ↦ inr (inr (inr full))
-              | inr free ↦
-                  let same : session ≡ served.session = open_served free session between rest is open' in
-                  undrained session between rest is same open' refused
-            ]
+        | inr (inr (inr (before, rest, is, (open', refused)))) ↦ undrained before rest is open' refused
       ]
     where
-      undrained : (session : ℕ) (between rest : List Record) → history ++ more ≡ (history ++ between) ++ rest →
-          session ≡ served.session → IsOpen session (of_pass pass (history ++ between)) →
-          WasOverrun start session (history ++ between)
-          ⊎ (refusal_of (state_after start (history ++ between)) (act.Drain session) ≡ Some (Gone why.Dropped)) →
+      undrained : (before rest : List Record) → history ++ more ≡ before ++ rest →
+          IsOpen served.session (of_pass pass before) →
+          WasOverrun start served.session before
+          ⊎ (refusal_of (state_after start before) (act.Drain served.session) ≡ Some (Gone why.Dropped)) →
           Left start served.session (history ++ more) drawn
-      undrained session between rest is same open' (inl over) =
+      undrained before rest is open' (inl over) =
           inr (inr (inl (subst (λ (all : List Record). WasOverrun start served.session all) (sym is)
-          (was_more start (λ row. row.overrun) served.session (history ++ between) rest
-          (subst (λ (n : ℕ). WasOverrun start n (history ++ between)) same over)))))
-      undrained session between rest is same open' (inr refused) =
+          (was_more start (λ row. row.overrun) served.session before rest over))))
+      undrained before rest is open' (inr refused) =
           inl (subst (λ (all : List Record). GaveAll start served.session all) (sym is)
-          (subst (λ (n : ℕ). GaveAll start n ((history ++ between) ++ rest)) same
-          (gave_dropped start begins session pass (history ++ between) rest
+          (gave_dropped start begins served.session pass before rest
           (subst (λ (all : List Record). IsLegal start all) is service.legal)
-          (subst (λ (all : List Record). AreByOwners start all) is service.by_owners) open' refused)))
+          (subst (λ (all : List Record). AreByOwners start all) is service.by_owners) open' refused))
 
   -- it is open no more
   closed_new : is_lock_full drawn ≡ false → (session : ℕ) → is_open session (mine ++ added) ≡ false

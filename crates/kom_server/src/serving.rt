@@ -1,10 +1,10 @@
-ghost use Rattle.std.specs.Prelude.{◌≡◌, ◌≢◌, ◌↔◌, [], ◌∷◌, None, true, false, IsTrue, map};
+ghost use Rattle.std.specs.Prelude.{◌≡◌, ◌≢◌, ◌↔◌, [], ◌∷◌, true, false, IsTrue, map};
 ghost use Rattle.kom_links.specs.Doors.{IsNewGate};
 ghost use Rattle.kom_links.specs.Outside.{IsFresh};
 ghost use Rattle.kom_state_lock.specs.Views.{is_served};
 ghost use Rattle.kom_state_lock.specs.Passes.{AreNewPasses};
 ghost use Rattle.hall_desk.specs.Acts.{IsOpening};
-ghost use Rattle.hall_desk.specs.Desks.{desk_view, GoesOn};
+ghost use Rattle.hall_desk.specs.Desks.{GoesOn};
 ghost use Rattle.kom_server.specs.Runs.{AllGivenBack, IsRun};
 ghost use Rattle.kom_server.specs.Serving.{Serves, KeepsFirst, OneIsOut};
 
@@ -57,8 +57,6 @@ fn serve_new<R: Wait, B: Acts, G: Gate, C: Clock>(
     gate: &mut G,
     clock: &mut C,
 ) -> bool
-    requires no_fault { (desk_view desk.old).fault_to 0 ≡ None }
-    requires none_refused { desk.old.tally.refused ≡ 0 }
     requires unseen { desk.old.pass.seen ≡ [] }
     requires unused { desk.old.pass.mine ≡ [] }
     requires fresh { IsNewGate (G.view gate.old) }
@@ -82,8 +80,6 @@ fn serve_gate<R: Wait, B: Acts, G: Gate, C: Clock>(
     gate: &mut G,
     clock: &mut C,
 )
-    requires no_fault { (desk_view desk.old).fault_to 0 ≡ None }
-    requires none_refused { desk.old.tally.refused ≡ 0 }
     requires serves { Serves G.Link.view desk.old.start desk.old.pass (G.view gate.old).returned
         (C.gave clock.old) }
     requires all_back { AllGivenBack (G.view gate.old) }
@@ -114,14 +110,10 @@ pub(crate) fn serve_one<R: Wait, B: Acts, G: Gate, C: Clock>(
     clock: &mut C,
     mut link: G::Link,
 )
-    requires no_fault { (desk_view desk.old).fault_to 0 ≡ None }
-    requires none_refused { desk.old.tally.refused ≡ 0 }
     requires fresh { IsFresh (G.Link.view link) }
     requires serves { Serves G.Link.view desk.old.start desk.old.pass (G.view gate.old).returned
         (C.gave clock.old) }
     requires one_out { OneIsOut (G.view gate.old) }
-    ensures no_fault { (desk_view desk.new).fault_to 0 ≡ None }
-    ensures none_refused { desk.new.tally.refused ≡ 0 }
     ensures on { GoesOn desk.old desk.new }
     ensures serves { Serves G.Link.view desk.new.start desk.new.pass (G.view gate.new).returned
         (C.gave clock.new) }
@@ -129,6 +121,6 @@ pub(crate) fn serve_one<R: Wait, B: Acts, G: Gate, C: Clock>(
     ensures first { KeepsFirst (C.gave clock.old) (C.gave clock.new) }
 {
     let served = serve_link(rt, alloc, desk, &mut link, clock);
-    desk.forget();
+    desk.assured();
     gate.give_back(link, served);
 }

@@ -1,5 +1,5 @@
 //! Workers, each with a pass of one hall, a gate and a clock, that serve side by side.
-ghost use Rattle.std.specs.Prelude.{◌≡◌, ◌↔◌, ◌+◌, ◌<◌, ◌≤◌, ℕ, [], List, None, Option, Some, true};
+ghost use Rattle.std.specs.Prelude.{◌≡◌, ◌↔◌, ◌+◌, ◌<◌, ◌≤◌, ℕ, [], List, Option, Some, true};
 ghost use Rattle.std.specs.Prelude.{false, length, map, slice_index_or, vec_len, vec_capacity};
 ghost use Rattle.std.specs.Prelude.{IsSome, IsTrue};
 ghost use Rattle.std.specs.List.{AllByRecursion};
@@ -8,7 +8,7 @@ ghost use Rattle.kom_links.specs.Doors.{IsNewGate};
 ghost use Rattle.kom_state_lock.specs.Views.{is_served};
 ghost use Rattle.kom_state_lock.specs.Passes.{AreNewPasses};
 ghost use Rattle.hall_desk.specs.Acts.{IsOpening};
-ghost use Rattle.hall_desk.specs.Desks.{desk_view, GoesOn, WasStopped};
+ghost use Rattle.hall_desk.specs.Desks.{GoesOn, WasStopped};
 ghost use Rattle.kom_server.specs.Runs.{AllGivenBack, IsRun, IsDone, HasFailed};
 ghost use Rattle.kom_server.specs.Serving.{Serves, KeepsFirst};
 ghost use Rattle.kom_server.specs.Workers.{WorkerView, IsIdle, AreIdle, HasServed, HaveServed};
@@ -171,8 +171,6 @@ fn attend<R: Wait, B: Acts, G: Gate, C: Clock>(
     gate: &mut G,
     clock: &mut C,
 )
-    requires no_fault { (desk_view desk.old).fault_to 0 ≡ None }
-    requires none_refused { desk.old.tally.refused ≡ 0 }
     requires serves { Serves G.Link.view desk.old.start desk.old.pass (G.view gate.old).returned
         (C.gave clock.old) }
     requires all_back { AllGivenBack (G.view gate.old) }
@@ -201,8 +199,6 @@ fn attend<R: Wait, B: Acts, G: Gate, C: Clock>(
 /// Whether the server is known to be stopped. No turn of the lock may be left to ask. What the pass
 /// has served stays as it was.
 fn is_stopped<R: Wait, B: Acts, G: Gate>(desk: &mut HallDesk<'_, R, B>) -> bool
-    ensures no_fault { (desk_view desk.new).fault_to 0 ≡ None }
-    ensures none_refused { desk.new.tally.refused ≡ 0 }
     ensures on { GoesOn desk.old desk.new }
     ensures serves { (returned : Option (List (G.Link × ServedLink))) (gave : Option (List ℕ)) →
         Serves G.Link.view desk.old.start desk.old.pass returned gave →
@@ -210,7 +206,7 @@ fn is_stopped<R: Wait, B: Acts, G: Gate>(desk: &mut HallDesk<'_, R, B>) -> bool
     ensures stopped { result ≡ true → WasStopped desk.new.start desk.new.pass.seen }
 {
     let answer = desk.stopped();
-    desk.forget();
+    desk.assured();
     match answer {
         Ok(stopped) => stopped,
         Err(_) => false,

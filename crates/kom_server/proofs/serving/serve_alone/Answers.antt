@@ -1,5 +1,4 @@
 use Rattle.std.proofs.Common.{◌≡◌, [], ◌∷◌, refl, ap}
-use Rattle.kom_links.specs.declared.desk_tally.DeskTally.{DeskTally}
 use Rattle.kom_state_lock.specs.Passes.{AreReady}
 use Rattle.kom_state_lock.proofs.Ready.{ready_table, ready_every, ready_free}
 use Rattle.kom_server.proofs.WholeRuns.{dealt, both_ready, run_closed}
@@ -46,10 +45,6 @@ serve_new-failed-requires-clause-unused g c =
     c.pop-2.result c.unwrap-own.result c.unwrap-first.result c.requires.new c.pop.ensures.items c.unwrap-own.ensures
     c.pop-2.ensures.items c.unwrap-first.ensures in
     rw (c.new-desk.ensures.pass, dealt.1) refl
-
-pub serve_new-failed-requires-clause-none_refused : goal.serve_new-failed-requires-clause-none_refused
-serve_new-failed-requires-clause-none_refused g c =
-    ap (λ (tally : DeskTally). tally.refused) c.new-desk.ensures.tally
 
 -- the row is whole again
 whole : (g : _) (c : goal.After-push_reserved-2 g) →

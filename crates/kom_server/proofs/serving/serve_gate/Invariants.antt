@@ -1,13 +1,10 @@
-use Rattle.std.proofs.Common.{◌≡◌, None}
-use Rattle.hall_desk.specs.Desks.{desk_view, GoesOn}
+use Rattle.hall_desk.specs.Desks.{GoesOn}
 use Rattle.kom_server.specs.Runs.{AllGivenBack}
 use Rattle.kom_server.specs.Serving.{Serves, KeepsFirst}
 use Rattle.kom_server.proofs.serving.serve_gate.Given as goal
 
 abbrev pub invariant-loop : goal.invariant-loop
 invariant-loop g l = record {
-  no_fault : (desk_view l.desk).fault_to 0 ≡ None;
-  none_refused : l.desk.tally.refused ≡ 0;
   on : GoesOn l.fn.desk l.desk;
   serves : Serves g.G.Link.Link.view l.desk.start l.desk.pass (g.G.Gate.view l.gate).returned (g.C.Clock.gave l.clock);
   all_back : AllGivenBack (g.G.Gate.view l.gate);

@@ -12,8 +12,6 @@ returns-then-is_stopped-clause-serves g c =
 
 pub loop-preserved : goal.loop-preserved
 loop-preserved g c = record {
-  no_fault = c.is_stopped.ensures.no_fault;
-  none_refused = c.is_stopped.ensures.none_refused;
   on = goes_on_further c.args.desk.now c.loop.desk c.is_stopped.new.desk c.loop.invariant.on c.is_stopped.ensures.on;
   serves = c.is_stopped.ensures.serves (g.G.Gate.view c.next-in-loop.new.self).returned (g.C.Clock.gave c.loop.clock)
       (serves_same g.G.Link.Link.view c.loop.desk.start c.loop.desk.pass (g.G.Gate.view c.loop.gate).returned
