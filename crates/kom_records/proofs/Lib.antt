@@ -1,6 +1,7 @@
 mod Gathering
 pub mod WordTokens
 pub mod Spelled
+pub mod Choices
 pub mod Values
 pub mod Bits
 pub mod Calendar
@@ -12,3 +13,5 @@ pub mod TextRecords
 pub mod MemberRecords
 pub mod ReplyLines
 pub mod MessageLines
+pub mod PrintedLines
+pub mod PrintedRecords

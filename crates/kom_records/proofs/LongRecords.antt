@@ -64,7 +64,9 @@ conference_from tokens tail of is =
     on number_is t14 _ of tail r14 (λ v15 t15 f15 e15 r15.
     on aux_items_is t15 _ of tail r15 (λ v16 t16 f16 e16 r16.
     let same = took_same _ of t16 tail r16 in
-    subst (λ (of : Conference). IsConference of × (tokens ≡ tokens_of_words (conferences.conference of) ++ tail)) same.0 (
+    let Told : Conference → Type 0 =
+    λ of. IsConference of × (tokens ≡ tokens_of_words (conferences.conference of) ++ tail) in
+    subst Told same.0 (
       (
         f0,
         (
@@ -179,7 +181,8 @@ person_from tokens tail of is =
     on number_is t14 _ of tail r14 (λ v15 t15 f15 e15 r15.
     on number_is t15 _ of tail r15 (λ v16 t16 f16 e16 r16.
     let same = took_same _ of t16 tail r16 in
-    subst (λ (of : Person). IsPerson of × (tokens ≡ tokens_of_words (persons.person of) ++ tail)) same.0 (
+    let Told : Person → Type 0 = λ of. IsPerson of × (tokens ≡ tokens_of_words (persons.person of) ++ tail) in
+    subst Told same.0 (
       (
         f0,
         (

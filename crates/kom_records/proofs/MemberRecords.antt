@@ -1,5 +1,6 @@
 -- The rules of memberships read exactly their spellings.
-use Rattle.std.proofs.Common.{◌≡◌, ℕ, zero, suc, ◌&&◌, Bool, true, false, List, [], ◌∷◌, ◌++◌, refl, sym, ap, subst, ◌∙◌}
+use Rattle.std.proofs.Common.{◌≡◌, ℕ, zero, suc, ◌&&◌, Bool, true, false, List, [], ◌∷◌, ◌++◌, refl, sym, ap, subst}
+use Rattle.std.proofs.Common.{◌∙◌}
 use Rattle.std.proofs.Common.{arith, drop}
 use Rattle.std.specs.Prelude.{nat_lt, length}
 use Rattle.std.proofs.lemmas.Bool.Decides.{nat_tests}
@@ -64,7 +65,8 @@ ranges_back (shown.Count (suc more)) tail fits =
     ∙ by_star (suc more) (Star ∷ tail) true (ap (λ (test : Bool). test && true) some))
 ranges_back (shown.All []) tail fits =
     onward number_is 0 (token_of_word (42 ∷ []) ∷ tail) ranges_by _ (omega arith)
-    (ap (λ taken. made shown.All taken) (inside_back 0 [] (token_of_word (42 ∷ []) ∷ tail) tail (omega arith) refl fits))
+    (ap (λ taken. made shown.All taken)
+    (inside_back 0 [] (token_of_word (42 ∷ []) ∷ tail) tail (omega arith) refl fits))
 ranges_back (shown.All (one ∷ others)) tail fits =
     let all = one ∷ others in
     let count = length all in
@@ -163,8 +165,14 @@ membership_from tokens tail of is =
     on number_is t4 _ of tail r4 (λ v5 t5 f5 e5 r5.
     on time_is t5 _ of tail r5 (λ v6 t6 f6 e6 r6.
     on bits_8_is t6 _ of tail r6 (λ v7 t7 f7 e7 r7.
+    let some : Words = memberships.ranges_shown v4 in
+    let more0 : Words = words.number v5 in
+    let more1 : Words = words.time v6 in
+    let more2 : Words = words.bits 8 v7 in
     let same = took_same _ of t7 tail r7 in
-    subst (λ (of : Membership). IsMembership of × (tokens ≡ tokens_of_words (memberships.membership of) ++ tail)) same.0 (
+    let Told : Membership → Type 0 =
+    λ of. IsMembership of × (tokens ≡ tokens_of_words (memberships.membership of) ++ tail) in
+    subst Told same.0 (
       (f0, (f1, (f2, (f3, (f4, (f5, (f6, f7))))))),
       glue (words.number v0) tokens t0 _ e0 (
           glue (words.time v1) t0 t1 _ e1 (
@@ -175,9 +183,9 @@ membership_from tokens tail of is =
           glue (words.time v6) t5 t6 _ e6 (
           glue (words.bits 8 v7) t6 t7 _ e7 (
           same.1))))
-          ∙ sym (split (((memberships.ranges_shown v4) ++ (words.number v5)) ++ (words.time v6)) (words.bits 8 v7) tail
-          ∙ split ((memberships.ranges_shown v4) ++ (words.number v5)) (words.time v6) (tokens_of_words (words.bits 8 v7) ++ tail)
-          ∙ split (memberships.ranges_shown v4) (words.number v5) (tokens_of_words (words.time v6) ++ (tokens_of_words (words.bits 8 v7) ++ tail)))))))),
+          ∙ sym (split ((some ++ more0) ++ more1) more2 tail
+          ∙ split (some ++ more0) more1 (tokens_of_words more2 ++ tail)
+          ∙ split some more0 (tokens_of_words more1 ++ (tokens_of_words more2 ++ tail)))))))),
     )))))))))
 
 pub membership_is : IsSpelled membership memberships.membership IsMembership

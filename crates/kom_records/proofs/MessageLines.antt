@@ -16,13 +16,14 @@ use Rattle.kom_types.specs.calls.Arguments.{Taken, Took, Departs, Malformed, the
 use Rattle.kom_records.specs.declared.fault.ReadFault.{ReadFault}
 use Rattle.kom_records.specs.declared.tokens.Head.{Head}
 use Rattle.kom_records.specs.Fits.{IsNumber, IsTextStat}
-use Rattle.kom_records.specs.Messages.{IsMessage, IsMessageLine, two_numbers, three_numbers, new_name, sent, with_stat}
-use Rattle.kom_records.specs.Messages.{aux_changed, one_argument, two_arguments, three_arguments, arguments_of}
-use Rattle.kom_records.specs.Messages.{message_line}
+use Rattle.kom_records.specs.Messages.{IsMessage, IsMessageLine, message_line}
+use Rattle.kom_records.specs.Arguments.{two_numbers, three_numbers, new_name, sent, with_stat, aux_changed}
+use Rattle.kom_records.specs.ByNumber.{one_argument, two_arguments, three_arguments, arguments_of}
 use Rattle.kom_records.specs.Replies.{ended, ReadsOnly}
 use Rattle.kom_records.specs.Rules.{head, number, made}
 use Rattle.kom_records.specs.Telling.{Tells}
 use Rattle.kom_records.specs.Words.{token_of_word, tokens_of_words}
+use Rattle.kom_records.proofs.Choices.{choose}
 use Rattle.kom_records.proofs.Spelled.{on, onward, glue, split, took_same, made_is, passed}
 use Rattle.kom_records.proofs.Spelled.{branch, yes, not, departs_not}
 use Rattle.kom_records.proofs.Values.{number_is, text_is}
@@ -40,7 +41,8 @@ record Heard (count which : ℕ) (of : Message) (tokens tail : List Token) : Typ
 
 module _ (make : ℕ → ℕ → Message) (count which : ℕ)
     (fit : (a b : ℕ) → IsNumber a → IsNumber b → IsMessage (make a b))
-    (spelled : (a b : ℕ) → words_of_message (make a b) ≡ message_words count which (words.number a ++ words.number b)) where
+    (spelled : (a b : ℕ) → words_of_message (make a b)
+    ≡ message_words count which (words.number a ++ words.number b)) where
   two_from : (n m : ℕ) (of : Message) (tokens tail : List Token) → n ≡ count → m ≡ which →
       two_numbers make tokens ≡ Took of tail → Heard n m of tokens tail
   two_from n m of tokens tail count_is which_is is =
@@ -157,77 +159,49 @@ changed_from n m of tokens tail count_is which_is is =
 one_argument_from : (count which : ℕ) (of : Message) (tokens tail : List Token) → count ≡ 1 →
     one_argument which tokens ≡ Took of tail → Heard count which of tokens tail
 one_argument_from count which of tokens tail so_many is =
-    elim (branch which 8 _ _ _ is) [
-      | yes same taken ↦ leave_from count which of tokens tail so_many same taken
-      | not r0 ↦
-          absurd (departs_not r0)
-    ]
+    choose which 8 _ _ _ is
+    (leave_from count which of tokens tail so_many) (λ r0.
+    absurd (departs_not r0))
 
 two_arguments_from : (count which : ℕ) (of : Message) (tokens tail : List Token) → count ≡ 2 →
     two_arguments which tokens ≡ Took of tail → Heard count which of tokens tail
 two_arguments_from count which of tokens tail so_many is =
-    elim (branch which 9 _ _ _ is) [
-      | yes same taken ↦ two_from message.Login 2 9 (λ _ _ f g. (f, g)) (λ _ _. refl) count which of tokens tail so_many same taken
-      | not r0 ↦
-          elim (branch which 13 _ _ _ r0) [
-            | yes same taken ↦ two_from message.Logout 2 13 (λ _ _ f g. (f, g)) (λ _ _. refl) count which of tokens tail so_many same taken
-            | not r1 ↦
-                elim (branch which 14 _ _ _ r1) [
-                  | yes same taken ↦ stat_from message.DeletedText 2 14 (λ _ _ f g. (f, g)) (λ _ _. refl) count which of tokens tail so_many same taken
-                  | not r2 ↦
-                      elim (branch which 15 _ _ _ r2) [
-                        | yes same taken ↦ stat_from message.NewText 2 15 (λ _ _ f g. (f, g)) (λ _ _. refl) count which of tokens tail so_many same taken
-                        | not r3 ↦
-                            elim (branch which 18 _ _ _ r3) [
-                              | yes same taken ↦ two_from message.NewMembership 2 18 (λ _ _ f g. (f, g)) (λ _ _. refl) count which of tokens tail so_many same taken
-                              | not r4 ↦
-                                  absurd (departs_not r4)
-                            ]
-                      ]
-                ]
-          ]
-    ]
+    choose which 9 _ _ _ is
+    (two_from message.Login 2 9 (λ _ _ f g. (f, g)) (λ _ _. refl) count which of tokens tail so_many) (λ r0.
+    choose which 13 _ _ _ r0
+    (two_from message.Logout 2 13 (λ _ _ f g. (f, g)) (λ _ _. refl) count which of tokens tail so_many) (λ r1.
+    choose which 14 _ _ _ r1
+    (stat_from message.DeletedText 2 14 (λ _ _ f g. (f, g)) (λ _ _. refl) count which of tokens tail so_many) (λ r2.
+    choose which 15 _ _ _ r2
+    (stat_from message.NewText 2 15 (λ _ _ f g. (f, g)) (λ _ _. refl) count which of tokens tail so_many) (λ r3.
+    choose which 18 _ _ _ r3
+    (two_from message.NewMembership 2 18 (λ _ _ f g. (f, g)) (λ _ _. refl) count which of tokens tail so_many) (λ r4.
+    absurd (departs_not r4))))))
 
 three_arguments_from : (count which : ℕ) (of : Message) (tokens tail : List Token) → count ≡ 3 →
     three_arguments which tokens ≡ Took of tail → Heard count which of tokens tail
 three_arguments_from count which of tokens tail so_many is =
-    elim (branch which 5 _ _ _ is) [
-      | yes same taken ↦ name_from count which of tokens tail so_many same taken
-      | not r0 ↦
-          elim (branch which 12 _ _ _ r0) [
-            | yes same taken ↦ sent_from count which of tokens tail so_many same taken
-            | not r1 ↦
-                elim (branch which 16 _ _ _ r1) [
-                  | yes same taken ↦ three_from message.NewRecipient 3 16 (λ _ _ _ f g h. (f, (g, h))) (λ _ _ _. refl) count which of tokens tail so_many same taken
-                  | not r2 ↦
-                      elim (branch which 17 _ _ _ r2) [
-                        | yes same taken ↦ three_from message.SubRecipient 3 17 (λ _ _ _ f g h. (f, (g, h))) (λ _ _ _. refl) count which of tokens tail so_many same taken
-                        | not r3 ↦
-                            elim (branch which 22 _ _ _ r3) [
-                              | yes same taken ↦ changed_from count which of tokens tail so_many same taken
-                              | not r4 ↦
-                                  absurd (departs_not r4)
-                            ]
-                      ]
-                ]
-          ]
-    ]
+    choose which 5 _ _ _ is
+    (name_from count which of tokens tail so_many) (λ r0.
+    choose which 12 _ _ _ r0
+    (sent_from count which of tokens tail so_many) (λ r1.
+    choose which 16 _ _ _ r1
+    (three_from message.NewRecipient 3 16 (λ _ _ _ f g h. (f, (g, h)))
+    (λ _ _ _. refl) count which of tokens tail so_many) (λ r2.
+    choose which 17 _ _ _ r2
+    (three_from message.SubRecipient 3 17 (λ _ _ _ f g h. (f, (g, h)))
+    (λ _ _ _. refl) count which of tokens tail so_many) (λ r3.
+    choose which 22 _ _ _ r3
+    (changed_from count which of tokens tail so_many) (λ r4.
+    absurd (departs_not r4))))))
 
 arguments_from : (count which : ℕ) (of : Message) (tokens tail : List Token) →
     arguments_of count which tokens ≡ Took of tail → Heard count which of tokens tail
 arguments_from count which of tokens tail is =
-    elim (branch count 1 _ _ _ is) [
-      | yes same taken ↦ one_argument_from count which of tokens tail same taken
-      | not r0 ↦
-          elim (branch count 2 _ _ _ r0) [
-            | yes same taken ↦ two_arguments_from count which of tokens tail same taken
-            | not r1 ↦
-                elim (branch count 3 _ _ _ r1) [
-                  | yes same taken ↦ three_arguments_from count which of tokens tail same taken
-                  | not r2 ↦ absurd (departs_not r2)
-                ]
-          ]
-    ]
+    choose count 1 _ _ _ is (one_argument_from count which of tokens tail) (λ r0.
+    choose count 2 _ _ _ r0 (two_arguments_from count which of tokens tail) (λ r1.
+    choose count 3 _ _ _ r1 (three_arguments_from count which of tokens tail) (λ r2.
+    absurd (departs_not r2))))
 
 -- after the head
 record IsTold (begun : Head) (read : Message) (tokens : List Token) : Type 0 where
@@ -283,7 +257,8 @@ line_back count which of arguments count_is which_is is =
 
 message_back : (of : Message) → IsMessage of → message_line (tokens_of_words (words_of_message of)) ≡ Took of []
 message_back (message.NewName of) fits =
-    line_back 3 5 _ (words.number of.conference ++ words.text of.old_name ++ words.text of.new_name) (omega arith) (omega arith)
+    line_back 3 5 _ (words.number of.conference ++ words.text of.old_name ++ words.text of.new_name)
+    (omega arith) (omega arith)
     (onward number_is of.conference _ _ _ fits.0 (onward text_is of.old_name _ _ _ fits.1.0
     (onward text_is of.new_name [] _ _ fits.1.1 refl)))
 message_back message.SyncDatabase fits = absurd fits
@@ -300,7 +275,8 @@ message_back (message.NewMembership a b) fits =
     line_back 2 18 _ (words.number a ++ words.number b) (omega arith) (omega arith)
     (onward number_is a _ _ _ fits.0 (onward number_is b [] _ _ fits.1 refl))
 message_back (message.SendMessage of) fits =
-    line_back 3 12 _ (words.number of.recipient ++ words.number of.sender ++ words.text of.text) (omega arith) (omega arith)
+    line_back 3 12 _ (words.number of.recipient ++ words.number of.sender ++ words.text of.text) (omega arith)
+    (omega arith)
     (onward number_is of.recipient _ _ _ fits.0 (onward number_is of.sender _ _ _ fits.1.0
     (onward text_is of.text [] _ _ fits.1.1 refl)))
 message_back (message.DeletedText a b) fits =
@@ -321,7 +297,8 @@ message_back (message.NewMotd a b c) fits = absurd fits
 message_back (message.TextAuxChanged of) fits =
     let all : Words = words.number of.text ++ aux_items of.deleted ++ aux_items of.added in
     line_back 3 22 _ all (omega arith) (omega arith)
-    (ap (λ t. aux_changed (tokens_of_words (words.number of.text) ++ t)) (split (aux_items of.deleted) (aux_items of.added) [])
+    (ap (λ t. aux_changed (tokens_of_words (words.number of.text) ++ t)) (split (aux_items of.deleted)
+    (aux_items of.added) [])
     ∙ onward number_is of.text _ _ _ fits.0 (onward aux_items_is of.deleted _ _ _ fits.1.0
     (onward aux_items_is of.added [] _ _ fits.1.1 refl)))
 

@@ -11,21 +11,20 @@ use Rattle.kom_types.specs.Token.{Token}
 use Rattle.kom_types.specs.calls.Arguments.{Took}
 use Rattle.kom_records.specs.declared.times.TimeParts.{TimeParts}
 use Rattle.kom_records.specs.Fits.{IsNumber, IsMoment}
-use Rattle.kom_records.specs.Records.{time_parts, time}
 use Rattle.kom_records.specs.Rules.{taken_of}
-use Rattle.kom_records.specs.Times.{days_of_years, seconds_of, is_told, moment_of}
+use Rattle.kom_records.specs.Times.{time_parts, time, days_of_years, seconds_of, is_told, moment_of}
 use Rattle.kom_records.specs.Words.{tokens_of_words}
 use Rattle.kom_records.proofs.Spelled.{IsSpelled, on, onward, glue, took_same}
 use Rattle.kom_records.proofs.Values.{number_is}
 
 -- nine numbers
-abbrev parts_words : TimeParts → Words
+abbrev pub parts_words : TimeParts → Words
 parts_words of =
     words.number of.seconds ++ words.number of.minutes ++ words.number of.hours ++ words.number of.day
     ++ words.number of.month ++ words.number of.year ++ words.number of.weekday ++ words.number of.yearday
     ++ words.number of.summer
 
-abbrev AreParts : TimeParts → Type 0
+abbrev pub AreParts : TimeParts → Type 0
 AreParts of =
     IsNumber of.seconds × (IsNumber of.minutes × (IsNumber of.hours × (IsNumber of.day × (IsNumber of.month
     × (IsNumber of.year × (IsNumber of.weekday × (IsNumber of.yearday × IsNumber of.summer)))))))
@@ -56,7 +55,8 @@ time_parts_from tokens tail of is =
     on number_is t6 _ of tail r6 (λ v7 t7 f7 e7 r7.
     on number_is t7 _ of tail r7 (λ v8 t8 f8 e8 r8.
     let same = took_same _ of t8 tail r8 in
-    subst (λ (of : TimeParts). AreParts of × (tokens ≡ tokens_of_words (parts_words of) ++ tail)) same.0 (
+    let Told : TimeParts → Type 0 = λ of. AreParts of × (tokens ≡ tokens_of_words (parts_words of) ++ tail) in
+    subst Told same.0 (
       (f0, (f1, (f2, (f3, (f4, (f5, (f6, (f7, f8)))))))),
       glue (words.number v0) tokens t0 _ e0 (
           glue (words.number v1) t0 t1 _ e1 (
@@ -114,7 +114,7 @@ month_bounds (long ∷ lengths) month days =
     ]
 
 -- the numbers of a moment's time
-parts_of : ℕ → TimeParts
+pub parts_of : ℕ → TimeParts
 parts_of moment = let parts = time_of moment in record {
   seconds = parts.seconds;
   minutes = parts.minutes;
@@ -308,3 +308,9 @@ time_back moment tail within =
 
 pub time_is : IsSpelled time words.time IsMoment
 time_is = record { back = time_back; forth = time_from }
+
+pub parts_fit : (moment : ℕ) → IsMoment moment → AreParts (parts_of moment)
+parts_fit moment within = (timely moment within).are
+
+pub words_of_moment : (moment : ℕ) → IsMoment moment → words.time moment ≡ parts_words (parts_of moment)
+words_of_moment moment within = words_of_parts moment (timely moment within).never_summer

@@ -58,10 +58,12 @@ dynamic_sessions_is = array_is dynamic_session sessions.dynamic_session IsDynami
 -- a result is read exactly where it is spelled, and a good reply has it
 record IsGood (reads : List Token → Taken Reply) (Is : Reply → Type 0) : Type 0 where
   rule : IsSpelled reads result_words Is
-  good : (reference : ℕ) (body : Reply) → Is body → words_of_reply reference body ≡ good_words reference (result_words body)
+  good : (reference : ℕ) (body : Reply) → Is body →
+      words_of_reply reference body ≡ good_words reference (result_words body)
 
 module _ {X : Type 0} {reads : List Token → Taken X} {spells : X → Words} {Is : X → Type 0}
-    (rule : IsSpelled reads spells Is) (make : X → Reply) (spelled : (value : X) → result_words (make value) ≡ spells value)
+    (rule : IsSpelled reads spells Is) (make : X → Reply) (spelled : (value : X) → result_words (make value)
+    ≡ spells value)
     (told : (reference : ℕ) (value : X) →
     words_of_reply reference (make value) ≡ good_words reference (result_words (make value))) where
   made_back : (body : Reply) (tail : List Token) → IsMadeOf make Is body →
@@ -111,11 +113,13 @@ is_good kind.TextStat = made_good text_stat_is reply.TextStat (λ value. refl) (
 is_good kind.Mapping = made_good mapping_is reply.Mapping (λ value. refl) (λ reference value. refl)
 is_good kind.Conference = made_good conference_is reply.Conference (λ value. refl) (λ reference value. refl)
 is_good kind.UConference = made_good uconference_is reply.UConference (λ value. refl) (λ reference value. refl)
-is_good kind.ConferenceNames = made_good conference_names_is reply.ConferenceNames (λ value. refl) (λ reference value. refl)
+is_good kind.ConferenceNames = made_good conference_names_is reply.ConferenceNames (λ value. refl)
+    (λ reference value. refl)
 is_good kind.Person = made_good person_is reply.Person (λ value. refl) (λ reference value. refl)
 is_good kind.Memberships = made_good memberships_is reply.Memberships (λ value. refl) (λ reference value. refl)
 is_good kind.Members = made_good members_is reply.Members (λ value. refl) (λ reference value. refl)
-is_good kind.DynamicSessions = made_good dynamic_sessions_is reply.DynamicSessions (λ value. refl) (λ reference value. refl)
+is_good kind.DynamicSessions = made_good dynamic_sessions_is reply.DynamicSessions (λ value. refl)
+    (λ reference value. refl)
 
 -- the head of a line
 head_by : (sign : ℕ) (digits : List ℕ) (tokens tail : List Token) (begun : Head) (told : Option ℕ) →
@@ -125,7 +129,8 @@ head_by sign digits tokens tail begun (Some n) told is =
     let same = took_same (record { sign = sign; number = n }) begun tokens tail is in
     let found = told_is digits n told in
     let run : digits ≡ decimal n = sym found.1 in
-    subst (λ (of : Head). IsNumber of.number × (Signed sign digits ∷ tokens ≡ Signed of.sign (decimal of.number) ∷ tail))
+    subst (λ (of : Head). IsNumber of.number × (Signed sign digits ∷ tokens
+    ≡ Signed of.sign (decimal of.number) ∷ tail))
     same.0 (found.0, rw (run, same.1) refl)
 head_by sign digits tokens tail begun None told is = cc
 
@@ -230,7 +235,8 @@ reply_back which reference body within (inl refused) =
     let status = refused.1.0 in
     let spelled : Words = words.number code ++ words.number status in
     let rest = tokens_of_words spelled in
-    subst (λ (body : Reply). reply_line which (tokens_of_words (words_of_reply reference body)) ≡ Took (reference, body) [])
+    subst (λ (body : Reply). reply_line which (tokens_of_words (words_of_reply reference body))
+    ≡ Took (reference, body) [])
     (sym refused.1.1.1)
     (ap (λ token. reply_line which (token ∷ rest)) (word_refusal reference within)
     ∙ line_back which reference (reply.Refused code status) 37 rest within

@@ -38,7 +38,8 @@ mark_from tokens tail of is =
     on number_is tokens _ of tail is (λ v0 t0 f0 e0 r0.
     on byte_is t0 _ of tail r0 (λ v1 t1 f1 e1 r1.
     let same = took_same _ of t1 tail r1 in
-    subst (λ (of : Mark). IsMark of × (tokens ≡ tokens_of_words (texts.mark of) ++ tail)) same.0 (
+    let Told : Mark → Type 0 = λ of. IsMark of × (tokens ≡ tokens_of_words (texts.mark of) ++ tail) in
+    subst Told same.0 (
       (f0, f1),
       glue (words.number v0) tokens t0 _ e0 (
           glue (words.number v1) t0 t1 _ e1 (
@@ -60,7 +61,8 @@ local_text_from tokens tail of is =
     on number_is tokens _ of tail is (λ v0 t0 f0 e0 r0.
     on number_is t0 _ of tail r0 (λ v1 t1 f1 e1 r1.
     let same = took_same _ of t1 tail r1 in
-    subst (λ (of : LocalText). IsLocalText of × (tokens ≡ tokens_of_words (texts.local_text of) ++ tail)) same.0 (
+    let Told : LocalText → Type 0 = λ of. IsLocalText of × (tokens ≡ tokens_of_words (texts.local_text of) ++ tail) in
+    subst Told same.0 (
       (f0, f1),
       glue (words.number v0) tokens t0 _ e0 (
           glue (words.number v1) t0 t1 _ e1 (
@@ -82,7 +84,9 @@ read_range_from tokens tail of is =
     on number_is tokens _ of tail is (λ v0 t0 f0 e0 r0.
     on number_is t0 _ of tail r0 (λ v1 t1 f1 e1 r1.
     let same = took_same _ of t1 tail r1 in
-    subst (λ (of : ReadRange). IsReadRange of × (tokens ≡ tokens_of_words (memberships.read_range of) ++ tail)) same.0 (
+    let Told : ReadRange → Type 0 =
+    λ of. IsReadRange of × (tokens ≡ tokens_of_words (memberships.read_range of) ++ tail) in
+    subst Told same.0 (
       (f0, f1),
       glue (words.number v0) tokens t0 _ e0 (
           glue (words.number v1) t0 t1 _ e1 (
@@ -108,7 +112,9 @@ uconference_from tokens tail of is =
     on number_is t1 _ of tail r1 (λ v2 t2 f2 e2 r2.
     on number_is t2 _ of tail r2 (λ v3 t3 f3 e3 r3.
     let same = took_same _ of t3 tail r3 in
-    subst (λ (of : UConference). IsUConference of × (tokens ≡ tokens_of_words (conferences.uconference of) ++ tail)) same.0 (
+    let Told : UConference → Type 0 =
+    λ of. IsUConference of × (tokens ≡ tokens_of_words (conferences.uconference of) ++ tail) in
+    subst Told same.0 (
       (f0, (f1, (f2, f3))),
       glue (words.text v0) tokens t0 _ e0 (
           glue (words.bits 8 v1) t0 t1 _ e1 (
@@ -134,7 +140,9 @@ conference_name_from tokens tail of is =
     on first_bits_is t0 _ of tail r0 (λ v1 t1 f1 e1 r1.
     on number_is t1 _ of tail r1 (λ v2 t2 f2 e2 r2.
     let same = took_same _ of t2 tail r2 in
-    subst (λ (of : ConferenceName). IsConferenceName of × (tokens ≡ tokens_of_words (conferences.conference_name of) ++ tail)) same.0 (
+    let Told : ConferenceName → Type 0 =
+    λ of. IsConferenceName of × (tokens ≡ tokens_of_words (conferences.conference_name of) ++ tail) in
+    subst Told same.0 (
       (f0, (f1, f2)),
       glue (words.text v0) tokens t0 _ e0 (
           glue (words.bits 4 (v1 / 16)) t0 t1 _ e1 (
@@ -165,7 +173,9 @@ dynamic_session_from tokens tail of is =
     on bits_8_is t3 _ of tail r3 (λ v4 t4 f4 e4 r4.
     on text_is t4 _ of tail r4 (λ v5 t5 f5 e5 r5.
     let same = took_same _ of t5 tail r5 in
-    subst (λ (of : DynamicSession). IsDynamicSession of × (tokens ≡ tokens_of_words (sessions.dynamic_session of) ++ tail)) same.0 (
+    let Told : DynamicSession → Type 0 =
+    λ of. IsDynamicSession of × (tokens ≡ tokens_of_words (sessions.dynamic_session of) ++ tail) in
+    subst Told same.0 (
       (f0, (f1, (f2, (f3, (f4, f5))))),
       glue (words.number v0) tokens t0 _ e0 (
           glue (words.number v1) t0 t1 _ e1 (
@@ -201,7 +211,8 @@ aux_item_from tokens tail of is =
     on number_is t4 _ of tail r4 (λ v5 t5 f5 e5 r5.
     on text_is t5 _ of tail r5 (λ v6 t6 f6 e6 r6.
     let same = took_same _ of t6 tail r6 in
-    subst (λ (of : AuxRow). IsAuxItem of × (tokens ≡ tokens_of_words (items.aux_item of) ++ tail)) same.0 (
+    let Told : AuxRow → Type 0 = λ of. IsAuxItem of × (tokens ≡ tokens_of_words (items.aux_item of) ++ tail) in
+    subst Told same.0 (
       (f0, (f1, (f2, (f3, (f4, (f5, f6)))))),
       glue (words.number v0) tokens t0 _ e0 (
           glue (words.number v1) t0 t1 _ e1 (
@@ -232,7 +243,8 @@ member_from tokens tail of is =
     on time_is t1 _ of tail r1 (λ v2 t2 f2 e2 r2.
     on bits_8_is t2 _ of tail r2 (λ v3 t3 f3 e3 r3.
     let same = took_same _ of t3 tail r3 in
-    subst (λ (of : Member). IsMember of × (tokens ≡ tokens_of_words (memberships.member of) ++ tail)) same.0 (
+    let Told : Member → Type 0 = λ of. IsMember of × (tokens ≡ tokens_of_words (memberships.member of) ++ tail) in
+    subst Told same.0 (
       (f0, (f1, (f2, f3))),
       glue (words.number v0) tokens t0 _ e0 (
           glue (words.number v1) t0 t1 _ e1 (

@@ -13,10 +13,13 @@ use Rattle.kom_types.specs.spellings.Words.{Words}
 use Rattle.kom_types.specs.Token.{Token}
 use Rattle.kom_types.specs.calls.Arguments.{Taken, Took}
 use Rattle.kom_records.specs.Fits.{IsNumber, IsMiscInfo, IsTextStat, IsBlock, IsMapping, IsLocalText, AreFit}
-use Rattle.kom_records.specs.Records.{misc_info, misc_by, text_stat, block, block_by, dense, mapping, local_text}
+use Rattle.kom_records.specs.Links.{misc_by}
+use Rattle.kom_records.specs.Times.{time}
+use Rattle.kom_records.specs.Records.{misc_info, text_stat, block, block_by, dense, mapping, local_text}
 use Rattle.kom_records.specs.Rules.{number, array, made}
 use Rattle.kom_records.specs.Words.{tokens_of_words}
-use Rattle.kom_records.proofs.Spelled.{IsSpelled, on, onward, glue, split, took_same, made_is, branch, yes, not}
+use Rattle.kom_records.proofs.Choices.{choose}
+use Rattle.kom_records.proofs.Spelled.{IsSpelled, on, onward, glue, split, took_same, made_is, Branch, branch, yes, not}
 use Rattle.kom_records.proofs.Spelled.{departs_not}
 use Rattle.kom_records.proofs.Values.{number_is, flag_is}
 use Rattle.kom_records.proofs.Moments.{time_is}
@@ -47,51 +50,29 @@ module _ {X : Type 0} {reads : List Token → Taken X} {spells : X → Words} {I
 linked_from : (tag : ℕ) (mid tail : List Token) (of : MiscInfo) → misc_by tag mid ≡ Took of tail →
     Linked tag mid of tail
 linked_from tag mid tail of is =
-    elim (branch tag 0 _ _ _ is) [
-      | yes same taken ↦ linked number_is misc.Recipient 0 (λ _ fits. fits) (λ _. refl) tag mid tail of same taken
-      | not r0 ↦
-          elim (branch tag 1 _ _ _ r0) [
-            | yes same taken ↦ linked number_is misc.CopyRecipient 1 (λ _ fits. fits) (λ _. refl) tag mid tail of same taken
-            | not r1 ↦
-                elim (branch tag 2 _ _ _ r1) [
-                  | yes same taken ↦ linked number_is misc.CommentTo 2 (λ _ fits. fits) (λ _. refl) tag mid tail of same taken
-                  | not r2 ↦
-                      elim (branch tag 3 _ _ _ r2) [
-                        | yes same taken ↦ linked number_is misc.CommentIn 3 (λ _ fits. fits) (λ _. refl) tag mid tail of same taken
-                        | not r3 ↦
-                            elim (branch tag 4 _ _ _ r3) [
-                              | yes same taken ↦ linked number_is misc.FootnoteTo 4 (λ _ fits. fits) (λ _. refl) tag mid tail of same taken
-                              | not r4 ↦
-                                  elim (branch tag 5 _ _ _ r4) [
-                                    | yes same taken ↦ linked number_is misc.FootnoteIn 5 (λ _ fits. fits) (λ _. refl) tag mid tail of same taken
-                                    | not r5 ↦
-                                        elim (branch tag 6 _ _ _ r5) [
-                                          | yes same taken ↦ linked number_is misc.Local 6 (λ _ fits. fits) (λ _. refl) tag mid tail of same taken
-                                          | not r6 ↦
-                                              elim (branch tag 7 _ _ _ r6) [
-                                                | yes same taken ↦ linked time_is misc.Received 7 (λ _ fits. fits) (λ _. refl) tag mid tail of same taken
-                                                | not r7 ↦
-                                                    elim (branch tag 8 _ _ _ r7) [
-                                                      | yes same taken ↦ linked number_is misc.SentBy 8 (λ _ fits. fits) (λ _. refl) tag mid tail of same taken
-                                                      | not r8 ↦
-                                                          elim (branch tag 9 _ _ _ r8) [
-                                                            | yes same taken ↦ linked time_is misc.SentAt 9 (λ _ fits. fits) (λ _. refl) tag mid tail of same taken
-                                                            | not r9 ↦
-                                                                elim (branch tag 15 _ _ _ r9) [
-                                                                  | yes same taken ↦ linked number_is misc.BlindRecipient 15 (λ _ fits. fits) (λ _. refl) tag mid tail of same taken
-                                                                  | not r10 ↦
-                                                                      absurd (departs_not r10)
-                                                                ]
-                                                          ]
-                                                    ]
-                                              ]
-                                        ]
-                                  ]
-                            ]
-                      ]
-                ]
-          ]
-    ]
+    choose tag 0 _ _ _ is
+    (linked number_is misc.Recipient 0 (λ _ fits. fits) (λ _. refl) tag mid tail of) (λ r0.
+    choose tag 1 _ _ _ r0
+    (linked number_is misc.CopyRecipient 1 (λ _ fits. fits) (λ _. refl) tag mid tail of) (λ r1.
+    choose tag 2 _ _ _ r1
+    (linked number_is misc.CommentTo 2 (λ _ fits. fits) (λ _. refl) tag mid tail of) (λ r2.
+    choose tag 3 _ _ _ r2
+    (linked number_is misc.CommentIn 3 (λ _ fits. fits) (λ _. refl) tag mid tail of) (λ r3.
+    choose tag 4 _ _ _ r3
+    (linked number_is misc.FootnoteTo 4 (λ _ fits. fits) (λ _. refl) tag mid tail of) (λ r4.
+    choose tag 5 _ _ _ r4
+    (linked number_is misc.FootnoteIn 5 (λ _ fits. fits) (λ _. refl) tag mid tail of) (λ r5.
+    choose tag 6 _ _ _ r5
+    (linked number_is misc.Local 6 (λ _ fits. fits) (λ _. refl) tag mid tail of) (λ r6.
+    choose tag 7 _ _ _ r6
+    (linked time_is misc.Received 7 (λ _ fits. fits) (λ _. refl) tag mid tail of) (λ r7.
+    choose tag 8 _ _ _ r7
+    (linked number_is misc.SentBy 8 (λ _ fits. fits) (λ _. refl) tag mid tail of) (λ r8.
+    choose tag 9 _ _ _ r8
+    (linked time_is misc.SentAt 9 (λ _ fits. fits) (λ _. refl) tag mid tail of) (λ r9.
+    choose tag 15 _ _ _ r9
+    (linked number_is misc.BlindRecipient 15 (λ _ fits. fits) (λ _. refl) tag mid tail of) (λ r10.
+    absurd (departs_not r10))))))))))))
 
 misc_info_from : (tokens tail : List Token) (of : MiscInfo) → misc_info tokens ≡ Took of tail →
     IsMiscInfo of × (tokens ≡ tokens_of_words (texts.misc_info of) ++ tail)
@@ -159,7 +140,8 @@ text_stat_from tokens tail of is =
     on misc_infos_is t4 _ of tail r4 (λ v5 t5 f5 e5 r5.
     on aux_items_is t5 _ of tail r5 (λ v6 t6 f6 e6 r6.
     let same = took_same _ of t6 tail r6 in
-    subst (λ (of : TextStat). IsTextStat of × (tokens ≡ tokens_of_words (texts.text_stat of) ++ tail)) same.0 (
+    let Told : TextStat → Type 0 = λ of. IsTextStat of × (tokens ≡ tokens_of_words (texts.text_stat of) ++ tail) in
+    subst Told same.0 (
       (f0, (f1, (f2, (f3, (f4, (f5, f6)))))),
       glue (words.time v0) tokens t0 _ e0 (
           glue (words.number v1) t0 t1 _ e1 (
@@ -221,10 +203,11 @@ blocked_from : (which : ℕ) (mid tail : List Token) (of : Block) → block_by w
 blocked_from which mid tail of is =
     elim (branch which 0 _ _ _ is) [
       | yes same taken ↦ sparse_from which mid tail of same taken
-      | not r0 ↦ elim (branch which 1 _ _ _ r0) [
-        | yes same taken ↦ dense_from which mid tail of same taken
-        | not r1 ↦ absurd (departs_not r1)
-      ]
+      | not r0 ↦
+          elim (branch which 1 _ _ _ r0) [
+            | yes same taken ↦ dense_from which mid tail of same taken
+            | not r1 ↦ absurd (departs_not r1)
+          ]
     ]
 
 block_from : (tokens tail : List Token) (of : Block) → block tokens ≡ Took of tail →
@@ -253,7 +236,8 @@ mapping_from tokens tail of is =
     on flag_is t1 _ of tail r1 (λ v2 t2 f2 e2 r2.
     on block_is t2 _ of tail r2 (λ v3 t3 f3 e3 r3.
     let same = took_same _ of t3 tail r3 in
-    subst (λ (of : Mapping). IsMapping of × (tokens ≡ tokens_of_words (texts.mapping of) ++ tail)) same.0 (
+    let Told : Mapping → Type 0 = λ of. IsMapping of × (tokens ≡ tokens_of_words (texts.mapping of) ++ tail) in
+    subst Told same.0 (
       (f0, (f1, f3)),
       glue (words.number v0) tokens t0 _ e0 (
           glue (words.number v1) t0 t1 _ e1 (

@@ -54,7 +54,7 @@ digit_kind : (byte : ℕ) → is_digit byte ≡ true → kind_of byte ≡ kind.D
 digit_kind byte is = grind (arith, nat_tests)
 
 -- a run of digits before another byte
-run_cut : (digit : ℕ) (digits : List ℕ) (stop : ℕ) (more : List ℕ) → list_all is_digit (digit ∷ digits) ≡ true →
+pub run_cut : (digit : ℕ) (digits : List ℕ) (stop : ℕ) (more : List ℕ) → list_all is_digit (digit ∷ digits) ≡ true →
     is_digit stop ≡ false → cut_of (digit ∷ (digits ++ stop ∷ more)) ≡ run_at (digit ∷ digits) (stop ∷ more)
 run_cut digit digits stop more are ends =
     let both = parts (is_digit digit) (list_all is_digit digits) are in
@@ -64,7 +64,7 @@ run_cut digit digits stop more are ends =
     ∙ ap (λ tail. run_at (digit ∷ digits) tail) (digits_dropped digits stop more both.1 ends)
 
 -- a word of digits
-digits_word : (digits : List ℕ) → list_all is_digit digits ≡ true → 0 < length digits → length digits ≤ 16 →
+pub digits_word : (digits : List ℕ) → list_all is_digit digits ≡ true → 0 < length digits → length digits ≤ 16 →
     token_of_word digits ≡ Digits digits
 unfolding token_of_word
 digits_word [] are some short = absurd (omega arith)
@@ -147,12 +147,16 @@ text_run digits bytes more integer long =
     let cut : List ℕ → List ℕ → Form Cut = λ text tail. Whole (record { token = Text text; tail = tail }) in
     ap (λ (test : Bool). elim test [ true ↦ string_at (number_of digits) all | false ↦ Unfit ]) integer
     ∙ ap (λ count. string_at count all) long
-    ∙ ap (λ (test : Bool). elim test [ true ↦ cut (take (length bytes) all) (drop (length bytes) all) | false ↦ Prefix ])
+    ∙ ap (λ (test : Bool). elim test [
+      | true ↦ cut (take (length bytes) all)
+          (drop (length bytes) all)
+      | false ↦ Prefix
+    ])
     fits
     ∙ ap (λ text. cut text (drop (length bytes) all)) (take-append_seam bytes more)
     ∙ ap (cut bytes) (drop-append_seam bytes more)
 
-text_cut : (digits : List ℕ) (bytes more : List ℕ) → list_all is_digit digits ≡ true → 0 < length digits →
+pub text_cut : (digits : List ℕ) (bytes more : List ℕ) → list_all is_digit digits ≡ true → 0 < length digits →
     is_integer digits ≡ true → number_of digits ≡ length bytes →
     cut_of (digits ++ 72 ∷ (bytes ++ more)) ≡ Whole (record { token = Text bytes; tail = more })
 text_cut [] bytes more are some integer long = absurd (omega arith)
@@ -168,20 +172,28 @@ word_text bytes within =
     (decimal_some (length bytes) (omega arith)) (is_integer-decimal (length bytes) within)
     (number_of_decimal (length bytes) (omega arith)))
 
--- a sign and a number
+-- a sign and a number before another byte
+pub signed_run : (sign n stop : ℕ) (more : List ℕ) → n < 2 ^ 32 → is_digit stop ≡ false →
+    signed_run_at sign (take_while is_digit (decimal n ++ stop ∷ more))
+    (drop_while is_digit (decimal n ++ stop ∷ more))
+    ≡ Whole (record { token = Signed sign (decimal n); tail = stop ∷ more })
+signed_run sign n stop more within ends =
+    let digits = decimal n in
+    let are = decimal_digits n (omega arith) in
+    let from : nat_le 1 (length digits) ≡ true =
+    grind (arith, nat_tests, decimal_some n (omega arith)) in
+    let to : nat_le (length digits) 16 ≡ true =
+    grind (arith, nat_tests, decimal_short n within) in
+    let cut : Cut = record { token = Signed sign digits; tail = stop ∷ more } in
+    ap (λ run. signed_run_at sign run (drop_while is_digit (digits ++ stop ∷ more)))
+    (digits_taken digits stop more are ends)
+    ∙ ap (λ tail. signed_run_at sign digits tail) (digits_dropped digits stop more are ends)
+    ∙ ap (λ (test : Bool). elim test [ true ↦ Whole cut | false ↦ Unfit ]) (joins _ _ from to)
+
 signed_cut : (sign n : ℕ) → n < 2 ^ 32 →
     token_cut (signed_run_at sign (take_while is_digit (decimal n ++ 10 ∷ []))
     (drop_while is_digit (decimal n ++ 10 ∷ []))) ≡ Signed sign (decimal n)
-signed_cut sign n within =
-    let digits = decimal n in
-    let are = decimal_digits n (omega arith) in
-    let from : nat_le 1 (length digits) ≡ true = grind (arith, nat_tests, decimal_some n (omega arith)) in
-    let to : nat_le (length digits) 16 ≡ true = grind (arith, nat_tests, decimal_short n within) in
-    let cut : Cut = record { token = Signed sign digits; tail = 10 ∷ [] } in
-    ap (λ run. token_cut (signed_run_at sign run (drop_while is_digit (digits ++ 10 ∷ []))))
-    (digits_taken digits 10 [] are refl)
-    ∙ ap (λ tail. token_cut (signed_run_at sign digits tail)) (digits_dropped digits 10 [] are refl)
-    ∙ ap (λ (test : Bool). token_cut (elim test [ true ↦ Whole cut | false ↦ Unfit ])) (joins _ _ from to)
+signed_cut sign n within = ap token_cut (signed_run sign n 10 [] within refl)
 
 -- `=`, `%` and `:`
 pub word_good : (n : ℕ) → n < 2 ^ 32 → token_of_word (61 ∷ decimal n) ≡ Signed 61 (decimal n)

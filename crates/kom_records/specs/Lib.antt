@@ -1,8 +1,12 @@
 pub mod Words
 pub mod Rules
 pub mod Times
+pub mod Links
 pub mod Records
+pub mod Arguments
+pub mod ByNumber
 pub mod Telling
 pub mod Fits
 pub mod Replies
 pub mod Messages
+pub mod Printed

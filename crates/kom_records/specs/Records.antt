@@ -17,39 +17,12 @@ use Rattle.kom_types.specs.declared.texts.LocalText.{LocalText}
 use Rattle.kom_types.specs.declared.texts.Mapping.{Mapping}
 use Rattle.kom_types.specs.declared.texts.Mark.{Mark}
 use Rattle.kom_types.specs.declared.texts.MiscInfo.{MiscInfo}
-use Rattle.kom_types.specs.declared.texts.MiscInfo.TheVariants as misc
 use Rattle.kom_types.specs.declared.texts.TextStat.{TextStat}
 use Rattle.kom_types.specs.Token.{Token, Digits, Text, Open, Close, Star, Signed}
 use Rattle.kom_types.specs.calls.Arguments.{Taken, Took, Departs, Malformed, then, bits}
-use Rattle.kom_records.specs.Rules.{number, byte, flag, text, first_bits, taken_of, array, array_of, made}
-use Rattle.kom_records.specs.Times.{moment_of}
-use Rattle.kom_records.specs.declared.times.TimeParts.{TimeParts}
-
--- the nine numbers of a calendar time
-abbrev pub time_parts : List Token → Taken TimeParts
-time_parts tokens =
-    then (number tokens) (λ seconds t.
-    then (number t) (λ minutes t.
-    then (number t) (λ hours t.
-    then (number t) (λ day t.
-    then (number t) (λ month t.
-    then (number t) (λ year t.
-    then (number t) (λ weekday t.
-    then (number t) (λ yearday t.
-    then (number t) (λ summer. Took (record {
-      seconds = seconds;
-      minutes = minutes;
-      hours = hours;
-      day = day;
-      month = month;
-      year = year;
-      weekday = weekday;
-      yearday = yearday;
-      summer = summer;
-    }))))))))))
-
-abbrev pub time : List Token → Taken ℕ
-time tokens = then (time_parts tokens) (λ parts. taken_of (moment_of parts))
+use Rattle.kom_records.specs.Rules.{number, byte, flag, text, first_bits, array, array_of, made}
+use Rattle.kom_records.specs.Links.{misc_by}
+use Rattle.kom_records.specs.Times.{time}
 
 abbrev pub aux_item : List Token → Taken AuxRow
 aux_item tokens =
@@ -83,55 +56,6 @@ abbrev pub read_range : List Token → Taken ReadRange
 read_range tokens =
     then (number tokens) (λ first t.
     then (number t) (λ last. Took (record { first = first; last = last })))
-
--- a link of a text, by its tag
-abbrev pub misc_by : ℕ → List Token → Taken MiscInfo
-misc_by tag t =
-    elim (tag == 0) [
-      | true ↦ made misc.Recipient (number t)
-      | false ↦
-          elim (tag == 1) [
-            | true ↦ made misc.CopyRecipient (number t)
-            | false ↦
-                elim (tag == 2) [
-                  | true ↦ made misc.CommentTo (number t)
-                  | false ↦
-                      elim (tag == 3) [
-                        | true ↦ made misc.CommentIn (number t)
-                        | false ↦
-                            elim (tag == 4) [
-                              | true ↦ made misc.FootnoteTo (number t)
-                              | false ↦
-                                  elim (tag == 5) [
-                                    | true ↦ made misc.FootnoteIn (number t)
-                                    | false ↦
-                                        elim (tag == 6) [
-                                          | true ↦ made misc.Local (number t)
-                                          | false ↦
-                                              elim (tag == 7) [
-                                                | true ↦ made misc.Received (time t)
-                                                | false ↦
-                                                    elim (tag == 8) [
-                                                      | true ↦ made misc.SentBy (number t)
-                                                      | false ↦
-                                                          elim (tag == 9) [
-                                                            | true ↦ made misc.SentAt (time t)
-                                                            | false ↦
-                                                                elim (tag == 15) [
-                                                                  | true ↦ made misc.BlindRecipient (number t)
-                                                                  | false ↦
-                                                                      Departs Malformed
-                                                                ]
-                                                          ]
-                                                    ]
-                                              ]
-                                        ]
-                                  ]
-                            ]
-                      ]
-                ]
-          ]
-    ]
 
 abbrev pub misc_info : List Token → Taken MiscInfo
 misc_info tokens = then (number tokens) misc_by

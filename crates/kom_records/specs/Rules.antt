@@ -5,7 +5,8 @@ use Rattle.std.specs.Prelude.{List, [], ◌∷◌, Option, Some, None}
 use Rattle.std.specs.Fmt.{decimal}
 use Rattle.kom_types.specs.Token.{Token, Digits, Text, Open, Close, Star, Signed}
 use Rattle.kom_types.specs.Token.{number_of, is_integer}
-use Rattle.kom_types.specs.calls.Arguments.{Taken, Took, Departs, Malformed, then, bits, elements, string}
+use Rattle.kom_types.specs.calls.Arguments.{Taken, Took, Departs, Malformed, then, bits, elements}
+use Rattle.kom_types.specs.calls.Arguments.{string}
 use Rattle.kom_types.specs.calls.Arguments.{closed, is_binary, bits_of}
 use Rattle.kom_records.specs.declared.tokens.Head.{Head}
 

@@ -1,10 +1,14 @@
--- The moment that a calendar time tells. (Protocol A, "Time".)
+-- How a time is read, and the moment that it tells. (Protocol A, "Time".)
 use Rattle.std.specs.Prelude.{ℕ, zero, suc, ◌+◌, ◌-◌, ◌*◌, Bool, true, false, ◌==◌, ◌&&◌, nat_le}
 use Rattle.std.specs.Prelude.{Option, Some, None}
+use Rattle.std.specs.Prelude.{List}
 use Rattle.kom_types.specs.declared.limits.TheConstants.{LAST_MOMENT}
 use Rattle.kom_types.specs.declared.times.Time.{Time}
 use Rattle.kom_types.specs.Times.{days_of_year, time_of}
+use Rattle.kom_types.specs.Token.{Token}
+use Rattle.kom_types.specs.calls.Arguments.{Taken, Took, then}
 use Rattle.kom_records.specs.declared.times.TimeParts.{TimeParts}
+use Rattle.kom_records.specs.Rules.{number, taken_of}
 
 -- the days of so many years from this one on
 unfoldable pub days_of_years : ℕ → ℕ → ℕ
@@ -36,3 +40,29 @@ moment_of parts = elim (nat_le 70 parts.year && nat_le parts.year 8099) [
   ]
   | false ↦ None
 ]
+
+-- the nine numbers of a calendar time
+abbrev pub time_parts : List Token → Taken TimeParts
+time_parts tokens =
+    then (number tokens) (λ seconds t.
+    then (number t) (λ minutes t.
+    then (number t) (λ hours t.
+    then (number t) (λ day t.
+    then (number t) (λ month t.
+    then (number t) (λ year t.
+    then (number t) (λ weekday t.
+    then (number t) (λ yearday t.
+    then (number t) (λ summer. Took (record {
+      seconds = seconds;
+      minutes = minutes;
+      hours = hours;
+      day = day;
+      month = month;
+      year = year;
+      weekday = weekday;
+      yearday = yearday;
+      summer = summer;
+    }))))))))))
+
+abbrev pub time : List Token → Taken ℕ
+time tokens = then (time_parts tokens) (λ parts. taken_of (moment_of parts))

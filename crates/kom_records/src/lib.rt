@@ -5,6 +5,7 @@ mod arrays;
 mod conferences;
 mod elements;
 mod fault;
+mod laws;
 mod memberships;
 mod messages;
 mod numbers;
@@ -14,5 +15,6 @@ mod times;
 mod tokens;
 
 pub use fault::ReadFault;
+pub use laws::{printed_messages_are_read, printed_replies_are_read};
 pub use messages::read_message;
 pub use replies::{ResultKind, read_reply};

@@ -1,9 +1,10 @@
 ghost use Rattle.std.specs.Prelude.{◌≡◌, true};
 ghost use Rattle.kom_records.specs.Telling.{Tells};
 ghost use Rattle.kom_records.specs.Replies.{ReadsOnly};
-ghost use Rattle.kom_records.specs.Messages.{IsMessageLine, one_argument, two_arguments};
-ghost use Rattle.kom_records.specs.Messages.{three_arguments, arguments_of, message_line, new_name};
-ghost use Rattle.kom_records.specs.Messages.{sent, aux_changed};
+ghost use Rattle.kom_records.specs.Arguments.{new_name, sent, aux_changed};
+ghost use Rattle.kom_records.specs.ByNumber.{one_argument, two_arguments, three_arguments};
+ghost use Rattle.kom_records.specs.ByNumber.{arguments_of};
+ghost use Rattle.kom_records.specs.Messages.{IsMessageLine, message_line};
 
 use crate::fault::ReadFault;
 use crate::tokens::Tokens;

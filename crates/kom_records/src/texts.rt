@@ -1,4 +1,5 @@
 ghost use Rattle.std.specs.Prelude.{◌≡◌, true};
+ghost use Rattle.kom_records.specs.Links.{misc_by};
 ghost use Rattle.kom_records.specs.Records as records;
 ghost use Rattle.kom_records.specs.Telling.{Tells};
 
@@ -19,7 +20,7 @@ impl Element for MiscInfo {
 impl Tokens<'_> {
     /// Takes the value of a link with this tag.
     fn misc_by(&mut self, tag: u32) -> Result<MiscInfo, ReadFault>
-        ensures { Tells true (records.misc_by tag self.old) result self.new }
+        ensures { Tells true (misc_by tag self.old) result self.new }
     {
         match tag {
             0 => Ok(MiscInfo::Recipient(self.number()?)),
