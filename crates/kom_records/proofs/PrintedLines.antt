@@ -1,14 +1,13 @@
 -- A printed line has the tokens of its words.
-use Rattle.std.proofs.Common.{◌≡◌, ℕ, zero, suc, ◌+◌, ◌/◌, ◌^◌, ◌<◌, ◌≤◌, ◌==◌, ◌||◌, Bool, true, false, List, []}
+use Rattle.std.proofs.Common.{◌≡◌, ℕ, zero, suc, ◌+◌, ◌^◌, ◌<◌, ◌≤◌, ◌==◌, Bool, true, false, List, []}
 use Rattle.std.proofs.Common.{◌∷◌, ◌++◌}
 use Rattle.std.specs.Prelude.{nat_le}
 use Rattle.std.specs.List.{take_while}
-use Rattle.std.proofs.Common.{◌&&◌, length, refl, sym, ap, subst, ◌∙◌, arith, append_assoc, length-append}
+use Rattle.std.proofs.Common.{◌&&◌, length, refl, sym, ap, ◌∙◌, arith, append_assoc, length-append}
 use Rattle.std.specs.Fmt.{decimal}
 use Rattle.std.specs.List.{All, flat_map, join_with_byte, list_all}
 use Rattle.std.proofs.lemmas.Bool.Decides.{nat_tests}
-use Rattle.kom_types.specs.ByteKind.{is_blank, is_digit, kind_of}
-use Rattle.kom_types.specs.declared.byte_kind.ByteKind.TheVariants as kind
+use Rattle.kom_types.specs.ByteKind.{is_blank, is_digit}
 use Rattle.kom_types.specs.declared.side.Side.TheVariants as side
 use Rattle.kom_types.specs.Grammar.{Form, Prefix, Whole, Unfit, Cut, drop_while, token_at, may_follow, ended}
 use Rattle.kom_types.specs.Grammar.{with_token}

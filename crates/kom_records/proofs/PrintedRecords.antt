@@ -1,6 +1,6 @@
 -- Each word of a printed reply or message is one token.
-use Rattle.std.proofs.Common.{◌≡◌, ℕ, zero, suc, ◌/◌, ◌⊎◌, Bool, true, false, List, [], ◌∷◌, ◌++◌, refl, sym, ap}
-use Rattle.std.proofs.Common.{subst, ◌∙◌}
+use Rattle.std.proofs.Common.{◌≡◌, ℕ, zero, suc, ◌/◌, Bool, true, false, List, ◌∷◌, refl, sym}
+use Rattle.std.proofs.Common.{subst}
 use Rattle.std.proofs.Common.{arith, inl, inr}
 use Rattle.std.proofs.Common.{◌^◌, ◌<◌}
 use Rattle.std.specs.Fmt.{decimal}
@@ -51,7 +51,7 @@ use Rattle.kom_records.specs.Messages.{IsMessage, IsMessageLine}
 use Rattle.kom_records.specs.Replies.{IsResult, IsReply, IsReplyLine, IsMadeOf}
 use Rattle.kom_records.specs.Printed.{IsSplit}
 use Rattle.kom_records.specs.Words.{tokens_of_words}
-use Rattle.kom_records.proofs.Moments.{parts_of, AreParts, parts_words, parts_fit, words_of_moment}
+use Rattle.kom_records.proofs.Moments.{parts_of, parts_fit, words_of_moment}
 use Rattle.kom_records.proofs.PrintedLines.{AreOne, ◌⊕◌, one_number, one_bits, one_text, one_array, one_star, one_good}
 use Rattle.kom_records.proofs.PrintedLines.{one_refusal, one_message, line_form-words}
 

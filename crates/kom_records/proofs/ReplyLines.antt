@@ -23,7 +23,7 @@ use Rattle.kom_records.specs.declared.tokens.Head.{Head}
 use Rattle.kom_records.specs.Fits.{IsNumber, IsMark, IsConferenceName, IsMembership, IsMember, IsDynamicSession, AreFit}
 use Rattle.kom_records.specs.Records.{mark, conference_name, membership, member, dynamic_session}
 use Rattle.kom_records.specs.Replies.{IsMadeOf, IsResult, IsReply, IsReplyLine, ReadsOnly, result_of, refusal}
-use Rattle.kom_records.specs.Replies.{body_of, ended, reply_line}
+use Rattle.kom_records.specs.Replies.{reference_of, body_of, ended, reply_line}
 use Rattle.kom_records.specs.Rules.{head, head_of, number, number_told, array, made}
 use Rattle.kom_records.specs.Telling.{Tells}
 use Rattle.kom_records.specs.Words.{token_of_word, tokens_of_words}
@@ -264,3 +264,26 @@ reply_only which tokens rest result told =
     reads_only (reply_line which tokens) (IsReplyLine which tokens) result rest
     (λ read tail is. reply_from which tokens tail read is)
     (λ read is. ap (reply_line which) is.1 ∙ reply_back which read.0 read.1 is.0.0 is.0.1) told
+
+-- the reference of a line that spells a reply
+good_found : (reference : ℕ) (rest : List Token) → IsNumber reference →
+    reference_of (token_of_word (61 ∷ decimal reference) ∷ rest) ≡ Some reference
+good_found reference rest within =
+    ap (λ token. reference_of (token ∷ rest)) (word_good reference within) ∙ told_decimal reference within
+
+refusal_found : (reference : ℕ) (rest : List Token) → IsNumber reference →
+    reference_of (token_of_word (37 ∷ decimal reference) ∷ rest) ≡ Some reference
+refusal_found reference rest within =
+    ap (λ token. reference_of (token ∷ rest)) (word_refusal reference within) ∙ told_decimal reference within
+
+pub reference_found : (which : ResultKind) (tokens : List Token) (reference : ℕ) (body : Reply) →
+    IsReplyLine which tokens (reference, body) → reference_of tokens ≡ Some reference
+reference_found which tokens reference body is =
+    elim is.0.1 [
+      | inl refused ↦ ap reference_of is.1
+          ∙ ap (λ body. reference_of (tokens_of_words (words_of_reply reference body))) refused.1.1.1
+          ∙ refusal_found reference _ is.0.0
+      | inr good ↦ ap reference_of is.1
+          ∙ ap (λ all. reference_of (tokens_of_words all)) ((is_good which).good reference body good)
+          ∙ good_found reference _ is.0.0
+    ]

@@ -14,12 +14,11 @@ use Rattle.kom_types.specs.Token.{Token}
 use Rattle.kom_types.specs.calls.Arguments.{Taken, Took}
 use Rattle.kom_records.specs.Fits.{IsNumber, IsMiscInfo, IsTextStat, IsBlock, IsMapping, IsLocalText, AreFit}
 use Rattle.kom_records.specs.Links.{misc_by}
-use Rattle.kom_records.specs.Times.{time}
 use Rattle.kom_records.specs.Records.{misc_info, text_stat, block, block_by, dense, mapping, local_text}
 use Rattle.kom_records.specs.Rules.{number, array, made}
 use Rattle.kom_records.specs.Words.{tokens_of_words}
 use Rattle.kom_records.proofs.Choices.{choose}
-use Rattle.kom_records.proofs.Spelled.{IsSpelled, on, onward, glue, split, took_same, made_is, Branch, branch, yes, not}
+use Rattle.kom_records.proofs.Spelled.{IsSpelled, on, onward, glue, split, took_same, made_is, branch, yes, not}
 use Rattle.kom_records.proofs.Spelled.{departs_not}
 use Rattle.kom_records.proofs.Values.{number_is, flag_is}
 use Rattle.kom_records.proofs.Moments.{time_is}

@@ -1,5 +1,5 @@
 -- Messages.
-use Rattle.std.specs.Prelude.{◌≡◌, ℕ, ◌==◌, true, false, List}
+use Rattle.std.specs.Prelude.{◌≡◌, ◌==◌, true, false, List}
 use Rattle.kom_types.specs.declared.messages.Message.{Message}
 use Rattle.kom_types.specs.declared.messages.Message.TheVariants as message
 use Rattle.kom_types.specs.spellings.Messages.{words_of_message}

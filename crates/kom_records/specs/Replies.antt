@@ -1,9 +1,10 @@
 -- Replies, by what their calls have as a result.
+use Rattle.std.specs.Prelude.{◌||◌, Option, None}
 use Rattle.std.specs.Prelude.{◌≡◌, ℕ, ◌==◌, ◌⊎◌, true, false, List, [], ◌∷◌, Result, Ok, Err}
 use Rattle.kom_types.specs.declared.replies.Reply.{Reply}
 use Rattle.kom_types.specs.declared.replies.Reply.TheVariants as reply
 use Rattle.kom_types.specs.spellings.Replies.{words_of_reply}
-use Rattle.kom_types.specs.Token.{Token}
+use Rattle.kom_types.specs.Token.{Token, Digits, Text, Open, Close, Star, Signed}
 use Rattle.kom_types.specs.calls.Arguments.{Taken, Took, Departs, Malformed, then}
 use Rattle.kom_records.specs.declared.fault.ReadFault.{ReadFault}
 use Rattle.kom_records.specs.declared.fault.ReadFault.TheVariants as fault
@@ -12,7 +13,7 @@ use Rattle.kom_records.specs.declared.replies.ResultKind.TheVariants as kind
 use Rattle.kom_records.specs.Fits.{IsNumber, IsText, AreFit, IsMark, IsTextStat, IsMapping}
 use Rattle.kom_records.specs.Fits.{IsConference, IsUConference, IsConferenceName, IsPerson}
 use Rattle.kom_records.specs.Fits.{IsMembership, IsMember, IsDynamicSession}
-use Rattle.kom_records.specs.Rules.{head, number, text, array, made}
+use Rattle.kom_records.specs.Rules.{head, number, number_told, text, array, made}
 use Rattle.kom_records.specs.Records.{mark, text_stat, mapping, conference, uconference}
 use Rattle.kom_records.specs.Records.{conference_name, person, membership, member, dynamic_session}
 use Rattle.kom_records.specs.Words.{tokens_of_words}
@@ -99,3 +100,17 @@ abbrev pub reply_line : ResultKind → List Token → Taken (ℕ × Reply)
 reply_line which tokens =
     then (head tokens) (λ begun t.
     then (body_of which begun.sign t) (λ body. ended (begun.number, body)))
+
+-- the reference of a line that begins as a good reply or a refusal
+abbrev pub reference_by : ℕ → List ℕ → Option ℕ
+reference_by sign digits =
+    elim (sign == 61 || sign == 37) [ true ↦ number_told digits | false ↦ None ]
+
+abbrev pub reference_of : List Token → Option ℕ
+reference_of [] = None
+reference_of (Digits digits ∷ tokens) = None
+reference_of (Text bytes ∷ tokens) = None
+reference_of (Open ∷ tokens) = None
+reference_of (Close ∷ tokens) = None
+reference_of (Star ∷ tokens) = None
+reference_of (Signed sign digits ∷ tokens) = reference_by sign digits

@@ -1,13 +1,14 @@
-ghost use Rattle.std.specs.Prelude.{ℕ};
+ghost use Rattle.std.specs.Prelude.{◌≡◌, ℕ, List, Some};
 ghost use Rattle.kom_types.specs.declared.items.Item.TheVariants as item;
 ghost use Rattle.kom_types.specs.declared.messages.Message.{Message as MessageValue};
 ghost use Rattle.kom_types.specs.declared.replies.Reply.{Reply as ReplyValue};
 ghost use Rattle.kom_types.specs.Printing.{print_of};
+ghost use Rattle.kom_types.specs.Token.{Token};
 ghost use Rattle.kom_records.specs.declared.replies.ResultKind.{ResultKind as Kind};
 ghost use Rattle.kom_records.specs.Fits.{IsNumber};
 ghost use Rattle.kom_records.specs.Messages.{IsMessage, IsMessageLine};
 ghost use Rattle.kom_records.specs.Printed.{IsSplit};
-ghost use Rattle.kom_records.specs.Replies.{IsReply, IsReplyLine};
+ghost use Rattle.kom_records.specs.Replies.{IsReply, IsReplyLine, reference_of};
 
 /// One grammar: what a server prints of a reply is a line whose tokens are read as that reply.
 pub fn printed_replies_are_read()
@@ -21,4 +22,10 @@ pub fn printed_replies_are_read()
 pub fn printed_messages_are_read()
     ensures { (of : MessageValue) → IsMessage of
         → IsSplit (print_of (item.Message of)) (λ tokens. IsMessageLine tokens of) }
+{}
+
+/// A line that spells a reply begins with its reference.
+pub fn references_are_told()
+    ensures { (which : Kind) (tokens : List Token) (reference : ℕ) (body : ReplyValue)
+        → IsReplyLine which tokens (reference, body) → reference_of tokens ≡ Some reference }
 {}

@@ -15,6 +15,6 @@ mod times;
 mod tokens;
 
 pub use fault::ReadFault;
-pub use laws::{printed_messages_are_read, printed_replies_are_read};
+pub use laws::{printed_messages_are_read, printed_replies_are_read, references_are_told};
 pub use messages::read_message;
-pub use replies::{ResultKind, read_reply};
+pub use replies::{ResultKind, read_reply, reference_of};

@@ -1,11 +1,12 @@
 ghost use Rattle.std.specs.Prelude.{◌≡◌, true, false};
 ghost use Rattle.kom_records.specs.Telling.{Tells};
 ghost use Rattle.kom_records.specs.Replies.{IsReplyLine, ReadsOnly, result_of, refusal, body_of};
-ghost use Rattle.kom_records.specs.Replies.{reply_line};
+ghost use Rattle.kom_records.specs.Replies.{reply_line, reference_by, reference_of};
 
 use crate::fault::ReadFault;
+use crate::numbers::number_in;
 use crate::tokens::Tokens;
-use kom_framing::Line;
+use kom_framing::{Line, Token};
 use kom_types::Reply;
 use std::alloc::Global;
 
@@ -49,6 +50,30 @@ pub fn read_reply(alloc: Global, kind: ResultKind, line: &Line) -> Result<(u32, 
 {
     let mut tokens = Tokens::of(alloc, line);
     reply_line(kind, &mut tokens)
+}
+
+/// The reference of a line that begins as a reply does; a message and other lines have none.
+pub fn reference_of(line: &Line) -> Option<u32>
+    ensures { result ≡ reference_of line.now.tokens }
+{
+    if line.is_empty() {
+        return None;
+    }
+    match line.token(0) {
+        Token::Signed(sign, digits) => reference_by(sign, digits),
+        Token::Digits(_) | Token::Text(_) | Token::Open | Token::Close | Token::Star => None,
+    }
+}
+
+/// The number of these digits behind the sign of a good reply or a refusal.
+fn reference_by(sign: u8, digits: &[u8]) -> Option<u32>
+    ensures { result ≡ reference_by sign digits.now }
+{
+    if sign == b'=' || sign == b'%' {
+        number_in(digits)
+    } else {
+        None
+    }
 }
 
 /// Takes a reply, after which no token is left.
