@@ -1,0 +1,10 @@
+pub mod Shown
+pub mod Seated
+pub mod Leaving
+pub mod Steps
+pub mod Whole
+pub mod Within
+pub mod Timing
+pub mod Passing
+pub mod Crowding
+pub mod Standing

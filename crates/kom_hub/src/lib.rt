@@ -1,0 +1,18 @@
+//! Many links over one desk: a worker serves a crowd of guests in rounds, with one flush for all.
+#![tactic(auto)]
+
+mod crowd;
+mod guest;
+mod law;
+mod news;
+mod place;
+mod seat;
+
+pub use crowd::{
+    admit, ask_for, flush_for, give_up_at, is_over_at, leave, tell_all, tell_at, tell_some, turn_at,
+};
+pub use guest::{Converse, Guest, Turn};
+pub use law::{whole_steps, whole_talk};
+pub use news::News;
+pub use place::Place;
+pub use seat::Seat;

@@ -1,0 +1,54 @@
+ghost use Rattle.std.specs.Prelude.{◌≡◌, ◌++◌, ◌∷◌, []};
+ghost use Rattle.kom_links.specs.Answers.{said_stopped};
+ghost use Rattle.kom_links.specs.declared.deeds.Deed.TheVariants as deeds;
+
+use http_server::Log;
+use kom_links::{Deed, DeskFault};
+use kom_types::Why;
+
+/// What is kept of a seat between its turns: the session that was connected from it, 0 for none,
+/// and what was answered there, for clauses alone.
+#[derive(Drop)]
+pub struct Place {
+    pub session: u32,
+    pub answers: Log<Deed, Result<(), DeskFault>>,
+}
+
+impl Place {
+    /// A place from which no session was connected.
+    pub fn new() -> Place
+        ensures session { result.session ≡ 0 }
+        ensures answers { result.answers.items ≡ [] }
+    {
+        Place {
+            session: 0,
+            answers: Log::new(),
+        }
+    }
+
+    /// A deed was answered so.
+    pub(crate) fn tell(&mut self, deed: Deed, answer: Result<(), DeskFault>)
+        ensures { self.new ≡ record self.old {
+          answers = record self.old.answers {
+            items = self.old.answers.items ++ (deed, answer) ∷ [];
+          };
+        } }
+    {
+        self.answers = self.answers.and(&deed, &answer);
+    }
+
+    /// The question whether the desk is stopped was answered so: that it is counts as a fault.
+    pub(crate) fn asked(&mut self, answer: Result<bool, DeskFault>)
+        ensures { self.new ≡ record self.old {
+          answers = record self.old.answers {
+            items = self.old.answers.items ++ (deeds.Ask, said_stopped answer) ∷ [];
+          };
+        } }
+    {
+        match answer {
+            Ok(true) => self.tell(Deed::Ask, Err(DeskFault::Gone(Why::Stopped))),
+            Ok(false) => self.tell(Deed::Ask, Ok(())),
+            Err(fault) => self.tell(Deed::Ask, Err(fault)),
+        }
+    }
+}
