@@ -10,10 +10,10 @@ use Rattle.kom_links.specs.Answers.{Answer}
 use Rattle.kom_links.specs.DeskCalls.{DeskView, StaysForAll}
 use Rattle.kom_links.specs.Records.{has_session}
 use Rattle.kom_hub.specs.declared.place.Place.{Place}
-use Rattle.kom_hub.specs.Seats.{is_flush, is_shown, since, since_at, shown, seat_of, IsFlush, IsOfSeat, Leaves}
-use Rattle.kom_hub.specs.Passing.{Passes, IsSeatOf}
+use Rattle.kom_hub.specs.Seats.{is_flush, is_shown, since, since_at, shown, only, seat_of, IsFlush, IsOfSeat, Leaves}
+use Rattle.kom_hub.specs.Passing.{Passes, IsSeatOf, IsBlank}
 use Rattle.kom_hub.proofs.Shown.{since_present, shown_by, any_since}
-use Rattle.kom_hub.proofs.Seated.{present_more, absent_more, only_none, only_same, only_own, flush_more}
+use Rattle.kom_hub.proofs.Seated.{present_more, absent_more, only_none, only_nobody, only_same, only_own, flush_more}
 
 -- ---- what a seat shows of others' records
 
@@ -197,3 +197,12 @@ seat_is session records has = elim (cases_eq session 0) [
         none = λ zero. absurd (some zero);
       })
 ]
+
+-- the seat of nobody, at which nothing was answered, shows nothing
+pub blank : (session : ℕ) (answers : List Answer) (desk : DeskView) → session ≡ 0 → answers ≡ []
+    → IsBlank (seat_of session answers desk)
+blank session answers desk nobody nothing = record {
+  mine = ap (λ k. shown k desk.mine) nobody;
+  given = λ number. ap (λ k. only k [] desk.gave_to number) nobody ∙ only_nobody [] desk.gave_to number;
+  answers = nothing;
+}

@@ -109,6 +109,13 @@ module _ {T L : Type 0} (kept : T → DeskView → LinkView → Type 0)
       → (returned : Option (List (L × Served))) → Stands begun desk gave crowd returned
       → Stands begun desk' gave' crowd' returned
 
+  -- What was a crowd is one still, with the links that were given back meanwhile.
+  abbrev pub CarriesTo : DeskView → Option (List ℕ) → Slab (Box (Guest T L))
+      → Option (List (L × Served)) → DeskView → Option (List ℕ) → Slab (Box (Guest T L))
+      → Option (List (L × Served)) → Type 0
+  CarriesTo desk gave crowd returned desk' gave' crowd' returned' = (begun : Option (List ℕ))
+      → Stands begun desk gave crowd returned → Stands begun desk' gave' crowd' returned'
+
   -- What the close of a guest leaves: its link is in talk with what its seat shows.
   pub record IsClosed (before : DeskView) (gave : Option (List ℕ)) (one : Guest T L)
       (after : DeskView) (gave' : Option (List ℕ)) (back : L × Served) : Type 0 where

@@ -27,3 +27,9 @@ pub record IsSeatOf (session : ℕ) (records : List Record) : Type 0 where
   pub own : AllByRecursion (λ made. is_shown session made ≡ true) records
   pub has : session ≢ 0 → has_session session records ≡ true
   pub none : session ≡ 0 → records ≡ []
+
+-- A desk that shows nothing: no record was made, nothing given and nothing answered.
+pub record IsBlank (desk : DeskView) : Type 0 where
+  pub mine : desk.mine ≡ []
+  pub given : (number : ℕ) → desk.gave_to number ≡ []
+  pub answers : desk.answers ≡ []

@@ -1,15 +1,16 @@
 ghost use Rattle.std.specs.Prelude.{◌≡◌, ◌≢◌, ◌<◌, ℕ, ⊤, true, length};
 ghost use Rattle.kom_links.specs.declared.served.Served.{Served as ServedLink};
 ghost use Rattle.kom_links.specs.DeskCalls.{DeskView, Flushes, AsksStopped};
-ghost use Rattle.kom_links.specs.Outside.{LinkView};
+ghost use Rattle.kom_links.specs.Outside.{LinkView, IsFresh};
 ghost use Rattle.kom_hub.specs.Seats.{seat_view, Leaves};
-ghost use Rattle.kom_hub.specs.Passing.{Passes, IsTimed, IsSeatOf};
+ghost use Rattle.kom_hub.specs.Passing.{Passes, IsTimed, IsSeatOf, IsBlank};
 ghost use Rattle.kom_hub.specs.Crowds.{IsKept, IsGuest, IsClosed, IsTold, Heard};
 
 use crate::news::News;
 use crate::place::Place;
 use crate::seat::Seat;
 use kom_links::{Clock, Deed, Desk, DeskFault, Link, Served, SessionEnd};
+use std::alloc::Global;
 
 /// A conversation with a client, over any desk, link and clock. No step waits.
 pub trait Converse: Drop {
@@ -27,6 +28,11 @@ pub trait Converse: Drop {
 
     /// It is over.
     ghost done: { Self → Type 0 };
+
+    /// A conversation over a link on which nothing was done yet, and a desk that shows nothing.
+    fn begin<L: Link>(alloc: Global, link: &L) -> Self
+        ensures { (desk : DeskView) → IsBlank desk → IsFresh (L.view link.now)
+            → kept result desk (L.view link.now) };
 
     /// Writes what was kept, reads once if something may be there, and makes some calls.
     fn collect<K: Desk, L: Link, C: Clock>(
@@ -102,7 +108,8 @@ pub trait Converse: Drop {
 
     /// Memory ran out, or nothing can be waited for.
     fn give_up(&mut self)
-        ensures { (desk : DeskView) (link : LinkView) → kept self.old desk link
+        ensures over { done self.new }
+        ensures kept { (desk : DeskView) (link : LinkView) → kept self.old desk link
             → kept self.new desk link };
 
     /// Something may be there to be read.
@@ -151,6 +158,22 @@ pub enum Turn {
 }
 
 impl<T: Converse, L: Link> Guest<T, L> {
+    /// A guest at a link on which nothing was done yet, from whose seat nothing was connected.
+    pub fn new(alloc: Global, link: L) -> Guest<T, L>
+        requires { IsFresh (L.view link) }
+        ensures nobody { result.place.session ≡ 0 }
+        ensures kept { (desk : DeskView) → IsKept T.kept T.talks L.view desk result }
+    {
+        let talk = T::begin(alloc, &link);
+        Guest {
+            talk,
+            link,
+            place: Place::new(),
+            told: 0,
+            is_listed: false,
+        }
+    }
+
     /// It takes a turn at the desk, from its seat.
     pub fn take_turn<K: Desk, C: Clock>(
         &mut self,
@@ -243,11 +266,43 @@ impl<T: Converse, L: Link> Guest<T, L> {
         self.told = number;
     }
 
+    /// It is listed for the next round. Returns whether it was not yet.
+    pub(crate) fn list(&mut self) -> bool
+        ensures kept { (desk : DeskView) → IsGuest T.kept T.talks L.view desk self.old
+            → IsGuest T.kept T.talks L.view desk self.new }
+        ensures place { self.new.place ≡ self.old.place }
+    {
+        let is_new = !self.is_listed;
+        self.is_listed = true;
+        is_new
+    }
+
+    /// Something may be there to be read.
+    pub(crate) fn ready(&mut self)
+        ensures kept { (desk : DeskView) → IsGuest T.kept T.talks L.view desk self.old
+            → IsGuest T.kept T.talks L.view desk self.new }
+        ensures place { self.new.place ≡ self.old.place }
+    {
+        self.talk.be_ready();
+    }
+
+    /// Its turn is over. Returns whether it has one in the next round.
+    pub(crate) fn rest(&mut self) -> bool
+        ensures kept { (desk : DeskView) → IsGuest T.kept T.talks L.view desk self.old
+            → IsGuest T.kept T.talks L.view desk self.new }
+        ensures place { self.new.place ≡ self.old.place }
+    {
+        let has_more = self.talk.has_more();
+        self.is_listed = has_more;
+        has_more
+    }
+
     /// Memory ran out, or nothing can be waited for.
     pub fn give_up(&mut self)
         ensures kept { (desk : DeskView) → IsGuest T.kept T.talks L.view desk self.old
             → IsGuest T.kept T.talks L.view desk self.new }
         ensures place { self.new.place ≡ self.old.place }
+        ensures over { T.done self.new.talk }
     {
         self.talk.give_up();
     }

@@ -6,6 +6,7 @@ mod guest;
 mod law;
 mod news;
 mod place;
+mod rounds;
 mod seat;
 
 pub use crowd::{
@@ -15,4 +16,8 @@ pub use guest::{Converse, Guest, Turn};
 pub use law::{whole_steps, whole_talk};
 pub use news::News;
 pub use place::Place;
+pub use rounds::{
+    collect_some, give_up_all, list_all, list_at, list_silent, owe_flush, ready_at, session_at,
+    turn_some,
+};
 pub use seat::Seat;
