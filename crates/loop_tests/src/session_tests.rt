@@ -458,7 +458,7 @@ static STOPPED_AT: [Row; 16] = [
     Row {
         write_waits: 1,
         stops: 1,
-        made: Some(b"Cfddfdx"),
+        made: Some(b"Cfdfdx"),
         put: HELLO,
         end: SessionEnd::Stopped,
         ..ONE_BY_ONE
@@ -467,7 +467,7 @@ static STOPPED_AT: [Row; 16] = [
         write_waits: 2,
         most_written: 3,
         stops: 1,
-        made: Some(b"Cfddfdx"),
+        made: Some(b"Cfdfdx"),
         put: HELLO,
         end: SessionEnd::Stopped,
         ..ONE_BY_ONE
@@ -475,7 +475,7 @@ static STOPPED_AT: [Row; 16] = [
     Row {
         write_waits: 2,
         stops: 1,
-        made: Some(b"Cfddcfddfdx"),
+        made: Some(b"Cfddcfdfdx"),
         put: ANSWERS,
         end: SessionEnd::Stopped,
         ..ONE_BY_ONE
@@ -486,14 +486,14 @@ static STOPPED_AT: [Row; 16] = [
         most_drained: 1,
         idle_drain: 5,
         stops: 1,
-        made: Some(b"Ccfddfddx"),
+        made: Some(b"Ccfdfddx"),
         end: SessionEnd::Stopped,
         ..ONE_BY_ONE
     },
     Row {
         write_waits: 1,
         lock_ends: 1,
-        made: Some(b"Cfddfdx"),
+        made: Some(b"Cfdfdx"),
         put: HELLO,
         end: SessionEnd::Full(LOCK_FULL),
         ..ONE_BY_ONE
