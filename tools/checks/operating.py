@@ -298,12 +298,17 @@ def try_probe(tried):
     tried.same("a probe with other words", 3, tried.run(probe[0], "a", "b")[0])
 
 
+def hear_hangups():
+    """Whoever has this run on after a hangup (nohup) would have the server ignore it too."""
+    signal.signal(signal.SIGHUP, signal.SIG_DFL)
+
+
 def try_stops(tried):
     """Signals after an answer, and call 44."""
     store = tried.made("stopped")
     answered = {}
     for number in [signal.SIGHUP, signal.SIGINT, signal.SIGTERM, signal.SIGKILL]:
-        server = Server(tried.program, store, 2)
+        server = Server(tried.program, store, 2, begin=hear_hangups)
         session = login(server.port, 5, "")
         answered[int(session.ask(f"86 {string(number.name)} 0 {{ }} 0 {{ }}"))] = number.name
         server.process.send_signal(number)
