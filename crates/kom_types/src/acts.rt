@@ -1,9 +1,11 @@
+ghost use Rattle.std.specs.Prelude.{◌≡◌, ◌↔◌, IsTrue};
+
 use crate::calls::Call;
 use crate::lists::Bytes;
 use crate::times::Moment;
 
 /// What happens to the server: one atomic step.
-#[derive(Drop)]
+#[derive(PartialEq, Drop)]
 pub enum Act {
     /// A greeting was read: a session begins for this user at this host.
     Connect {
@@ -33,11 +35,20 @@ pub enum Act {
 }
 
 /// One act, with the number of the pass that made it and the moment that the pass's clock gave.
-#[derive(Drop)]
+#[derive(PartialEq, Drop)]
 pub struct Entry {
     pub pass: u32,
     pub moment: Moment,
     pub act: Act,
+}
+
+impl Entry {
+    /// Whether two entries are the same: by the same passes, at the same moments, with equal acts.
+    pub fn is_same(&self, other: &Entry) -> bool
+        ensures { IsTrue result ↔ (self.now ≡ other.now) }
+    {
+        *self == *other
+    }
 }
 
 /// An entry that was made, as the history keeps it.

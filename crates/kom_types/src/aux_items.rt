@@ -32,7 +32,7 @@ pub struct ItemRow {
 }
 
 /// An aux-item that is to be added. (Protocol A, "Auxiliary Information".)
-#[derive(Drop)]
+#[derive(PartialEq, Drop)]
 pub struct AuxInput {
     pub tag: u32,
     /// The eight bits of an item's flags.
@@ -45,7 +45,7 @@ pub struct AuxInput {
 pub type AuxInputs = Sequence<AuxInput>;
 
 /// A change of the aux-items of an object.
-#[derive(Drop)]
+#[derive(PartialEq, Drop)]
 pub struct AuxChange {
     /// The number of the text or the conference.
     pub object: u32,

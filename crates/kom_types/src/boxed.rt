@@ -16,6 +16,16 @@ impl<T> Model for Boxed<T> {
     ghost view = { λ boxed. boxed.place.value };
 }
 
+impl<T: PartialEq + Drop> PartialEq for Boxed<T> {
+    ghost eq = { T.eq };
+
+    ghost laws = { T.laws };
+
+    fn eq(&self, other: &Boxed<T>) -> bool {
+        *self.get() == *other.get()
+    }
+}
+
 impl<T: Drop> Boxed<T> {
     /// The value in a box of its own.
     pub fn new(alloc: Global, value: T) -> Result<Boxed<T>, Memory>

@@ -13,7 +13,7 @@ use crate::texts::NewText;
 
 /// What a client asks, with its arguments in the order of the protocol. Larger arguments stand in a
 /// box. (Protocol A, "Protocol Requests".)
-#[derive(Drop)]
+#[derive(PartialEq, Drop)]
 pub enum Call {
     /// Call 1: whoever is logged in is logged out.
     Logout,

@@ -91,7 +91,7 @@ pub struct ConferenceName {
 pub type ConferenceNames = Sequence<ConferenceName>;
 
 /// A conference that is to be made.
-#[derive(Drop)]
+#[derive(PartialEq, Drop)]
 pub struct NewConference {
     pub name: Bytes,
     /// The eight bits of a conference's type.

@@ -35,6 +35,20 @@ impl Model for LoginPassword {
     ghost invariant = { λ password. password.hash ≡ password_hash password.person password.bytes };
 }
 
+impl PartialEq for LoginPassword {
+    ghost use Rattle.std.specs.Prelude.{nat_eq};
+    ghost use Rattle.std.specs.Cmp.{nat_eq_equiv, partial_equiv_from_equiv};
+    ghost use Rattle.std.specs.Cmp.Lexicographic.{pointwise, lists_per};
+
+    ghost eq = { pointwise nat_eq };
+
+    ghost laws = { lists_per (partial_equiv_from_equiv nat_eq_equiv) };
+
+    fn eq(&self, other: &LoginPassword) -> bool {
+        self.as_slice() == other.as_slice()
+    }
+}
+
 impl LoginPassword {
     /// These bytes, hashed for the person who is to be logged in.
     pub fn of(person: u32, bytes: Bytes) -> LoginPassword

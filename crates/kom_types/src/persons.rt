@@ -61,7 +61,7 @@ pub struct PersonRow {
 }
 
 /// A person that is to be made.
-#[derive(Drop)]
+#[derive(PartialEq, Drop)]
 pub struct NewPerson {
     pub name: Bytes,
     pub password: Bytes,
@@ -71,7 +71,7 @@ pub struct NewPerson {
 }
 
 /// A person's new password.
-#[derive(Drop)]
+#[derive(PartialEq, Drop)]
 pub struct PasswordChange {
     pub person: u32,
     /// The password of the caller's person.

@@ -19,6 +19,18 @@ impl<T> Model for Sequence<T> {
     ghost view = { λ sequence. sequence.values.items };
 }
 
+impl<T: PartialEq + Drop> PartialEq for Sequence<T> {
+    ghost use Rattle.std.specs.Cmp.Lexicographic.{pointwise, lists_per};
+
+    ghost eq = { pointwise T.eq };
+
+    ghost laws = { lists_per T.laws };
+
+    fn eq(&self, other: &Sequence<T>) -> bool {
+        self.as_slice() == other.as_slice()
+    }
+}
+
 impl<T: Drop> Sequence<T> {
     /// The list without a value.
     pub fn new(alloc: Global) -> Sequence<T>

@@ -30,7 +30,7 @@ pub struct StaticSession {
 }
 
 /// What a client tells of itself.
-#[derive(Drop)]
+#[derive(PartialEq, Drop)]
 pub struct ClientVersion {
     pub name: Bytes,
     pub version: Bytes,

@@ -147,7 +147,7 @@ pub enum Block {
 }
 
 /// A text that is to be made.
-#[derive(Drop)]
+#[derive(PartialEq, Drop)]
 pub struct NewText {
     pub body: Bytes,
     pub misc_inputs: MiscInputs,

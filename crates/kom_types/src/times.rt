@@ -5,7 +5,7 @@ use jiff_core::civil::Date;
 use std::marker::Model;
 
 /// Seconds since the beginning of 1970 in UTC, at most 253402300799.
-#[derive(Debug)]
+#[derive(Debug, PartialEq, Eq)]
 pub struct Moment(pub u64);
 
 impl Model for Moment {
