@@ -10,7 +10,7 @@ mod items;
 mod needs;
 
 use crate::reserving::items::reserve_items;
-use crate::reserving::needs::reserve_needs;
+use crate::reserving::needs::{FEW, reserve_needs};
 use crate::stored_rows::StoredRows;
 use kom_types::{Effect, Memory};
 use memberships::Memberships;
@@ -108,7 +108,11 @@ fn push_needs(needs: &mut Vec<Need>, effect: &Effect) -> Result<(), Memory>
     ensures { IfOk result (λ done. needs.new.items ≡ needs.old.items ++ needs_of effect.now) }
 {
     match effect {
-        Effect::TextAdded { .. } => needs.push(Need::Text)?,
+        Effect::TextAdded { .. } => {
+            // Recipients and links mostly come with a text.
+            needs.reserve(FEW)?;
+            needs.push(Need::Text)?;
+        }
         Effect::RecipientAdded(given) => {
             needs.push(Need::Recipient)?;
             needs.push(Need::RecipientOf(given.text))?;

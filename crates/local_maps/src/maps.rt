@@ -1,5 +1,5 @@
 ghost use Rattle.std.specs.Prelude.{◌≡◌, ℕ, ◌+◌, ◌<◌, ◌≤◌, [], ◌∷◌, ◌++◌, length, option_copied};
-ghost use Rattle.std.specs.Prelude.{IfOk, IsOk, IsSome, OnErr, OnOk};
+ghost use Rattle.std.specs.Prelude.{IfOk, IsOk, None, OnErr, OnOk};
 ghost use Rattle.kom_types.specs.Mappings.{mapping_up, mapping_down};
 ghost use Rattle.local_maps.specs.Pairs.{AllBelow, IsRising, text_of, without};
 ghost use Rattle.local_maps.specs.Maps.{map_of, pairs_of, room_of, HasOnlyChanged};
@@ -95,9 +95,24 @@ impl LocalMaps {
         ensures room { room_of self.old owner ≤ room_of self.new owner + 1 }
         ensures others { HasOnlyChanged self.old self.new owner }
     {
-        self.begin(owner)?;
-        let map = self.maps.get_mut(&owner).unwrap();
-        map.append(local, text)
+        match self.maps.get_mut(&owner) {
+            Some(map) => map.append(local, text),
+            None => self.append_first(owner, local, text),
+        }
+    }
+
+    /// Adds the first text of an owner for whom no map is kept.
+    fn append_first(&mut self, owner: u32, local: u32, text: u32) -> Result<(), Memory>
+        requires { map_of self.old owner ≡ None }
+        ensures ok { OnOk result (pairs_of self.new owner
+            ≡ record { local = local; text = text } ∷ []) }
+        ensures err { OnErr result (pairs_of self.new owner ≡ pairs_of self.old owner) }
+        ensures others { HasOnlyChanged self.old self.new owner }
+    {
+        let mut map = LocalMap::new(self.alloc());
+        map.append(local, text)?;
+        self.maps.insert(owner, map)?;
+        Ok(())
     }
 
     /// Takes a local number of an owner out, and gives its text.
@@ -124,24 +139,22 @@ impl LocalMaps {
         if additional == 0 {
             return Ok(());
         }
-        self.begin(owner)?;
-        let map = self.maps.get_mut(&owner).unwrap();
-        map.reserve(additional)
+        match self.maps.get_mut(&owner) {
+            Some(map) => map.reserve(additional),
+            None => self.begin(owner, additional),
+        }
     }
 
-    /// Keeps a map for an owner from now on, even if it has no texts.
-    fn begin(&mut self, owner: u32) -> Result<(), Memory>
+    /// Keeps a map, with room for so many texts, for an owner for whom none is kept.
+    fn begin(&mut self, owner: u32, additional: usize) -> Result<(), Memory>
+        requires { map_of self.old owner ≡ None }
         ensures pairs { pairs_of self.new owner ≡ pairs_of self.old owner }
-        ensures ok { OnOk result (IsSome (map_of self.new owner)) }
-        ensures succeeds { IsSome (map_of self.old owner) → IsOk result }
-        ensures room { room_of self.old owner ≤ room_of self.new owner }
+        ensures ok { OnOk result (additional ≤ room_of self.new owner) }
         ensures others { HasOnlyChanged self.old self.new owner }
     {
-        if self.maps.contains_key(&owner) {
-            return Ok(());
-        }
-        let alloc = self.alloc();
-        self.maps.insert(owner, LocalMap::new(alloc))?;
+        let mut map = LocalMap::new(self.alloc());
+        map.reserve(additional)?;
+        self.maps.insert(owner, map)?;
         Ok(())
     }
 

@@ -1,5 +1,5 @@
 ghost use Rattle.std.specs.Prelude.{◌≡◌, ◌≤◌, ◌<◌, [], ◌∷◌, ◌++◌, None, length, find, slice_get};
-ghost use Rattle.std.specs.Prelude.{is_some, option_copied, IsOk, IfOk, OnOk, OnErr};
+ghost use Rattle.std.specs.Prelude.{is_some, option_copied, IfOk, OnOk, OnErr};
 ghost use Rattle.std.specs.Prelude.{filter_map, true, false};
 ghost use Rattle.kom_types.specs.tables.Texts.{link_of, links_from, links_into, without_link};
 ghost use Rattle.misc_links.specs.Keeping.{is_parent_at, is_child_at, link_at};
@@ -145,24 +145,8 @@ impl Links {
         links_at(&self.rows, &places, self.alloc)
     }
 
-    /// Adds a link after the others.
-    pub fn add(&mut self, link: TextLink) -> Result<(), Memory>
-        requires { link_of link.child link.parent link.footnote self.old.links ≡ None }
-        ensures ok { OnOk result (self.new.links ≡ self.old.links ++ link ∷ []) }
-        ensures err { OnErr result (self.new.links ≡ self.old.links) }
-        ensures succeeds { HasRoom self.old link.child link.parent link.footnote → IsOk result }
-        ensures room { UsesRoom self.old self.new link.child link.parent link.footnote }
-        ensures err_room { OnErr result (KeepsRoom self.old self.new) }
-    {
-        self.reserve(1)?;
-        self.reserve_from(link.child, link.footnote, 1)?;
-        self.reserve_into(link.parent, link.footnote, 1)?;
-        self.put(link);
-        Ok(())
-    }
-
     /// Adds a link after the others. Takes no memory.
-    fn put(&mut self, link: TextLink)
+    pub fn add(&mut self, link: TextLink)
         requires absent { link_of link.child link.parent link.footnote self.old.links ≡ None }
         requires room { HasRoom self.old link.child link.parent link.footnote }
         ensures links { self.new.links ≡ self.old.links ++ link ∷ [] }

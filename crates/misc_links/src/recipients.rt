@@ -1,5 +1,5 @@
 ghost use Rattle.std.specs.Prelude.{◌≡◌, ◌≤◌, ◌<◌, [], ◌∷◌, ◌++◌, None, length, find, slice_get};
-ghost use Rattle.std.specs.Prelude.{option_copied, IsOk, OnOk, OnErr};
+ghost use Rattle.std.specs.Prelude.{option_copied, OnOk, OnErr};
 ghost use Rattle.kom_types.specs.tables.Texts.{recipient_of, recipients_of, without_recipient};
 ghost use Rattle.misc_links.specs.Received.{room_of_text, AreOnce, HasRoom, KeepsRoom, UsesRoom};
 ghost use Rattle.misc_links.specs.Receiving.{is_conference_at};
@@ -76,23 +76,8 @@ impl Recipients {
         self.rows.get(place)
     }
 
-    /// Adds a recipient after the others.
-    pub fn add(&mut self, recipient: Recipient) -> Result<(), Memory>
-        requires { recipient_of recipient.text recipient.conference self.old.recipients ≡ None }
-        ensures ok { OnOk result (self.new.recipients ≡ self.old.recipients ++ recipient ∷ []) }
-        ensures err { OnErr result (self.new.recipients ≡ self.old.recipients) }
-        ensures succeeds { HasRoom self.old recipient.text → IsOk result }
-        ensures room { UsesRoom self.old self.new recipient.text }
-        ensures err_room { OnErr result (KeepsRoom self.old self.new) }
-    {
-        self.reserve(1)?;
-        self.reserve_of(recipient.text, 1)?;
-        self.put(recipient);
-        Ok(())
-    }
-
     /// Adds a recipient after the others. Takes no memory.
-    fn put(&mut self, recipient: Recipient)
+    pub fn add(&mut self, recipient: Recipient)
         requires absent { recipient_of recipient.text recipient.conference self.old.recipients
             ≡ None }
         requires room { HasRoom self.old recipient.text }

@@ -1,5 +1,5 @@
 -- A list of numbers for each key, with the room that it has.
-use Rattle.std.specs.Prelude.{◌≡◌, ◌≢◌, ℕ, ◌-◌, List, [], map, nat_eq, unwrap_or, IsSome}
+use Rattle.std.specs.Prelude.{◌≡◌, ◌≢◌, ℕ, ◌-◌, List, [], map, nat_eq, unwrap_or}
 use Rattle.std.specs.Map.{lookup}
 use Rattle.std.specs.Option.{option_map_or}
 use Rattle.indexmap.specs.IndexMap.{get}
@@ -14,10 +14,6 @@ list_of lists key = option_map_or (λ list. list.items) (get nat_eq lists.map ke
 abbrev pub room_of : Lists → ℕ → ℕ
 room_of lists key =
     option_map_or (λ list. list.capacity - small_vec_len list) (get nat_eq lists.map key) 0
-
--- a list is kept for the key
-abbrev pub HasList : Lists → ℕ → Type 0
-HasList lists key = IsSome (get nat_eq lists.map key)
 
 -- the lists and rooms of all other keys are as they were
 pub record HasOnlyChanged (old new : Lists) (key : ℕ) : Type 0 where

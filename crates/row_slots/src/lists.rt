@@ -1,7 +1,7 @@
 ghost use Rattle.std.specs.Prelude.{◌≡◌, ℕ, ◌+◌, ◌≤◌, ◌<◌, [], ◌∷◌, ◌++◌, ◌↔◌};
 ghost use Rattle.std.specs.Prelude.{nat_eq, insert, position, OnOk, IsOk, IsTrue};
 ghost use Rattle.std.specs.Set.{remove_key, is_member};
-ghost use Rattle.row_slots.specs.Lists.{list_of, room_of, HasList, HasOnlyChanged};
+ghost use Rattle.row_slots.specs.Lists.{list_of, room_of, HasOnlyChanged};
 
 use indexmap::IndexMap;
 use smallvec::SmallVec;
@@ -77,35 +77,11 @@ impl Lists {
         ensures room { (other : ℕ) → room_of self.old other ≤ room_of self.new other }
         ensures succeeds { additional ≤ room_of self.old key → IsOk result }
     {
-        if additional <= self.room(key) {
-            return Ok(());
-        }
-        self.begin(key)?;
-        self.grow(key, additional)
-    }
-
-    /// Keeps a list for a key from now on, even if it is empty.
-    fn begin(&mut self, key: u32) -> Result<(), AllocError>
-        ensures lists { (other : ℕ) → list_of self.new other ≡ list_of self.old other }
-        ensures room { (other : ℕ) → room_of self.old other ≤ room_of self.new other }
-        ensures ok { OnOk result (HasList self.new key) }
-    {
-        if self.map.contains_key(&key) {
+        if additional == 0 {
             return Ok(());
         }
         let alloc = *self.map.allocator();
-        self.map.insert(key, SmallVec::new(alloc))?;
-        Ok(())
-    }
-
-    /// Makes room in a list that is kept.
-    fn grow(&mut self, key: u32, additional: usize) -> Result<(), AllocError>
-        requires { HasList self.old key }
-        ensures lists { (other : ℕ) → list_of self.new other ≡ list_of self.old other }
-        ensures ok { OnOk result (additional ≤ room_of self.new key) }
-        ensures room { (other : ℕ) → room_of self.old other ≤ room_of self.new other }
-    {
-        let list = self.map.get_mut(&key).unwrap();
+        let list = self.map.entry(key)?.or_insert(SmallVec::new(alloc));
         list.reserve(additional)
     }
 

@@ -132,7 +132,7 @@ impl Texts {
         self.locals
             .append(given.conference, given.local, given.text)
             .unwrap();
-        self.recipients.add(given).unwrap();
+        self.recipients.add(given);
     }
 
     /// Takes a recipient out, with its local number. The time grows with the recipients of the
@@ -158,7 +158,7 @@ impl Texts {
         } }
         ensures room { UsesRoom self.old.room self.new.room (link_needs given) }
     {
-        self.links.add(given).unwrap();
+        self.links.add(given);
     }
 
     /// Takes a link out. The time grows with the links of its kind from the one text and into the

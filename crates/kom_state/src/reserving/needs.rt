@@ -11,7 +11,7 @@ use std::collections::HashMap;
 use texts::{Need, Texts};
 
 /// So many needs are counted without a table.
-const FEW: usize = 12;
+pub(crate) const FEW: usize = 12;
 
 /// Makes room for each thing that is needed, as often as it is needed, and now and then for more.
 pub(crate) fn reserve_needs(texts: &mut Texts, needs: &[Need], alloc: Global) -> Result<(), Memory>

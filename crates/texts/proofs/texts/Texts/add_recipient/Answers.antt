@@ -7,14 +7,15 @@ unwrap-requires c =
     c.append.ensures.succeeds
     (rw (← c.self.view_is) at (room_for_local c.args.self.now.room c.args.given c.requires.room))
 
-pub unwrap-requires-2 : goal.unwrap-requires-2
-unwrap-requires-2 c =
-    c.add.ensures.succeeds
-    (rw (← c.self.view_is) at (room_for_recipient c.args.self.now.room c.args.given c.requires.room))
+pub add-requires : goal.add-requires
+add-requires c = record {
+  absent = rw (← c.self.view_is) at c.requires.absent;
+  room = rw (← c.self.view_is) at (room_for_recipient c.args.self.now.room c.args.given c.requires.room);
+}
 
 pub invariant_of-self : goal.invariant_of-self
 invariant_of-self c =
     let above = rw (← c.self.view_is) at c.requires.above in
-    rw (rw c.unwrap-2.ensures at c.add.ensures.ok)
+    rw c.add.ensures.recipients
     (kept-received _ _ _ _ c.self.invariant c.append.new.self c.args.given above
     (rw c.unwrap.ensures at c.append.ensures.ok) c.append.ensures.others)

@@ -6,7 +6,7 @@ use Rattle.kom_types.specs.tables.Texts.{link_of}
 use Rattle.misc_links.specs.Linked.{Linked, room_from, room_into}
 use Rattle.misc_links.proofs.Rooms.{room_among-is, rooms_used}
 use Rattle.misc_links.proofs.Updates.{IsKept-added}
-use Rattle.misc_links.proofs.links.Links.put.Goals as goal
+use Rattle.misc_links.proofs.links.Links.add.Goals as goal
 
 pub push-requires-2 : goal.push-requires-2
 push-requires-2 c =

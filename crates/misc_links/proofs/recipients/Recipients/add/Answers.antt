@@ -7,7 +7,7 @@ use Rattle.kom_types.specs.tables.Texts.{recipient_of}
 use Rattle.misc_links.specs.Received.{Received, room_of_text}
 use Rattle.misc_links.proofs.OneList.{has_changed, uses_one}
 use Rattle.misc_links.proofs.Receiving.{IsKept-added}
-use Rattle.misc_links.proofs.recipients.Recipients.put.Goals as goal
+use Rattle.misc_links.proofs.recipients.Recipients.add.Goals as goal
 
 pub push-requires-2 : goal.push-requires-2
 push-requires-2 c =
