@@ -59,23 +59,9 @@ brought-each asked pick (x ∷ xs) =
     ∙ sym (brought-append asked (listed (pick x)) (filter_map pick xs))
     ∙ ap (all_brought asked) (sym (filter_map-first pick x xs))
 
+-- a call of no kind that sends something sends nothing
 unsent : (asked : Asked) (decision : Decision) (what : Call) → may_send what ≡ false → sent_by asked decision what ≡ []
-unsent asked decision (call.ChangeName conference name) silent = cc
-unsent asked decision (call.DeleteConf conference) silent = cc
-unsent asked decision (call.SubMember conference person) silent = cc
-unsent asked decision (call.SetPresentation conference text) silent = cc
-unsent asked decision (call.SetEtcMotd conference text) silent = cc
-unsent asked decision (call.DeleteText text) silent = cc
-unsent asked decision (call.AddRecipient text conference tag) silent = cc
-unsent asked decision (call.SubRecipient text conference) silent = cc
-unsent asked decision call.SyncKom silent = cc
-unsent asked decision (call.SendMessage recipient text) silent = cc
-unsent asked decision (call.SetUserArea person text) silent = cc
-unsent asked decision (call.CreateText given) silent = cc
-unsent asked decision (call.CreateAnonymousText given) silent = cc
-unsent asked decision (call.ModifyTextInfo given) silent = cc
-unsent asked decision (call.AddMember conference person priority place kind) silent = cc
-unsent asked decision other silent = refl
+unsent asked decision what silent = grind arith
 
 and-both : (one other : Bool) → (one && other) ≡ true → (one ≡ true) × (other ≡ true)
 and-both true other both = (refl, both)
@@ -205,9 +191,3 @@ pub out-there : (asked : Asked) (what : SessionChange) (session person : ℕ) (i
 out-there asked what session person invisible seat is there none =
     ap (logged_out asked) is ∙ ap (out_of session person) there
     ∙ ap (λ b. cond b (Some (logout seat.person session)) None) (eq-eqb person 0 none)
-
--- of one decision among all
-pub of_one : {R E D : Type 0} (result : Result R E) (P : D → Type 0) → IfOk result (λ done. (one : D) → P one) →
-    (one : D) → IfOk result (λ done. P one)
-of_one (Ok done) P holds one = holds one
-of_one (Err error) P holds one = tt

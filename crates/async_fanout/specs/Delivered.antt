@@ -12,6 +12,10 @@ use Rattle.kom_model.specs.Viewers.{viewer_of}
 abbrev pub listed : {A : Type 0} → Option A → List A
 listed found = elim found [ None ↦ [] | Some one ↦ one ∷ [] ]
 
+-- what is sent of a row that may be there
+abbrev pub of_row : {A : Type 0} → (A → Sending) → Option A → List Sending
+of_row send found = elim found [ None ↦ [] | Some row ↦ send row ∷ [] ]
+
 -- what a message brings to a session that accepts it: nothing to one in which nobody is logged in
 abbrev pub brings : Db → Sending → Seat → List Delivery
 brings db sending seat = if seat.person == 0 then [] else elim (sending.told (viewer_of db seat)) [

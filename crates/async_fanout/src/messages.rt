@@ -175,7 +175,7 @@ fn push_sent(
         Call::CreateText(_) => on_texts::make(asked, decision.effects.as_slice(), sent),
         Call::CreateAnonymousText(_) => on_texts::make(asked, decision.effects.as_slice(), sent),
         Call::ModifyTextInfo(change) => {
-            on_aux_items::modify_text_info(asked, change.get(), decision, sent)
+            on_aux_items::modify_text_info(asked, change, decision, sent)
         }
         Call::AddMember {
             conference,

@@ -112,7 +112,7 @@ fn added_shown(alloc: Global, effects: &[Effect], by: &Adder) -> Result<AuxRows,
 #[tactic(auto, using(crate::proofs::Brought::none, crate::proofs::Brought::one))]
 pub(crate) fn modify_text_info(
     asked: &Asked<'_>,
-    change: &AuxChange,
+    change: &Boxed<AuxChange>,
     decision: &Decision,
     sent: &mut Vec<Delivery>,
 ) -> Result<(), Memory>
@@ -120,6 +120,7 @@ pub(crate) fn modify_text_info(
         ++ all_brought asked.now
         (sent_by asked.now decision.now (call.ModifyTextInfo change.now))) }
 {
+    let change = change.get();
     let message = TextAuxChanged {
         rows: asked.rows(),
         text: change.object,

@@ -1,9 +1,8 @@
 //! Messages about conferences.
 ghost use Rattle.std.specs.Prelude.{◌≡◌, ◌++◌, IfOk};
-ghost use Rattle.kom_types.specs.declared.calls.Call.TheVariants as call;
-ghost use Rattle.kom_types.specs.declared.decisions.Decision.{Decision};
-ghost use Rattle.kom_model.specs.ToWhom.{sent_by};
-ghost use Rattle.async_fanout.specs.Delivered.{all_brought};
+ghost use Rattle.kom_model.specs.Db.{conference_of};
+ghost use Rattle.kom_model.specs.Messages as Messages;
+ghost use Rattle.async_fanout.specs.Delivered.{all_brought, of_row};
 
 use crate::deliveries::{Delivery, Tells, deliver};
 use access_rights::sees;
@@ -113,9 +112,9 @@ pub(crate) fn change_name(
     name: &Bytes,
     sent: &mut Vec<Delivery>,
 ) -> Result<(), Memory>
-    ensures { IfOk result (λ done. (decision : Decision) → sent.new.items ≡ sent.old.items
-        ++ all_brought asked.now
-        (sent_by asked.now decision (call.ChangeName conference name.now))) }
+    ensures { IfOk result (λ done. sent.new.items ≡ sent.old.items ++ all_brought asked.now
+        (of_row (λ row. Messages.new_name asked.now.db conference row.name name.now)
+        (conference_of asked.now.db conference))) }
 {
     let rows = asked.rows();
     match rows.conference(conference) {
@@ -140,9 +139,9 @@ pub(crate) fn set_presentation(
     text: u32,
     sent: &mut Vec<Delivery>,
 ) -> Result<(), Memory>
-    ensures { IfOk result (λ done. (decision : Decision) → sent.new.items ≡ sent.old.items
-        ++ all_brought asked.now
-        (sent_by asked.now decision (call.SetPresentation conference text))) }
+    ensures { IfOk result (λ done. sent.new.items ≡ sent.old.items ++ all_brought asked.now
+        (of_row (λ row. Messages.new_presentation asked.now.db conference row.presentation text)
+        (conference_of asked.now.db conference))) }
 {
     let rows = asked.rows();
     match rows.conference(conference) {
@@ -167,8 +166,9 @@ pub(crate) fn set_etc_motd(
     text: u32,
     sent: &mut Vec<Delivery>,
 ) -> Result<(), Memory>
-    ensures { IfOk result (λ done. (decision : Decision) → sent.new.items ≡ sent.old.items
-        ++ all_brought asked.now (sent_by asked.now decision (call.SetEtcMotd conference text))) }
+    ensures { IfOk result (λ done. sent.new.items ≡ sent.old.items ++ all_brought asked.now
+        (of_row (λ row. Messages.new_motd asked.now.db conference row.motd text)
+        (conference_of asked.now.db conference))) }
 {
     let rows = asked.rows();
     match rows.conference(conference) {

@@ -1,9 +1,9 @@
 //! Messages about memberships.
-ghost use Rattle.std.specs.Prelude.{◌≡◌, ℕ, ◌++◌, IfOk};
-ghost use Rattle.kom_types.specs.declared.calls.Call.TheVariants as call;
-ghost use Rattle.kom_types.specs.declared.decisions.Decision.{Decision};
+ghost use Rattle.std.specs.Prelude.{◌≡◌, [], ◌∷◌, ◌++◌, is_some, if◌then◌else◌, IfOk};
 ghost use Rattle.std.specs.List.{filter_map};
-ghost use Rattle.kom_model.specs.ToWhom.{sent_by, left};
+ghost use Rattle.kom_model.specs.Db.{membership_of};
+ghost use Rattle.kom_model.specs.Messages as Messages;
+ghost use Rattle.kom_model.specs.ToWhom.{left};
 ghost use Rattle.async_fanout.specs.Delivered.{all_brought, listed};
 
 use crate::deliveries::{Delivery, Tells, deliver};
@@ -105,9 +105,9 @@ pub(crate) fn add_member(
     person: u32,
     sent: &mut Vec<Delivery>,
 ) -> Result<(), Memory>
-    ensures { IfOk result (λ done. (decision : Decision) (priority place kind : ℕ)
-        → sent.new.items ≡ sent.old.items ++ all_brought asked.now
-        (sent_by asked.now decision (call.AddMember conference person priority place kind))) }
+    ensures { IfOk result (λ done. sent.new.items ≡ sent.old.items ++ all_brought asked.now
+        (if is_some (membership_of asked.now.db person conference) then []
+        else Messages.new_membership person conference ∷ [])) }
 {
     if asked.rows().is_member(person, conference) {
         return Ok(());

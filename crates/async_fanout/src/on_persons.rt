@@ -1,9 +1,8 @@
 //! Messages about persons.
 ghost use Rattle.std.specs.Prelude.{◌≡◌, ◌++◌, IfOk};
-ghost use Rattle.kom_types.specs.declared.calls.Call.TheVariants as call;
-ghost use Rattle.kom_types.specs.declared.decisions.Decision.{Decision};
-ghost use Rattle.kom_model.specs.ToWhom.{sent_by};
-ghost use Rattle.async_fanout.specs.Delivered.{all_brought};
+ghost use Rattle.kom_model.specs.Db.{person_of};
+ghost use Rattle.kom_model.specs.Messages as Messages;
+ghost use Rattle.async_fanout.specs.Delivered.{all_brought, of_row};
 
 use crate::deliveries::{Delivery, Tells, deliver};
 use kom_model::Viewer;
@@ -48,8 +47,9 @@ pub(crate) fn set_user_area(
     text: u32,
     sent: &mut Vec<Delivery>,
 ) -> Result<(), Memory>
-    ensures { IfOk result (λ done. (decision : Decision) → sent.new.items ≡ sent.old.items
-        ++ all_brought asked.now (sent_by asked.now decision (call.SetUserArea person text))) }
+    ensures { IfOk result (λ done. sent.new.items ≡ sent.old.items ++ all_brought asked.now
+        (of_row (λ row. Messages.new_user_area person row.user_area text)
+        (person_of asked.now.db person))) }
 {
     match asked.rows().person(person) {
         None => Ok(()),

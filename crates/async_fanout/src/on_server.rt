@@ -1,8 +1,6 @@
 //! Messages about the server.
-ghost use Rattle.std.specs.Prelude.{◌≡◌, ◌++◌, IfOk};
-ghost use Rattle.kom_types.specs.declared.calls.Call.TheVariants as call;
-ghost use Rattle.kom_types.specs.declared.decisions.Decision.{Decision};
-ghost use Rattle.kom_model.specs.ToWhom.{sent_by};
+ghost use Rattle.std.specs.Prelude.{◌≡◌, [], ◌∷◌, ◌++◌, IfOk};
+ghost use Rattle.kom_model.specs.Messages as Messages;
 ghost use Rattle.async_fanout.specs.Delivered.{all_brought};
 
 use crate::deliveries::{Delivery, Tells, deliver};
@@ -32,8 +30,8 @@ impl Tells for SyncDatabase {
 /// Adds what call 43, sync-kom, sends.
 #[tactic(auto, using(crate::proofs::Brought::none, crate::proofs::Brought::one))]
 pub(crate) fn sync_kom(asked: &Asked<'_>, sent: &mut Vec<Delivery>) -> Result<(), Memory>
-    ensures { IfOk result (λ done. (decision : Decision) → sent.new.items ≡ sent.old.items
-        ++ all_brought asked.now (sent_by asked.now decision (call.SyncKom))) }
+    ensures { IfOk result (λ done. sent.new.items
+        ≡ sent.old.items ++ all_brought asked.now (Messages.sync_database ∷ [])) }
 {
     deliver(asked, &SyncDatabase, sent)
 }

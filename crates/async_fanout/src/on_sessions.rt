@@ -1,8 +1,7 @@
 //! Messages about sessions, and from one to others.
-ghost use Rattle.std.specs.Prelude.{◌≡◌, ◌++◌, IfOk};
-ghost use Rattle.kom_types.specs.declared.calls.Call.TheVariants as call;
-ghost use Rattle.kom_types.specs.declared.decisions.Decision.{Decision};
-ghost use Rattle.kom_model.specs.ToWhom.{sent_by};
+ghost use Rattle.std.specs.Prelude.{◌≡◌, [], ◌∷◌, ◌++◌, IfOk};
+ghost use Rattle.kom_model.specs.Messages as Messages;
+ghost use Rattle.kom_model.specs.calls.Guards.{caller};
 ghost use Rattle.async_fanout.specs.Delivered.{all_brought};
 
 use crate::deliveries::{Delivery, Tells, deliver};
@@ -99,9 +98,8 @@ pub(crate) fn send_message(
     text: &Bytes,
     sent: &mut Vec<Delivery>,
 ) -> Result<(), Memory>
-    ensures { IfOk result (λ done. (decision : Decision) → sent.new.items ≡ sent.old.items
-        ++ all_brought asked.now
-        (sent_by asked.now decision (call.SendMessage recipient text.now))) }
+    ensures { IfOk result (λ done. sent.new.items ≡ sent.old.items ++ all_brought asked.now
+        (Messages.send_message asked.now.db recipient (caller asked.now).person text.now ∷ [])) }
 {
     let message = SendMessage {
         rows: asked.rows(),

@@ -1,10 +1,10 @@
 //! Messages about texts.
-ghost use Rattle.std.specs.Prelude.{◌≡◌, ◌++◌, IfOk};
-ghost use Rattle.kom_types.specs.declared.calls.Call.TheVariants as call;
-ghost use Rattle.kom_types.specs.declared.decisions.Decision.{Decision};
-ghost use Rattle.kom_model.specs.ToWhom.{sent_by, of_made};
+ghost use Rattle.std.specs.Prelude.{◌≡◌, [], ◌∷◌, ◌++◌, IfOk};
+ghost use Rattle.kom_model.specs.Db.{recipient_of};
+ghost use Rattle.kom_model.specs.Messages as Messages;
+ghost use Rattle.kom_model.specs.ToWhom.{of_deleted, of_made};
 ghost use Rattle.async_fanout.specs.Added.{made_by};
-ghost use Rattle.async_fanout.specs.Delivered.{all_brought, listed};
+ghost use Rattle.async_fanout.specs.Delivered.{all_brought, listed, of_row};
 
 use crate::added::Added;
 use crate::deliveries::{Delivery, Tells, deliver};
@@ -141,8 +141,8 @@ pub(crate) fn delete_text(
     text: u32,
     sent: &mut Vec<Delivery>,
 ) -> Result<(), Memory>
-    ensures { IfOk result (λ done. (decision : Decision) → sent.new.items ≡ sent.old.items
-        ++ all_brought asked.now (sent_by asked.now decision (call.DeleteText text))) }
+    ensures { IfOk result (λ done. sent.new.items
+        ≡ sent.old.items ++ all_brought asked.now (of_deleted asked.now.db text)) }
 {
     let rows = asked.rows();
     match rows.text(text) {
@@ -160,9 +160,8 @@ pub(crate) fn add_recipient(
     kind: u32,
     sent: &mut Vec<Delivery>,
 ) -> Result<(), Memory>
-    ensures { IfOk result (λ done. (decision : Decision) → sent.new.items ≡ sent.old.items
-        ++ all_brought asked.now
-        (sent_by asked.now decision (call.AddRecipient text conference kind))) }
+    ensures { IfOk result (λ done. sent.new.items ≡ sent.old.items ++ all_brought asked.now
+        (Messages.new_recipient asked.now.db text conference kind ∷ [])) }
 {
     let message = NewRecipient {
         rows: asked.rows(),
@@ -181,8 +180,9 @@ pub(crate) fn sub_recipient(
     conference: u32,
     sent: &mut Vec<Delivery>,
 ) -> Result<(), Memory>
-    ensures { IfOk result (λ done. (decision : Decision) → sent.new.items ≡ sent.old.items
-        ++ all_brought asked.now (sent_by asked.now decision (call.SubRecipient text conference))) }
+    ensures { IfOk result (λ done. sent.new.items ≡ sent.old.items ++ all_brought asked.now
+        (of_row (λ row. Messages.sub_recipient asked.now.db text conference row.tag)
+        (recipient_of asked.now.db text conference))) }
 {
     let rows = asked.rows();
     match rows.recipient(text, conference) {

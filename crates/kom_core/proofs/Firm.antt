@@ -15,7 +15,8 @@ use Rattle.kom_types.specs.declared.texts.TextRow.{TextRow}
 use Rattle.kom_types.specs.calls.Numbers.{number_of_call}
 use Rattle.kom_model.specs.declared.call_errors.Refused.{Refused}
 use Rattle.kom_model.specs.State.{State}
-use Rattle.kom_model.specs.Kinds.{firm_numbers, accept_async, is_among}
+use Rattle.kom_model.specs.declared.kinds.TheConstants.{FIRM_NUMBERS}
+use Rattle.kom_model.specs.Kinds.{accept_async, is_among}
 use Rattle.kom_model.specs.calls.Call.{Asked}
 use Rattle.kom_model.specs.calls.Conferences.{nearest}
 use Rattle.kom_model.specs.calls.Texts.{nearest_text}
@@ -41,7 +42,7 @@ nearest_text-idle asked start None what silent = (refl, refl, silent)
 nearest_text-idle asked start (Some row) what silent = (refl, refl, silent)
 
 -- of a call that takes no memory
-firm-idle : (asked : Asked) (what : Call) → is_among firm_numbers (number_of_call what) ≡ true →
+firm-idle : (asked : Asked) (what : Call) → is_among FIRM_NUMBERS (number_of_call what) ≡ true →
     IsIdle what (definition_of asked what).rest
 firm-idle asked call.GetTime among = (refl, refl, refl)
 firm-idle asked call.WhoAmI among = (refl, refl, refl)
@@ -67,10 +68,10 @@ some-early (Some refused) is none = cc
 
 -- a firm call that no early guard refuses takes no memory
 pub firm-among : (asked : Asked) (what : Call) → is_firm asked what ≡ true → (definition_of asked what).early ≡ None →
-    is_among firm_numbers (number_of_call what) ≡ true
+    is_among FIRM_NUMBERS (number_of_call what) ≡ true
 unfolding is_firm
 firm-among asked what firm early =
-    let among : Bool = is_among firm_numbers (number_of_call what) in
+    let among : Bool = is_among FIRM_NUMBERS (number_of_call what) in
     let changes_none : Bool = not (number_of_call what == accept_async) in
     let guarded : Bool = is_some (definition_of asked what).early in
     elim (or_cases (among || was_refused what) (changes_none && guarded) firm) [

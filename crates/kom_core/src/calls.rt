@@ -1,7 +1,8 @@
 ghost use Rattle.std.specs.Prelude.{◌≡◌, true, Err};
 ghost use Rattle.kom_types.specs.calls.Numbers.{number_of_call};
 ghost use Rattle.kom_model.specs.declared.call_errors.CallError.TheVariants as error;
-ghost use Rattle.kom_model.specs.Kinds.{firm_numbers, is_among};
+ghost use Rattle.kom_model.specs.declared.kinds.TheConstants.{FIRM_NUMBERS};
+ghost use Rattle.kom_model.specs.Kinds.{is_among};
 ghost use Rattle.kom_model.specs.Decide.{definition_of};
 ghost use Rattle.kom_model.specs.calls.Call.{Meets};
 ghost use Rattle.kom_core.specs.Deciding.{HadMemory};
@@ -13,7 +14,7 @@ use kom_types::{Call, Decision};
 /// What a call comes to by its definition, but for the last guard.
 pub(crate) fn make(asked: &Asked<'_>, call: &Call) -> Result<Decision, CallError>
     ensures meets { Meets (definition_of asked.now call.now) result }
-    ensures firm { is_among firm_numbers (number_of_call call.now) ≡ true → HadMemory result }
+    ensures firm { is_among FIRM_NUMBERS (number_of_call call.now) ≡ true → HadMemory result }
 {
     match call {
         Call::GetTime => Ok(query_calls::get_time(asked)),

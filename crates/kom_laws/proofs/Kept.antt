@@ -10,7 +10,7 @@ use Rattle.kom_model.specs.Effects.{all_fit, fitting}
 use Rattle.kom_model.specs.After.{moment_of}
 use Rattle.kom_model.specs.Kept.{effects_of, kept_of}
 use Rattle.kom_model.proofs.Kept.{fitting-all}
-use Rattle.kom_laws.proofs.fitting.Calls.{decided-fit}
+use Rattle.kom_laws.proofs.Calls.{decided-fit}
 
 sound_step : (state : State) (pass moment : ℕ) (what : Act) → IsSound state →
     all_fit (effects_of state (record { pass = pass; moment = moment; act = what })) state.db ≡ true

@@ -7,6 +7,7 @@ pub mod Messages
 pub mod Added
 pub mod Sent
 pub mod fitting
+pub mod Calls
 pub mod Kept
 pub mod Refusing
 pub mod Viewers

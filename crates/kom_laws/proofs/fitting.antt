@@ -11,4 +11,3 @@ pub mod Making
 pub mod Memberships
 pub mod Texts
 pub mod NewTexts
-pub mod Calls

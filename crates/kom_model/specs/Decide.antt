@@ -10,7 +10,8 @@ use Rattle.kom_types.specs.declared.items.Item.TheVariants as item
 use Rattle.kom_types.specs.Printing.{print_of}
 use Rattle.kom_types.specs.calls.Numbers.{number_of_call}
 use Rattle.kom_model.specs.State.{State, seats_of}
-use Rattle.kom_model.specs.Kinds.{firm_numbers, accept_async, is_among}
+use Rattle.kom_model.specs.declared.kinds.TheConstants.{FIRM_NUMBERS}
+use Rattle.kom_model.specs.Kinds.{accept_async, is_among}
 use Rattle.kom_model.specs.calls.Call.{Asked, Definition, decided, refuse, refused}
 use Rattle.kom_model.specs.calls.AuxItems as AuxItems
 use Rattle.kom_model.specs.calls.Conferences as Conferences
@@ -169,5 +170,5 @@ was_refused other = false
 -- refused it, or an early guard does, unless it makes a change all the same.
 unfoldable pub is_firm : Asked → Call → Bool
 is_firm asked call = let number = number_of_call call in
-    is_among firm_numbers number || was_refused call
+    is_among FIRM_NUMBERS number || was_refused call
     || (not (number == accept_async) && is_some (definition_of asked call).early)

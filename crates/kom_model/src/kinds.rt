@@ -1,5 +1,8 @@
 //! Kinds of calls, as lists of their numbers.
 
+/// The calls that take no memory, and so are never answered that it ran out.
+pub const FIRM_NUMBERS: [u32; 8] = [35, 56, 60, 61, 114, 115, 116, 117];
+
 /// The calls that may send something beside who logs out and in.
 pub const SENDING_NUMBERS: [u32; 15] = [3, 11, 15, 16, 17, 29, 30, 31, 43, 53, 57, 86, 87, 92, 100];
 

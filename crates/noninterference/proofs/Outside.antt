@@ -1,7 +1,7 @@
 -- An equal call from outside a group that changes the same, in states that are the same for it, leaves such states.
-use Rattle.std.proofs.Common.{◌≡◌, ℕ, Bool, true, false, not, ◌||◌, ◌&&◌, List, [], refl, sym, ap, ap₂}
+use Rattle.std.proofs.Common.{◌≡◌, ℕ, Bool, true, false, not, ◌||◌, ◌&&◌, cond, List, [], ◌++◌, refl, sym, ap, ap₂}
 use Rattle.std.proofs.Common.{◌∙◌, inl, inr, true≢false}
-use Rattle.std.specs.List.{list_all}
+use Rattle.std.specs.List.{list_all, filter_map}
 use Rattle.std.proofs.lemmas.Bool.{cases_Bool, and_parts}
 use Rattle.kom_types.specs.declared.calls.Call.{Call}
 use Rattle.kom_types.specs.declared.calls.Call.TheVariants as call
@@ -10,67 +10,42 @@ use Rattle.kom_types.specs.declared.effects.Effect.{Effect}
 use Rattle.kom_types.specs.declared.seats.Seat.{Seat}
 use Rattle.kom_types.specs.declared.session_changes.SessionChange.{SessionChange}
 use Rattle.kom_model.specs.After.{after, decision_at, moment_of}
-use Rattle.kom_model.specs.Decide.{asked_in, decision_of, limited}
+use Rattle.kom_model.specs.Decide.{asked_in, decision_of}
 use Rattle.kom_model.specs.Kinds.{is_among}
-use Rattle.kom_model.specs.Messages.{send_message, is_member_with}
-use Rattle.kom_model.specs.Sending.{delivered, delivered_to}
 use Rattle.kom_model.specs.State.{State}
-use Rattle.kom_model.specs.ToWhom.{is_refused}
-use Rattle.kom_model.specs.calls.Call.{Asked, decided, seat_of}
-use Rattle.kom_model.specs.calls.Guards.{caller}
-use Rattle.kom_model.specs.calls.Sessions.{send_message_to}
-use Rattle.kom_laws.specs.Erasing.{erased_db, erased, mask_of}
+use Rattle.kom_model.specs.ToWhom.{is_refused, logged_out, logged_in, sendings, sent_by}
+use Rattle.kom_model.specs.calls.Call.{Asked}
+use Rattle.kom_laws.specs.Erasing.{erased, mask_of}
 use Rattle.kom_laws.specs.Groups.{Group}
-use Rattle.kom_laws.proofs.Rights.{sees-masked}
-use Rattle.noninterference.specs.outputs.Answers.{erased_asked}
-use Rattle.noninterference.proofs.outputs.Alike.{viewer-same}
-use Rattle.noninterference.proofs.outputs.Masked.{public-masked}
-use Rattle.noninterference.proofs.outputs.Rows.{filter_map-tells}
+use Rattle.noninterference.specs.outputs.Brought.{brought_to}
 use Rattle.noninterference.specs.steps.Calls.{called, IsReadyToCall, ActsAlike}
 use Rattle.noninterference.specs.steps.Same.{AreOfGroup, IsSameFor}
 use Rattle.noninterference.proofs.steps.Calls.{calls-erased, asked-same}
 use Rattle.noninterference.specs.respect.Calls.{later}
 use Rattle.noninterference.specs.respect.Vanishing.{is_masked}
 use Rattle.noninterference.proofs.respect.Calls.{calls-vanish}
-use Rattle.kom_laws.proofs.Refusing.{is_none_of, none-of, is_idle, accepts_async, refused-spares}
-use Rattle.noninterference.proofs.Silent.{is_public, idle-silent}
+use Rattle.kom_laws.proofs.Refusing.{is_none_of, none-of, is_idle, accepts_async, refused-spares, accepted-rest}
+use Rattle.noninterference.proofs.Silent.{brings_none}
+use Rattle.noninterference.proofs.outputs.calls.Calls.{is_public, sent-silent, public-decided}
 
--- ---- the calls that hang on nothing that is ever hidden come to the same without it, whoever makes them
-module _ (group : Group) (asked : Asked) where
-  abbrev part : Asked
-  part = erased_asked group asked
-
-  caller-erased : caller part ≡ caller asked
-  caller-erased = viewer-same (erased_db group asked.db) asked.db (public-masked (mask_of group asked.db) asked.db)
-      (seat_of asked)
-
-  delivered-erased : (recipient : ℕ) (text : List ℕ) (seat : Seat) →
-      delivered part.db (send_message part.db recipient (caller asked).person text) seat
-      ≡ delivered asked.db (send_message asked.db recipient (caller asked).person text) seat
-  delivered-erased recipient text seat =
-      rw ((public-masked (mask_of group asked.db) asked.db).kind seat.person recipient, is_member_with) refl
-
-  sent-erased : (recipient : ℕ) (text : List ℕ) →
-      delivered_to part.db asked.seats (send_message part.db recipient (caller asked).person text)
-      ≡ delivered_to asked.db asked.seats (send_message asked.db recipient (caller asked).person text)
-  sent-erased recipient text = filter_map-tells
-      (delivered part.db (send_message part.db recipient (caller asked).person text))
-      (delivered asked.db (send_message asked.db recipient (caller asked).person text))
-      (delivered-erased recipient text) asked.seats
-
-  message-erased : (recipient : ℕ) (text : List ℕ) →
-      send_message_to part recipient text ≡ send_message_to asked recipient text
-  message-erased recipient text = rw caller-erased
-      (rw (sees-masked (mask_of group asked.db) asked.db (caller asked) recipient)
-      (rw (sent-erased recipient text) refl))
-
-  public-decided : (what : Call) → is_public what ≡ true → decision_of part what ≡ decision_of asked what
-  unfolding decision_of
-  public-decided (call.AcceptAsync numbers) public = refl
-  public-decided call.SyncKom public = rw caller-erased refl
-  public-decided (call.SendMessage recipient text) public =
-      ap (λ definition. limited asked.reference (decided definition)) (message-erased recipient text)
-  public-decided what public = absurd (true≢false (sym public))
+module _ (asked : Asked) (seat : Seat) where
+  -- a call that changes nothing and does not only send brings nothing to a session
+  idle-silent : (what : Call) → is_public what ≡ false → (decision_of asked what).effects ≡ [] →
+      (decision_of asked what).changes ≡ [] → brings_none asked seat (sendings asked what (decision_of asked what))
+  idle-silent what other none still =
+      ap (λ (changes : List SessionChange). brought_to asked.db seat
+      (filter_map (logged_out asked) changes ++ filter_map logged_in changes
+      ++ cond (is_refused (decision_of asked what).reply) [] (sent_by asked (decision_of asked what) what))) still
+      ∙ by (is_refused (decision_of asked what).reply) (λ accepted.
+      let rest = accepted-rest asked what accepted in
+      sent-silent asked seat what (decision_of asked what) other none
+      (ap (λ (decision : Decision). is_refused decision.reply) (sym rest) ∙ accepted)
+      (ap (λ (decision : Decision). decision.effects) (sym rest) ∙ none)) where
+        by : (refused : Bool) →
+            (refused ≡ false → brings_none asked seat (sent_by asked (decision_of asked what) what)) →
+            brings_none asked seat (cond refused [] (sent_by asked (decision_of asked what) what))
+        by true silent = refl
+        by false silent = silent refl
 
 module _ (group : Group) (one other : State) (pass moment session reference : ℕ) (what : Call)
     (ready : IsReadyToCall group one moment session reference what)

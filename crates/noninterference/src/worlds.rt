@@ -5,7 +5,6 @@ ghost use Rattle.noninterference.specs.respect.Hidden.{text_of_call};
 ghost use Rattle.noninterference.specs.Hiding.{AreSameAlong, StandAlike};
 
 use crate::group::Group;
-use call_equality::are_equal_entries;
 use kom_model::{ASKING_NUMBERS, HIDING_NUMBERS};
 use kom_types::{Act, Call, Entry, NewText, lines_of};
 
@@ -88,7 +87,7 @@ fn may_stand(group: &Group, one: &Entry, other: &Entry) -> bool
     if one.moment.seconds() != other.moment.seconds() {
         return false;
     }
-    are_equal_entries(one, other) || may_both_differ(group, &one.act, &other.act)
+    one.is_same(other) || may_both_differ(group, &one.act, &other.act)
 }
 
 /// Whether two lists of entries are as long and may stand beside each other, place by place.

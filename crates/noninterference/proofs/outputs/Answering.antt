@@ -6,7 +6,8 @@ use Rattle.kom_types.specs.calls.Numbers.{number_of_call}
 use Rattle.kom_model.specs.declared.call_errors.Refused.{Refused}
 use Rattle.kom_model.specs.Decide.{decision_of, definition_of, is_firm, limited, was_refused}
 use Rattle.kom_model.specs.Effects.{IsProtected}
-use Rattle.kom_model.specs.Kinds.{is_among, firm_numbers, accept_async}
+use Rattle.kom_model.specs.declared.kinds.TheConstants.{FIRM_NUMBERS}
+use Rattle.kom_model.specs.Kinds.{is_among, accept_async}
 use Rattle.kom_model.specs.calls.Call.{Asked}
 use Rattle.kom_model.specs.calls.Guards.{caller}
 use Rattle.kom_laws.specs.Groups.{Group, IsOfGroup}
@@ -28,7 +29,7 @@ module _ (group : Group) (asked : Asked) (call : Call) (protected : IsProtected 
 
   firm : is_firm (erased_asked group asked) call ≡ is_firm asked call
   unfolding is_firm
-  firm = ap (λ (early : Option Refused). is_among firm_numbers (number_of_call call) || was_refused call
+  firm = ap (λ (early : Option Refused). is_among FIRM_NUMBERS (number_of_call call) || was_refused call
       || (not (number_of_call call == accept_async) && is_some early)) defined.early
 
 pub answers-erased : AnswersStandErased

@@ -1,31 +1,22 @@
 -- What messages bring to a session of a group is the same without what is hidden from the group.
 use Rattle.std.proofs.Common.{◌≡◌, ℕ, Bool, true, false, cond, not, ◌==◌, ◌||◌, List, [], ◌∷◌, ◌++◌, Option, Some}
-use Rattle.std.proofs.Common.{None, refl, is_some}
-use Rattle.std.proofs.Common.{sym, ap, ap₂, ◌∙◌, inl, inr}
-use Rattle.std.specs.Prelude.{map, option_map}
+use Rattle.std.proofs.Common.{None, refl, sym, ap, ap₂, ◌∙◌, inl, inr}
+use Rattle.std.specs.Prelude.{option_map}
 use Rattle.std.specs.List.{filter_map, cons_option, AllByRecursion}
-use Rattle.std.specs.Option.{IfSome}
 use Rattle.std.proofs.lemmas.Bool.{cases_Bool}
 use Rattle.std.proofs.lemmas.List.Elements.{filter_map-append}
 use Rattle.kom_types.specs.declared.calls.Call.{Call}
-use Rattle.kom_types.specs.declared.calls.Call.TheVariants as call
 use Rattle.kom_types.specs.declared.decisions.Decision.{Decision}
-use Rattle.kom_types.specs.declared.effects.Effect.{Effect}
-use Rattle.kom_types.specs.declared.effects.Effect.TheVariants as effect
 use Rattle.kom_types.specs.declared.items.Item.TheVariants as item
 use Rattle.kom_types.specs.declared.messages.Message.{Message}
-use Rattle.kom_types.specs.declared.messages.Message.TheVariants as message
 use Rattle.kom_types.specs.declared.seats.Seat.{Seat}
 use Rattle.kom_model.specs.declared.viewers.Viewer.{Viewer}
-use Rattle.kom_model.specs.Db.{Db, conference_of, person_of, membership_of, text_of, recipient_of}
+use Rattle.kom_model.specs.Db.{Db}
 use Rattle.kom_model.specs.Decide.{decision_of}
 use Rattle.kom_model.specs.Effects.{IsProtected}
-use Rattle.kom_model.specs.Messages as Messages
-use Rattle.kom_model.specs.Messages.{told_if}
-use Rattle.kom_model.specs.Rights.{sees}
 use Rattle.kom_model.specs.Sending.{Delivery, Sending, delivered, accepts}
-use Rattle.kom_model.specs.ToWhom.{sendings, sent_by, logged_out, logged_in, left, only_added}
-use Rattle.kom_model.specs.ToWhom.{text_added, is_refused}
+use Rattle.kom_model.specs.ToWhom.{sendings, sent_by, logged_out, logged_in}
+use Rattle.kom_model.specs.ToWhom.{is_refused}
 use Rattle.kom_model.specs.Viewers.{viewer_of}
 use Rattle.kom_model.specs.Whole.{IsWhole}
 use Rattle.kom_model.specs.calls.Call.{Asked}
@@ -33,128 +24,15 @@ use Rattle.kom_laws.proofs.masking.Rows.{told}
 use Rattle.kom_laws.specs.Groups.{Group, IsInGroup, IsOfGroup}
 use Rattle.kom_laws.specs.Erasing.{erased_db, mask_of}
 use Rattle.kom_laws.specs.Laws.{told_to}
-use Rattle.kom_laws.proofs.Sent.{sent-erased}
+use Rattle.kom_laws.proofs.Calls.{sent-erased}
 use Rattle.noninterference.specs.outputs.Answers.{erased_asked}
 use Rattle.noninterference.specs.outputs.Brought.{brought_to, MessagesStandErased}
 use Rattle.noninterference.proofs.outputs.Alike.{viewer-same, logged-in}
 use Rattle.noninterference.proofs.outputs.Answering.{decided}
+use Rattle.noninterference.proofs.outputs.Numbered.{IsNumbered, number_of}
+use Rattle.noninterference.proofs.outputs.calls.Calls.{sent-numbered}
 use Rattle.noninterference.proofs.outputs.Masked.{public-masked}
 use Rattle.noninterference.proofs.outputs.Rows.{filter_map-tells}
-
--- ---- the number of a message is that by which a session accepts it
-abbrev number_of : Message → ℕ
-number_of (message.NewName named) = 5
-number_of message.SyncDatabase = 7
-number_of (message.LeaveConference conference) = 8
-number_of (message.Login person session) = 9
-number_of (message.SendMessage sent) = 12
-number_of (message.Logout person session) = 13
-number_of (message.DeletedText text stat) = 14
-number_of (message.NewText text stat) = 15
-number_of (message.NewRecipient text conference tag) = 16
-number_of (message.SubRecipient text conference tag) = 17
-number_of (message.NewMembership person conference) = 18
-number_of (message.NewUserArea person old_text new_text) = 19
-number_of (message.NewPresentation conference old_text new_text) = 20
-number_of (message.NewMotd conference old_text new_text) = 21
-number_of (message.TextAuxChanged changed) = 22
-
--- what it tells is a message of its number
-pub record IsNumbered (sending : Sending) : Type 0 where
-  pub tells : (viewer : Viewer) (what : Message) → sending.told viewer ≡ Some what → number_of what ≡ sending.number
-
-numbered-if : (shown : Bool) (made what : Message) → told_if shown made ≡ Some what → number_of what ≡ number_of made
-numbered-if true made what same = sym (ap (told 0 number_of) same)
-numbered-if false made what same = cc
-
--- of rows that may be there, of each of a list, and of what is picked from one
-row-numbered : {X : Type 0} (send : X → Sending) → ((row : X) → IsNumbered (send row)) → (found : Option X) →
-    AllByRecursion IsNumbered (elim found [ None ↦ [] | Some row ↦ send row ∷ [] ])
-row-numbered send numbered None = tt
-row-numbered send numbered (Some row) = (numbered row, tt)
-
-map-numbered : {X : Type 0} (send : X → Sending) → ((row : X) → IsNumbered (send row)) → (rows : List X) →
-    AllByRecursion IsNumbered (map send rows)
-map-numbered send numbered [] = tt
-map-numbered send numbered (row ∷ rows) = (numbered row, map-numbered send numbered rows)
-
-option-numbered : (picked : Option Sending) (sent : List Sending) → IfSome picked IsNumbered →
-    AllByRecursion IsNumbered sent → AllByRecursion IsNumbered (cons_option picked sent)
-option-numbered None sent is numbered = numbered
-option-numbered (Some sending) sent is numbered = (is, numbered)
-
-pick-numbered : {X : Type 0} (pick : X → Option Sending) → ((row : X) → IfSome (pick row) IsNumbered) →
-    (rows : List X) → AllByRecursion IsNumbered (filter_map pick rows)
-pick-numbered pick numbered [] = tt
-pick-numbered pick numbered (row ∷ rows) =
-    option-numbered (pick row) (filter_map pick rows) (numbered row) (pick-numbered pick numbered rows)
-
-left-numbered : (what : Effect) → IfSome (left what) IsNumbered
-left-numbered (effect.MemberGone person conference) =
-    record { tells = λ viewer what. numbered-if (viewer.person == person) (message.LeaveConference conference) what }
-left-numbered other = tt
-
-sent-numbered : (asked : Asked) (decision : Decision) (call : Call) →
-    AllByRecursion IsNumbered (sent_by asked decision call)
-sent-numbered asked decision (call.ChangeName conference name) = row-numbered _ (λ row. record {
-  tells = λ viewer what. numbered-if (sees asked.db viewer conference) _ what;
-}) (conference_of asked.db conference)
-sent-numbered asked decision (call.DeleteConf conference) = pick-numbered left left-numbered decision.effects
-sent-numbered asked decision (call.SubMember conference person) = pick-numbered left left-numbered decision.effects
-sent-numbered asked decision (call.SetPresentation conference text) = row-numbered _ (λ row. record {
-  tells = λ viewer what. numbered-if (sees asked.db viewer conference) _ what;
-}) (conference_of asked.db conference)
-sent-numbered asked decision (call.SetEtcMotd conference text) = row-numbered _ (λ row. record {
-  tells = λ viewer what. numbered-if (sees asked.db viewer conference) _ what;
-}) (conference_of asked.db conference)
-sent-numbered asked decision (call.DeleteText text) = row-numbered _ (λ row. record {
-  tells = λ viewer what. numbered-if (Messages.gets_text asked.db viewer row.number) _ what;
-}) (text_of asked.db text)
-sent-numbered asked decision (call.AddRecipient text conference tag) = (
-  record {
-    tells = λ viewer what. numbered-if (Messages.takes asked.db viewer.person conference) _ what;
-  },
-  tt,
-)
-sent-numbered asked decision (call.SubRecipient text conference) = row-numbered _ (λ row. record {
-  tells = λ viewer what. numbered-if (Messages.takes asked.db viewer.person conference) _ what;
-}) (recipient_of asked.db text conference)
-sent-numbered asked decision call.SyncKom = (
-  record {
-    tells = λ viewer what. numbered-if true message.SyncDatabase what;
-  },
-  tt,
-)
-sent-numbered asked decision (call.SendMessage recipient text) = (
-  record {
-    tells = λ viewer what. numbered-if (Messages.hears asked.db viewer.person recipient) _ what;
-  },
-  tt,
-)
-sent-numbered asked decision (call.SetUserArea person text) = row-numbered _ (λ row. record {
-  tells = λ viewer what. numbered-if (viewer.person == person) _ what;
-}) (person_of asked.db person)
-sent-numbered asked decision (call.CreateText given) = map-numbered _ (λ row. record {
-  tells = λ viewer what. numbered-if
-      (Messages.gets_text (only_added decision.effects asked.db) viewer row.number) _ what;
-}) (filter_map text_added decision.effects)
-sent-numbered asked decision (call.CreateAnonymousText given) = map-numbered _ (λ row. record {
-  tells = λ viewer what. numbered-if
-      (Messages.gets_text (only_added decision.effects asked.db) viewer row.number) _ what;
-}) (filter_map text_added decision.effects)
-sent-numbered asked decision (call.ModifyTextInfo given) = (
-  record {
-    tells = λ viewer what. numbered-if _ (message.TextAuxChanged _) what;
-  },
-  tt,
-)
-sent-numbered asked decision (call.AddMember conference person priority place kind) =
-    new_member (is_some (membership_of asked.db person conference)) where
-      new_member : (joined : Bool) →
-          AllByRecursion IsNumbered (cond joined [] (Messages.new_membership person conference ∷ []))
-      new_member true = tt
-      new_member false = (record { tells = λ viewer what. numbered-if (viewer.person == person) _ what }, tt)
-sent-numbered asked decision other = tt
 
 -- ---- what comes to a session, by what is told who looks from it
 module _ (seat : Seat) where

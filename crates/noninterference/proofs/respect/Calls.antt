@@ -7,7 +7,7 @@ use Rattle.kom_model.specs.Decide.{asked_in}
 use Rattle.kom_model.specs.State.{State}
 use Rattle.kom_laws.specs.Erasing.{erased}
 use Rattle.kom_laws.specs.Groups.{Group}
-use Rattle.kom_laws.proofs.fitting.Calls.{decided-fit}
+use Rattle.kom_laws.proofs.Calls.{decided-fit}
 use Rattle.noninterference.specs.steps.Steps.{IsReadyFor}
 use Rattle.noninterference.specs.respect.Calls.{IsOfHidden, later, HiddenCallsVanish}
 use Rattle.noninterference.proofs.respect.Silence.{IsSilent, after-silent}

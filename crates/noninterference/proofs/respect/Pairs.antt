@@ -40,7 +40,7 @@ use Rattle.kom_laws.specs.masking.Laws.{HidesMore}
 use Rattle.kom_laws.specs.masking.Masks.{masked_db}
 use Rattle.kom_laws.specs.Erasing.{erased_db, erased, mask_of}
 use Rattle.kom_laws.specs.Groups.{Group, IsOfGroup, is_unseen}
-use Rattle.kom_laws.proofs.fitting.Calls.{decided-fit}
+use Rattle.kom_laws.proofs.Calls.{decided-fit}
 use Rattle.noninterference.specs.outputs.Brought.{brought_to}
 use Rattle.noninterference.proofs.outputs.Masked.{public-masked, conference-masked}
 use Rattle.noninterference.specs.steps.Calls.{called}

@@ -1,5 +1,6 @@
 use Rattle.std.proofs.Common.{◌≡◌, ◌∙◌, ◌++◌, List, ℕ, ap, subst}
 use Rattle.std.specs.Result.{IfOk}
+use Rattle.kom_types.specs.declared.aux_items.AuxChange.{AuxChange}
 use Rattle.kom_types.specs.declared.effects.Effect.{Effect}
 use Rattle.kom_model.specs.Db.{Db}
 use Rattle.kom_model.specs.Messages.{text_aux_changed}
@@ -14,11 +15,15 @@ changed text db numbers effects = text_aux_changed db text (items_named db text 
 
 pub returns : goal.returns
 returns c =
+    let given = c.get-change.result.now in
     let text = c.args.change.now.object in
-    let sent : changed text c.rows.result.now.db c.as_slice.result.now c.as_slice-2.result.now
+    let sent : changed given.object c.rows.result.now.db c.as_slice.result.now c.as_slice-2.result.now
     ≡ changed text c.args.asked.now.db c.args.change.now.delete c.args.decision.now.effects =
-    ap (λ db. changed text db c.as_slice.result.now c.as_slice-2.result.now) c.rows.ensures
-    ∙ ap (λ numbers. changed text c.args.asked.now.db numbers c.as_slice-2.result.now) c.as_slice.ensures
+    ap (λ (given : AuxChange). changed given.object c.rows.result.now.db c.as_slice.result.now
+    c.as_slice-2.result.now) c.get-change.ensures
+    ∙ ap (λ db. changed text db c.as_slice.result.now c.as_slice-2.result.now) c.rows.ensures
+    ∙ ap (λ numbers. changed text c.args.asked.now.db numbers c.as_slice-2.result.now)
+    (c.as_slice.ensures ∙ ap (λ (given : AuxChange). given.delete) c.get-change.ensures)
     ∙ ap (changed text c.args.asked.now.db c.args.change.now.delete) c.as_slice-2.ensures in
     rw (one c.args.asked.now (changed text c.args.asked.now.db c.args.change.now.delete c.args.decision.now.effects))
     (subst (λ sending. IfOk c.deliver.result (λ done. c.deliver.new.into.items

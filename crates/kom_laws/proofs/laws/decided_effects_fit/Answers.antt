@@ -1,4 +1,4 @@
-use Rattle.kom_laws.proofs.fitting.Calls.{decided-fit}
+use Rattle.kom_laws.proofs.Calls.{decided-fit}
 use Rattle.kom_laws.proofs.Kept.{sound-fit, kept-decided}
 use Rattle.kom_laws.proofs.laws.decided_effects_fit.Goals as goal
 

@@ -1,7 +1,7 @@
 use Rattle.kom_laws.proofs.Rights.{rights-erased, hidden-erased, hidden-masked, unseen-masked}
 use Rattle.kom_laws.proofs.Shown.{shown-erased}
 use Rattle.kom_laws.proofs.Told.{told-erased}
-use Rattle.kom_laws.proofs.Sent.{sent-erased}
+use Rattle.kom_laws.proofs.Calls.{sent-erased}
 use Rattle.kom_laws.proofs.Viewers.{viewer-masked}
 use Rattle.kom_laws.proofs.laws.rights_stand_erased.Goals as goal
 

@@ -1,13 +1,30 @@
--- What calls come to is the same over two sets of stored rows that are alike to the caller, call by call.
-use Rattle.std.proofs.Common.{true, false}
+-- The laws of calls, call by call: what each comes to is the same over two sets of stored rows that are alike to the
+-- caller; what it sends has the numbers of its messages; and it sends nothing where it changes nothing.
+use Rattle.std.proofs.Common.{◌≡◌, Bool, true, false, cond, ◌==◌, [], ◌∷◌, ◌++◌, is_some, refl, sym, ap, true≢false}
+use Rattle.std.specs.Prelude.{map}
+use Rattle.std.specs.List.{filter_map, AllByRecursion}
 use Rattle.kom_types.specs.declared.calls.Call.{Call}
 use Rattle.kom_types.specs.declared.calls.Call.TheVariants as call
-use Rattle.kom_model.specs.Db.{Db}
-use Rattle.kom_model.specs.Decide.{definition_of}
-use Rattle.kom_model.specs.calls.Call.{Asked}
+use Rattle.kom_types.specs.declared.decisions.Decision.{Decision}
+use Rattle.kom_types.specs.declared.effects.Effect.TheVariants as effect
+use Rattle.kom_types.specs.declared.messages.Message.TheVariants as message
+use Rattle.kom_types.specs.declared.seats.Seat.{Seat}
+use Rattle.kom_model.specs.Db.{Db, conference_of, person_of, membership_of, text_of, recipient_of}
+use Rattle.kom_model.specs.Db.{recipients_of, links_of, marks_on, items_of}
+use Rattle.kom_model.specs.Decide.{decision_of, definition_of, limited}
+use Rattle.kom_model.specs.Messages as Messages
+use Rattle.kom_model.specs.Rights.{sees}
+use Rattle.kom_model.specs.ToWhom.{sent_by, left, of_made, only_added, text_added, is_refused}
+use Rattle.kom_model.specs.calls.Call.{Asked, decided}
 use Rattle.kom_model.specs.calls.Guards.{caller}
-use Rattle.noninterference.specs.outputs.Answers.{ComesToSame}
+use Rattle.kom_laws.specs.Groups.{Group}
+use Rattle.noninterference.specs.outputs.Answers.{ComesToSame, erased_asked}
+use Rattle.noninterference.specs.outputs.Brought.{brought_to}
+use Rattle.noninterference.proofs.Silent.{brings_none, some-none, append-some, append-none, map-none}
+use Rattle.noninterference.proofs.Silent.{member-silent, change-silent}
 use Rattle.noninterference.proofs.outputs.Alike.{IsAlikeTo, over}
+use Rattle.noninterference.proofs.outputs.Numbered.{IsNumbered, numbered-if, row-numbered, map-numbered}
+use Rattle.noninterference.proofs.outputs.Numbered.{pick-numbered, left-numbered}
 use Rattle.noninterference.proofs.outputs.Passing.{itself}
 use Rattle.noninterference.proofs.outputs.calls.AuxItems as AuxItems
 use Rattle.noninterference.proofs.outputs.calls.Conferences as Conferences
@@ -116,3 +133,119 @@ module _ (asked : Asked) (one : Db) (alike : IsAlikeTo (caller asked) one asked.
   comes-same (call.LocalToGlobalReverse conference ceiling count) =
       Texts.local_to_global_reverse-same asked one alike conference ceiling count
   comes-same (call.Refused code status) = itself _
+
+-- what a call sends has the numbers of its messages
+pub sent-numbered : (asked : Asked) (decision : Decision) (call : Call) →
+    AllByRecursion IsNumbered (sent_by asked decision call)
+sent-numbered asked decision (call.ChangeName conference name) = row-numbered _ (λ row. record {
+  tells = λ viewer what. numbered-if (sees asked.db viewer conference) _ what;
+}) (conference_of asked.db conference)
+sent-numbered asked decision (call.DeleteConf conference) = pick-numbered left left-numbered decision.effects
+sent-numbered asked decision (call.SubMember conference person) = pick-numbered left left-numbered decision.effects
+sent-numbered asked decision (call.SetPresentation conference text) = row-numbered _ (λ row. record {
+  tells = λ viewer what. numbered-if (sees asked.db viewer conference) _ what;
+}) (conference_of asked.db conference)
+sent-numbered asked decision (call.SetEtcMotd conference text) = row-numbered _ (λ row. record {
+  tells = λ viewer what. numbered-if (sees asked.db viewer conference) _ what;
+}) (conference_of asked.db conference)
+sent-numbered asked decision (call.DeleteText text) = row-numbered _ (λ row. record {
+  tells = λ viewer what. numbered-if (Messages.gets_text asked.db viewer row.number) _ what;
+}) (text_of asked.db text)
+sent-numbered asked decision (call.AddRecipient text conference tag) = (
+  record {
+    tells = λ viewer what. numbered-if (Messages.takes asked.db viewer.person conference) _ what;
+  },
+  tt,
+)
+sent-numbered asked decision (call.SubRecipient text conference) = row-numbered _ (λ row. record {
+  tells = λ viewer what. numbered-if (Messages.takes asked.db viewer.person conference) _ what;
+}) (recipient_of asked.db text conference)
+sent-numbered asked decision call.SyncKom = (
+  record {
+    tells = λ viewer what. numbered-if true message.SyncDatabase what;
+  },
+  tt,
+)
+sent-numbered asked decision (call.SendMessage recipient text) = (
+  record {
+    tells = λ viewer what. numbered-if (Messages.hears asked.db viewer.person recipient) _ what;
+  },
+  tt,
+)
+sent-numbered asked decision (call.SetUserArea person text) = row-numbered _ (λ row. record {
+  tells = λ viewer what. numbered-if (viewer.person == person) _ what;
+}) (person_of asked.db person)
+sent-numbered asked decision (call.CreateText given) = map-numbered _ (λ row. record {
+  tells = λ viewer what. numbered-if
+      (Messages.gets_text (only_added decision.effects asked.db) viewer row.number) _ what;
+}) (filter_map text_added decision.effects)
+sent-numbered asked decision (call.CreateAnonymousText given) = map-numbered _ (λ row. record {
+  tells = λ viewer what. numbered-if
+      (Messages.gets_text (only_added decision.effects asked.db) viewer row.number) _ what;
+}) (filter_map text_added decision.effects)
+sent-numbered asked decision (call.ModifyTextInfo given) = (
+  record {
+    tells = λ viewer what. numbered-if _ (message.TextAuxChanged _) what;
+  },
+  tt,
+)
+sent-numbered asked decision (call.AddMember conference person priority place kind) =
+    new_member (is_some (membership_of asked.db person conference)) where
+      new_member : (joined : Bool) →
+          AllByRecursion IsNumbered (cond joined [] (Messages.new_membership person conference ∷ []))
+      new_member true = tt
+      new_member false = (record { tells = λ viewer what. numbered-if (viewer.person == person) _ what }, tt)
+sent-numbered asked decision other = tt
+
+-- calls that send though they change nothing, and 80: what they come to hangs on nothing that is ever hidden
+abbrev pub is_public : Call → Bool
+is_public (call.AcceptAsync numbers) = true
+is_public call.SyncKom = true
+is_public (call.SendMessage recipient text) = true
+is_public other = false
+
+-- another call that changes nothing sends nothing
+module _ (asked : Asked) (seat : Seat) where
+  pub sent-silent : (what : Call) (decision : Decision) → is_public what ≡ false → decision.effects ≡ [] →
+      is_refused (definition_of asked what).rest.reply ≡ false → (definition_of asked what).rest.effects ≡ [] →
+      brings_none asked seat (sent_by asked decision what)
+  sent-silent call.SyncKom decision other none accepted idle = absurd (true≢false other)
+  sent-silent (call.SendMessage recipient text) decision other none accepted idle = absurd (true≢false other)
+  sent-silent (call.ChangeName conference name) decision other none accepted idle = absurd (some-none idle)
+  sent-silent (call.SetPresentation conference text) decision other none accepted idle = absurd (some-none idle)
+  sent-silent (call.SetEtcMotd conference text) decision other none accepted idle = absurd (some-none idle)
+  sent-silent (call.AddRecipient text conference tag) decision other none accepted idle = absurd (some-none idle)
+  sent-silent (call.SubRecipient text conference) decision other none accepted idle = absurd (some-none idle)
+  sent-silent (call.SetUserArea person text) decision other none accepted idle = absurd (some-none idle)
+  sent-silent (call.DeleteText text) decision other none accepted idle = absurd (append-some
+      (map (λ link. effect.LinkGone link.child link.parent link.footnote) (links_of asked.db text)
+      ++ map (λ row. effect.RecipientGone row.text row.conference) (recipients_of asked.db text)
+      ++ map (λ row. effect.MarkGone row.person row.text) (marks_on asked.db text)
+      ++ map (λ item. effect.AuxGone true text item.number) (items_of asked.db true text))
+      (effect.TextGone text) [] idle)
+  sent-silent (call.DeleteConf conference) decision other none accepted idle =
+      ap (λ effects. brought_to asked.db seat (filter_map left effects)) none
+  sent-silent (call.SubMember conference person) decision other none accepted idle =
+      ap (λ effects. brought_to asked.db seat (filter_map left effects)) none
+  sent-silent (call.CreateText given) decision other none accepted idle =
+      ap (λ effects. brought_to asked.db seat (of_made effects asked.db)) none
+  sent-silent (call.CreateAnonymousText given) decision other none accepted idle =
+      ap (λ effects. brought_to asked.db seat (of_made effects asked.db)) none
+  sent-silent (call.ModifyTextInfo given) decision other none accepted idle =
+      change-silent asked seat given _ _ decision.effects accepted idle
+      (λ none. map-none (λ number. effect.AuxGone true given.object number) given.delete (append-none _ _ none)) none
+  sent-silent (call.AddMember conference person priority place kind) decision other none accepted idle =
+      member-silent asked seat person conference priority place kind (membership_of asked.db person conference) idle
+  sent-silent what decision other none accepted idle = refl
+
+-- these come to the same whatever is hidden
+module _ (group : Group) (asked : Asked) where
+  pub public-decided : (what : Call) → is_public what ≡ true →
+      decision_of (erased_asked group asked) what ≡ decision_of asked what
+  unfolding decision_of
+  public-decided (call.AcceptAsync numbers) public = refl
+  public-decided call.SyncKom public = rw (Sessions.caller-erased group asked) refl
+  public-decided (call.SendMessage recipient text) public =
+      ap (λ definition. limited asked.reference (decided definition))
+      (Sessions.message-erased group asked recipient text)
+  public-decided what public = absurd (true≢false (sym public))

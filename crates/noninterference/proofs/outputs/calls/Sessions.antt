@@ -10,13 +10,18 @@ use Rattle.kom_model.specs.Db.{Db}
 use Rattle.kom_model.specs.Messages.{send_message, is_member_with}
 use Rattle.kom_model.specs.Rights.{supervises}
 use Rattle.kom_model.specs.Sending.{delivered, delivered_to}
-use Rattle.kom_model.specs.calls.Call.{Asked, answer}
+use Rattle.kom_model.specs.calls.Call.{Asked, answer, seat_of}
 use Rattle.kom_model.specs.calls.Guards.{caller, seat_at, unless}
 use Rattle.kom_model.specs.calls.Sessions.{logout, enable, login, send_message_to, disconnect, who_is_on_dynamic}
 use Rattle.kom_model.specs.calls.Sessions.{dynamic_of, is_asked_for, session_meant, may_disconnect}
+use Rattle.kom_laws.specs.Erasing.{erased_db, mask_of}
+use Rattle.kom_laws.specs.Groups.{Group}
+use Rattle.kom_laws.proofs.Rights.{sees-masked}
 use Rattle.kom_laws.proofs.masking.Rows.{told}
-use Rattle.noninterference.specs.outputs.Answers.{ComesToSame}
+use Rattle.noninterference.specs.outputs.Answers.{ComesToSame, erased_asked}
 use Rattle.noninterference.proofs.outputs.Alike.{IsAlikeTo, over, caller-same, person-same, password-same}
+use Rattle.noninterference.proofs.outputs.Alike.{viewer-same}
+use Rattle.noninterference.proofs.outputs.Masked.{public-masked}
 use Rattle.noninterference.proofs.outputs.Passing.{itself, passing, ended, by-guard}
 use Rattle.noninterference.proofs.outputs.Rows.{told-tells, map-tells, filter_map-tells}
 
@@ -89,3 +94,32 @@ module _ (asked : Asked) (one : Db) (alike : IsAlikeTo (caller asked) one asked.
       (ap (λ (sessions : List DynamicSession). answer (reply.DynamicSessions sessions))
       (map-tells (dynamic_of part) (dynamic_of asked) dynamic-same
       (filter (is_asked_for asked.moment visible invisible most) asked.seats)))
+
+-- the calls that hang on nothing that is ever hidden come to the same without it, whoever makes them
+module _ (group : Group) (asked : Asked) where
+  abbrev without : Asked
+  without = erased_asked group asked
+
+  pub caller-erased : caller without ≡ caller asked
+  caller-erased = viewer-same (erased_db group asked.db) asked.db (public-masked (mask_of group asked.db) asked.db)
+      (seat_of asked)
+
+  delivered-erased : (recipient : ℕ) (text : List ℕ) (seat : Seat) →
+      delivered without.db (send_message without.db recipient (caller asked).person text) seat
+      ≡ delivered asked.db (send_message asked.db recipient (caller asked).person text) seat
+  delivered-erased recipient text seat =
+      rw ((public-masked (mask_of group asked.db) asked.db).kind seat.person recipient, is_member_with) refl
+
+  sent-erased : (recipient : ℕ) (text : List ℕ) →
+      delivered_to without.db asked.seats (send_message without.db recipient (caller asked).person text)
+      ≡ delivered_to asked.db asked.seats (send_message asked.db recipient (caller asked).person text)
+  sent-erased recipient text = filter_map-tells
+      (delivered without.db (send_message without.db recipient (caller asked).person text))
+      (delivered asked.db (send_message asked.db recipient (caller asked).person text))
+      (delivered-erased recipient text) asked.seats
+
+  pub message-erased : (recipient : ℕ) (text : List ℕ) →
+      send_message_to without recipient text ≡ send_message_to asked recipient text
+  message-erased recipient text = rw caller-erased
+      (rw (sees-masked (mask_of group asked.db) asked.db (caller asked) recipient)
+      (rw (sent-erased recipient text) refl))

@@ -1,15 +1,20 @@
--- What calls come to fits, call by call.
-use Rattle.std.proofs.Common.{◌≡◌, ℕ, true, false, [], ◌∷◌, Option, Some, None, refl}
+-- The laws of calls, call by call: what each comes to fits, and what it sends stands erased.
+use Rattle.std.proofs.Common.{◌≡◌, ℕ, true, false, cond, [], ◌∷◌, Option, Some, None, refl, ap, ap₂}
+use Rattle.std.specs.List.{filter_map}
 use Rattle.kom_types.specs.declared.calls.Call.{Call}
 use Rattle.kom_types.specs.declared.calls.Call.TheVariants as call
 use Rattle.kom_types.specs.declared.conferences.ConferenceRow.{ConferenceRow}
 use Rattle.kom_types.specs.declared.decisions.Decision.{Decision}
 use Rattle.kom_types.specs.declared.effects.ConfField.TheVariants as field
+use Rattle.kom_types.specs.declared.messages.Message.TheVariants as message
 use Rattle.kom_types.specs.declared.replies.Reply.TheVariants as reply
 use Rattle.kom_types.specs.declared.seats.Seat.{Seat}
 use Rattle.kom_types.specs.declared.texts.TextRow.{TextRow}
-use Rattle.kom_model.specs.Effects.{all_fit}
+use Rattle.kom_model.specs.declared.viewers.Viewer.{Viewer}
+use Rattle.kom_model.specs.Effects.{IsProtected, all_fit}
 use Rattle.kom_model.specs.Decide.{decision_of, definition_of}
+use Rattle.kom_model.specs.Messages.{told_if, new_membership}
+use Rattle.kom_model.specs.ToWhom.{text_added, items_made}
 use Rattle.kom_model.specs.Whole.{IsWhole}
 use Rattle.kom_model.specs.calls.Call.{Asked, answer, done}
 use Rattle.kom_model.specs.calls.Conferences.{nearest}
@@ -17,7 +22,15 @@ use Rattle.kom_model.specs.calls.Guards.{caller, seat_at, text_or_none_guard, co
 use Rattle.kom_model.specs.calls.Sessions.{static_of}
 use Rattle.kom_model.specs.calls.Texts.{nearest_text}
 use Rattle.kom_model.specs.State.{AreSeated}
+use Rattle.kom_laws.specs.Erasing.{erased_db, mask_of}
 use Rattle.kom_laws.specs.Fitting.{DecidedFit}
+use Rattle.kom_laws.specs.Groups.{Group, IsInGroup}
+use Rattle.kom_laws.specs.Laws.{IsSentSame, told_to}
+use Rattle.kom_laws.proofs.Added.{made-erased}
+use Rattle.kom_laws.proofs.Messages.{alone, takes-erased, hears-erased, conference-told, deleted-erased}
+use Rattle.kom_laws.proofs.Messages.{recipient-told, aux-told}
+use Rattle.kom_laws.proofs.Sent.{caller-erased, area-told, named-read}
+use Rattle.kom_laws.proofs.masking.Accessors.{joined-masked}
 use Rattle.kom_laws.proofs.fitting.Conferences.{change_name-fits, set_field-fits, set_conf_type-fits}
 use Rattle.kom_laws.proofs.fitting.Clearing.{delete_conf-fits}
 use Rattle.kom_laws.proofs.fitting.Deleting.{delete_text-fits}
@@ -190,3 +203,38 @@ pub decided-fit : DecidedFit
 unfolding decision_of
 decided-fit asked call whole seated =
     decided-fits asked.reference (definition_of asked call) asked.db (rest-fits asked call whole seated)
+
+-- what a call sends tells a person of a group the same in the state without what is hidden from the group
+module _ (group : Group) (asked : Asked) (viewer : Viewer) (decision : Decision) (protected : IsProtected asked.db)
+    (whole : IsWhole asked.db) (in_group : IsInGroup group viewer) where
+  pub sent-erased : IsSentSame viewer asked (erased_db group asked.db) decision
+  sent-erased (call.ChangeName conference name) =
+      conference-told group asked.db viewer conference 5 (λ row. message.NewName
+      (record { conference = conference; old_name = row.name; new_name = name })) in_group
+  sent-erased (call.SetPresentation conference text) =
+      conference-told group asked.db viewer conference 20
+      (λ row. message.NewPresentation conference row.presentation text) in_group
+  sent-erased (call.SetEtcMotd conference text) =
+      conference-told group asked.db viewer conference 21 (λ row. message.NewMotd conference row.motd text) in_group
+  sent-erased (call.DeleteText text) = deleted-erased group asked.db viewer text protected in_group
+  sent-erased (call.AddRecipient text conference tag) =
+      ap (λ taken. alone (told_if taken (message.NewRecipient text conference tag)))
+      (takes-erased group asked.db viewer.person conference)
+  sent-erased (call.SubRecipient text conference) =
+      recipient-told group asked.db viewer text conference whole in_group
+  sent-erased (call.SendMessage recipient text) =
+      ap₂ (λ heard sender. alone (told_if heard (message.SendMessage
+      (record { recipient = recipient; sender = sender; text = text }))))
+      (hears-erased group asked.db viewer.person recipient) (caller-erased group asked viewer)
+  sent-erased (call.SetUserArea person text) = area-told group asked viewer person text
+  sent-erased (call.CreateText given) =
+      made-erased group asked.db decision.effects viewer (filter_map text_added decision.effects)
+  sent-erased (call.CreateAnonymousText given) =
+      made-erased group asked.db decision.effects viewer (filter_map text_added decision.effects)
+  sent-erased (call.ModifyTextInfo given) =
+      ap alone (aux-told group asked.db viewer given.object _ _ (items_made decision.effects) protected in_group
+      (named-read group asked viewer given.object given.delete))
+  sent-erased (call.AddMember conference person priority place kind) =
+      ap (λ joined. told_to viewer (cond joined [] (new_membership person conference ∷ [])))
+      (joined-masked (mask_of group asked.db) asked.db person conference)
+  sent-erased other = refl
