@@ -11,13 +11,13 @@ use std::test::Fail;
 use std::time::{Duration, Instant};
 
 /// A port of this machine at which nobody listened a moment ago.
-fn free_port(rt: &impl Net) -> io::Result<u16> {
+pub fn free_port(rt: &impl Net) -> io::Result<u16> {
     let listener = TcpListener::bind(rt, SocketAddr::from((Ipv4Addr::UNSPECIFIED, 0)))?;
     Ok(listener.local_addr()?.port())
 }
 
 /// A client at a port of this machine.
-fn connect<R: Net>(rt: &R, port: u16) -> io::Result<R::Stream> {
+pub fn connect<R: Net>(rt: &R, port: u16) -> io::Result<R::Stream> {
     TcpStream::connect(rt, SocketAddr::from((Ipv4Addr::LOCALHOST, port)))
 }
 
@@ -51,7 +51,7 @@ fn serve<G: Gate>(rt: &impl Abort, gate: &mut G, client: &mut impl Write) -> Res
 }
 
 /// The last line came, and no more.
-fn check_last(rt: &impl Abort, client: &mut impl Read) -> Result<(), Fail> {
+pub fn check_last(rt: &impl Abort, client: &mut impl Read) -> Result<(), Fail> {
     let mut line = [0u8; 8];
     assert!(rt; client.read(&mut line)? == 4 && line.starts_with(b"bye\n"));
     assert!(rt; client.read(&mut line)? == 0);

@@ -133,3 +133,10 @@ pub record IsFound (tells : Bool) (files : Option (List ℕ → List ℕ)) (path
 abbrev pub GivesFirst : Option ℕ → Option (List ℕ) → ℕ → Type 0
 GivesFirst first gave given =
     IfSome first (λ moment. IfSome gave (λ moments. moments ≡ [] → given ≡ moment))
+
+-- A gate was left as it was, but that it may have failed.
+pub record IsLeft {L : Type 0} (old new : GateView L) : Type 0 where
+  pub given : new.given ≡ old.given
+  pub returned : new.returned ≡ old.returned
+  pub ended : new.ended ≡ old.ended
+  pub faults : old.faults ≤ new.faults

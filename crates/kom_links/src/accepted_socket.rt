@@ -5,7 +5,7 @@ use crate::bells::Watch;
 use crate::link::{Got, Took};
 use crate::streams::{try_read, try_write};
 use mio::net::TcpStream;
-use mio::{Interest, Token};
+use mio::{Interest, Registry, Token};
 use std::io;
 use std::net::Shutdown;
 use std::rt::Clock;
@@ -42,14 +42,15 @@ enum Stage {
     Heard,
 }
 
-/// A socket that was accepted, with a watch. If nothing is ready a call waits for it for a pause;
-/// once something was written to it a read waits on until something is done at the port, which may
-/// be something to be told to its peer. It fails if its peer is silent, or takes nothing, for too
-/// long.
+/// A socket that was accepted. It fails if its peer is silent, or takes nothing, for too long. With
+/// a watch of its own a call waits for a pause if nothing is ready; once something was written to
+/// it a read waits on until something is done at the port, which may be something to be told to its
+/// peer. Without one no call waits.
 #[derive(Drop)]
 pub(crate) struct AcceptedSocket<C: Clock + Drop> {
     stream: TcpStream,
-    watch: Watch,
+    watch: Option<Watch>,
+    token: Token,
     clock: C,
     stage: Stage,
     // Since when its writes have taken nothing, if the last one took nothing.
@@ -63,19 +64,40 @@ impl<C: Clock + Drop> AcceptedSocket<C> {
         watch: Watch,
         clock: C,
     ) -> Result<AcceptedSocket<C>, Watch> {
-        if prepare(&mut stream, &watch).is_err() {
+        let token = Token(0);
+        if prepare(&mut stream, watch.registry(), token).is_err() {
             return Err(watch);
         }
         match Instant::now(&clock) {
             Ok(accepted) => Ok(AcceptedSocket {
                 stream,
-                watch,
+                watch: Some(watch),
+                token,
                 clock,
                 stage: Stage::Accepted(accepted),
                 stalled: None,
             }),
             Err(_) => Err(watch),
         }
+    }
+
+    /// A socket that was accepted now and is told of by this token, if it can be used.
+    pub(crate) fn unwatched(
+        mut stream: TcpStream,
+        registry: &Registry,
+        token: Token,
+        clock: C,
+    ) -> Option<AcceptedSocket<C>> {
+        prepare(&mut stream, registry, token).ok()?;
+        let accepted = Instant::now(&clock).ok()?;
+        Some(AcceptedSocket {
+            stream,
+            watch: None,
+            token,
+            clock,
+            stage: Stage::Accepted(accepted),
+            stalled: None,
+        })
     }
 
     pub(crate) fn read(&mut self, into: &mut [u8]) -> Got
@@ -93,8 +115,7 @@ impl<C: Clock + Drop> AcceptedSocket<C> {
         requires { 0 < length from.now }
         ensures { TakesWithin (length from.now) result }
     {
-        // What is told here comes of an act, which may have done something for others.
-        self.watch.ring();
+        self.ring();
         let took = self.write_soon(from);
         match took {
             Took::Some(_) => {
@@ -115,15 +136,16 @@ impl<C: Clock + Drop> AcceptedSocket<C> {
 
     /// Closes the socket: its writing side first, and then, once the peer has ended its own or
     /// sends nothing for a pause, all of it. A socket that is closed with bytes unread is reset,
-    /// and the last line may be lost. The watch is returned.
-    pub(crate) fn close(mut self) -> Watch {
-        self.watch.ring();
-        if self.stream.shutdown(Shutdown::Write).is_ok() {
+    /// and the last line may be lost. The watch is returned, if it has one.
+    pub(crate) fn close(mut self) -> Option<Watch> {
+        self.ring();
+        if self.shut() {
             self.read_rest();
         }
         let AcceptedSocket {
             stream,
             watch,
+            token: _,
             clock: _,
             stage: _,
             stalled: _,
@@ -132,13 +154,47 @@ impl<C: Clock + Drop> AcceptedSocket<C> {
         watch
     }
 
-    fn read_rest(&mut self) {
+    /// By which it is told of.
+    pub(crate) fn token(&self) -> Token {
+        self.token
+    }
+
+    /// Ends its writing side, unless it is broken.
+    pub(crate) fn shut(&mut self) -> bool {
+        self.stream.shutdown(Shutdown::Write).is_ok()
+    }
+
+    /// It is not told of any more.
+    pub(crate) fn forget(&mut self, registry: &Registry) {
+        let _ = registry.deregister(&mut self.stream);
+    }
+
+    /// Reads what its peer still sends, some of it at a time. Whether nothing more is to come.
+    pub(crate) fn read_rest(&mut self) -> bool {
         let mut rest = [0u8; 4096];
         for _ in 0..LAST_READS {
             match self.read_soon(&mut rest, false) {
                 Got::Some(_) => {}
-                _ => return,
+                Got::NotYet => return false,
+                Got::End | Got::Failed => return true,
             }
+        }
+        false
+    }
+
+    // What is told here comes of an act, which may have done something for others.
+    fn ring(&self) {
+        if let Some(watch) = &self.watch {
+            watch.ring();
+        }
+    }
+
+    // Waits for a pause, or on until something is done at the port. Whether something may be ready.
+    fn pause(&mut self, waits_on: bool) -> io::Result<bool> {
+        match &mut self.watch {
+            Some(watch) if waits_on => watch.wait(PAUSE_MILLIS),
+            Some(watch) => watch.pause(PAUSE_MILLIS),
+            None => Ok(false),
         }
     }
 
@@ -194,20 +250,15 @@ impl<C: Clock + Drop> AcceptedSocket<C> {
         if let Some(got) = try_read(&mut self.stream, into) {
             return got;
         }
-        let ready = if waits_on {
-            self.watch.wait(PAUSE_MILLIS)
-        } else {
-            self.watch.pause(PAUSE_MILLIS)
-        };
-        match ready {
+        match self.pause(waits_on) {
             Ok(true) => try_read(&mut self.stream, into).unwrap_or(Got::NotYet),
             Ok(false) => Got::NotYet,
             Err(_) => Got::Failed,
         }
     }
 
-    // Writes what can be written. If nothing can, it waits for a pause and writes once more: a
-    // socket can have some room before it is told to be ready.
+    // Writes what can be written. If nothing can, it waits for a pause, where it has a watch, and
+    // writes once more: a socket can have some room before it is told to be ready.
     fn write_soon(&mut self, from: &[u8]) -> Took
         requires { 0 < length from.now }
         ensures { TakesWithin (length from.now) result }
@@ -215,7 +266,10 @@ impl<C: Clock + Drop> AcceptedSocket<C> {
         if let Some(took) = try_write(&mut self.stream, from) {
             return took;
         }
-        match self.watch.pause(PAUSE_MILLIS) {
+        let Some(watch) = &mut self.watch else {
+            return Took::NotYet;
+        };
+        match watch.pause(PAUSE_MILLIS) {
             Ok(_) => try_write(&mut self.stream, from).unwrap_or(Took::NotYet),
             Err(_) => Took::Failed,
         }
@@ -246,9 +300,9 @@ fn has_more_than_line_feeds(bytes: &[u8]) -> bool {
     bytes.iter().any(|byte| *byte != b'\n')
 }
 
-// Has the watch look at a socket, whose bytes are sent at once.
-fn prepare(stream: &mut TcpStream, watch: &Watch) -> io::Result<()> {
+// Has a socket, whose bytes are sent at once, told of by a token.
+fn prepare(stream: &mut TcpStream, registry: &Registry, token: Token) -> io::Result<()> {
     stream.set_nodelay(true)?;
     let both = Interest::READABLE | Interest::WRITABLE;
-    watch.registry().register(stream, Token(0), both)
+    registry.register(stream, token, both)
 }

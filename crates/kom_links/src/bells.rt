@@ -7,8 +7,8 @@ use std::sync::Arc;
 use std::sync::atomic::{AtomicBool, AtomicU64, Ordering};
 use std::time::Duration;
 
-// What a wait is told by its bell, and not by what it waits for.
-const RUNG: Token = Token(1);
+/// By which a wait is told of its bell, and not of what it waits for.
+pub(crate) const RUNG: Token = Token(usize::MAX);
 
 // How long a wait lasts at most of which nobody knows that anything was done, in milliseconds.
 const LONGEST_MILLIS: u64 = 2_000;
@@ -18,6 +18,8 @@ const LONGEST_MILLIS: u64 = 2_000;
 struct Bell {
     waker: Waker,
     is_waiting: AtomicBool,
+    // How many links the worker has that waits at it.
+    links: AtomicU64,
 }
 
 // All bells of a port, how often they were rung, and how many of them somebody waits at.
@@ -34,11 +36,11 @@ impl Bells {
     }
 
     // Who waits counts as waiting before it looks whether somebody has rung, and who rings counts
-    // that before it looks who waits: one of them sees the other.
-    fn ring(&self) {
-        self.rung.fetch_add(1, Ordering::SeqCst);
+    // that before it looks who waits: one of them sees the other. How often was rung before.
+    fn ring(&self) -> u64 {
+        let before = self.rung.fetch_add(1, Ordering::SeqCst);
         if self.waiting.load(Ordering::SeqCst) == 0 {
-            return;
+            return before;
         }
         for bell in &self.bells {
             // A bell that nobody waits at is not written to.
@@ -48,6 +50,22 @@ impl Bells {
                 let _ = bell.waker.wake();
             }
         }
+        before
+    }
+
+    fn set_links(&self, place: usize, links: u64) {
+        if let Some(bell) = self.bells.get(place) {
+            bell.links.store(links, Ordering::SeqCst);
+        }
+    }
+
+    fn have_at_least(&self, links: u64) -> bool {
+        for bell in &self.bells {
+            if bell.links.load(Ordering::SeqCst) < links {
+                return false;
+            }
+        }
+        true
     }
 
     fn begin(&self, place: usize) {
@@ -65,7 +83,7 @@ impl Bells {
     }
 }
 
-/// A watch for what comes to one socket at a port, and for what is done there.
+/// A watch for what comes to sockets at a port, and for what is done there.
 #[derive(Drop)]
 pub(crate) struct Watch {
     poll: Poll,
@@ -77,7 +95,7 @@ pub(crate) struct Watch {
 }
 
 impl Watch {
-    /// What sources are registered with, under another token than 1.
+    /// What sources are registered with, under another token than the bell's.
     pub(crate) fn registry(&self) -> &Registry {
         self.poll.registry()
     }
@@ -85,6 +103,55 @@ impl Watch {
     /// Tells the others that something may have been done for them.
     pub(crate) fn ring(&self) {
         self.bells.ring();
+    }
+
+    /// The same; it is not told of this itself.
+    pub(crate) fn ring_for_others(&mut self) {
+        let before = self.bells.ring();
+        if before == self.seen {
+            self.seen = before.wrapping_add(1);
+        }
+    }
+
+    /// Whether somebody rang since this was last asked.
+    pub(crate) fn was_rung(&mut self) -> bool {
+        let rung = self.bells.count_rung();
+        let is_new = rung != self.seen;
+        self.seen = rung;
+        is_new
+    }
+
+    /// What the last wait was told.
+    pub(crate) fn events(&self) -> &Events {
+        &self.events
+    }
+
+    /// Notes how many links its worker has.
+    pub(crate) fn set_links(&self, links: u64) {
+        self.bells.set_links(self.place, links);
+    }
+
+    /// Whether each worker has so many links at least.
+    pub(crate) fn others_have(&self, links: u64) -> bool {
+        self.bells.have_at_least(links)
+    }
+
+    /// Looks what is ready.
+    pub(crate) fn look(&mut self) -> io::Result<()> {
+        self.poll.poll(&mut self.events, Some(Duration::ZERO))
+    }
+
+    /// Waits until something is ready or somebody rings, for so long at most; not at all if
+    /// somebody rang since that was last asked.
+    pub(crate) fn sleep(&mut self, longest: Duration) -> io::Result<()> {
+        self.bells.begin(self.place);
+        let waited = if self.bells.count_rung() == self.seen {
+            self.poll.poll(&mut self.events, Some(longest))
+        } else {
+            self.look()
+        };
+        self.bells.end(self.place);
+        waited
     }
 
     /// Waits until something is ready, for so many milliseconds at most. Whether it is.
@@ -114,11 +181,12 @@ impl Watch {
     }
 }
 
-/// So many watches at one port.
+/// So many watches at one port, each of which is told of so many sources at a time at most.
 pub(crate) fn open_watches<R: Net>(
     net: &R,
     alloc: Global,
     number: usize,
+    sources: usize,
 ) -> io::Result<Vec<Watch>> {
     let mut polls = Vec::with_capacity(alloc, number)?;
     let mut bells = Vec::with_capacity(alloc, number)?;
@@ -127,6 +195,7 @@ pub(crate) fn open_watches<R: Net>(
         bells.push(Bell {
             waker: Waker::new(poll.registry(), RUNG)?,
             is_waiting: AtomicBool::new(false),
+            links: AtomicU64::new(0),
         })?;
         polls.push(poll)?;
     }
@@ -143,7 +212,7 @@ pub(crate) fn open_watches<R: Net>(
         let place = watches.len();
         watches.push(Watch {
             poll,
-            events: Events::with_capacity(alloc, 1)?,
+            events: Events::with_capacity(alloc, sources)?,
             bells: Arc::try_clone(&shared)?,
             place,
             seen: 0,

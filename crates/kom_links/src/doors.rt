@@ -7,6 +7,7 @@ use crate::accepted_socket::AcceptedSocket;
 use crate::bells::{Watch, open_watches};
 use crate::gate::Gate;
 use crate::keep_alive::keep_alive;
+use crate::port_gate::{PortGate, SOURCES};
 use crate::std_gate::StdGate;
 use crate::std_link::Host;
 use arrayvec::ArrayString;
@@ -15,7 +16,7 @@ use mio::{Interest, Token};
 use std::alloc::Global;
 use std::fmt::Write;
 use std::io::{ErrorKind, Input};
-use std::net::{Ipv4Addr, Ipv6Addr, Net, SocketAddr};
+use std::net::{IpAddr, Ipv4Addr, Ipv6Addr, Net, SocketAddr};
 use std::rt::Clock;
 use std::{io, net};
 
@@ -83,7 +84,7 @@ impl<'a, R: Net + Clock> Door<'a, R> {
 
     /// Takes a client's socket back, and closes it.
     pub(crate) fn close(&mut self, socket: AcceptedSocket<&'a R>) {
-        self.spare = Some(socket.close());
+        self.spare = socket.close();
     }
 
     // An accept that fails for want of descriptors, or because the peer has gone, found nobody.
@@ -101,10 +102,9 @@ impl<'a, R: Net + Clock> Door<'a, R> {
     }
 
     fn let_in(&mut self, stream: TcpStream, address: SocketAddr) -> Arrival<&'a R> {
-        let mut host = ArrayString::new();
-        if write!(host, "{}", address.ip().to_canonical()).is_err() {
+        let Some(host) = host_of(address.ip().to_canonical()) else {
             return Arrival::Nobody;
-        }
+        };
         let Some(watch) = self.spare.take() else {
             return Arrival::Nobody;
         };
@@ -118,12 +118,45 @@ impl<'a, R: Net + Clock> Door<'a, R> {
     }
 }
 
+/// An address as text.
+pub(crate) fn host_of(ip: IpAddr) -> Option<Host> {
+    let mut host = ArrayString::new();
+    write!(host, "{ip}").ok()?;
+    Some(host)
+}
+
+/// How many links a gate at a port gives at a time.
+#[derive(Clone, Copy)]
+pub(crate) enum AtATime {
+    One,
+    Many,
+}
+
+impl AtATime {
+    // How many watches the gates of so many workers need: a link that is waited for alone has one.
+    fn watches(self, number: u32) -> usize {
+        match self {
+            AtATime::One => number as usize * 2,
+            AtATime::Many => number as usize,
+        }
+    }
+
+    // Of how many sources each watch is told at a time.
+    fn sources(self) -> usize {
+        match self {
+            AtATime::One => 1,
+            AtATime::Many => SOURCES,
+        }
+    }
+}
+
 /// So many gates at a port.
 pub(crate) fn open_port<'a, R: Input + Print + Clock + Net>(
     rt: &'a R,
     alloc: Global,
     port: u16,
     number: u32,
+    links: AtATime,
 ) -> io::Result<Vec<StdGate<'a, R>>>
     ensures fresh { IfOk result (λ gates.
         AllByRecursion (λ gate. IsNewGate (⟦<StdGate<'a, R> as Gate>⟧.view gate)) gates.items) }
@@ -132,12 +165,33 @@ pub(crate) fn open_port<'a, R: Input + Print + Clock + Net>(
     let mut gates = Vec::with_capacity(alloc, number as usize)?;
     let listener = net::TcpListener::from(bind(rt, port)?);
     keep_alive(&listener)?;
-    let mut watches = open_watches(rt, alloc, number as usize * 2)?;
+    let mut watches = open_watches(rt, alloc, links.watches(number), links.sources())?;
     for count in 0..number {
-        let door = Door::open(rt, &listener, &mut watches)?;
-        gates.push_reserved(StdGate::at(door));
+        let gate = open_gate(rt, alloc, &listener, &mut watches, links)?;
+        gates.push_reserved(gate);
     }
     Ok(gates)
+}
+
+// A gate at a port.
+fn open_gate<'a, R: Input + Print + Clock + Net>(
+    rt: &'a R,
+    alloc: Global,
+    listener: &net::TcpListener,
+    watches: &mut Vec<Watch>,
+    links: AtATime,
+) -> io::Result<StdGate<'a, R>>
+    ensures fresh { IfOk result (λ gate. IsNewGate (⟦<StdGate<'a, R> as Gate>⟧.view gate)) }
+{
+    match links {
+        AtATime::One => Ok(StdGate::at(Door::open(rt, listener, watches)?)),
+        AtATime::Many => {
+            let Some(watch) = watches.pop() else {
+                return Err(io::Error::from(ErrorKind::Other));
+            };
+            Ok(StdGate::of_many(PortGate::open(rt, alloc, listener, watch)?))
+        }
+    }
 }
 
 // A listener at a port of all addresses: of IPv4 alone only if the system has no IPv6.

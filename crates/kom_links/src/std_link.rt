@@ -6,7 +6,8 @@ use crate::accepted_socket::AcceptedSocket;
 use crate::link::{Got, Link, Took};
 use crate::streams::{read_soon, write_soon};
 use arrayvec::ArrayString;
-use std::io::{Read, Write};
+use std::io;
+use std::io::Input;
 use std::rt::Clock;
 
 /// An address as text: of a peer without its port.
@@ -18,8 +19,8 @@ pub(crate) type Host = ArrayString<64>;
 /// at its port, for some two seconds at most. A socket fails whose client is silent, takes nothing,
 /// or has vanished for too long.
 #[derive(Drop)]
-pub struct StdLink<I: Read + Drop, O: Write + Drop, C: Clock + Drop> {
-    stream: Stream<I, O, C>,
+pub struct StdLink<'a, R: Input + Print + Clock> {
+    stream: Stream<'a, R>,
     host: Host,
     has_ended: bool,
     faults: u64,
@@ -27,18 +28,19 @@ pub struct StdLink<I: Read + Drop, O: Write + Drop, C: Clock + Drop> {
 
 // What a link is over.
 #[derive(Drop)]
-enum Stream<I: Read + Drop, O: Write + Drop, C: Clock + Drop> {
-    Standard(I, O, C),
-    Accepted(AcceptedSocket<C>),
+enum Stream<'a, R: Input + Print + Clock> {
+    Standard(&'a R),
+    Accepted(AcceptedSocket<&'a R>),
 }
 
-impl<I: Read + Drop, O: Write + Drop, C: Clock + Drop> Stream<I, O, C> {
+impl<'a, R: Input + Print + Clock> Stream<'a, R> {
     fn read(&mut self, into: &mut [u8]) -> Got
         requires { 0 < length into.old }
         ensures { GivesWithin (length into.new) result }
     {
         match self {
-            Stream::Standard(reader, _, clock) => read_soon(reader, clock, into),
+            // (a reader has a window of 8 KiB, which is not used here: it is not kept)
+            Stream::Standard(rt) => read_soon(&mut rt.reader(), rt, into),
             Stream::Accepted(socket) => socket.read(into),
         }
     }
@@ -48,14 +50,14 @@ impl<I: Read + Drop, O: Write + Drop, C: Clock + Drop> Stream<I, O, C> {
         ensures { TakesWithin (length from.now) result }
     {
         match self {
-            Stream::Standard(_, writer, clock) => write_soon(writer, clock, from),
+            Stream::Standard(rt) => write_soon(&mut io::writer(*rt), rt, from),
             Stream::Accepted(socket) => socket.write(from),
         }
     }
 }
 
-impl<I: Read + Drop, O: Write + Drop, C: Clock + Drop> StdLink<I, O, C> {
-    pub(crate) fn new(reader: I, writer: O, clock: C) -> StdLink<I, O, C>
+impl<'a, R: Input + Print + Clock> StdLink<'a, R> {
+    pub(crate) fn new(rt: &'a R) -> StdLink<'a, R>
         ensures host { result.host.bytes ≡ codes "localhost" }
         ensures not_ended { result.has_ended ≡ false }
         ensures no_fault { result.faults ≡ 0 }
@@ -63,7 +65,7 @@ impl<I: Read + Drop, O: Write + Drop, C: Clock + Drop> StdLink<I, O, C> {
         let mut host = ArrayString::new();
         host.push_str("localhost");
         StdLink {
-            stream: Stream::Standard(reader, writer, clock),
+            stream: Stream::Standard(rt),
             host,
             has_ended: false,
             faults: 0,
@@ -71,7 +73,7 @@ impl<I: Read + Drop, O: Write + Drop, C: Clock + Drop> StdLink<I, O, C> {
     }
 
     /// A link over a socket that was accepted, whose peer has this address.
-    pub(crate) fn accepted(socket: AcceptedSocket<C>, host: Host) -> StdLink<I, O, C>
+    pub(crate) fn accepted(socket: AcceptedSocket<&'a R>, host: Host) -> StdLink<'a, R>
         ensures host { result.host ≡ host }
         ensures not_ended { result.has_ended ≡ false }
         ensures no_fault { result.faults ≡ 0 }
@@ -85,7 +87,7 @@ impl<I: Read + Drop, O: Write + Drop, C: Clock + Drop> StdLink<I, O, C> {
     }
 
     /// The socket, if it is over one.
-    pub(crate) fn into_socket(self) -> Option<AcceptedSocket<C>> {
+    pub(crate) fn into_socket(self) -> Option<AcceptedSocket<&'a R>> {
         let StdLink {
             stream,
             host: _,
@@ -94,7 +96,7 @@ impl<I: Read + Drop, O: Write + Drop, C: Clock + Drop> StdLink<I, O, C> {
         } = self;
         match stream {
             Stream::Accepted(socket) => Some(socket),
-            Stream::Standard(_, _, _) => None,
+            Stream::Standard(_) => None,
         }
     }
 
@@ -108,7 +110,7 @@ impl<I: Read + Drop, O: Write + Drop, C: Clock + Drop> StdLink<I, O, C> {
     }
 }
 
-impl<I: Read + Drop, O: Write + Drop, C: Clock + Drop> Link for StdLink<I, O, C> {
+impl<'a, R: Input + Print + Clock> Link for StdLink<'a, R> {
     ghost view = { λ link. record {
       host = link.host.bytes;
       taken = None;

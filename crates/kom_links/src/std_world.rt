@@ -1,6 +1,9 @@
-ghost use Rattle.std.specs.Prelude.{None};
+ghost use Rattle.std.specs.Prelude.{◌≡◌, None, IfOk, length};
+ghost use Rattle.std.specs.List.{AllByRecursion};
+ghost use Rattle.kom_links.specs.Doors.{IsNewGate};
 
-use crate::doors::open_port;
+use crate::doors::{AtATime, open_port};
+use crate::gate::Gate;
 use crate::sink::Failed;
 use crate::std_gate::StdGate;
 use crate::std_sink::StdSink;
@@ -42,6 +45,30 @@ where
     }
 }
 
+// The gates at a port, unless the system refuses them or memory runs out.
+fn open_at<'a, R: Input + Print + Time + Net>(
+    rt: &'a R,
+    alloc: Global,
+    port: u16,
+    number: u32,
+    links: AtATime,
+) -> Result<Vec<StdGate<'a, R>>, WorldFault>
+    ensures fresh { IfOk result (λ gates.
+        AllByRecursion (λ gate. IsNewGate (⟦<StdGate<'a, R> as Gate>⟧.view gate)) gates.items) }
+    ensures number { IfOk result (λ gates. length gates.items ≡ number) }
+{
+    match open_port(rt, alloc, port, number, links) {
+        Ok(gates) => Ok(gates),
+        Err(error) => {
+            if error.kind() == ErrorKind::OutOfMemory {
+                Err(WorldFault::Memory)
+            } else {
+                Err(WorldFault::Failed)
+            }
+        }
+    }
+}
+
 impl<'a, R> World for StdWorld<'a, R>
 where
     R: Input + Print + Time + Net + Sync + Files<File = File> + AllocGlobal + Copy + Send,
@@ -71,15 +98,30 @@ where
         port: u16,
         number: u32,
     ) -> Result<Vec<StdGate<'a, R>>, WorldFault> {
-        let opened = match open_port(self.rt, alloc, port, number) {
+        let opened = match open_at(self.rt, alloc, port, number, AtATime::One) {
             Ok(gates) => Ok(gates),
-            Err(error) => {
-                if error.kind() == ErrorKind::OutOfMemory {
-                    Err(WorldFault::Memory)
-                } else {
-                    self.faults = self.faults.saturating_add(1);
-                    Err(WorldFault::Failed)
-                }
+            Err(WorldFault::Memory) => Err(WorldFault::Memory),
+            Err(WorldFault::Failed) => {
+                self.faults = self.faults.saturating_add(1);
+                Err(WorldFault::Failed)
+            }
+        };
+        self.counts.count_port(opened.is_ok());
+        opened
+    }
+
+    fn open_doors(
+        &mut self,
+        alloc: Global,
+        port: u16,
+        number: u32,
+    ) -> Result<Vec<StdGate<'a, R>>, WorldFault> {
+        let opened = match open_at(self.rt, alloc, port, number, AtATime::Many) {
+            Ok(gates) => Ok(gates),
+            Err(WorldFault::Memory) => Err(WorldFault::Memory),
+            Err(WorldFault::Failed) => {
+                self.faults = self.faults.saturating_add(1);
+                Err(WorldFault::Failed)
             }
         };
         self.counts.count_port(opened.is_ok());

@@ -8,6 +8,7 @@ ghost use Rattle.kom_links.specs.WorldCounts.{with_sink};
 
 use crate::clock::Clock;
 use crate::gate::Gate;
+use crate::polled_gate::PolledGate;
 use crate::sink::{Failed, Sink};
 use kom_disk::Disk;
 use kom_types::Memory;
@@ -24,7 +25,7 @@ pub enum WorldFault {
 
 /// All that a program finds outside itself.
 pub trait World {
-    type Gate: Gate + Send;
+    type Gate: PolledGate + Send;
 
     type Clock: Clock + Send;
 
@@ -41,6 +42,22 @@ pub trait World {
     /// So many gates at a port, each of which gives links of the clients that come there. None has
     /// given one yet.
     fn open_gates(
+        &mut self,
+        alloc: Global,
+        port: u16,
+        number: u32,
+    ) -> Result<Vec<Self::Gate>, WorldFault>
+        ensures may { MayRefuse (view self.old).faults (view self.new).faults result }
+        ensures fresh { IfOk result (λ gates.
+            AllByRecursion (λ gate. IsNewGate (Self.Gate.view gate)) gates.items) }
+        ensures number { IfOk result (λ gates. length gates.items ≡ number) }
+        ensures counts { (view self.new).counts ≡ with_port (is_ok result) (view self.old).counts }
+        ensures faults { (view self.old).faults ≤ (view self.new).faults }
+        ensures told { KeepsTold (view self.old) (view self.new) };
+
+    /// So many gates at a port, each of one worker, which waits for many links at a time. None has
+    /// given one yet.
+    fn open_doors(
         &mut self,
         alloc: Global,
         port: u16,

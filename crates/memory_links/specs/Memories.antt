@@ -1,7 +1,7 @@
 -- What contracts see of the objects in memory: what each was made with, how far it has come, and
 -- what a link gives and takes by its plan.
 use Rattle.std.specs.Prelude.{◌≡◌, ◌≤◌, ◌+◌, ◌-◌, ◌==◌, ◌⊎◌, ◌||◌, ℕ, min, if◌then◌else◌, Bool}
-use Rattle.std.specs.Prelude.{true, Err}
+use Rattle.std.specs.Prelude.{true, Err, not, filter}
 use Rattle.std.specs.Prelude.{false, List, [], ◌∷◌, ◌++◌, length, take, drop, map, Option, Some, None}
 use Rattle.std.specs.Prelude.{option_map, codes}
 use Rattle.std.specs.List.{AllByRecursion}
@@ -59,6 +59,10 @@ look_of input output mark = record {
 -- the reads that a link in memory tells
 abbrev pub told_reads : MemoryLink → Option (List Look)
 told_reads link = option_map (map (look_of link.input.items link.output.items)) link.log
+
+-- the key by which a link's gate tells of it, if that does
+abbrev pub key_of : MemoryLink → Option ℕ
+key_of link = link.key
 
 -- how many bytes a link's reads have yet to give
 abbrev pub left_of : MemoryLink → ℕ
@@ -132,6 +136,31 @@ script_of gate = gate.plan
 -- how many calls for a link a gate has counted
 abbrev pub calls_of : MemoryGate → ℕ
 calls_of gate = gate.calls
+
+-- the keys of the links of a gate that are open and told of, in the order in which they came
+abbrev pub open_keys : MemoryGate → List ℕ
+open_keys gate = gate.keys.items
+
+-- how many of these keys a gate has told since its last wait
+abbrev pub told_of : MemoryGate → ℕ
+told_of gate = gate.told
+
+-- these keys, and after them one more, if there is one
+abbrev pub with_key : Option ℕ → List ℕ → List ℕ
+with_key None keys = keys
+with_key (Some key) keys = keys ++ key ∷ []
+
+-- these keys without one of them, if there is one
+abbrev pub without_key : Option ℕ → List ℕ → List ℕ
+without_key None keys = keys
+without_key (Some key) keys = filter (λ other. not (other == key)) keys
+
+-- the keys that are told once a gate was asked for a link under a key, or under none
+abbrev pub keys_after : {L : Type 0} → Next L → Option ℕ → List ℕ → List ℕ
+keys_after (next.Link link) key keys = with_key key keys
+keys_after next.NotYet key keys = keys
+keys_after next.Ended key keys = keys
+keys_after next.Failed key keys = keys
 
 -- the numbers of the writes that fail at a sink
 abbrev pub fails_of : MemorySink → List ℕ

@@ -11,6 +11,7 @@ mod memory_gate;
 mod memory_link;
 mod memory_sink;
 mod memory_world;
+mod open_keys;
 mod planned_items;
 mod port_gates;
 mod read_log;

@@ -1,13 +1,15 @@
 ghost use Rattle.std.specs.VecDeque.{deque_len};
-ghost use Rattle.std.specs.Prelude.{◌≡◌, ◌-◌, ◌≤◌, ◌<◌, ◌↔◌, false, [], ◌∷◌, ◌++◌, Some, None};
-ghost use Rattle.std.specs.Prelude.{length, vec_capacity, IfOk, IfSome, if◌then◌else◌};
+ghost use Rattle.std.specs.Prelude.{◌≡◌, ◌-◌, ◌+◌, ◌≤◌, ◌<◌, ◌↔◌, false, [], ◌∷◌, ◌++◌, Some, None};
+ghost use Rattle.std.specs.Prelude.{length, slice_get, is_some, vec_len, vec_capacity, IfOk, IfSome};
+ghost use Rattle.std.specs.Prelude.{if◌then◌else◌};
 ghost use Rattle.kom_links.specs.Outside.{IsFresh};
-ghost use Rattle.kom_links.specs.Doors.{IfLink, Admits, TakesBack};
+ghost use Rattle.kom_links.specs.Doors.{IfLink, Admits, TakesBack, IsLeft};
 ghost use Rattle.kom_links.specs.WorldCounts.{next_call};
 ghost use Rattle.memory_links.specs.Script.{faults_after, Fails, Waits};
 
 use crate::memory_link::{LinkPlan, MemoryLink, Script};
-use kom_links::{Gate, Link, Next, Served};
+use crate::open_keys::{add_key, remove_key};
+use kom_links::{Gate, Link, Next, PolledGate, Served};
 use kom_types::Memory;
 use std::alloc::Global;
 use std::collections::VecDeque;
@@ -27,6 +29,9 @@ pub struct MemoryGate {
     clients: VecDeque<Client>,
     total: usize,
     returned: Vec<(MemoryLink, Served)>,
+    // The keys of the links that are open, and how many of them were told since the last wait.
+    keys: Vec<usize>,
+    told: usize,
     // Whether more links were given back than the gate had, for which there is no room.
     lost: bool,
     plan: Script,
@@ -35,10 +40,14 @@ pub struct MemoryGate {
     faults: u64,
     ghost counted: { deque_len clients ≤ total },
     ghost room: { total ≤ vec_capacity returned },
+    ghost fewer: { vec_len keys + deque_len clients ≤ total },
+    ghost key_room: { total ≤ vec_capacity keys },
 }
 
 impl MemoryGate {
-    ghost use Rattle.memory_links.specs.Memories.{clients_of, script_of, calls_of};
+    ghost use Rattle.memory_links.specs.Memories.{clients_of, script_of, calls_of, open_keys};
+    ghost use Rattle.memory_links.specs.Memories.{next_failed, keys_after, key_of};
+    ghost use Rattle.memory_links.specs.Memories.{IsLinkOfFirst, StaysWithNoLink};
 
     /// A gate that gives the links of these clients, in order, and then ends. The room for all that
     /// will be given back is taken now.
@@ -59,6 +68,8 @@ impl MemoryGate {
             clients,
             total,
             returned: Vec::with_capacity(alloc, total)?,
+            keys: Vec::with_capacity(alloc, total)?,
+            told: 0,
             lost: false,
             plan,
             calls: 0,
@@ -74,11 +85,58 @@ impl MemoryGate {
     {
         self.returned.as_slice()
     }
+
+    /// The next link, told of by this key, if it has one.
+    fn give(&mut self, key: Option<usize>) -> Next<MemoryLink>
+        ensures admits { Admits (⟦<MemoryGate as Gate>⟧.view self.old) result
+            (⟦<MemoryGate as Gate>⟧.view self.new) }
+        ensures fresh { IfLink result (λ link. IsFresh (⟦<MemoryLink as Link>⟧.view link)) }
+
+        // what the script says of this call
+        ensures failed { (result ≡ Next.Failed)
+            ↔ Fails (script_of self.old).fails.items (calls_of self.old) }
+        ensures not_yet { (result ≡ Next.NotYet) ↔ Waits (script_of self.old) (calls_of self.old) }
+        ensures counted { calls_of self.new ≡ next_call (calls_of self.old) }
+        ensures script { script_of self.new ≡ script_of self.old }
+        ensures fault { (⟦<MemoryGate as Gate>⟧.view self.new).faults
+            ≡ faults_after (next_failed result) (⟦<MemoryGate as Gate>⟧.view self.old).faults }
+
+        // whose link is given
+        ensures first { IfLink result (λ link.
+            IsLinkOfFirst (⟦<MemoryLink as Link>⟧.view link) link (clients_of self.old)
+            (clients_of self.new)) }
+        ensures clients { StaysWithNoLink result (clients_of self.old) (clients_of self.new) }
+        ensures none_left { (result ≡ Next.Ended) → clients_of self.old ≡ [] }
+
+        // of which links it tells from now on
+        ensures keys { open_keys self.new ≡ keys_after result key (open_keys self.old) }
+        ensures key { IfLink result (λ link. key_of link ≡ key) }
+    {
+        self.calls = self.calls.saturating_add(1);
+        if self.plan.fails.contains(&self.calls) {
+            self.faults = self.faults.saturating_add(1);
+            return Next::Failed;
+        }
+        if self.plan.waits.contains(&self.calls) {
+            return Next::NotYet;
+        }
+        match self.clients.pop_front() {
+            Some(client) => {
+                add_key(&mut self.keys, key);
+                Next::Link(MemoryLink::under(self.alloc, client.input, client.plan, key))
+            }
+            None => {
+                self.has_ended = true;
+                Next::Ended
+            }
+        }
+    }
 }
 
 impl Gate for MemoryGate {
     ghost use Rattle.memory_links.specs.Memories.{gate_view, clients_of, script_of, calls_of};
-    ghost use Rattle.memory_links.specs.Memories.{next_failed};
+    ghost use Rattle.memory_links.specs.Memories.{next_failed, open_keys, keys_after, key_of};
+    ghost use Rattle.memory_links.specs.Memories.{without_key};
     ghost use Rattle.memory_links.specs.Memories.{IsLinkOfFirst, StaysWithNoLink};
 
     type Link = MemoryLink;
@@ -109,22 +167,9 @@ impl Gate for MemoryGate {
             (clients_of self.new)) }
         ensures clients { StaysWithNoLink result (clients_of self.old) (clients_of self.new) }
         ensures none_left { (result ≡ Next.Ended) → clients_of self.old ≡ [] }
+        ensures keys { open_keys self.new ≡ keys_after result None (open_keys self.old) }
     {
-        self.calls = self.calls.saturating_add(1);
-        if self.plan.fails.contains(&self.calls) {
-            self.faults = self.faults.saturating_add(1);
-            return Next::Failed;
-        }
-        if self.plan.waits.contains(&self.calls) {
-            return Next::NotYet;
-        }
-        match self.clients.pop_front() {
-            Some(client) => Next::Link(MemoryLink::new(self.alloc, client.input, client.plan)),
-            None => {
-                self.has_ended = true;
-                Next::Ended
-            }
-        }
+        self.give(None)
     }
 
     fn give_back(&mut self, link: MemoryLink, served: Served)
@@ -144,11 +189,97 @@ impl Gate for MemoryGate {
         ensures clients { clients_of self.new ≡ clients_of self.old }
         ensures script { script_of self.new ≡ script_of self.old }
         ensures calls { calls_of self.new ≡ calls_of self.old }
+
+        // it is not told of any more
+        ensures keys { open_keys self.new ≡ without_key (key_of link) (open_keys self.old) }
     {
+        remove_key(&mut self.keys, link.key());
+        // Another may be told twice, and none is left out.
+        self.told = self.told.saturating_sub(1);
         if self.returned.len() < self.returned.capacity() {
             self.returned.push_reserved((link, served));
         } else {
             self.lost = true;
         }
+    }
+}
+
+impl PolledGate for MemoryGate {
+    ghost use Rattle.memory_links.specs.Memories.{clients_of, script_of, calls_of, open_keys};
+    ghost use Rattle.memory_links.specs.Memories.{next_failed, keys_after, key_of, told_of};
+    ghost use Rattle.memory_links.specs.Memories.{IsLinkOfFirst, StaysWithNoLink};
+
+    fn wait(&mut self, _is_busy: bool)
+        ensures left { IsLeft (⟦<MemoryGate as Gate>⟧.view self.old)
+            (⟦<MemoryGate as Gate>⟧.view self.new) }
+        ensures no_fault { (⟦<MemoryGate as Gate>⟧.view self.new).faults
+            ≡ (⟦<MemoryGate as Gate>⟧.view self.old).faults }
+        ensures clients { clients_of self.new ≡ clients_of self.old }
+        ensures script { script_of self.new ≡ script_of self.old }
+        ensures calls { calls_of self.new ≡ calls_of self.old }
+        ensures keys { open_keys self.new ≡ open_keys self.old }
+        ensures none_told { told_of self.new ≡ 0 }
+    {
+        self.told = 0;
+    }
+
+    fn next_ready(&mut self) -> Option<usize>
+        ensures left { IsLeft (⟦<MemoryGate as Gate>⟧.view self.old)
+            (⟦<MemoryGate as Gate>⟧.view self.new) }
+        ensures no_fault { (⟦<MemoryGate as Gate>⟧.view self.new).faults
+            ≡ (⟦<MemoryGate as Gate>⟧.view self.old).faults }
+        ensures clients { clients_of self.new ≡ clients_of self.old }
+        ensures script { script_of self.new ≡ script_of self.old }
+        ensures calls { calls_of self.new ≡ calls_of self.old }
+        ensures keys { open_keys self.new ≡ open_keys self.old }
+        ensures next { result ≡ slice_get (open_keys self.old) (told_of self.old) }
+        ensures told { told_of self.new ≡ (if is_some result then told_of self.old + 1
+            else told_of self.old) }
+    {
+        let key = self.keys.get(self.told).copied()?;
+        self.told += 1;
+        Some(key)
+    }
+
+    fn was_rung(&mut self) -> bool
+        ensures left { IsLeft (⟦<MemoryGate as Gate>⟧.view self.old)
+            (⟦<MemoryGate as Gate>⟧.view self.new) }
+        ensures same { self.new ≡ self.old }
+    {
+        false
+    }
+
+    fn ring(&mut self)
+        ensures left { IsLeft (⟦<MemoryGate as Gate>⟧.view self.old)
+            (⟦<MemoryGate as Gate>⟧.view self.new) }
+        ensures same { self.new ≡ self.old }
+    {}
+
+    fn let_in(&mut self, key: usize) -> Next<MemoryLink>
+        ensures admits { Admits (⟦<MemoryGate as Gate>⟧.view self.old) result
+            (⟦<MemoryGate as Gate>⟧.view self.new) }
+        ensures fresh { IfLink result (λ link. IsFresh (⟦<MemoryLink as Link>⟧.view link)) }
+
+        // what the script says of this call
+        ensures failed { (result ≡ Next.Failed)
+            ↔ Fails (script_of self.old).fails.items (calls_of self.old) }
+        ensures not_yet { (result ≡ Next.NotYet) ↔ Waits (script_of self.old) (calls_of self.old) }
+        ensures counted { calls_of self.new ≡ next_call (calls_of self.old) }
+        ensures script { script_of self.new ≡ script_of self.old }
+        ensures fault { (⟦<MemoryGate as Gate>⟧.view self.new).faults
+            ≡ faults_after (next_failed result) (⟦<MemoryGate as Gate>⟧.view self.old).faults }
+
+        // whose link is given
+        ensures first { IfLink result (λ link.
+            IsLinkOfFirst (⟦<MemoryLink as Link>⟧.view link) link (clients_of self.old)
+            (clients_of self.new)) }
+        ensures clients { StaysWithNoLink result (clients_of self.old) (clients_of self.new) }
+        ensures none_left { (result ≡ Next.Ended) → clients_of self.old ≡ [] }
+
+        // of which links it tells from now on
+        ensures keys { open_keys self.new ≡ keys_after result (Some key) (open_keys self.old) }
+        ensures key { IfLink result (λ link. key_of link ≡ Some key) }
+    {
+        self.give(Some(key))
     }
 }

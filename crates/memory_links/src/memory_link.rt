@@ -114,6 +114,8 @@ pub struct MemoryLink {
     has_ended: bool,
     faults: u64,
     log: ReadLog,
+    // By which its gate tells of it, if that does.
+    key: Option<usize>,
     ghost within: { taken ≤ vec_len input },
     ghost told: { ForSome log (λ marks. All (λ mark. mark.put ≤ length output.items) marks) },
 }
@@ -131,6 +133,7 @@ impl Drop for MemoryLink {
             has_ended: _,
             faults: _,
             log,
+            key: _,
         } = self;
         drop((input, output));
         drop((plan, log));
@@ -139,7 +142,7 @@ impl Drop for MemoryLink {
 
 impl MemoryLink {
     ghost use Rattle.memory_links.specs.Memories.{plan_of, reads_of, writes_of, place_of, left_of};
-    ghost use Rattle.memory_links.specs.Memories.{IsMost, new_link};
+    ghost use Rattle.memory_links.specs.Memories.{IsMost, new_link, key_of};
 
     /// A link whose client sends these bytes and then ends its stream.
     pub fn new(alloc: Global, input: Vec<u8>, plan: LinkPlan) -> MemoryLink
@@ -148,6 +151,23 @@ impl MemoryLink {
         ensures no_read { reads_of result ≡ 0 }
         ensures no_write { writes_of result ≡ 0 }
         ensures at_start { place_of result ≡ 0 }
+    {
+        MemoryLink::under(alloc, input, plan, None)
+    }
+
+    /// The same, of which its gate tells by this key.
+    pub(crate) fn under(
+        alloc: Global,
+        input: Vec<u8>,
+        plan: LinkPlan,
+        key: Option<usize>,
+    ) -> MemoryLink
+        ensures fresh { ⟦<MemoryLink as Link>⟧.view result ≡ new_link input.items }
+        ensures plan { plan_of result ≡ plan }
+        ensures no_read { reads_of result ≡ 0 }
+        ensures no_write { writes_of result ≡ 0 }
+        ensures at_start { place_of result ≡ 0 }
+        ensures key { key_of result ≡ key }
     {
         MemoryLink {
             input,
@@ -160,7 +180,15 @@ impl MemoryLink {
             has_ended: false,
             faults: 0,
             log: ReadLog::new(alloc),
+            key,
         }
+    }
+
+    /// The key by which its gate tells of it, if that does.
+    pub(crate) fn key(&self) -> Option<usize>
+        ensures { result ≡ key_of self.now }
+    {
+        self.key
     }
 
     /// What was put so far.

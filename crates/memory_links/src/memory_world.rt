@@ -236,6 +236,47 @@ impl World for MemoryWorld {
         opened
     }
 
+    fn open_doors(
+        &mut self,
+        alloc: Global,
+        port: u16,
+        number: u32,
+    ) -> Result<Vec<MemoryGate>, WorldFault>
+        ensures may { MayRefuse (⟦<MemoryWorld as World>⟧.view self.old).faults
+            (⟦<MemoryWorld as World>⟧.view self.new).faults result }
+        ensures fresh { IfOk result (λ gates.
+            AllByRecursion (λ gate. IsNewGate (⟦<MemoryGate as Gate>⟧.view gate)) gates.items) }
+        ensures number { IfOk result (λ gates. length gates.items ≡ number) }
+        ensures counts { (⟦<MemoryWorld as World>⟧.view self.new).counts
+            ≡ with_port (is_ok result) (⟦<MemoryWorld as World>⟧.view self.old).counts }
+        ensures faults { (⟦<MemoryWorld as World>⟧.view self.old).faults
+            ≤ (⟦<MemoryWorld as World>⟧.view self.new).faults }
+        ensures told { KeepsTold (⟦<MemoryWorld as World>⟧.view self.old)
+            (⟦<MemoryWorld as World>⟧.view self.new) }
+
+        // what it counts
+        ensures counted { (⟦<MemoryWorld as World>⟧.view self.new).faults
+            ≡ faults_after (has_failed result) (⟦<MemoryWorld as World>⟧.view self.old).faults }
+
+        // which gates are given
+        ensures failed { (result ≡ Err WorldFault.Failed)
+            ↔ (length (port_plans_of self.old) ≢ number) }
+        ensures clients { IfOk result (λ gates. map (λ gate. clients_of gate) gates.items
+            ≡ map (λ plan. plan.clients.items) (port_plans_of self.old)) }
+        ensures scripts { IfOk result (λ gates. map (λ gate. script_of gate) gates.items
+            ≡ map (λ plan. plan.script) (port_plans_of self.old)) }
+
+        // what is left
+        ensures port { port_plans_of self.new ≡ [] }
+        ensures gate { gate_plan_of self.new ≡ gate_plan_of self.old }
+        ensures moments { world_moments_of self.new ≡ world_moments_of self.old }
+        ensures sink_fails { sink_fails_of self.new ≡ sink_fails_of self.old }
+        ensures disks { (files_of self.new ≡ files_of self.old)
+            × (disk_fails_of self.new ≡ disk_fails_of self.old) }
+    {
+        self.open_gates(alloc, port, number)
+    }
+
     fn std_gate(&mut self) -> Result<MemoryGate, WorldFault>
         ensures may { MayRefuse (⟦<MemoryWorld as World>⟧.view self.old).faults
             (⟦<MemoryWorld as World>⟧.view self.new).faults result }

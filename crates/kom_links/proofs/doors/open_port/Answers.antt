@@ -1,4 +1,4 @@
-use Rattle.std.proofs.Common.{arith, subst, sym}
+use Rattle.std.proofs.Common.{arith, rules, subst, sym}
 use Rattle.std.specs.List.{AllByRecursion}
 use Rattle.kom_links.proofs.Gates.{all_pushed, all_turned}
 use Rattle.kom_links.proofs.doors.open_port.Goals as goal
@@ -6,7 +6,7 @@ use Rattle.kom_links.proofs.doors.open_port.Goals as goal
 pub loop-count-preserved : goal.loop-count-preserved
 loop-count-preserved g c = record {
   fresh = subst (AllByRecursion _) (sym c.push_reserved.ensures.items)
-      (all_pushed _ _ _ c.loop-count.invariant.fresh (c.at.ensures.not_ended, c.at.ensures.no_fault));
+      (all_pushed _ _ _ c.loop-count.invariant.fresh (search rules));
   len = omega arith;
   room = omega arith;
 }

@@ -1,6 +1,6 @@
 use Rattle.std.proofs.Common.{rules}
 use Rattle.memory_links.proofs.Scripted.{no_failure, failure_first, no_wait}
-use Rattle.memory_links.proofs.memory_gate.MemoryGateGate.next.Goals as goal
+use Rattle.memory_links.proofs.memory_gate.MemoryGate.give.Goals as goal
 
 pub returns-then-contains-clause-not_yet : goal.returns-then-contains-clause-not_yet
 returns-then-contains-clause-not_yet c =
