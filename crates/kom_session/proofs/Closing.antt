@@ -1,14 +1,15 @@
 -- The session of a service that is over is closed.
-use Rattle.std.proofs.Common.{◌≡◌, ◌≢◌, ℕ, ◌↔◌, Bool, true, List, ◌++◌, Option, Some, None, Result, Ok, Err}
-use Rattle.std.proofs.Common.{refl, sym, ◌∙◌, ap, subst}
+use Rattle.std.proofs.Common.{◌≡◌, ◌≢◌, ℕ, ◌↔◌, Bool, true, false, List, [], ◌∷◌, ◌++◌, Option, Some, None, Result}
+use Rattle.std.proofs.Common.{Ok, Err, refl, sym, ◌∙◌, ap, subst, append-nil}
 use Rattle.std.specs.Prelude.{⊤, IfSome, IsTrue}
 use Rattle.std.proofs.lemmas.List.{append_cancel_left}
+use Rattle.kom_types.specs.declared.acts.Act.TheVariants as act
 use Rattle.kom_types.specs.declared.acts.Record.{Record}
 use Rattle.kom_links.specs.declared.desk.DeskFault.{DeskFault}
 use Rattle.kom_links.specs.declared.served.SessionEnd.{SessionEnd}
 use Rattle.kom_links.specs.declared.served.SessionEnd.TheVariants as end
 use Rattle.kom_links.specs.Doors.{Gains}
-use Rattle.kom_links.specs.DeskCalls.{DeskView}
+use Rattle.kom_links.specs.DeskCalls.{DeskView, record_of}
 use Rattle.kom_links.specs.DeskCalls.{Closes as ClosesOf}
 use Rattle.kom_links.specs.Outside.{Rose, grown, IsNothing}
 use Rattle.kom_links.specs.Talk.{AreTimed}
@@ -17,11 +18,12 @@ use Rattle.kom_session.specs.declared.phase.Stage.TheVariants as stage
 use Rattle.kom_session.specs.Ends.{HasCause, TellsFault, ending}
 use Rattle.kom_session.specs.Known.{Known, Seen, seen}
 use Rattle.kom_session.specs.Serving.{Past, IsServed, ServesLink}
-use Rattle.kom_session.specs.Kept.{IsOver, IsStage, IfClosed}
+use Rattle.kom_session.specs.Kept.{IsOver, IsStage, IfClosed, AddsClose}
 use Rattle.kom_session.proofs.Answered.{with_answer}
 use Rattle.kom_session.proofs.Causes.{over_planned, has_cause, tells_fault, heard_lost, heard_ended}
 use Rattle.kom_session.proofs.Ends.{Told, silent_told, session_told}
 use Rattle.kom_session.proofs.Leaving.{left_link}
+use Rattle.kom_session.proofs.Times.{timed_none, timed_more, timed_skip}
 
 -- what is told, where nothing was before
 told_so : (bytes : List ℕ) (before after : Option (List ℕ)) → IsNothing before
@@ -140,3 +142,29 @@ closed_some risen planned known desk desk' gave gave' over some moment answer cl
     (session_told kept.served is some risen (times_so kept.served added mine timed) moment answer
     desk' gave' closes gains (λ e. rises.1 (heard_lost is e))
     (λ e none. heard_ended is e (first none)))
+
+-- what the close of a session adds
+pub adds_close : (desk desk' : DeskView) (gave gave' : Option (List ℕ)) (moment session : ℕ)
+    (answer : Result ⊤ DeskFault) → session ≢ 0 → ClosesOf desk moment session answer desk'
+    → Gains gave moment gave' → AddsClose session desk gave desk' gave'
+adds_close desk desk' gave gave' moment session (Ok done) some closes gains = record {
+  added = record_of desk.pass moment (act.Close session) session false ∷ [];
+  mine = closes.added;
+  timed = timed_more gave gave gave' [] moment
+      (record_of desk.pass moment (act.Close session) session false) (timed_none gave) gains refl;
+  none = λ zero. absurd (some zero);
+}
+adds_close desk desk' gave gave' moment session (Err reason) some closes gains = record {
+  added = [];
+  mine = closes.rest.none_added ∙ sym (append-nil desk.mine);
+  timed = timed_skip gave gave gave' [] moment (timed_none gave) gains;
+  none = λ zero. refl;
+}
+
+pub adds_none : (session : ℕ) (desk : DeskView) (gave : Option (List ℕ)) → AddsClose session desk gave desk gave
+adds_none session desk gave = record {
+  added = [];
+  mine = sym (append-nil desk.mine);
+  timed = timed_none gave;
+  none = λ zero. refl;
+}

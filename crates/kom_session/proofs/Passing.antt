@@ -8,7 +8,7 @@ use Rattle.kom_types.specs.declared.acts.Act.TheVariants as act
 use Rattle.kom_types.specs.declared.acts.Record.{Record}
 use Rattle.kom_types.specs.declared.items.Item.{Item}
 use Rattle.kom_types.specs.Reading.{Request}
-use Rattle.kom_links.specs.DeskCalls.{DeskView, record_of}
+use Rattle.kom_links.specs.DeskCalls.{DeskView, StaysForAll, record_of}
 use Rattle.kom_links.specs.Records.{is_open, IsOpen}
 use Rattle.kom_links.specs.Talk.{Step, Flushes, Drains, Settles, steps_of, printed}
 use Rattle.kom_session.specs.declared.phase.Phase.{Phase}
@@ -18,7 +18,7 @@ use Rattle.kom_session.specs.declared.phase.Stage.TheVariants as stage
 use Rattle.kom_session.specs.Course.{is_still, IsSettled, IsRecent, IsCourse}
 use Rattle.kom_session.specs.Ends.{IsOwn}
 use Rattle.kom_session.specs.Known.{Known, Seen, seen}
-use Rattle.kom_session.specs.Serving.{Party, Nobody, Somebody, Past, IsPhase, IsServed}
+use Rattle.kom_session.specs.Serving.{Party, Nobody, Somebody, Past, IsPhase, IsServed, IsParty, owed_to}
 use Rattle.kom_session.specs.Kept.{IsStage, IsKept, IsFlush, PassesBy}
 use Rattle.kom_session.proofs.Courses.{open_push, course_flushed, recent_other, flushed_push}
 use Rattle.kom_session.proofs.Others.{others_trans, others_open}
@@ -229,3 +229,77 @@ kept_passes start known now desk gave some passes kept = record {
   served = served_passes kept.past.party kept.served some desk gave passes;
   stage = stage_passes start kept.past known now desk gave known.stage kept.stage;
 }
+
+-- ---- a desk that shows the same
+
+party_alike : (party : Party) (start : Seen) (fed : List ℕ) (known : Known) (now : Seen) (added : List Record)
+    (desk : DeskView) (gave : Option (List ℕ)) → desk.mine ≡ now.desk.mine
+    → StaysForAll now.desk.gave_to desk.gave_to → IsParty fed party start known now added
+    → IsParty fed party start known (seen desk now.link gave) added
+party_alike (Nobody told) start fed known now added desk gave mine given is = is
+party_alike (Somebody user requests broken) start fed known now added desk gave mine given is = record {
+  some = is.some;
+  course =
+      subst (λ (lists : List (List Item)). IsCourse known.session start.link.host user requests broken added lists)
+      (sym (given known.session)) is.course;
+  is_open = subst (λ (mine : List Record). IsOpen known.session mine) (sym mine) is.is_open;
+  first = is.first;
+  at_fault = is.at_fault;
+}
+
+owed_alike : (party : Party) (lists lists' : List (List Item)) → lists' ≡ lists
+    → owed_to party lists ≡ owed_to party lists'
+owed_alike (Nobody told) lists lists' e = refl
+owed_alike (Somebody user requests broken) lists lists' e = ap printed (sym e)
+
+-- A desk that shows the same and a clock that tells something else keep what is kept.
+pub kept_alike : (start : Seen) (known : Known) (now : Seen) (desk : DeskView) (gave : Option (List ℕ))
+    → desk.mine ≡ now.desk.mine → StaysForAll now.desk.gave_to desk.gave_to
+    → desk.answers ≡ now.desk.answers → desk.pass ≡ now.desk.pass → IsKept start known now
+    → IsKept start known (seen desk now.link gave)
+kept_alike start known now desk gave mine given answers pass kept = record {
+  past = kept.past;
+  served = record {
+    added = kept.served.added;
+    more = kept.served.more;
+    bytes = kept.served.bytes;
+    waited = kept.served.waited;
+    place = kept.served.place;
+    recent = kept.served.recent;
+    mine = mine ∙ kept.served.mine;
+    answers = answers ∙ kept.served.answers;
+    own = kept.served.own;
+    taken = kept.served.taken;
+    put = kept.served.put;
+    owed = kept.served.owed ∙ owed_alike kept.past.party (now.desk.gave_to known.session)
+        (desk.gave_to known.session) (given known.session);
+    party = party_alike kept.past.party start kept.past.fed known now kept.served.added desk gave mine given
+        kept.served.party;
+    steps = ap (steps_of known.session kept.served.added) (given known.session) ∙ kept.served.steps;
+    looked = kept.served.looked;
+    phase = kept.served.phase;
+    cause = kept.served.cause;
+    unrefused = kept.served.unrefused;
+    since = kept.served.since;
+    others = record {
+      pass = pass ∙ kept.served.others.pass;
+      host = kept.served.others.host;
+      faults = kept.served.others.faults;
+      given = λ number other. given number ∙ kept.served.others.given number other;
+      opened = λ number some other. ap (is_open number) mine ∙ kept.served.others.opened number some other;
+    };
+    untouched = kept.served.untouched;
+  };
+  stage = stage_passes start kept.past known now desk gave known.stage kept.stage;
+}
+
+-- where there is no session the desk shows the records that it showed at the start
+pub nobody_mine : (start : Seen) (known : Known) (now : Seen) → known.session ≡ 0 → IsKept start known now
+    → now.desk.mine ≡ start.desk.mine
+nobody_mine start known now none kept = go kept.past.party kept.served.party
+  where
+    go : (party : Party) → IsParty kept.past.fed party start known now kept.served.added
+        → now.desk.mine ≡ start.desk.mine
+    go (Nobody told) is =
+        kept.served.mine ∙ ap (λ added. start.desk.mine ++ added) is.nothing ∙ append-nil start.desk.mine
+    go (Somebody user requests broken) is = absurd (is.some none)

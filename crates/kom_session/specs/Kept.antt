@@ -245,6 +245,15 @@ IfClosed risen old desk gave result desk' gave' = (start : Seen) (link : LinkVie
     × AreTimed start.gave gave added)
     → IsKept start old (seen desk link gave) → ServesLink start result (seen desk' link gave')
 
+-- A session was closed, if there is one: no record was added to a desk, or the session's Close, which
+-- has a reading of the clock.
+pub record AddsClose (session : ℕ) (old : DeskView) (gave : Option (List ℕ)) (new : DeskView)
+    (gave' : Option (List ℕ)) : Type 0 where
+  pub added : List Record
+  pub mine : new.mine ≡ old.mine ++ added
+  pub timed : AreTimed gave gave' added
+  pub none : session ≡ 0 → added ≡ []
+
 -- Where a link tells its reads after some steps, it told them before; and for each read more that
 -- found nothing the desk was asked once more whether it is stopped.
 abbrev pub IsAskedFor : Option (List Look) → List Answer → Option (List Look) → List Answer → Type 0

@@ -10,7 +10,8 @@ ghost use Rattle.kom_links.specs.Answers.{Answer};
 ghost use Rattle.kom_session.specs.declared.phase.Stage.TheVariants as stage;
 ghost use Rattle.kom_session.specs.Known.{known, seen, state, HasRoom, phase_after};
 ghost use Rattle.kom_session.specs.Kept.{CanGo, MayAct, MayDrain, IsDone, IsOn, IfMade};
-ghost use Rattle.kom_session.specs.Kept.{IfClosed, IfHeld, IsTaking, IsGreeted, IsFaulty};
+ghost use Rattle.kom_session.specs.Kept.{IfClosed, AddsClose, IfHeld, IsTaking, IsGreeted};
+ghost use Rattle.kom_session.specs.Kept.{IsFaulty};
 
 use crate::ending::end_of;
 use crate::machine::Machine;
@@ -206,12 +207,17 @@ impl Machine {
     }
 
     /// Closes the session of a service that is over, if there is one; `risen` says whether the link
-    /// failed since the start.
+    /// failed since the start. It is served so also where nobody asks for the readings of the clock.
     pub fn close<K: Desk, C: Clock>(&mut self, desk: &mut K, clock: &mut C, risen: bool) -> Served
         requires over { IsDone (known self.old).stage }
         requires can { CanGo (known self.old) (K.view desk.old) (C.gave clock.old) }
         ensures closed { IfClosed risen (known self.old) (K.view desk.old) (C.gave clock.old) result
             (K.view desk.new) (C.gave clock.new) }
+        ensures untimed { IfClosed risen (known self.old) (K.view desk.old) None result
+            (K.view desk.new) None }
+        ensures adds { AddsClose (known self.old).session (K.view desk.old) (C.gave clock.old)
+            (K.view desk.new) (C.gave clock.new) }
+        ensures session { result.session ≡ (known self.old).session }
         ensures answers { (answers : List Answer)
             × ((K.view desk.new).answers ≡ (K.view desk.old).answers ++ answers) }
         ensures on { K.goes_on desk.old desk.new }

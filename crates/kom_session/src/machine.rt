@@ -2,7 +2,8 @@ ghost use Rattle.std.specs.Prelude.{◌≡◌, ◌≢◌, ◌≤◌, [], length,
 ghost use Rattle.kom_links.specs.Outside.{LinkView};
 ghost use Rattle.kom_session.specs.Ends.{IsUntouched};
 ghost use Rattle.kom_session.specs.Known.{Seen, known, unwritten, unprinted, HasRoom};
-ghost use Rattle.kom_session.specs.Kept.{IsKept, MayRead, MayAct, MayFlush, MayDrain, IsDone, IsOn};
+ghost use Rattle.kom_session.specs.Kept.{IsKept, MayRead, MayAct, MayFlush, MayAsk, MayDrain};
+ghost use Rattle.kom_session.specs.Kept.{IsDone, IsOn};
 ghost use Rattle.kom_session.specs.declared.machine.Wants.TheVariants as wants;
 ghost use Rattle.kom_session.specs.declared.phase.Stage.TheVariants as stage;
 
@@ -106,6 +107,55 @@ impl Machine {
         self.writer.bytes().get(self.written..).unwrap_or(&[])
     }
 
+    /// Whether the service is over.
+    pub fn is_over(&self) -> bool
+        ensures over { result ≡ true → IsDone (known self.now).stage }
+        ensures on { result ≡ false → IsOn (known self.now).stage }
+    {
+        matches!(self.stage, Stage::Over(_))
+    }
+
+    /// Whether a unit may be called, or the stream's fault told.
+    pub fn may_act(&self) -> bool
+        ensures { result ≡ true → MayAct (known self.now) }
+    {
+        self.stage == Stage::Serving && has_room(self.phase) && self.has_act()
+    }
+
+    /// Whether the session may be drained: it was flushed, and all that it was given was printed.
+    pub fn may_drain(&self) -> bool
+        ensures drain { result ≡ true → MayDrain self.now }
+        ensures on { result ≡ true → IsOn (known self.now).stage }
+    {
+        !self.is_over() && self.phase == Phase::Draining && self.printed >= self.items.len()
+    }
+
+    /// Whether it may be told of a flush: there is a session, and it is not over.
+    pub fn may_flush(&self) -> bool
+        ensures flush { result ≡ true → MayFlush (known self.now) }
+        ensures on { result ≡ true → IsOn (known self.now).stage }
+    {
+        !self.is_over() && self.session != 0
+    }
+
+    /// Whether it may be told whether the desk is stopped: without a session only while the stream
+    /// is served.
+    pub fn may_ask(&self) -> bool
+        ensures ask { result ≡ true → MayAsk (known self.now) }
+        ensures on { result ≡ true → IsOn (known self.now).stage }
+    {
+        match self.stage {
+            Stage::Serving => true,
+            Stage::Last(_) => self.session != 0,
+            Stage::Over(_) => false,
+        }
+    }
+
+    /// Whether it is to be flushed before it goes on.
+    pub fn owes_flush(&self) -> bool {
+        !self.is_over() && matches!(self.phase, Phase::Due(_) | Phase::Owing)
+    }
+
     /// What it wants next: what was printed is written before anything else, and the link is read
     /// where nothing else is left.
     pub fn wants(&self) -> Wants
@@ -187,5 +237,16 @@ impl Machine {
             Phase::Owing | Phase::Denied => Wants::Flush,
             Phase::Draining => Wants::Drain,
         }
+    }
+}
+
+/// Whether one more line can be called before it must be settled.
+fn has_room(phase: Phase) -> bool
+    ensures { result ≡ true → HasRoom phase }
+{
+    match phase {
+        Phase::Calm => true,
+        Phase::Due(lines) => lines < 4,
+        Phase::Owing | Phase::Draining | Phase::Denied => false,
     }
 }
