@@ -5,16 +5,18 @@ use Rattle.std.specs.List.{AllByRecursion}
 use Rattle.std.proofs.lemmas.Bool.{cases_eq}
 use Rattle.kom_types.specs.declared.acts.Record.{Record}
 use Rattle.kom_links.specs.declared.served.Served.{Served}
+use Rattle.kom_links.specs.Answers.{Answer}
 use Rattle.kom_links.specs.DeskCalls.{DeskView, StaysForAll}
 use Rattle.kom_links.specs.Outside.{LinkView}
 use Rattle.kom_links.specs.Records.{has_session}
 use Rattle.kom_hub.specs.declared.place.Place.{Place}
 use Rattle.kom_hub.specs.declared.guest.Guest.{Guest}
-use Rattle.kom_hub.specs.Seats.{seat_of, seat_view, IsFlush, IsOfSeat, Leaves}
+use Rattle.kom_hub.specs.Seats.{seat_of, seat_view, IsFlush, IsOfSeat, IsSeatAnswer, IsHeard, Leaves}
 use Rattle.kom_hub.specs.Going.{all_append}
 use Rattle.kom_hub.specs.Passing.{Passes, IsTimed}
 use Rattle.kom_hub.specs.Crowds.{Changes, IsAmong, AreDistinct, HasOwner, IsOwned, IsKept, IsGuest, IsBack, IsCrowd}
 use Rattle.kom_hub.proofs.Seated.{present_more}
+use Rattle.kom_hub.proofs.Hearing.{heard_on, seat_answers_on, seat_answers}
 use Rattle.kom_hub.proofs.Passing.{passes, passes_quiet}
 use Rattle.kom_hub.proofs.Timing.{timed_on}
 
@@ -38,7 +40,7 @@ all_push : {X : Type 0} (P : X → Type 0) (xs : List X) (x : X) → AllByRecurs
 all_push P [] x all last = (last, tt)
 all_push P (first ∷ xs) x all last = (all.0, all_push P xs x all.1 last)
 
-all_by : {X : Type 0} (P Q : X → Type 0) (xs : List X) → ((x : X) → P x → Q x) → AllByRecursion P xs
+pub all_by : {X : Type 0} (P Q : X → Type 0) (xs : List X) → ((x : X) → P x → Q x) → AllByRecursion P xs
     → AllByRecursion Q xs
 all_by P Q [] turn all = tt
 all_by P Q (x ∷ xs) turn all = (turn x all.0, all_by P Q xs turn all.1)
@@ -62,7 +64,8 @@ flushes_owned {T = T} {L = L} crowd links records all =
     all_by IsFlush (IsOwned {T = T} {L = L} crowd links) records (λ made flush. inr flush) all
 
 -- what the sessions that own records are to another crowd
-owned_by : {T L : Type 0} (old new : ℕ → Option (Guest T L)) (links links' : List (L × Served)) (records : List Record)
+pub owned_by : {T L : Type 0} (old new : ℕ
+    → Option (Guest T L)) (links links' : List (L × Served)) (records : List Record)
     → ((number : ℕ) → number ≢ 0 → HasOwner old links number → HasOwner new links' number)
     → AllByRecursion (IsOwned old links) records → AllByRecursion (IsOwned new links') records
 owned_by {T = T} {L = L} old new links links' records to all =
@@ -126,7 +129,9 @@ module _ {T L : Type 0} (kept : T → DeskView → LinkView → Type 0) (talks :
     other_on k guest differs at = record {
       served = kept_on guest.talk (seat_view guest.place before) (seat_view guest.place after) (view guest.link)
           (passes one.place place before after guest.place.session guest.place.answers.items acted.leaves
-          (others_apart k guest differs at)) (acted.crowd.each k guest at).served;
+          (acted.crowd.each k guest at).known (others_apart k guest differs at)) (acted.crowd.each k guest at).served;
+      heard = heard_on guest.place before after acted.leaves.hears.more acted.leaves.hears.grown
+          (acted.crowd.each k guest at).heard;
       known = λ some. still_known before after acted.leaves.more guest.place.session acted.leaves.mine
           ((acted.crowd.each k guest at).known some);
     }
@@ -135,6 +140,10 @@ module _ {T L : Type 0} (kept : T → DeskView → LinkView → Type 0) (talks :
     own_known : place.session ≢ 0 → has_session place.session after.mine ≡ true
     own_known some = acted.leaves.has (acted.crowd.each key one acted.was).known some
 
+    -- what the desk answered was heard by the one that acted
+    own_heard : IsHeard after place
+    own_heard = acted.leaves.hears.heard (acted.crowd.each key one acted.was).heard
+
     -- a link that was given back stays in talk
     back_on : (back : L × Served) → IsBack kept talks view before old back → (new : ℕ → Option (Guest T L))
         → ((k : ℕ) (guest : Guest T L) → new k ≡ Some guest
@@ -142,9 +151,12 @@ module _ {T L : Type 0} (kept : T → DeskView → LinkView → Type 0) (talks :
         → IsBack kept talks view after new back
     back_on back is new from = record {
       answers = is.answers;
+      heard = seat_answers_on back.1.session before after acted.leaves.hears.more is.answers acted.leaves.hears.grown
+          is.heard;
       talk = talks_on (seat_of back.1.session is.answers before) (seat_of back.1.session is.answers after)
           (view back.0) back.1
-          (passes one.place place before after back.1.session is.answers acted.leaves (λ some. apart some)) is.talk;
+          (passes one.place place before after back.1.session is.answers acted.leaves is.known (λ some. apart some))
+          is.talk;
       known = λ some. still_known before after acted.leaves.more back.1.session acted.leaves.mine (is.known some);
       gone = λ k guest at some. elim (from k guest at) [
         | inl was ↦ is.gone k guest was.1 some
@@ -188,6 +200,7 @@ module _ {T L : Type 0} (kept : T → DeskView → LinkView → Type 0) (talks :
             (taken two guest new key changes.changed (ap new (sym here) ∙ at))
             (record {
               served = served;
+              heard = subst (λ (p : Place). IsHeard after p) (sym same) own_heard;
               known = λ some. subst
                   (λ (p : Place). p.session ≢ 0 → has_session p.session after.mine ≡ true) (sym same) own_known some;
             })
@@ -275,6 +288,8 @@ module _ {T L : Type 0} (kept : T → DeskView → LinkView → Type 0) (talks :
           (backs_on links acted.crowd.back new (λ k guest at. inl (left k guest at)))
           (record {
             answers = place.answers.items;
+            heard = subst (λ (k : ℕ). AllByRecursion (IsSeatAnswer k after) place.answers.items) (sym same)
+                (seat_answers place after own_heard);
             talk = subst (λ (k : ℕ). talks (seat_of k place.answers.items after) (view back.0) back.1) (sym same) talk;
             known = λ some. ap (λ k. has_session k after.mine) same ∙ own_known (λ zero. some (same ∙ zero));
             gone = λ k guest at some e.
@@ -308,13 +323,13 @@ module _ {T L : Type 0} (kept : T → DeskView → LinkView → Type 0) (talks :
       → Option (Guest T L))
       (key : ℕ) (guest : Guest T L) (links : List (L × Served))
       → IsCrowd kept talks view begun desk gave old links → old key ≡ None → Changes old new key (Some guest)
-      → guest.place.session ≡ 0 → IsKept kept talks view desk guest
+      → guest.place.session ≡ 0 → IsHeard desk guest.place → IsKept kept talks view desk guest
       → IsCrowd kept talks view begun desk gave new links
-  crowd_joined begun desk gave old new key guest links crowd vacant changes nobody is = record {
+  crowd_joined begun desk gave old new key guest links crowd vacant changes nobody heard is = record {
     each = λ k one at. elim (from k one at) [
       | inl was ↦ crowd.each k one was.1
       | inr e ↦ subst (λ (one : Guest T L). IsGuest kept talks view desk one) e
-          (record { served = is; known = λ some. absurd (some nobody) })
+          (record { served = is; heard = heard; known = λ some. absurd (some nobody) })
     ];
     apart = λ k other one two here there differs some. elim (from k one here) [
       | inl was ↦ elim (from other two there) [
@@ -338,6 +353,7 @@ module _ {T L : Type 0} (kept : T → DeskView → LinkView → Type 0) (talks :
       joined : (back : L × Served) → IsBack kept talks view desk old back → IsBack kept talks view desk new back
       joined back all = record {
         answers = all.answers;
+        heard = all.heard;
         talk = all.talk;
         known = all.known;
         gone = λ k one at some. elim (from k one at) [
@@ -359,11 +375,13 @@ module _ {T L : Type 0} (kept : T → DeskView → LinkView → Type 0) (talks :
       → after.mine ≡ before.mine ++ flushes → AllByRecursion IsFlush flushes
       → StaysForAll before.gave_to after.gave_to → after.pass ≡ before.pass
       → (after.lock_full ≡ false → before.lock_full ≡ false)
+      → (answers : List Answer) → after.answers ≡ before.answers ++ answers
       → IsGuest kept talks view before guest → IsGuest kept talks view after guest
-  guest_on before after guest flushes mine all given pass lock is = record {
+  guest_on before after guest flushes mine all given pass lock answers grown is = record {
     served = kept_on guest.talk (seat_view guest.place before) (seat_view guest.place after) (view guest.link)
-        (passes_quiet before after guest.place.session guest.place.answers.items flushes mine all given pass lock)
-        is.served;
+        (passes_quiet before after guest.place.session guest.place.answers.items flushes mine all given pass lock
+        is.known) is.served;
+    heard = heard_on guest.place before after answers grown is.heard;
     known = λ some. still_known before after flushes guest.place.session mine (is.known some);
   }
 
@@ -374,9 +392,12 @@ module _ {T L : Type 0} (kept : T → DeskView → LinkView → Type 0) (talks :
       → after.mine ≡ before.mine ++ flushes → AllByRecursion IsFlush flushes
       → StaysForAll before.gave_to after.gave_to → after.pass ≡ before.pass
       → (after.lock_full ≡ false → before.lock_full ≡ false) → IsTimed before gave after gave'
-      → IsCrowd kept talks view begun before gave crowd links → IsCrowd kept talks view begun after gave' crowd links
-  crowd_quiet begun before gave crowd links after gave' flushes mine all given pass lock timed is = record {
-    each = λ key guest at. guest_on before after guest flushes mine all given pass lock (is.each key guest at);
+      → (told : List Answer) → after.answers ≡ before.answers ++ told
+      → IsCrowd kept talks view begun before gave crowd links
+      → IsCrowd kept talks view begun after gave' crowd links
+  crowd_quiet begun before gave crowd links after gave' flushes mine all given pass lock timed told grown is = record {
+    each = λ key guest at. guest_on before after guest flushes mine all given pass lock told grown
+        (is.each key guest at);
     apart = is.apart;
     back = all_by (IsBack kept talks view before crowd) (IsBack kept talks view after crowd) links on is.back;
     distinct = is.distinct;
@@ -389,9 +410,11 @@ module _ {T L : Type 0} (kept : T → DeskView → LinkView → Type 0) (talks :
       on : (back : L × Served) → IsBack kept talks view before crowd back → IsBack kept talks view after crowd back
       on back was = record {
         answers = was.answers;
+        heard = seat_answers_on back.1.session before after told was.answers grown was.heard;
         talk = talks_on (seat_of back.1.session was.answers before) (seat_of back.1.session was.answers after)
             (view back.0) back.1
-            (passes_quiet before after back.1.session was.answers flushes mine all given pass lock) was.talk;
+            (passes_quiet before after back.1.session was.answers flushes mine all given pass lock was.known)
+            was.talk;
         known = λ some. still_known before after flushes back.1.session mine (was.known some);
         gone = was.gone;
       }
@@ -435,6 +458,7 @@ module _ {T L : Type 0} (kept : T → DeskView → LinkView → Type 0) (talks :
       on : (back : L × Served) → IsBack kept talks view desk old back → IsBack kept talks view desk new back
       on back all = record {
         answers = all.answers;
+        heard = all.heard;
         talk = all.talk;
         known = all.known;
         gone = λ k guest at some e.

@@ -10,14 +10,15 @@ use Rattle.kom_types.specs.declared.items.Item.{Item}
 use Rattle.kom_links.specs.declared.desk.DeskFault.{DeskFault}
 use Rattle.kom_links.specs.declared.desk.DeskFault.TheVariants as fault
 use Rattle.kom_links.specs.declared.deeds.Deed.{Deed}
-use Rattle.kom_links.specs.Answers.{deed_of, is_nothing}
+use Rattle.kom_links.specs.Answers.{deed_of, is_nothing, said_stopped}
 use Rattle.kom_links.specs.declared.deeds.Deed.TheVariants as deed
 use Rattle.kom_links.specs.Records.{has_session, IsOpen}
 use Rattle.kom_links.specs.DeskCalls.{DeskView, ChangesAt, StaysForAll, record_of, IsTold}
 use Rattle.kom_links.specs.DeskCalls.{Connects, Acts, Calls, Drains, Flushes, Closes, AsksStopped, AddsNoneOrShort}
 use Rattle.kom_hub.specs.declared.place.Place.{Place}
-use Rattle.kom_hub.specs.Seats.{is_flush, shown, IsFlush, Leaves}
+use Rattle.kom_hub.specs.Seats.{is_flush, shown, IsFlush, Hears, Leaves}
 use Rattle.kom_hub.proofs.Shown.{shown_own}
+use Rattle.kom_hub.proofs.Hearing.{Told, hears_told, hears_connected, said_is}
 use Rattle.kom_hub.proofs.Seated.{present_more, absent_more, connect_more, flush_more, grows}
 
 left_false : (x y : Bool) → (x || y) ≡ false → x ≡ false
@@ -49,8 +50,8 @@ shows_same old new before after same mine =
 -- nothing was added
 still : (old new : Place) (before after : DeskView) → new.session ≡ old.session → after.mine ≡ before.mine
     → StaysForAll before.gave_to after.gave_to → after.pass ≡ before.pass
-    → (after.lock_full ≡ false → before.lock_full ≡ false) → Leaves old before new after
-still old new before after same mine given pass lock = record {
+    → (after.lock_full ≡ false → before.lock_full ≡ false) → Hears old before new after → Leaves old before new after
+still old new before after same mine given pass lock hears = record {
   more = [];
   mine = mine ∙ sym (append-nil before.mine);
   shows = shows_same old new before after same mine;
@@ -61,12 +62,14 @@ still old new before after same mine given pass lock = record {
   given = λ number some other. given number;
   pass = pass;
   lock = lock;
+  hears = hears;
 }
 
 pub leaves_connected : (old new : Place) (before : DeskView) (moment : ℕ) (user host : List ℕ) (session : ℕ)
-    (after : DeskView) → old.session ≡ 0 → new.session ≡ session
+    (after : DeskView) → old.session ≡ 0 → new.session ≡ session → old.is_spent ≡ false
+    → new.is_spent ≡ old.is_spent → new.answers.items ≡ old.answers.items ++ (deed.Connect, Ok tt) ∷ []
     → Connects before moment user host (Ok session) after → Leaves old before new after
-leaves_connected old new before moment user host session after none is c = record {
+leaves_connected old new before moment user host session after none is fresh spent items c = record {
   more = record_of before.pass moment (act.Connect user host) session false ∷ [];
   mine = c.added;
   shows = ap (λ k. shown k after.mine) is ∙ ap (shown session) c.added
@@ -83,23 +86,28 @@ leaves_connected old new before moment user host session after none is c = recor
   given = λ number some other. c.given.1 number (λ e. other (e ∙ sym is));
   pass = c.pass;
   lock = lock_before before.lock_full after.lock_full _ c.lock_full;
+  hears = hears_connected old new before after fresh spent items c.tells;
 }
 
 pub leaves_refused : (old new : Place) (before : DeskView) (moment : ℕ) (user host : List ℕ) (reason : DeskFault)
-    (after : DeskView) → new.session ≡ old.session → Connects before moment user host (Err reason) after
+    (after : DeskView) → Told old new (deed.Connect, Err reason) → Connects before moment user host (Err reason) after
     → Leaves old before new after
-leaves_refused old new before moment user host reason after same c =
-    still old new before after same c.none_added c.none_given c.pass
+leaves_refused old new before moment user host reason after told c =
+    still old new before after told.session c.none_added c.none_given c.pass
     (lock_before before.lock_full after.lock_full _ c.lock_full)
+    (hears_told old new before after (deed.Connect, Err reason) told c.tells)
 
 -- nothing was asked of the desk
-pub leaves_alone : (old new : Place) (view : DeskView) → new.session ≡ old.session → Leaves old view new view
-leaves_alone old new view same = still old new view view same refl (λ number. refl) refl (λ free. free)
+pub leaves_alone : (old new : Place) (view : DeskView) → new.session ≡ old.session → Hears old view new view
+    → Leaves old view new view
+leaves_alone old new view same hears = still old new view view same refl (λ number. refl) refl (λ free. free) hears
 
 pub leaves_asked : (old new : Place) (before : DeskView) (answer : Result Bool DeskFault) (after : DeskView)
-    → new.session ≡ old.session → AsksStopped before answer after → Leaves old before new after
-leaves_asked old new before answer after same a =
-    still old new before after same a.mine a.given a.pass (lock_before before.lock_full after.lock_full _ a.lock_full)
+    → Told old new (deed.Ask, said_stopped answer) → AsksStopped before answer after → Leaves old before new after
+leaves_asked old new before answer after told a =
+    still old new before after told.session a.mine a.given a.pass
+    (lock_before before.lock_full after.lock_full _ a.lock_full)
+    (hears_told old new before after (deed.Ask, said_stopped answer) told a.answers)
 
 -- an act of the session adds its record, or none
 pub data Adds (session : ℕ) (before after : DeskView) : Type 0 where
@@ -108,14 +116,20 @@ pub data Adds (session : ℕ) (before after : DeskView) : Type 0 where
       → after.mine ≡ before.mine ++ made ∷ [] → Adds session before after
 
 leaves_acted : (old new : Place) (before : DeskView) (number : ℕ) (what : Deed) (answer : Result ⊤ DeskFault)
-    (after : DeskView) → new.session ≡ old.session → IsOpen number (shown old.session before.mine)
+    (after : DeskView) → Told old new (what, answer) → IsOpen number (shown old.session before.mine)
     → Adds number before after
     → ((other : ℕ) → other ≢ number → after.gave_to other ≡ before.gave_to other)
     → IsTold before what answer after → Leaves old before new after
-leaves_acted old new before number what answer after same opened adds given told =
+leaves_acted old new before number what answer after heard opened adds given told =
     let own : (number ≡ old.session) × (old.session ≢ 0) = shown_own old.session number before.mine opened in
     go own.0 own.1 adds
   where
+    same : new.session ≡ old.session
+    same = heard.session
+
+    hears : Hears old before new after
+    hears = hears_told old new before after (what, answer) heard (told.tells ∙ said_is before.answers what answer)
+
     go : number ≡ old.session → old.session ≢ 0 → Adds number before after → Leaves old before new after
     go is some (Nothing e) = record {
       more = [];
@@ -128,6 +142,7 @@ leaves_acted old new before number what answer after same opened adds given told
       given = λ other some' differs. given other (λ e. differs (e ∙ is ∙ sym same));
       pass = told.pass;
       lock = lock_before before.lock_full after.lock_full _ told.lock_full;
+      hears = hears;
     }
     go is some (One made own kind added) = record {
       more = made ∷ [];
@@ -140,6 +155,7 @@ leaves_acted old new before number what answer after same opened adds given told
       given = λ other some' differs. given other (λ e. differs (e ∙ is ∙ sym same));
       pass = told.pass;
       lock = lock_before before.lock_full after.lock_full _ told.lock_full;
+      hears = hears;
     }
 
 -- ---- what is of no session
@@ -147,8 +163,8 @@ leaves_acted old new before number what answer after same opened adds given told
 flush_leaves : (old new : Place) (before after : DeskView) (made : Record) → old.session ≢ 0
     → new.session ≡ old.session → after.mine ≡ before.mine ++ made ∷ [] → IsFlush made
     → StaysForAll before.gave_to after.gave_to → after.pass ≡ before.pass
-    → (after.lock_full ≡ false → before.lock_full ≡ false) → Leaves old before new after
-flush_leaves old new before after made some same mine flush given pass lock = record {
+    → (after.lock_full ≡ false → before.lock_full ≡ false) → Hears old before new after → Leaves old before new after
+flush_leaves old new before after made some same mine flush given pass lock hears = record {
   more = made ∷ [];
   mine = mine;
   shows = ap (λ k. shown k after.mine) same ∙ ap (shown old.session) mine
@@ -160,6 +176,7 @@ flush_leaves old new before after made some same mine flush given pass lock = re
   given = λ number some other. given number;
   pass = pass;
   lock = lock;
+  hears = hears;
 }
 
 -- the records after a flush that was refused: the same, or one short flush more
@@ -174,17 +191,20 @@ short_or before moment (fault.Full number) after same = inl same
 short_or before moment fault.Memory after same = inl same
 
 pub leaves_flushed : (old new : Place) (before : DeskView) (moment : ℕ) (answer : Result ⊤ DeskFault)
-    (after : DeskView) → old.session ≢ 0 → new.session ≡ old.session → Flushes before moment answer after
+    (after : DeskView) → old.session ≢ 0 → Told old new (deed.Flush, answer) → Flushes before moment answer after
     → Leaves old before new after
-leaves_flushed old new before moment (Ok done) after some same f =
-    flush_leaves old new before after (record_of before.pass moment act.Flush 0 false) some same f.added (refl, refl)
-    f.given f.pass (lock_before before.lock_full after.lock_full _ f.lock_full)
-leaves_flushed old new before moment (Err reason) after some same f =
+leaves_flushed old new before moment (Ok done) after some told f =
+    flush_leaves old new before after (record_of before.pass moment act.Flush 0 false) some told.session f.added
+    (refl, refl) f.given f.pass (lock_before before.lock_full after.lock_full _ f.lock_full)
+    (hears_told old new before after (deed.Flush, Ok done) told f.tells)
+leaves_flushed old new before moment (Err reason) after some told f =
     elim (short_or before moment reason after f.none_added) [
-      | inl none ↦ still old new before after same none f.given f.pass
+      | inl none ↦ still old new before after told.session none f.given f.pass
           (lock_before before.lock_full after.lock_full _ f.lock_full)
-      | inr short ↦ flush_leaves old new before after (record_of before.pass moment act.Flush 0 true) some same short
-          (refl, refl) f.given f.pass (lock_before before.lock_full after.lock_full _ f.lock_full)
+          (hears_told old new before after (deed.Flush, Err reason) told f.tells)
+      | inr short ↦ flush_leaves old new before after (record_of before.pass moment act.Flush 0 true) some told.session
+          short (refl, refl) f.given f.pass (lock_before before.lock_full after.lock_full _ f.lock_full)
+          (hears_told old new before after (deed.Flush, Err reason) told f.tells)
     ]
 
 -- ---- the acts of a session, by what each says
@@ -197,7 +217,7 @@ ok_adds number before after (Ok done) made own kind one none = One made own kind
 ok_adds number before after (Err reason) made own kind one none = Nothing none
 
 pub leaves_act : (old new : Place) (before : DeskView) (moment : ℕ) (what : Act) (number : ℕ)
-    (answer : Result ⊤ DeskFault) (after : DeskView) → new.session ≡ old.session
+    (answer : Result ⊤ DeskFault) (after : DeskView) → Told old new (deed_of what, answer)
     → IsOpen number (shown old.session before.mine) → is_flush what ≡ false
     → Acts before moment what number answer after → Leaves old before new after
 leaves_act old new before moment what number answer after same opened kind a =
@@ -207,7 +227,7 @@ leaves_act old new before moment what number answer after same opened kind a =
     (λ other differs. a.given other) a.rest
 
 pub leaves_closed : (old new : Place) (before : DeskView) (moment : ℕ) (number : ℕ) (answer : Result ⊤ DeskFault)
-    (after : DeskView) → new.session ≡ old.session → IsOpen number (shown old.session before.mine)
+    (after : DeskView) → Told old new (deed.Close number, answer) → IsOpen number (shown old.session before.mine)
     → Closes before moment number answer after → Leaves old before new after
 leaves_closed old new before moment number answer after same opened a =
     leaves_acted old new before number (deed.Close number) answer after same opened
@@ -224,7 +244,7 @@ called_adds number before after moment what (Ok done) kind one none =
 called_adds number before after moment what (Err reason) kind one none = Nothing none
 
 pub leaves_called : (old new : Place) (before : DeskView) (moment : ℕ) (what : Act) (number : ℕ)
-    (answer : Result ⊤ DeskFault) (after : DeskView) → new.session ≡ old.session
+    (answer : Result ⊤ DeskFault) (after : DeskView) → Told old new (deed_of what, answer)
     → IsOpen number (shown old.session before.mine) → is_flush what ≡ false
     → Calls before moment what number answer after → Leaves old before new after
 leaves_called old new before moment what number answer after same opened kind a =
@@ -240,7 +260,7 @@ drained_given number before after items (Ok done) one none other differs = one.1
 drained_given number before after items (Err reason) one none other differs = none.0 other
 
 pub leaves_drained : (old new : Place) (before : DeskView) (moment : ℕ) (number : ℕ) (items : List Item)
-    (answer : Result ⊤ DeskFault) (after : DeskView) → new.session ≡ old.session
+    (answer : Result ⊤ DeskFault) (after : DeskView) → Told old new (deed.Drain number (is_nothing items), answer)
     → IsOpen number (shown old.session before.mine) → Drains before moment number items answer after
     → Leaves old before new after
 leaves_drained old new before moment number items answer after same opened a =

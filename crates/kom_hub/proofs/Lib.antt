@@ -1,5 +1,6 @@
 pub mod Shown
 pub mod Seated
+pub mod Hearing
 pub mod Leaving
 pub mod Steps
 pub mod Whole
@@ -8,3 +9,6 @@ pub mod Timing
 pub mod Passing
 pub mod Crowding
 pub mod Standing
+pub mod Ending
+pub mod Serving
+pub mod Passed

@@ -78,14 +78,24 @@ flushes_of session (made ∷ more) all = go (is_flush made.entry.act) refl all.0
     go true is (inr flush) rest = (flush, rest)
     go false is one rest = rest
 
+-- the seat of a session that has records shows some
+shows_some : (session : ℕ) (records : List Record) → session ≢ 0 → has_session session records ≡ true
+    → shown session records ≡ [] → ⊥
+shows_some session records some has none =
+    let here : has_session session (since session records) ≡ true =
+    any_since (λ (made : Record). made.session == session) session records (λ made is. is) ∙ has in
+    let nothing : has_session session (since session records) ≡ false =
+    ap (has_session session) (sym (shown_by session records true some has) ∙ none) in cc
+
 -- to a seat of another session the turn of a guest is nothing but its flushes
 passes_other : (old new : Place) (before after : DeskView) (session : ℕ) (answers : List Answer)
-    → Leaves old before new after → session ≢ 0 → session ≢ new.session
+    → Leaves old before new after → session ≢ 0 → has_session session before.mine ≡ true → session ≢ new.session
     → Passes (seat_of session answers before) (seat_of session answers after)
-passes_other old new before after session answers leaves some other = record {
+passes_other old new before after session answers leaves some has other = record {
   flushes = filter (λ (made : Record). is_flush made.entry.act) leaves.more;
   mine = ap (shown session) leaves.mine ∙ shown_pass new.session session before.mine leaves.more some other leaves.own;
   all = flushes_of new.session leaves.more leaves.own;
+  begun = λ none. absurd (shows_some session before.mine some has none);
   given = only_own session [] before.gave_to after.gave_to (leaves.given session some other);
   answers = refl;
   pass = leaves.pass;
@@ -99,6 +109,7 @@ passes_nobody old new before after answers leaves = record {
   flushes = [];
   mine = refl;
   all = tt;
+  begun = λ none. refl;
   given = only_none [] before.gave_to after.gave_to;
   answers = refl;
   pass = leaves.pass;
@@ -106,12 +117,13 @@ passes_nobody old new before after answers leaves = record {
 }
 
 pub passes : (old new : Place) (before after : DeskView) (session : ℕ) (answers : List Answer)
-    → Leaves old before new after → (session ≢ 0 → session ≢ new.session)
+    → Leaves old before new after → (session ≢ 0 → has_session session before.mine ≡ true)
+    → (session ≢ 0 → session ≢ new.session)
     → Passes (seat_of session answers before) (seat_of session answers after)
-passes old new before after session answers leaves other = elim (cases_eq session 0) [
+passes old new before after session answers leaves has other = elim (cases_eq session 0) [
   | inl zero ↦ subst (λ (k : ℕ). Passes (seat_of k answers before) (seat_of k answers after)) (sym zero)
       (passes_nobody old new before after answers leaves)
-  | inr some ↦ passes_other old new before after session answers leaves some (other some)
+  | inr some ↦ passes_other old new before after session answers leaves some (has some) (other some)
 ]
 
 -- ---- what is asked for all
@@ -134,13 +146,14 @@ shown_flushes session records (made ∷ more) some all =
 pub passes_quiet : (before after : DeskView) (session : ℕ) (answers : List Answer) (flushes : List Record)
     → after.mine ≡ before.mine ++ flushes → AllByRecursion IsFlush flushes
     → StaysForAll before.gave_to after.gave_to → after.pass ≡ before.pass
-    → (after.lock_full ≡ false → before.lock_full ≡ false)
+    → (after.lock_full ≡ false → before.lock_full ≡ false) → (session ≢ 0 → has_session session before.mine ≡ true)
     → Passes (seat_of session answers before) (seat_of session answers after)
-passes_quiet before after session answers flushes mine all given pass lock = elim (cases_eq session 0) [
+passes_quiet before after session answers flushes mine all given pass lock has = elim (cases_eq session 0) [
   | inl zero ↦ subst (λ (k : ℕ). Passes (seat_of k answers before) (seat_of k answers after)) (sym zero) (record {
     flushes = [];
     mine = refl;
     all = tt;
+    begun = λ none. refl;
     given = only_none [] before.gave_to after.gave_to;
     answers = refl;
     pass = pass;
@@ -150,6 +163,7 @@ passes_quiet before after session answers flushes mine all given pass lock = eli
     flushes = flushes;
     mine = ap (shown session) mine ∙ shown_flushes session before.mine flushes some all;
     all = all;
+    begun = λ none. absurd (shows_some session before.mine some (has some) none);
     given = only_same session [] before.gave_to after.gave_to given;
     answers = refl;
     pass = pass;

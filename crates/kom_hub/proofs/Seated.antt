@@ -343,6 +343,14 @@ drained_by session answers old moment number items answer new nothing e opened a
     (sym (e ∙ nothing_is items))
     (drained session answers old moment number items answer new opened a)
 
+-- a drain is told with whether it gave nothing
+pub drained_told : (answers : List Answer) (number : ℕ) (items : List Item) (answer : Result ⊤ DeskFault)
+    (nothing : Bool) → nothing ≡ (length items == 0)
+    → answers ++ (deed.Drain number nothing, answer) ∷ []
+    ≡ answers ++ (deed.Drain number (is_nothing items), answer) ∷ []
+drained_told answers number items answer nothing e =
+    ap (λ (empty : Bool). answers ++ (deed.Drain number empty, answer) ∷ []) (e ∙ nothing_is items)
+
 -- ---- what is of no session
 
 short_more : (session : ℕ) (answers answers' : List Answer) (old : DeskView) (moment : ℕ) (reason : DeskFault)

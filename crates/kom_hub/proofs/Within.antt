@@ -34,7 +34,7 @@ IsApart session made = ((made.session == session) ≡ false) ⊎ ((session ≡ 0
 
 -- ---- flushes alone
 
-abbrev is_flush : Step → Bool
+abbrev pub is_flush : Step → Bool
 is_flush (Connects user host) = false
 is_flush (Asks request) = false
 is_flush Breaks = false
@@ -42,7 +42,7 @@ is_flush Flushes = true
 is_flush (Drains items) = false
 is_flush Closes = false
 
-abbrev AreFlushes : List Step → Type 0
+abbrev pub AreFlushes : List Step → Type 0
 AreFlushes steps = IsTrue (list_all is_flush steps)
 
 apart_step : (session : ℕ) (pass moment : ℕ) (what : Act) (named : ℕ) (short : Bool) (records : List Record) →
@@ -76,7 +76,7 @@ apart_step session pass moment (act.Drain caller) named short records (inr flush
 apart_step session pass moment (act.Close caller) named short records (inr flush) rest =
     let no : act.Close caller ≡ act.Flush = flush.1 in cc
 
-apart_steps : (session : ℕ) (records : List Record) → AllByRecursion (IsApart session) records →
+pub apart_steps : (session : ℕ) (records : List Record) → AllByRecursion (IsApart session) records →
     AreFlushes (steps_of session records [])
 apart_steps session [] apart = refl
 apart_steps session (made ∷ records) apart =
@@ -202,7 +202,7 @@ settles_more steps rear settles = (
   ap (λ all. all ++ rear) settles.3 ∙ regroup [] settles.0 settles.1 settles.2 rear Flushes (Drains []),
 )
 
-drained_around : (prefix steps rear : List Step) → AreFlushes prefix → AreFlushes rear → IsDrained steps →
+pub drained_around : (prefix steps rear : List Step) → AreFlushes prefix → AreFlushes rear → IsDrained steps →
     IsDrained (prefix ++ (steps ++ rear))
 drained_around prefix steps rear flushes flushes' drained = (
   prefix ++ drained.0,
@@ -277,7 +277,7 @@ filter_apart session (made ∷ records) some apart = elim apart.0 [
   | inr none ↦ absurd (some none.0)
 ]
 
-records_of-within : (session : ℕ) (before added tail : List Record) → AllByRecursion (IsApart session) before →
+pub records_of-within : (session : ℕ) (before added tail : List Record) → AllByRecursion (IsApart session) before →
     AllByRecursion (IsApart session) tail →
     records_of session (before ++ (added ++ tail)) ≡ records_of session added
 records_of-within session before added tail apart apart' =
@@ -340,22 +340,17 @@ records_since session records =
     alike true xs ys same = refl
     alike false xs ys same = same
 
--- A talk by some records is one by others, among which the session has the same records, and the same steps after
+-- A talk by some records is one by others, among which the session has the same records, and the same steps between
 -- flushes.
-talk_after : (host input output : List ℕ) (ended : Bool) (whole added : List Record) (session : ℕ)
-    (given : List (List Item)) (end : SessionEnd) (full : Bool) (prefix : List Step)
-    → AllByRecursion (λ (step : Step). step ≡ Flushes) prefix
-    → steps_of session whole given ≡ prefix ++ steps_of session added given
+pub talk_around : (host input output : List ℕ) (ended : Bool) (whole added : List Record) (session : ℕ)
+    (given : List (List Item)) (end : SessionEnd) (full : Bool) (prefix rear : List Step)
+    → AreFlushes prefix → AreFlushes rear
+    → steps_of session whole given ≡ prefix ++ (steps_of session added given ++ rear)
     → records_of session whole ≡ records_of session added →
     IsTalk host input output ended added session given end full →
     IsTalk host input output ended whole session given end full
-talk_after host input output ended whole added session given end full prefix flush found records talk =
+talk_around host input output ended whole added session given end full prefix rear flushes flushes' all records talk =
     let steps : List Step = steps_of session added given in
-    let rear : List Step = [] in
-    let flushes : AreFlushes prefix = are_flushes prefix flush in
-    let flushes' : AreFlushes rear = refl in
-    let all : steps_of session whole given ≡ prefix ++ (steps ++ rear) =
-    found ∙ ap (λ last. prefix ++ last) (sym (append-nil steps)) in
     let requests : requests_in (steps_of session whole given) ≡ requests_in steps =
     ap requests_in all ∙ requests_around prefix steps rear flushes flushes' in
     record {
@@ -382,9 +377,21 @@ talk_after host input output ended whole added session given end full prefix flu
           (spaced_around prefix steps rear flushes flushes' talk.spaced);
     }
 
+-- the same where there are no flushes after them
+talk_after : (host input output : List ℕ) (ended : Bool) (whole added : List Record) (session : ℕ)
+    (given : List (List Item)) (end : SessionEnd) (full : Bool) (prefix : List Step)
+    → AllByRecursion (λ (step : Step). step ≡ Flushes) prefix
+    → steps_of session whole given ≡ prefix ++ steps_of session added given
+    → records_of session whole ≡ records_of session added →
+    IsTalk host input output ended added session given end full →
+    IsTalk host input output ended whole session given end full
+talk_after host input output ended whole added session given end full prefix flush found records talk =
+    talk_around host input output ended whole added session given end full prefix [] (are_flushes prefix flush) refl
+    (found ∙ ap (λ last. prefix ++ last) (sym (append-nil (steps_of session added given)))) records talk
+
 -- ---- nobody's steps
 
-flush_is : (what : Act) → IsFlushAct what ≡ true → what ≡ act.Flush
+pub flush_is : (what : Act) → IsFlushAct what ≡ true → what ≡ act.Flush
 flush_is (act.Connect user host) e = cc
 flush_is (act.Call caller reference call) e = cc
 flush_is (act.Broken caller) e = cc

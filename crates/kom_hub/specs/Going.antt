@@ -71,6 +71,12 @@ leaves_further a b c x y z one two = record {
       ∙ one.given number some (not_before b.session c.session number two.stays some other);
   pass = two.pass ∙ one.pass;
   lock = λ free. one.lock (two.lock free);
+  hears = record {
+    more = one.hears.more ++ two.hears.more;
+    grown = two.hears.grown ∙ ap (λ answers. answers ++ two.hears.more) one.hears.grown
+        ∙ append_assoc x.answers one.hears.more two.hears.more;
+    heard = λ heard. two.hears.heard (one.hears.heard heard);
+  };
 }
 
 pub leaves_itself : (place : Place) (view : DeskView) → Leaves place view place view
@@ -85,4 +91,9 @@ leaves_itself place view = record {
   given = λ number some other. refl;
   pass = refl;
   lock = λ free. free;
+  hears = record {
+    more = [];
+    grown = sym (append-nil view.answers);
+    heard = λ heard. heard;
+  };
 }

@@ -2,3 +2,4 @@ pub mod Seats
 pub mod Going
 pub mod Passing
 pub mod Crowds
+pub mod Hub

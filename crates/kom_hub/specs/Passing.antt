@@ -7,11 +7,13 @@ use Rattle.kom_links.specs.Records.{has_session}
 use Rattle.kom_links.specs.Talk.{AreTimed}
 use Rattle.kom_hub.specs.Seats.{is_shown, IsFlush}
 
--- A desk shows some flushes more at its end, and nothing else: it gave and answered the same.
+-- A desk shows some flushes more at its end, none where it showed nothing, and nothing else: it
+-- gave and answered the same.
 pub record Passes (old new : DeskView) : Type 0 where
   pub flushes : List Record
   pub mine : new.mine ≡ old.mine ++ flushes
   pub all : AllByRecursion IsFlush flushes
+  pub begun : old.mine ≡ [] → flushes ≡ []
   pub given : StaysForAll old.gave_to new.gave_to
   pub answers : new.answers ≡ old.answers
   pub pass : new.pass ≡ old.pass

@@ -1,10 +1,12 @@
 -- What one of many guests is shown of the desk that they share.
 use Rattle.std.specs.Prelude.{◌≡◌, ◌≢◌, ◌⊎◌, ℕ, ◌==◌, ◌||◌, Bool, true, false, List, [], ◌∷◌, ◌++◌}
-use Rattle.std.specs.Prelude.{filter}
+use Rattle.std.specs.Prelude.{filter, Err}
 use Rattle.std.specs.List.{AllByRecursion}
 use Rattle.kom_types.specs.declared.acts.Act.{Act}
 use Rattle.kom_types.specs.declared.acts.Act.TheVariants as act
 use Rattle.kom_types.specs.declared.acts.Record.{Record}
+use Rattle.kom_links.specs.declared.deeds.Deed.TheVariants as deed
+use Rattle.kom_links.specs.declared.desk.DeskFault.TheVariants as fault
 use Rattle.kom_links.specs.Answers.{Answer}
 use Rattle.kom_links.specs.DeskCalls.{DeskView}
 use Rattle.kom_links.specs.Records.{has_session}
@@ -86,9 +88,33 @@ IsOfSeat session made = IsOwn session made ⊎ IsFlush made
 abbrev pub IsMade : Record → Type 0
 IsMade made = (made.session ≢ 0) ⊎ IsFlush made
 
+-- a desk answered so
+abbrev pub IsAnswered : DeskView → Answer → Type 0
+IsAnswered desk answer =
+    (before rest : List Answer) × (desk.answers ≡ before ++ answer ∷ rest)
+
+-- An answer at a seat of this session is one of the desk's; or the seat found that memory ran out,
+-- at a connect, or where it has no session.
+abbrev pub IsSeatAnswer : ℕ → DeskView → Answer → Type 0
+IsSeatAnswer session desk answer = IsAnswered desk answer
+    ⊎ ((answer.1 ≡ Err fault.Memory) × (session ≢ 0 → answer.0 ≡ deed.Connect))
+
+-- What was answered at a place was answered by the desk, but for what a seat refuses: a second
+-- connect, and a flush where nothing was connected, which spends it.
+pub record IsHeard (desk : DeskView) (place : Place) : Type 0 where
+  pub all : AllByRecursion (λ answer. IsAnswered desk answer ⊎ ((answer.1 ≡ Err fault.Memory)
+      × (place.is_spent ≡ false → answer.0 ≡ deed.Connect))) place.answers.items
+  pub spent : place.is_spent ≡ true → place.session ≡ 0
+
+-- What a desk answered more was heard at a place.
+pub record Hears (old : Place) (before : DeskView) (new : Place) (after : DeskView) : Type 0 where
+  pub more : List Answer
+  pub grown : after.answers ≡ before.answers ++ more
+  pub heard : IsHeard before old → IsHeard after new
+
 -- What the turns of one seat leave of the desk: its own records and flushes were added, and it
 -- shows each of them; what was given to the other sessions stays. A session that was connected is
--- one that had no record.
+-- one that had no record. What the desk answered was heard.
 pub record Leaves (old : Place) (before : DeskView) (new : Place) (after : DeskView) : Type 0 where
   pub more : List Record
   pub mine : after.mine ≡ before.mine ++ more
@@ -102,3 +128,4 @@ pub record Leaves (old : Place) (before : DeskView) (new : Place) (after : DeskV
       → after.gave_to number ≡ before.gave_to number
   pub pass : after.pass ≡ before.pass
   pub lock : after.lock_full ≡ false → before.lock_full ≡ false
+  pub hears : Hears old before new after

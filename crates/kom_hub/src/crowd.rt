@@ -1,18 +1,24 @@
 ghost use Rattle.std.specs.Prelude.{◌≡◌, ◌<◌, ℕ, Option, List, Some, true, length};
 ghost use Rattle.slab.specs.Slab.{HasRoomFor};
-ghost use Rattle.kom_links.specs.declared.served.Served.{Served as ServedLink};
-ghost use Rattle.kom_links.specs.DeskCalls.{DeskView};
+ghost use Rattle.kom_links.specs.declared.gate.Next.TheVariants as next;
+ghost use Rattle.kom_links.specs.DeskCalls.{DeskView, AsksStopped};
+ghost use Rattle.kom_links.specs.Doors.{GateView, Admits};
 ghost use Rattle.kom_hub.specs.declared.guest.Guest.{Guest as OneOf};
-ghost use Rattle.kom_hub.specs.Crowds.{guests, IsKept, Stands, CanGo, Carries, HalfStands, Heard};
+ghost use Rattle.kom_hub.specs.Seats.{IsHeard};
+ghost use Rattle.kom_hub.specs.Crowds.{guests, IsKept, Stands, CanGo, Carries, CarriesTo};
+ghost use Rattle.kom_hub.specs.Crowds.{HalfStands, Heard};
 
 use crate::guest::{Converse, Guest, Turn};
 use crate::news::News;
-use kom_links::{Clock, Desk, Gate, Link};
+use kom_links::{Clock, Desk, DeskFault, Gate, Link};
 use slab::Slab;
+
+/// How many guests a worker has at most.
+pub const MOST_GUESTS: usize = 1_024;
 
 /// The guest at a key, if there is one, takes a turn.
 pub fn turn_at<T: Converse, K: Desk, L: Link, C: Clock>(
-    crowd: &mut Slab<Box<Guest<T, L>>>,
+    crowd: &mut Slab<Guest<T, L>>,
     key: usize,
     turn: Turn,
     desk: &mut K,
@@ -33,22 +39,22 @@ pub fn turn_at<T: Converse, K: Desk, L: Link, C: Clock>(
 }
 
 /// A guest from whose seat nothing was connected comes in. Returns its key.
-pub fn admit<T: Converse, L: Link>(
-    crowd: &mut Slab<Box<Guest<T, L>>>,
-    guest: Box<Guest<T, L>>,
-) -> usize
+pub fn admit<T: Converse, L: Link>(crowd: &mut Slab<Guest<T, L>>, guest: Guest<T, L>) -> usize
     requires room { HasRoomFor crowd.old 1 }
-    requires nobody { guest.value.place.session ≡ 0 }
+    requires nobody { guest.place.session ≡ 0 }
+    requires heard { (desk : DeskView) → IsHeard desk guest.place }
     ensures key { result ≡ crowd.old.vacant_key }
-    ensures stands { (desk : DeskView) (gave : Option (List ℕ))
-        → IsKept T.kept T.talks L.view desk guest.value
-        → Carries T.kept T.talks L.view desk gave crowd.old desk gave crowd.new }
+    ensures stands { (begun : Option (List ℕ)) (desk : DeskView) (gave : Option (List ℕ))
+        (before after : GateView L) (link : L) → IsKept T.kept T.talks L.view desk guest
+        → Admits before (next.Link link) after
+        → Stands T.kept T.talks L.view begun desk gave crowd.old before
+        → Stands T.kept T.talks L.view begun desk gave crowd.new after }
 {
     crowd.insert_reserved(guest)
 }
 
 /// Whether there is a guest at a key, and it is over.
-pub fn is_over_at<T: Converse, L: Link>(crowd: &Slab<Box<Guest<T, L>>>, key: usize) -> bool
+pub fn is_over_at<T: Converse, L: Link>(crowd: &Slab<Guest<T, L>>, key: usize) -> bool
     ensures { result ≡ true → (guest : OneOf T L) × (guests crowd.now key ≡ Some guest)
         × T.done guest.talk }
 {
@@ -60,7 +66,7 @@ pub fn is_over_at<T: Converse, L: Link>(crowd: &Slab<Box<Guest<T, L>>>, key: usi
 
 /// The guest at a key, which is over, leaves, and its link is given back.
 pub fn leave<T: Converse, K: Desk, G: Gate, C: Clock>(
-    crowd: &mut Slab<Box<Guest<T, G::Link>>>,
+    crowd: &mut Slab<Guest<T, G::Link>>,
     key: usize,
     desk: &mut K,
     gate: &mut G,
@@ -70,31 +76,28 @@ pub fn leave<T: Converse, K: Desk, G: Gate, C: Clock>(
         × T.done guest.talk }
     requires can { CanGo T.kept T.talks G.Link.view (K.view desk.old) (C.gave clock.old)
         crowd.old }
-    ensures stands { (begun : Option (List ℕ))
-        → Stands T.kept T.talks G.Link.view begun (K.view desk.old) (C.gave clock.old) crowd.old
-        (G.view gate.old).returned
-        → Stands T.kept T.talks G.Link.view begun (K.view desk.new) (C.gave clock.new) crowd.new
-        (G.view gate.new).returned }
+    ensures stands { CarriesTo T.kept T.talks G.Link.view (K.view desk.old) (C.gave clock.old)
+        crowd.old (G.view gate.old) (K.view desk.new) (C.gave clock.new) crowd.new
+        (G.view gate.new) }
     ensures ended { (G.view gate.new).ended ≡ (G.view gate.old).ended }
     ensures on { K.goes_on desk.old desk.new }
 {
-    let boxed = crowd.remove(key);
-    let guest = Box::into_inner(boxed);
+    let guest = crowd.remove(key);
     let (link, served) = guest.close(desk, clock);
     gate.give_back(link, served);
 }
 
 /// The guest at a key, if there is one, is told of what the desk was asked for all.
 pub fn tell_at<T: Converse, L: Link>(
-    crowd: &mut Slab<Box<Guest<T, L>>>,
+    crowd: &mut Slab<Guest<T, L>>,
     key: usize,
     number: u64,
     news: News,
 )
     ensures { (begun : Option (List ℕ)) (before after : DeskView) (gave : Option (List ℕ))
-        (returned : Option (List (L × ServedLink))) → Heard news before after
-        → HalfStands T.kept T.talks L.view begun number before after gave crowd.old returned
-        → HalfStands T.kept T.talks L.view begun number before after gave crowd.new returned }
+        (gate : GateView L) → Heard news before after
+        → HalfStands T.kept T.talks L.view begun number before after gave crowd.old gate
+        → HalfStands T.kept T.talks L.view begun number before after gave crowd.new gate }
 {
     let Some(guest) = crowd.get_mut(key) else {
         return;
@@ -104,15 +107,15 @@ pub fn tell_at<T: Converse, L: Link>(
 
 /// The guests at some keys are told of what the desk was asked for all.
 pub fn tell_some<T: Converse, L: Link>(
-    crowd: &mut Slab<Box<Guest<T, L>>>,
+    crowd: &mut Slab<Guest<T, L>>,
     keys: &[usize],
     number: u64,
     news: News,
 )
     ensures { (begun : Option (List ℕ)) (before after : DeskView) (gave : Option (List ℕ))
-        (returned : Option (List (L × ServedLink))) → Heard news before after
-        → HalfStands T.kept T.talks L.view begun number before after gave crowd.old returned
-        → HalfStands T.kept T.talks L.view begun number before after gave crowd.new returned }
+        (gate : GateView L) → Heard news before after
+        → HalfStands T.kept T.talks L.view begun number before after gave crowd.old gate
+        → HalfStands T.kept T.talks L.view begun number before after gave crowd.new gate }
 {
     for place in 0..keys.len() {
         tell_at(crowd, keys[place], number, news);
@@ -121,15 +124,15 @@ pub fn tell_some<T: Converse, L: Link>(
 
 /// The guests at all keys below one are told of what the desk was asked for all.
 pub fn tell_all<T: Converse, L: Link>(
-    crowd: &mut Slab<Box<Guest<T, L>>>,
+    crowd: &mut Slab<Guest<T, L>>,
     keys: usize,
     number: u64,
     news: News,
 )
     ensures { (begun : Option (List ℕ)) (before after : DeskView) (gave : Option (List ℕ))
-        (returned : Option (List (L × ServedLink))) → Heard news before after
-        → HalfStands T.kept T.talks L.view begun number before after gave crowd.old returned
-        → HalfStands T.kept T.talks L.view begun number before after gave crowd.new returned }
+        (gate : GateView L) → Heard news before after
+        → HalfStands T.kept T.talks L.view begun number before after gave crowd.old gate
+        → HalfStands T.kept T.talks L.view begun number before after gave crowd.new gate }
 {
     for key in 0..keys {
         tell_at(crowd, key, number, news);
@@ -138,7 +141,7 @@ pub fn tell_all<T: Converse, L: Link>(
 
 /// Makes one flush for all, and tells the guests at some keys what it was answered.
 pub fn flush_for<T: Converse, K: Desk, L: Link, C: Clock>(
-    crowd: &mut Slab<Box<Guest<T, L>>>,
+    crowd: &mut Slab<Guest<T, L>>,
     keys: &[usize],
     number: u64,
     desk: &mut K,
@@ -153,27 +156,28 @@ pub fn flush_for<T: Converse, K: Desk, L: Link, C: Clock>(
 }
 
 /// Asks once for all whether the server is stopped, and if so, or if it cannot be asked, tells all
-/// guests below a key. Returns whether it did.
+/// guests below a key. Returns the answer.
 pub fn ask_for<T: Converse, K: Desk, L: Link>(
-    crowd: &mut Slab<Box<Guest<T, L>>>,
+    crowd: &mut Slab<Guest<T, L>>,
     keys: usize,
     number: u64,
     desk: &mut K,
-) -> bool
-    ensures stands { (gave : Option (List ℕ)) → Carries T.kept T.talks L.view (K.view desk.old) gave
-        crowd.old (K.view desk.new) gave crowd.new }
+) -> Result<bool, DeskFault>
+    ensures stands { (gave : Option (List ℕ)) → Carries T.kept T.talks L.view
+        (K.view desk.old) gave crowd.old (K.view desk.new) gave crowd.new }
+    ensures asks { AsksStopped (K.view desk.old) result (K.view desk.new) }
     ensures on { K.goes_on desk.old desk.new }
 {
     let answer = desk.stopped();
     if answer == Ok(false) {
-        return false;
+        return answer;
     }
     tell_all(crowd, keys, number, News::Asked(answer));
-    true
+    answer
 }
 
 /// The guest at a key, if there is one, gives up.
-pub fn give_up_at<T: Converse, L: Link>(crowd: &mut Slab<Box<Guest<T, L>>>, key: usize)
+pub fn give_up_at<T: Converse, L: Link>(crowd: &mut Slab<Guest<T, L>>, key: usize)
     ensures { (desk : DeskView) (gave : Option (List ℕ))
         → Carries T.kept T.talks L.view desk gave crowd.old desk gave crowd.new }
 {

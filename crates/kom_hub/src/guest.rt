@@ -2,7 +2,7 @@ ghost use Rattle.std.specs.Prelude.{◌≡◌, ◌≢◌, ◌<◌, ℕ, ⊤, tru
 ghost use Rattle.kom_links.specs.declared.served.Served.{Served as ServedLink};
 ghost use Rattle.kom_links.specs.DeskCalls.{DeskView, Flushes, AsksStopped};
 ghost use Rattle.kom_links.specs.Outside.{LinkView, IsFresh};
-ghost use Rattle.kom_hub.specs.Seats.{seat_view, Leaves};
+ghost use Rattle.kom_hub.specs.Seats.{seat_view, IsHeard, Leaves};
 ghost use Rattle.kom_hub.specs.Passing.{Passes, IsTimed, IsSeatOf, IsBlank};
 ghost use Rattle.kom_hub.specs.Crowds.{IsKept, IsGuest, IsClosed, IsTold, Heard};
 
@@ -162,6 +162,7 @@ impl<T: Converse, L: Link> Guest<T, L> {
     pub fn new(alloc: Global, link: L) -> Guest<T, L>
         requires { IsFresh (L.view link) }
         ensures nobody { result.place.session ≡ 0 }
+        ensures heard { (desk : DeskView) → IsHeard desk result.place }
         ensures kept { (desk : DeskView) → IsKept T.kept T.talks L.view desk result }
     {
         let talk = T::begin(alloc, &link);
@@ -292,7 +293,7 @@ impl<T: Converse, L: Link> Guest<T, L> {
             → IsGuest T.kept T.talks L.view desk self.new }
         ensures place { self.new.place ≡ self.old.place }
     {
-        let has_more = self.talk.has_more();
+        let has_more = self.talk.has_more() || self.talk.owes_flush();
         self.is_listed = has_more;
         has_more
     }
@@ -318,7 +319,8 @@ fn close_talk<T: Converse, L: Link, K: Desk, C: Clock>(
 ) -> SessionEnd
     requires kept { T.kept talk (seat_view place.old (K.view desk.old)) (L.view link.now) }
     requires done { T.done talk }
-    ensures talks { (session : ℕ) → IsSeatOf session (seat_view place.new (K.view desk.new)).mine
+    ensures talks { (session : ℕ)
+        → IsSeatOf session (seat_view place.new (K.view desk.new)).mine
         → T.talks (seat_view place.new (K.view desk.new)) (L.view link.now)
         (record { session = session; end = result }) }
     ensures leaves { Leaves place.old (K.view desk.old) place.new (K.view desk.new) }

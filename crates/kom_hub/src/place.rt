@@ -1,4 +1,4 @@
-ghost use Rattle.std.specs.Prelude.{◌≡◌, ◌++◌, ◌∷◌, []};
+ghost use Rattle.std.specs.Prelude.{◌≡◌, ◌++◌, ◌∷◌, [], false};
 ghost use Rattle.kom_links.specs.Answers.{said_stopped};
 ghost use Rattle.kom_links.specs.declared.deeds.Deed.TheVariants as deeds;
 
@@ -7,10 +7,12 @@ use kom_links::{Deed, DeskFault};
 use kom_types::Why;
 
 /// What is kept of a seat between its turns: the session that was connected from it, 0 for none,
-/// and what was answered there, for clauses alone.
+/// whether it is spent, and what was answered there, for clauses alone.
 #[derive(Drop)]
 pub struct Place {
     pub session: u32,
+    /// It was flushed before anything was connected, which never comes. Nothing is connected then.
+    pub is_spent: bool,
     pub answers: Log<Deed, Result<(), DeskFault>>,
 }
 
@@ -18,10 +20,12 @@ impl Place {
     /// A place from which no session was connected.
     pub fn new() -> Place
         ensures session { result.session ≡ 0 }
+        ensures spent { result.is_spent ≡ false }
         ensures answers { result.answers.items ≡ [] }
     {
         Place {
             session: 0,
+            is_spent: false,
             answers: Log::new(),
         }
     }

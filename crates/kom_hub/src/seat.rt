@@ -42,6 +42,10 @@ impl<'k, 'p, K: Desk> Desk for Seat<'k, 'p, K> {
             self.place.tell(Deed::Connect, Err(DeskFault::Memory));
             return Err(DeskFault::Memory);
         }
+        if self.place.is_spent {
+            self.place.tell(Deed::Connect, Err(DeskFault::Memory));
+            return Err(DeskFault::Memory);
+        }
         match self.desk.connect(moment, user, host) {
             Ok(number) => {
                 self.place.session = number;
@@ -87,6 +91,7 @@ impl<'k, 'p, K: Desk> Desk for Seat<'k, 'p, K> {
 
     fn flush(&mut self, moment: Moment) -> Result<(), DeskFault> {
         if self.place.session == 0 {
+            self.place.is_spent = true;
             self.place.tell(Deed::Flush, Err(DeskFault::Memory));
             return Err(DeskFault::Memory);
         }

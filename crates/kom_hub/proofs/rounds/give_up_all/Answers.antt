@@ -1,12 +1,12 @@
 use Rattle.kom_hub.proofs.rounds.give_up_all.Goals as goal
 
 pub loop-key-init : goal.loop-key-init
-loop-key-init g c = λ desk gave begun returned stands. stands
+loop-key-init g c = λ desk gave begun gate stands. stands
 
 pub loop-key-preserved : goal.loop-key-preserved
-loop-key-preserved g c = λ desk gave begun returned stands.
-    c.list_at.ensures desk gave begun returned (c.give_up_at.ensures desk gave begun returned
-    (c.loop-key.invariant desk gave begun returned stands))
+loop-key-preserved g c = λ desk gave begun gate stands.
+    c.list_at.ensures desk gave begun gate (c.give_up_at.ensures desk gave begun gate
+    (c.loop-key.invariant desk gave begun gate stands))
 
 pub returns : goal.returns
 returns g c = c.loop-key.invariant

@@ -3,7 +3,7 @@ use Rattle.kom_hub.proofs.rounds.turn_some.Goals as goal
 pub loop-place-init : goal.loop-place-init
 loop-place-init g c = record {
   room = c.requires.room;
-  stands = λ begun returned stands. stands;
+  stands = λ begun gate stands. stands;
   on = g.met.K.Desk.goes_on_itself _;
 }
 
@@ -14,8 +14,8 @@ turn_at-requires-clause-can g c =
 pub loop-place-preserved : goal.loop-place-preserved
 loop-place-preserved g c = record {
   room = c.turn_at.ensures.room;
-  stands = λ begun returned stands. c.turn_at.ensures.stands begun returned
-      (c.loop-place.invariant.stands begun returned stands);
+  stands = λ begun gate stands. c.turn_at.ensures.stands begun gate
+      (c.loop-place.invariant.stands begun gate stands);
   on = g.met.K.Desk.goes_on_further _ _ _ c.loop-place.invariant.on c.turn_at.ensures.on;
 }
 

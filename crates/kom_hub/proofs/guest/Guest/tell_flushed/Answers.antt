@@ -1,5 +1,7 @@
-use Rattle.std.proofs.Common.{◌≢◌, refl, arith}
+use Rattle.std.proofs.Common.{◌≢◌, ◌∙◌, refl, arith}
 use Rattle.kom_hub.specs.Seats.{seat_view}
+use Rattle.kom_links.specs.declared.deeds.Deed.TheVariants as deed
+use Rattle.kom_hub.proofs.Hearing.{heard_told, said_is}
 use Rattle.kom_hub.proofs.Seated.{flushed}
 use Rattle.kom_hub.proofs.guest.Guest.tell_flushed.Goals as goal
 
@@ -20,6 +22,9 @@ returns g c = λ before after moment f.
             (g.L.Link.view c.args.self.now.link) moment
             (flushed c.args.self.now.place.session c.args.self.now.place.answers.items before moment c.args.answer after
             some f) (was c.requires).served;
+        heard = heard_told c.args.self.now.place _ after before.answers (deed.Flush, c.args.answer)
+            (record { session = refl; spent = refl; items = refl })
+            (f.tells ∙ said_is before.answers deed.Flush c.args.answer) now.heard;
         known = now.known;
       };
       rest = λ was differs. absurd (differs refl);

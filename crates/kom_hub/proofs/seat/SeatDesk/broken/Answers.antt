@@ -1,6 +1,7 @@
 use Rattle.std.proofs.Common.{refl}
 use Rattle.kom_hub.proofs.Shown.{shown_open}
 use Rattle.kom_hub.proofs.Seated.{acted}
+use Rattle.kom_hub.proofs.Hearing.{told_now}
 use Rattle.kom_hub.proofs.Leaving.{leaves_act}
 use Rattle.kom_hub.proofs.seat.SeatDesk.broken.Goals as goal
 
@@ -16,5 +17,5 @@ returns-clause-on g c = (
   refl,
   refl,
   c.broken-answer.ensures.on,
-  rw c.tell.ensures (leaves_act _ _ _ _ _ _ _ _ refl c.requires refl c.broken-answer.ensures.acts),
+  rw c.tell.ensures (leaves_act _ _ _ _ _ _ _ _ (told_now _ _) c.requires refl c.broken-answer.ensures.acts),
 )

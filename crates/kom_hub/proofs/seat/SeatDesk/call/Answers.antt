@@ -1,6 +1,7 @@
 use Rattle.std.proofs.Common.{refl}
 use Rattle.kom_hub.proofs.Shown.{shown_open}
 use Rattle.kom_hub.proofs.Seated.{called}
+use Rattle.kom_hub.proofs.Hearing.{told_now}
 use Rattle.kom_hub.proofs.Leaving.{leaves_called}
 use Rattle.kom_hub.proofs.seat.SeatDesk.call.Goals as goal
 
@@ -16,5 +17,5 @@ returns-clause-on g c = (
   refl,
   refl,
   c.call-answer.ensures.on,
-  rw c.tell.ensures (leaves_called _ _ _ _ _ _ _ _ refl c.requires refl c.call-answer.ensures.calls),
+  rw c.tell.ensures (leaves_called _ _ _ _ _ _ _ _ (told_now _ _) c.requires refl c.call-answer.ensures.calls),
 )

@@ -1,6 +1,7 @@
 use Rattle.std.proofs.Common.{refl}
 use Rattle.kom_hub.proofs.Shown.{shown_open}
 use Rattle.kom_hub.proofs.Seated.{closed}
+use Rattle.kom_hub.proofs.Hearing.{told_now}
 use Rattle.kom_hub.proofs.Leaving.{leaves_closed}
 use Rattle.kom_hub.proofs.seat.SeatDesk.close.Goals as goal
 
@@ -16,5 +17,5 @@ returns-clause-on g c = (
   refl,
   refl,
   c.close-answer.ensures.on,
-  rw c.tell.ensures (leaves_closed _ _ _ _ _ _ _ refl c.requires c.close-answer.ensures.closes),
+  rw c.tell.ensures (leaves_closed _ _ _ _ _ _ _ (told_now _ _) c.requires c.close-answer.ensures.closes),
 )

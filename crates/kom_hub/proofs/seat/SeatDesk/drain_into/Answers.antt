@@ -1,6 +1,6 @@
 use Rattle.std.proofs.Common.{refl}
 use Rattle.kom_hub.proofs.Shown.{shown_open}
-use Rattle.kom_hub.proofs.Seated.{drained_by}
+use Rattle.kom_hub.proofs.Seated.{drained_by, drained_told}
 use Rattle.kom_hub.proofs.Leaving.{leaves_drained}
 use Rattle.kom_hub.proofs.seat.SeatDesk.drain_into.Goals as goal
 
@@ -17,5 +17,7 @@ returns-clause-on g c = (
   refl,
   refl,
   c.drain_into-answer.ensures.on,
-  rw c.tell.ensures (leaves_drained _ _ _ _ _ _ _ _ refl c.requires c.drain_into-answer.ensures.drains),
+  rw c.tell.ensures (leaves_drained _ _ _ _ _ _ _ _
+      (record { session = refl; spent = refl; items = drained_told _ _ _ _ _ c.is_empty.ensures }) c.requires
+      c.drain_into-answer.ensures.drains),
 )

@@ -1,5 +1,6 @@
 use Rattle.std.proofs.Common.{refl}
 use Rattle.kom_hub.proofs.Seated.{asked}
+use Rattle.kom_hub.proofs.Hearing.{told_now}
 use Rattle.kom_hub.proofs.Leaving.{leaves_asked}
 use Rattle.kom_hub.proofs.seat.SeatDesk.stopped.Goals as goal
 
@@ -11,5 +12,5 @@ returns-clause-on g c = (
   refl,
   refl,
   c.stopped-answer.ensures.on,
-  rw c.asked.ensures (leaves_asked _ _ _ _ _ refl c.stopped-answer.ensures.asks),
+  rw c.asked.ensures (leaves_asked _ _ _ _ _ (told_now _ _) c.stopped-answer.ensures.asks),
 )

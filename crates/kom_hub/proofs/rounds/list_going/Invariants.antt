@@ -1,7 +1,7 @@
 use Rattle.std.proofs.Common.{ℕ, List, Option}
 use Rattle.kom_links.specs.DeskCalls.{DeskView}
 use Rattle.kom_hub.specs.Crowds.{Carries}
-use Rattle.kom_hub.proofs.rounds.list_all.Given as goal
+use Rattle.kom_hub.proofs.rounds.list_going.Given as goal
 
 -- the crowd is one still
 abbrev pub invariant-loop-key : goal.invariant-loop-key
