@@ -1,0 +1,14 @@
+use Rattle.std.proofs.Common.{None}
+use Rattle.kom_session.specs.Known.{seen}
+use Rattle.kom_talk.proofs.Turning.{untouched}
+use Rattle.kom_talk.proofs.conversation.ConversationConverse.begin.Goals as goal
+
+pub returns : goal.returns
+returns g c = λ desk blank fresh.
+    let link = g.L.Link.view c.args._link.now in
+    record {
+      start = seen desk link None;
+      blank = blank;
+      fresh = fresh;
+      kept = c.new.ensures.kept (seen desk link None) (untouched link fresh);
+    }
