@@ -6,10 +6,12 @@ use Rattle.std.specs.List.{slice_index}
 use Rattle.std.specs.Prelude.{codes, nat_le}
 use Rattle.kom_types.specs.Token.{number_of}
 use Rattle.kom_commands.specs.declared.numbers.AtPort.{AtPort}
+use Rattle.kom_commands.specs.declared.numbers.Way.{Way}
+use Rattle.kom_commands.specs.declared.numbers.Way.TheVariants as way
 use Rattle.kom_commands.specs.declared.words.Command.{Command}
 use Rattle.kom_commands.specs.declared.words.Command.TheVariants as command
 use Rattle.kom_commands.specs.Loads.{SaysLoad}
-use Rattle.kom_commands.specs.Numbers.{is_number, number_in, SaysServe}
+use Rattle.kom_commands.specs.Numbers.{is_number, number_in, word_of, SaysServe}
 use Rattle.kom_commands.specs.Words.{IsSpelled}
 
 -- lists of two lengths are different ones
@@ -107,13 +109,24 @@ same_number : (least greatest : ℕ) (word other : List ℕ) (n m : ℕ) → wor
     number_in least greatest word ≡ Some n → number_in least greatest other ≡ Some m → n ≡ m
 same_number least greatest word other n m same is is' = cc
 
-same_place : (one other : AtPort) → one.port ≡ other.port → one.workers ≡ other.workers → one ≡ other
-same_place one other port workers =
-    let place : ℕ → ℕ → AtPort = λ port workers. record { port = port; workers = workers } in
-    ap (λ (port : ℕ). place port one.workers) port ∙ ap (λ (workers : ℕ). place other.port workers) workers
+same_way : (one other : Way) → word_of one ≡ word_of other → one ≡ other
+same_way way.OneAtATime way.OneAtATime is = refl
+same_way way.OneAtATime way.ManyAtATime is =
+    absurd (letters (codes "serve") (codes "hub") is (λ same. omega (arith, same)))
+same_way way.ManyAtATime way.OneAtATime is =
+    absurd (letters (codes "hub") (codes "serve") is (λ same. omega (arith, same)))
+same_way way.ManyAtATime way.ManyAtATime is = refl
+
+same_place : (one other : AtPort) → one.port ≡ other.port → one.workers ≡ other.workers → one.way ≡ other.way →
+    one ≡ other
+same_place one other port workers way =
+    let place : ℕ → ℕ → Way → AtPort = λ port workers way. record { port = port; workers = workers; way = way } in
+    ap (λ (port : ℕ). place port one.workers one.way) port
+    ∙ ap (λ (workers : ℕ). place other.port workers one.way) workers
+    ∙ ap (λ (way : Way). place other.port other.workers way) way
 
 pub serve_is : (words : List (List ℕ)) (said : Command) (at : AtPort) (store port workers : List ℕ) →
-    IsSpelled words said → words ≡ codes "serve" ∷ store ∷ port ∷ workers ∷ [] →
+    IsSpelled words said → words ≡ word_of at.way ∷ store ∷ port ∷ workers ∷ [] →
     number_in 1 65535 port ≡ Some at.port → number_in 1 64 workers ≡ Some at.workers → said ≡ command.Serve at
 serve_is words command.Once at store port workers spelled is at_port by =
     absurd (apart words _ _ is spelled (λ long. omega (arith, long)))
@@ -124,7 +137,8 @@ serve_is words (command.Serve other) at store port workers spelled is at_port by
     (same_number 1 65535 spelled.1 port other.port at.port
     (thirds words _ _ spelled.1 _ _ port _ _ spelled.3 is) spelled.5 at_port)
     (same_number 1 64 spelled.2 workers other.workers at.workers
-    (fourths words _ _ _ spelled.2 _ _ _ workers spelled.3 is) spelled.6 by))
+    (fourths words _ _ _ spelled.2 _ _ _ workers spelled.3 is) spelled.6 by)
+    (same_way other.way at.way (heads words _ _ _ _ spelled.3 is)))
 serve_is words command.Init at store port workers spelled is at_port by =
     absurd (apart words _ _ is spelled.2 (λ long. omega (arith, long)))
 serve_is words command.Check at store port workers spelled is at_port by =
@@ -164,7 +178,7 @@ pub few_calls : (words : List (List ℕ)) (count : ℕ) → SaysLoad words count
 few_calls words count says = (within 0 100000 says.0 count says.2).1
 
 -- by how many workers a port is served
-pub some_workers : (words : List (List ℕ)) (port workers : ℕ) → SaysServe words port workers →
-    (0 < workers) × (workers ≤ 64)
-some_workers words port workers says =
-    let both = within 1 64 says.2 workers says.6 in (omega (arith, both.0), both.1)
+pub some_workers : (words : List (List ℕ)) (at : AtPort) → SaysServe words at →
+    (0 < at.workers) × (at.workers ≤ 64)
+some_workers words at says =
+    let both = within 1 64 says.2 at.workers says.6 in (omega (arith, both.0), both.1)

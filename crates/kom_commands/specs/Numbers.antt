@@ -4,6 +4,9 @@ use Rattle.std.specs.Prelude.{Option, Some, None, if◌then◌else◌}
 use Rattle.std.specs.List.{list_all}
 use Rattle.kom_types.specs.ByteKind.{is_digit}
 use Rattle.kom_types.specs.Token.{number_of}
+use Rattle.kom_commands.specs.declared.numbers.AtPort.{AtPort}
+use Rattle.kom_commands.specs.declared.numbers.Way.{Way}
+use Rattle.kom_commands.specs.declared.numbers.Way.TheVariants as way
 
 -- one to six digits
 abbrev pub is_number : List ℕ → Bool
@@ -17,8 +20,13 @@ number_in least greatest word =
     then Some (number_of word)
     else None
 
--- the words that have a store served: at this port, by so many workers
-abbrev pub SaysServe : List (List ℕ) → ℕ → ℕ → Type 0
-SaysServe words port workers = (store port_word workers_word : List ℕ)
-    × (words ≡ codes "serve" ∷ store ∷ port_word ∷ workers_word ∷ []) × (store ≢ [])
-    × (number_in 1 65535 port_word ≡ Some port) × (number_in 1 64 workers_word ≡ Some workers)
+-- the word that has links served one at a time by each worker, or many
+abbrev pub word_of : Way → List ℕ
+word_of way.OneAtATime = codes "serve"
+word_of way.ManyAtATime = codes "hub"
+
+-- the words that have a store served: at this port, by so many workers, in this way
+abbrev pub SaysServe : List (List ℕ) → AtPort → Type 0
+SaysServe words at = (store port workers : List ℕ)
+    × (words ≡ word_of at.way ∷ store ∷ port ∷ workers ∷ []) × (store ≢ [])
+    × (number_in 1 65535 port ≡ Some at.port) × (number_in 1 64 workers ≡ Some at.workers)

@@ -11,7 +11,7 @@ abbrev pub IsSpelled : List (List ℕ) → Command → Type 0
 IsSpelled words command.Once = words ≡ codes "once" ∷ []
 IsSpelled words command.OnceOver =
     (store : List ℕ) × (words ≡ codes "once" ∷ store ∷ []) × (store ≢ [])
-IsSpelled words (command.Serve at) = SaysServe words at.port at.workers
+IsSpelled words (command.Serve at) = SaysServe words at
 IsSpelled words command.Init = (store password : List ℕ)
     × (words ≡ codes "init" ∷ store ∷ password ∷ []) × (store ≢ [])
     × (length password ≤ LONGEST_PASSWORD)

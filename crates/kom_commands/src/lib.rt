@@ -10,6 +10,6 @@ mod words;
 
 pub use cases::Cases;
 pub use loads::load_of;
-pub use numbers::{AtPort, number_in, serve_of};
+pub use numbers::{AtPort, Way, number_in, serve_of};
 pub use reports::{MADE, check_report, push_line, put_text};
 pub use words::{Command, command_of};

@@ -3,13 +3,23 @@ ghost use Rattle.std.specs.Prelude.{◌≡◌, ◌≤◌, [], ◌∷◌, Some, I
 ghost use Rattle.std.specs.List.{list_all};
 ghost use Rattle.kom_types.specs.ByteKind.{is_digit as is_decimal};
 ghost use Rattle.kom_types.specs.Token.{number_of};
-ghost use Rattle.kom_commands.specs.Numbers.{number_in as number_between, SaysServe};
+ghost use Rattle.kom_commands.specs.declared.numbers.AtPort.{AtPort as Place};
+ghost use Rattle.kom_commands.specs.declared.numbers.Way.{Way as Manner};
+ghost use Rattle.kom_commands.specs.Numbers.{number_in as number_between, SaysServe, word_of};
 
-/// Where sessions are served, and by how many workers.
+/// Where sessions are served, by how many workers, and how each of these serves.
 #[derive(Clone, Copy, Debug)]
 pub struct AtPort {
     pub port: u16,
     pub workers: u32,
+    pub way: Way,
+}
+
+/// How a worker serves the links of its gate.
+#[derive(Clone, Copy, Debug, PartialEq, Eq)]
+pub enum Way {
+    OneAtATime,
+    ManyAtATime,
 }
 
 // The most workers.
@@ -18,19 +28,34 @@ const MOST_WORKERS: u32 = 64;
 // The most digits of a number.
 const MOST_DIGITS: usize = 6;
 
-/// What the words of `serve` say, if they are right.
+/// What the words of `serve` or `hub` say, if they are right.
 pub fn serve_of(word: &str, store: &str, port: &str, workers: &str) -> Option<AtPort>
-    ensures some { IfSome result (λ served. SaysServe
-        (word.now ∷ store.now ∷ port.now ∷ workers.now ∷ []) served.port served.workers) }
-    ensures none { IfNone result ((port_number workers_number : ℕ) → SaysServe
-        (word.now ∷ store.now ∷ port.now ∷ workers.now ∷ []) port_number workers_number → ⊥) }
+    ensures some { IfSome result (SaysServe
+        (word.now ∷ store.now ∷ port.now ∷ workers.now ∷ [])) }
+    ensures none { IfNone result ((at : Place) → SaysServe
+        (word.now ∷ store.now ∷ port.now ∷ workers.now ∷ []) at → ⊥) }
 {
-    if word != "serve" || store.is_empty() {
+    let way = way_of(word)?;
+    if store.is_empty() {
         return None;
     }
     let port = port_in(port)?;
     let workers = number_in(workers, 1, MOST_WORKERS)?;
-    Some(AtPort { port, workers })
+    Some(AtPort { port, workers, way })
+}
+
+/// The way that a word says, if it says one.
+fn way_of(word: &str) -> Option<Way>
+    ensures some { IfSome result (λ way. word.now ≡ word_of way) }
+    ensures none { IfNone result ((way : Manner) → word.now ≡ word_of way → ⊥) }
+{
+    if word == "serve" {
+        Some(Way::OneAtATime)
+    } else if word == "hub" {
+        Some(Way::ManyAtATime)
+    } else {
+        None
+    }
 }
 
 /// The port that a word is, if it is one.

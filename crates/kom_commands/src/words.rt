@@ -13,7 +13,7 @@ pub enum Command {
     Once,
     /// The same on the server that a store keeps.
     OnceOver,
-    /// Serves that server at a port.
+    /// Serves that server at a port, by workers that serve a link at a time each, or many.
     Serve(AtPort),
     /// Makes a store.
     Init,

@@ -11,6 +11,9 @@ pub mod Rows
 pub mod Overs
 pub mod NewPasses
 pub mod ServedLinks
+pub mod HeardAnswers
+pub mod ServedCrowds
+pub mod CrowdEnds
 pub mod WholeRuns
 pub mod Hiding
 pub mod WorkerRuns

@@ -1,12 +1,12 @@
 -- What the service of a link leaves of those that a pass served.
 use Rattle.std.proofs.Common.{◌≡◌, ◌≢◌, ℕ, ◌^◌, ◌<◌, ◌≤◌, ◌⊎◌, inl, inr, nat_eq, Bool, true, false, not, ◌==◌, eqb}
 use Rattle.std.proofs.Common.{List, [], ◌∷◌, ◌++◌, map, Option, Some, None, refl, sym, ap, subst, ◌∙◌, arith}
-use Rattle.std.proofs.Common.{append-nil, append_assoc}
+use Rattle.std.proofs.Common.{append-nil}
 use Rattle.std.specs.Option.{IfSome}
 use Rattle.std.specs.Bool.{IsTrue}
 use Rattle.std.specs.List.{find, filter, list_any, AllByRecursion, IsDistinct}
 use Rattle.std.proofs.lemmas.Bool.{cases_Bool, cases_eq, eq-eqb, ne_eqb, ltb-true, lt-ltb}
-use Rattle.std.proofs.lemmas.List.{map-append, append_cancel_left}
+use Rattle.std.proofs.lemmas.List.{map-append}
 use Rattle.std.proofs.lemmas.List.Elements.{filter-append}
 use Rattle.std.proofs.lemmas.List.Folds.{list_any-append}
 use Rattle.kom_types.specs.declared.acts.Act.TheVariants as act
@@ -43,7 +43,7 @@ use Rattle.kom_server.proofs.Histories.{fresh_before, all_of, IsPlain, plain}
 use Rattle.kom_server.proofs.Within.{IsApart, talk_within}
 use Rattle.kom_server.proofs.Owning.{given_own, given_on}
 use Rattle.kom_server.proofs.Given.{gave_dropped, gave_drained, gave_on}
-use Rattle.kom_server.proofs.Opened.{opened_later, own_connects, plain_connects, closed_still, closed_now, ends_closed}
+use Rattle.kom_server.proofs.Opened.{own_connects, plain_connects, closed_still, closed_now, ends_closed}
 
 pub all_append : {X : Type 0} (P : X → Type 0) (xs ys : List X) → AllByRecursion P xs → AllByRecursion P ys →
     AllByRecursion P (xs ++ ys)
@@ -401,7 +401,6 @@ pub record Service (start : State) (pass : ℕ) (history more mine added : List 
   pub by_owners : AreByOwners start (history ++ more)
   pub mine_is : mine ≡ of_pass pass history
   pub added_is : added ≡ of_pass pass more
-  pub own : AllByRecursion (IsOwn served.session) added
   pub connected : served.session ≢ 0 → has_connect served.session added ≡ true
   pub refused : waits ≡ true → 2 ^ 62 < drawn
   pub input : List ℕ
@@ -417,7 +416,7 @@ pub record Service (start : State) (pass : ℕ) (history more mine added : List 
       IsDrained (steps_of served.session added (given_by_pass start pass served.session (history ++ more)))
       ⊎ IsDenied start pass served.session (history ++ more) drawn
 
-waits_before : (drawn : ℕ) (waits : Bool) → (waits ≡ true → 2 ^ 62 < drawn) → is_lock_full drawn ≡ false →
+pub waits_before : (drawn : ℕ) (waits : Bool) → (waits ≡ true → 2 ^ 62 < drawn) → is_lock_full drawn ≡ false →
     waits ≡ false
 waits_before drawn false refused none = refl
 waits_before drawn true refused none = absurd (not_both _ (lt-ltb (2 ^ 62) drawn (refused refl)) none)
@@ -490,8 +489,9 @@ module _ (start : State) (begins : IsStart start) (pass : ℕ) (history more min
           (subst (λ (all : List Record). AreByOwners start all) is service.by_owners) open' refused))
 
   -- it is open no more
-  closed_new : is_lock_full drawn ≡ false → (session : ℕ) → is_open session (mine ++ added) ≡ false
-  closed_new free session =
+  closed_new : AllByRecursion (IsOwn served.session) added → is_lock_full drawn ≡ false → (session : ℕ) →
+      is_open session (mine ++ added) ≡ false
+  closed_new own free session =
       elim (cases_eq session served.session) [
         | inl same ↦ elim (cases_eq session 0) [
           | inl zero ↦
@@ -506,10 +506,10 @@ module _ (start : State) (begins : IsStart start) (pass : ℕ) (history more min
         ]
         | inr other ↦
             closed_still session mine added (closed free session)
-            (own_connects session served.session added service.own other)
+            (own_connects session served.session added own other)
       ]
 
-  talks_new : Talks start (history ++ more) (mine ++ added) drawn link served
+  pub talks_new : Talks start (history ++ more) (mine ++ added) drawn link served
   talks_new =
       let connected : served.session ≢ 0 → has_connect served.session (mine ++ added) ≡ true =
       λ some. connect_rear served.session mine added (service.connected some) in
@@ -542,12 +542,13 @@ module _ (start : State) (begins : IsStart start) (pass : ℕ) (history more min
       }
 
   -- a link that was served before
-  talks_still : (other : LinkView) (back : Served) (before : ℕ) → before ≤ drawn →
-      Talks start history mine before other back → Talks start (history ++ more) (mine ++ added) drawn other back
-  talks_still other back before grown was =
+  talks_still : AllByRecursion (IsOwn served.session) added → (other : LinkView) (back : Served) (before : ℕ) →
+      before ≤ drawn → Talks start history mine before other back →
+      Talks start (history ++ more) (mine ++ added) drawn other back
+  talks_still own other back before grown was =
       talks_on start begins pass history more mine added before drawn other back service.legal service.by_owners
       service.mine_is service.added_is grown
-      (apart_tail back.session served.session mine added plain_added service.own was.connected fresh_in) was
+      (apart_tail back.session served.session mine added plain_added own was.connected fresh_in) was
 
 -- ---- sessions
 
@@ -643,7 +644,7 @@ chosen_past : (moments readings : List ℕ) (reading : ℕ) → IsChosen moments
 chosen_past [] readings reading chosen = tt
 chosen_past (moment ∷ moments) readings reading chosen = inr chosen
 
-chosen-append : (a x b y : List ℕ) → IsChosen a x → IsChosen b y → IsChosen (a ++ b) (x ++ y)
+pub chosen-append : (a x b y : List ℕ) → IsChosen a x → IsChosen b y → IsChosen (a ++ b) (x ++ y)
 chosen-append [] [] b y first last = last
 chosen-append [] (reading ∷ x) b y first last = chosen_past b (x ++ y) reading (chosen-append [] x b y tt last)
 chosen-append (moment ∷ a) [] b y first last = absurd first
@@ -652,7 +653,7 @@ chosen-append (moment ∷ a) (reading ∷ x) b y first last = elim first [
   | inr later ↦ inr (chosen-append (moment ∷ a) x b y later last)
 ]
 
-abbrev moments_of : List Record → List ℕ
+abbrev pub moments_of : List Record → List ℕ
 moments_of history = map (λ made. made.entry.moment) history
 
 timed_more : (gave gave' : Option (List ℕ)) (mine added : List Record) →
@@ -703,7 +704,8 @@ both_told P Q (Some x) first second = (first, second)
 pub serves_more : {L : Type 0} (view : L → LinkView) (start : State) → IsStart start → (pass : PassView)
     (more added : List Record) (drawn : ℕ) (waits : Bool) (noted : Option DeskFault) (link : L) (served : Served)
     (returned returned' : Option (List (L × Served))) (gave gave' : Option (List ℕ)) → pass.drawn ≤ drawn →
-    AreTimed gave gave' added → Gains returned (link, served) returned' →
+    AreTimed gave gave' added → AllByRecursion (IsOwn served.session) added →
+    Gains returned (link, served) returned' →
     Service start pass.number pass.seen more pass.mine added drawn waits noted (view link) served →
     Serves view start pass returned gave →
     Serves view start (record {
@@ -714,7 +716,7 @@ pub serves_more : {L : Type 0} (view : L → LinkView) (start : State) → IsSta
       waits = waits;
     }) returned' gave'
 serves_more {L} view start begins pass more added drawn waits noted link served returned returned' gave gave' grown
-    timed gains service before =
+    timed own gains service before =
     let Was : List (L × Served) → Type 0 =
     λ links. AllByRecursion (λ back. Talks start pass.seen pass.mine pass.drawn (view back.0) back.1) links in
     let Is : List (L × Served) → Type 0 =
@@ -736,7 +738,7 @@ serves_more {L} view start begins pass more added drawn waits noted link served 
           (all_map (λ back. Talks start pass.seen pass.mine pass.drawn (view back.0) back.1)
           (λ back. Talks start (pass.seen ++ more) (pass.mine ++ added) drawn (view back.0) back.1) links
           (λ back was. talks_still start begins pass.number pass.seen more pass.mine added drawn waits noted (view link)
-          served service closed (view back.0) back.1 pass.drawn grown was) talks) (
+          served service closed own (view back.0) back.1 pass.drawn grown was) talks) (
             talks_new start begins pass.number pass.seen more pass.mine added drawn waits noted (view link) served
                 service closed,
             tt,
@@ -747,7 +749,7 @@ serves_more {L} view start begins pass more added drawn waits noted link served 
           gains
           (λ links owned. owned_links links link served pass.mine added
           (plain_added start begins pass.number pass.seen more pass.mine added drawn waits noted (view link) served
-          service closed) service.own owned)
+          service closed) own owned)
           before.owned;
       timed = timed_more gave gave' pass.mine added before.timed timed;
       distinct = told_more (λ links. Was links × IsDistinct nat_eq (sessions_of links))
@@ -755,5 +757,5 @@ serves_more {L} view start begins pass more added drawn waits noted link served 
           (λ links both. distinct_more view start pass.seen pass.mine pass.drawn links link served both.0 fresh both.1)
           (both_told Was (λ links. IsDistinct nat_eq (sessions_of links)) returned before.talks before.distinct);
       closed = closed_new start begins pass.number pass.seen more pass.mine added drawn waits noted (view link) served
-          service closed;
+          service closed own;
     }

@@ -1,6 +1,6 @@
 -- The calls that serve a link and give it back, put together.
-use Rattle.std.proofs.Common.{◌≡◌, ◌≢◌, ℕ, ◌+◌, ◌⊎◌, inl, inr, Bool, true, false, eqb, List, [], ◌∷◌, ◌++◌, length, Option}
-use Rattle.std.proofs.Common.{Some, None, refl, sym, ap, subst, ◌∙◌}
+use Rattle.std.proofs.Common.{◌≡◌, ◌≢◌, ℕ, ◌+◌, ◌⊎◌, inl, inr, Bool, true, false, eqb, List, [], ◌∷◌, ◌++◌, length}
+use Rattle.std.proofs.Common.{Option, Some, None, refl, sym, ap, subst, ◌∙◌}
 use Rattle.std.specs.Option.{IfSome}
 use Rattle.std.specs.List.{AllByRecursion}
 use Rattle.std.proofs.lemmas.Bool.{ne_eqb}
@@ -138,7 +138,6 @@ serves_one {L} view old new gave gave' before link served returned returned' non
       by_owners = subst (λ (seen : List Record). AreByOwners start seen) seen stands.knows.owned;
       mine_is = serves'.mine;
       added_is = added_is;
-      own = told.0;
       connected = λ some.
           subst (λ (records : List Record). has_connect served.session records ≡ true)
           (same_added serving.session.0 serving.session.2) (serving.session.4 some);
@@ -171,7 +170,7 @@ serves_one {L} view old new gave gave' before link served returned returned' non
     record { number = number; seen = seen; mine = mine; drawn = new.pass.drawn; waits = new.pass.waits } in
     let grown : Serves view start (made pass (old.pass.seen ++ more) (old.pass.mine ++ added)) returned' gave' =
     serves_more view start begins old.pass more added new.pass.drawn new.pass.waits noted link served returned returned'
-    gave gave' on.drawn told.1 gains service serves' in
+    gave gave' on.drawn told.1 told.0 gains service serves' in
     subst (λ (number : ℕ). Serves view start (made number new.pass.seen new.pass.mine) returned' gave') (sym on.number)
     (subst (λ (seen : List Record). Serves view start (made pass seen new.pass.mine) returned' gave') (sym seen)
     (subst (λ (mine : List Record). Serves view start (made pass (old.pass.seen ++ more) mine) returned' gave')

@@ -37,8 +37,8 @@ new_server moment = opening (initial [] moment)
 -- the usage line
 abbrev pub usage : List ℕ
 usage =
-    codes "usage: komd once [STORE] | serve STORE PORT WORKERS | init STORE PASSWORD "
-    ++ codes "| check STORE | load N\n"
+    codes "usage: komd once [STORE] | serve STORE PORT WORKERS "
+    ++ codes "| hub STORE PORT WORKERS | init STORE PASSWORD | check STORE | load N\n"
 
 -- what the drains of a session give along a history that begins in this state; of no session,
 -- nothing

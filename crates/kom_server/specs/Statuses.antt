@@ -10,7 +10,7 @@ use Rattle.kom_links.specs.WorldCounts.{with_clock, with_disk}
 use Rattle.kom_commands.specs.declared.numbers.AtPort.{AtPort}
 use Rattle.kom_commands.specs.declared.words.Command.{Command}
 use Rattle.kom_commands.specs.declared.words.Command.TheVariants as command
-use Rattle.kom_commands.specs.Numbers.{number_in}
+use Rattle.kom_commands.specs.Numbers.{number_in, word_of}
 use Rattle.kom_commands.specs.Words.{IsSpelled, serves, names_store}
 use Rattle.kom_journal.specs.Images.{as_read}
 use Rattle.store_check.specs.Stores.{Fails, IsNoStore}
@@ -21,11 +21,11 @@ abbrev pub Serves : List (List ℕ) → Type 0
 Serves words = (command : Command) × IsSpelled words command × (serves command ≡ true)
 
 -- the words are a command that serves the server of this store: over standard input and output, or
--- at a port by so many workers
+-- at a port by so many workers, each of which serves links one at a time or many
 abbrev pub ServesStore : List (List ℕ) → List ℕ → Option AtPort → Type 0
 ServesStore words store None = words ≡ codes "once" ∷ store ∷ []
 ServesStore words store (Some at) = (port workers : List ℕ)
-    × (words ≡ codes "serve" ∷ store ∷ port ∷ workers ∷ [])
+    × (words ≡ word_of at.way ∷ store ∷ port ∷ workers ∷ [])
     × (number_in 1 65535 port ≡ Some at.port) × (number_in 1 64 workers ≡ Some at.workers)
 
 -- the words are a command that opens this store as it is found

@@ -4,12 +4,14 @@
 //! bound `Wait`: that they return is part of their contracts.
 #![tactic(auto)]
 
+mod crowds;
 mod loads;
 mod outcome;
 mod ports;
 mod ran;
 mod running;
 mod serving;
+mod spaces;
 mod standard;
 mod store_runs;
 mod workers;

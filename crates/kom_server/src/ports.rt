@@ -1,18 +1,20 @@
 // Serving gates at a port, each by a worker.
 ghost use Rattle.std.specs.Prelude.{◌≡◌, ◌↔◌, ◌≤◌, ◌<◌, List, ℕ, map, length, vec_len};
-ghost use Rattle.std.specs.Prelude.{vec_capacity};
-ghost use Rattle.std.specs.Prelude.{true, false, IsTrue, IfSome, IfOk, OnErr, IsSomeAnd, is_some};
+ghost use Rattle.std.specs.Prelude.{true, false, IsTrue, IfSome, IfOk, OnErr, IsSomeAnd};
+ghost use Rattle.std.specs.Prelude.{is_some, is_ok};
 ghost use Rattle.std.specs.List.{AllByRecursion};
-ghost use Rattle.kom_links.specs.Doors.{KeepsTold};
+ghost use Rattle.kom_links.specs.Doors.{KeepsTold, IsNewGate};
+ghost use Rattle.kom_links.specs.WorldCounts.{with_port};
 ghost use Rattle.hall_desk.specs.Acts.{IsOpening};
 ghost use Rattle.kom_server.specs.Runs.{AsksPort, with_clocks, IsRun, IsOver, HasFailed};
 
 use crate::outcome::Closing;
+use crate::spaces::Space;
 use crate::standard::{Left, unserved};
 use crate::workers::{have_failed, serve_all};
 use hall_desk::Acts;
-use kom_commands::AtPort;
-use kom_links::{Gate, World};
+use kom_commands::{AtPort, Way};
+use kom_links::{Gate, World, WorldFault};
 use kom_state_lock::Hall;
 use kom_types::Memory;
 use std::alloc::Global;
@@ -21,7 +23,7 @@ use std::thread::Threads;
 
 /// Serves the sessions at gates at a port, each by a worker, on a server that has made no act,
 /// until each gate ends or fails or the server is stopped. Nothing is served where the gates, a
-/// clock, or memory for them is refused.
+/// clock, or memory for them or for the sessions that a worker serves at a time is refused.
 pub(crate) fn serve_port<
     R: Threads + Wait + Sync,
     B: Acts<Entry: Send> + Drop + Send,
@@ -56,16 +58,16 @@ pub(crate) fn serve_port<
         Ok(made) => made,
         Err((server, _memory)) => return unserved(server),
     };
-    let Ok(row) = Vec::with_capacity(alloc, at.workers as usize) else {
+    let Ok(space) = Space::new(alloc, at) else {
         let (server, _pass) = hall.close(passes);
         return unserved(server);
     };
-    let Ok(mut gates) = world.open_gates(alloc, at.port, at.workers) else {
-        row.destroy_empty();
+    let Ok(mut gates) = open_at(alloc, at, world) else {
+        space.leave();
         let (server, _pass) = hall.close(passes);
         return unserved(server);
     };
-    let (server, pass) = serve_all(rt, alloc, hall, passes, &mut gates, &mut clocks, row);
+    let (server, pass) = serve_all(rt, alloc, hall, passes, &mut gates, &mut clocks, space);
     let failed = have_failed(gates.as_slice());
     Left {
         server,
@@ -75,6 +77,20 @@ pub(crate) fn serve_port<
             gates,
             clocks,
         }),
+    }
+}
+
+/// The gates at a port, one for each worker, as its way of serving asks for them.
+fn open_at<W: World>(alloc: Global, at: AtPort, world: &mut W) -> Result<Vec<W::Gate>, WorldFault>
+    ensures fresh { IfOk result (λ gates.
+        AllByRecursion (λ gate. IsNewGate (W.Gate.view gate)) gates.items) }
+    ensures number { IfOk result (λ gates. length gates.items ≡ at.workers) }
+    ensures counts { (W.view world.new).counts
+        ≡ with_port (is_ok result) (W.view world.old).counts }
+{
+    match at.way {
+        Way::OneAtATime => world.open_gates(alloc, at.port, at.workers),
+        Way::ManyAtATime => world.open_doors(alloc, at.port, at.workers),
     }
 }
 

@@ -43,8 +43,8 @@ use std::thread::Threads;
 use store_check::{Checked, check};
 
 /// The usage line.
-const USAGE: &[u8] = b"usage: komd once [STORE] | serve STORE PORT WORKERS | init STORE PASSWORD \
-    | check STORE | load N\n";
+const USAGE: &[u8] = b"usage: komd once [STORE] | serve STORE PORT WORKERS \
+    | hub STORE PORT WORKERS | init STORE PASSWORD | check STORE | load N\n";
 
 /// Carries out a command line.
 pub fn run<R: Threads + Wait + Sync, W: World<Gate: Gate<Link: Send>>>(
@@ -101,9 +101,9 @@ pub fn run<R: Threads + Wait + Sync, W: World<Gate: Gate<Link: Send>>>(
     ensures unrefused { words.now ≡ codes "once" ∷ [] → IfSome result.end (λ closing.
         HasRefused (map (λ entry. entry.made) closing.pass.seen) → ⊥) }
 
-    // `once` over a store, or `serve`: the same over the server that the store stands for as it is
-    // found, where that is told; by one gate, or at a port by as many as there are workers; what a
-    // stop would leave of the store at any moment; and why it refused a flush, if it did.
+    // `once` over a store, `serve` or `hub`: the same over the server that the store stands for as
+    // it is found, where that is told; by one gate, or at a port by as many as there are workers;
+    // what a stop would leave of the store at any moment; and why it refused a flush, if it did.
     ensures over { (store : List ℕ) (port : Option PortModel) → ServesStore words.now store port
         → IfSome result.end (λ closing. (db : Db)
         × IfFound W.Disk.tells (W.view world.old).files store (StandsFor db)

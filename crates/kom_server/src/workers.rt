@@ -14,9 +14,11 @@ ghost use Rattle.kom_server.specs.Serving.{Serves, KeepsFirst};
 ghost use Rattle.kom_server.specs.Workers.{WorkerView, IsIdle, AreIdle, HasServed, HaveServed};
 ghost use Rattle.kom_server.specs.Workers.{gates_of, readings_of, passes_of, KeepFirst};
 
+use crate::crowds::{Room, attend_many};
 use crate::serving::serve_one;
+use crate::spaces::Space;
 use hall_desk::{Acts, HallDesk};
-use kom_links::{Clock, Desk, Gate, Next};
+use kom_links::{Clock, Desk, Gate, Next, PolledGate};
 use kom_state_lock::{Hall, Pass};
 use std::alloc::Global;
 use std::marker::Model;
@@ -30,6 +32,8 @@ pub(crate) struct Worker<B: Acts, G: Gate, C: Clock> {
     pass: Option<Pass<B>>,
     gate: G,
     clock: C,
+    // Where it serves many links at a time.
+    room: Option<Room<G::Link>>,
 }
 
 impl<B: Acts, G: Gate, C: Clock> Model for Worker<B, G, C> {
@@ -47,11 +51,11 @@ impl<B: Acts, G: Gate, C: Clock> Model for Worker<B, G, C> {
 /// Serves the sessions at new gates, each by a pass of a new hall with a clock of its own, in as
 /// many threads as there are gates, until each gate ends or fails or the server is stopped, and
 /// closes the hall. The server is left, and the last pass, which serves no gate and has seen the
-/// whole history. The workers find their room in `row`.
+/// whole history.
 pub(crate) fn serve_all<
     R: Threads + Wait + Sync,
     B: Acts<Entry: Send> + Drop + Send,
-    G: Gate<Link: Send> + Send,
+    G: PolledGate<Link: Send> + Send,
     C: Clock + Send,
 >(
     rt: &R,
@@ -60,12 +64,12 @@ pub(crate) fn serve_all<
     mut passes: Vec<Pass<B>>,
     gates: &mut Vec<G>,
     clocks: &mut Vec<C>,
-    mut row: Vec<Worker<B, G, C>>,
+    space: Space<B, G, C>,
 ) -> (B, Pass<B>)
     requires some { 0 < vec_len gates.old }
     requires passes { hall.passes ≡ vec_len gates.old + 1 }
     requires clocks { vec_len clocks.old ≡ vec_len gates.old }
-    requires room { (row.items ≡ []) × (vec_len gates.old ≤ vec_capacity row) }
+    requires room { (space.row.items ≡ []) × (vec_len gates.old ≤ vec_capacity space.row) }
     requires new { AreNewPasses hall.table hall.passes passes.items }
     requires opening { IsOpening (B.server hall.opening) }
     requires fresh { AllByRecursion (λ gate. IsNewGate (G.view gate)) gates.old.items }
@@ -80,19 +84,22 @@ pub(crate) fn serve_all<
     ensures free { is_served result.1.turn ≡ false }
     ensures number { vec_len gates.new ≡ vec_len gates.old }
 {
+    let Space { mut row, mut rooms } = space;
     let own = passes.pop().unwrap();
-    gather(&mut passes, gates, clocks, &mut row);
+    gather(&mut passes, gates, clocks, &mut rooms, &mut row);
     work_together(rt, alloc, &hall, row.as_mut_slice());
     scatter(row, &mut passes, gates, clocks);
     passes.push_reserved(own);
     hall.close(passes)
 }
 
-/// A worker for each pass, with the gate and the clock that stand at the same place.
+/// A worker for each pass, with the gate and the clock that stand at the same place, and a room
+/// while there is one.
 fn gather<B: Acts, G: Gate, C: Clock>(
     passes: &mut Vec<Pass<B>>,
     gates: &mut Vec<G>,
     clocks: &mut Vec<C>,
+    rooms: &mut Vec<Room<G::Link>>,
     row: &mut Vec<Worker<B, G, C>>,
 )
     requires gates { vec_len gates.old ≡ vec_len passes.old }
@@ -114,6 +121,7 @@ fn gather<B: Acts, G: Gate, C: Clock>(
             pass: Some(pass),
             gate,
             clock,
+            room: rooms.pop(),
         });
     }
 }
@@ -122,7 +130,7 @@ fn gather<B: Acts, G: Gate, C: Clock>(
 fn work_together<
     R: Threads + Wait + Sync,
     B: Acts<Entry: Send> + Send,
-    G: Gate<Link: Send> + Send,
+    G: PolledGate<Link: Send> + Send,
     C: Clock + Send,
 >(rt: &R, alloc: Global, hall: &Hall<B>, workers: &mut [Worker<B, G, C>])
     requires some { 0 < length workers.old }
@@ -143,7 +151,7 @@ fn work_together<
 }
 
 /// What one worker does.
-fn work<R: Wait, B: Acts, G: Gate, C: Clock>(
+fn work<R: Wait, B: Acts, G: PolledGate, C: Clock>(
     rt: &R,
     alloc: Global,
     hall: &Hall<B>,
@@ -157,9 +165,43 @@ fn work<R: Wait, B: Acts, G: Gate, C: Clock>(
     ensures first { KeepsFirst worker.old.gave worker.new.gave }
 {
     let pass = worker.pass.take().unwrap();
+    let room = worker.room.take();
     let mut desk = HallDesk::new(rt, alloc, hall, pass);
-    attend(rt, alloc, &mut desk, &mut worker.gate, &mut worker.clock);
+    attend_new(
+        rt,
+        alloc,
+        room,
+        &mut desk,
+        &mut worker.gate,
+        &mut worker.clock,
+    );
     worker.pass = Some(desk.into_pass());
+}
+
+/// Serves the links of a gate that has given none yet, by a pass that has made no act: many at a
+/// time where there is room for them, else one after the other.
+fn attend_new<R: Wait, B: Acts, G: PolledGate, C: Clock>(
+    rt: &R,
+    alloc: Global,
+    room: Option<Room<G::Link>>,
+    desk: &mut HallDesk<'_, R, B>,
+    gate: &mut G,
+    clock: &mut C,
+)
+    requires unseen { desk.old.pass.seen ≡ [] }
+    requires unused { desk.old.pass.mine ≡ [] }
+    requires fresh { IsNewGate (G.view gate.old) }
+    ensures on { GoesOn desk.old desk.new }
+    ensures serves { Serves G.Link.view desk.new.start desk.new.pass (G.view gate.new).returned
+        (C.gave clock.new) }
+    ensures all_back { AllGivenBack (G.view gate.new) }
+    ensures first { KeepsFirst (C.gave clock.old) (C.gave clock.new) }
+    ensures done { IsDone desk.new.start desk.new.pass.seen (G.view gate.new) }
+{
+    match room {
+        Some(room) => attend_many(rt, room, desk, gate, clock),
+        None => attend(rt, alloc, desk, gate, clock),
+    }
 }
 
 /// Serves the links of a gate one after the other, until the gate ends or fails or, if it has none,
@@ -231,7 +273,12 @@ fn scatter<B: Acts, G: Gate, C: Clock>(
     ensures number { (vec_len passes.new ≡ vec_len row) × (vec_len gates.new ≡ vec_len row) }
 {
     while 0 < row.len() {
-        let Worker { pass, gate, clock } = row.remove(0);
+        let Worker {
+            pass,
+            gate,
+            clock,
+            room: _,
+        } = row.remove(0);
         let pass = pass.unwrap();
         passes.push_reserved(pass);
         gates.push_reserved(gate);

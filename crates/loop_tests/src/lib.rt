@@ -7,6 +7,8 @@
 #[cfg(test)]
 mod desk_tests;
 #[cfg(test)]
+mod hub_tests;
+#[cfg(test)]
 mod run_tests;
 #[cfg(test)]
 mod serve_tests;

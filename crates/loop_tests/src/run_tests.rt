@@ -161,10 +161,10 @@ fn check_left(rt: &impl Abort, gates: &[MemoryGate], clocks: &[MemoryClock], row
 }
 
 /// These bytes were put to the links that were given back, and so their sessions ended.
-fn check_returned(
+pub(crate) fn check_returned(
     rt: &impl Abort,
     returned: &[(MemoryLink, Served)],
-    left: &[(&'static [u8], SessionEnd)],
+    left: &[(&[u8], SessionEnd)],
 ) {
     assert_eq!(rt; returned.len(), left.len());
     for ((link, served), (put, end)) in returned.iter().zip(left) {
@@ -342,8 +342,8 @@ const REFUSED: Row = Row {
     has_gate: false,
     status: 2,
     left: &[],
-    report: b"usage: komd once [STORE] | serve STORE PORT WORKERS | init STORE PASSWORD \
-        | check STORE | load N\n",
+    report: b"usage: komd once [STORE] | serve STORE PORT WORKERS | hub STORE PORT WORKERS \
+        | init STORE PASSWORD | check STORE | load N\n",
     ..PLAIN
 };
 

@@ -23,7 +23,7 @@ struct Mark {
 
 /// A client, and what becomes of it.
 #[derive(Clone, Copy)]
-struct Part {
+pub(crate) struct Part {
     /// It sends this, and then the other line so many times.
     sends: &'static [u8],
     times: usize,
@@ -55,7 +55,11 @@ const ALONE: Part = Part {
 const ROOM: usize = 4_000_000;
 
 /// A world with a file `s` of these bytes and, at a port, these gates.
-fn world_of(alloc: Global, bytes: Vec<u8>, gates: Vec<GatePlan>) -> Result<MemoryWorld, Fail> {
+pub(crate) fn world_of(
+    alloc: Global,
+    bytes: Vec<u8>,
+    gates: Vec<GatePlan>,
+) -> Result<MemoryWorld, Fail> {
     let moments = Vec::from_slice(alloc, &[Moment::at_most(0)])?;
     let mut world = MemoryWorld::new(alloc, None, moments, Vec::new(alloc));
     let file = FilePlan {
@@ -72,7 +76,7 @@ fn world_of(alloc: Global, bytes: Vec<u8>, gates: Vec<GatePlan>) -> Result<Memor
     Ok(world)
 }
 
-fn words_of(alloc: Global, line: &[&str]) -> Result<Words, Fail> {
+pub(crate) fn words_of(alloc: Global, line: &[&str]) -> Result<Words, Fail> {
     let mut words = Words::new(alloc);
     for word in line {
         words.push(*word)?;
@@ -81,7 +85,10 @@ fn words_of(alloc: Global, line: &[&str]) -> Result<Words, Fail> {
 }
 
 /// The bytes of a store that `init` makes with an empty password.
-fn new_store<R: Abort + Threads + Wait + Sync>(rt: &R, alloc: Global) -> Result<Vec<u8>, Fail> {
+pub(crate) fn new_store<R: Abort + Threads + Wait + Sync>(
+    rt: &R,
+    alloc: Global,
+) -> Result<Vec<u8>, Fail> {
     let words = words_of(alloc, &["init", "s", ""])?;
     let mut world = world_of(alloc, Vec::new(alloc), Vec::new(alloc))?;
     let outcome = run(rt, alloc, &words, &mut world);
@@ -126,26 +133,36 @@ fn plan_of(alloc: Global, flags: &[Flag], part: &Part) -> Result<LinkPlan, Fail>
     Ok(plan)
 }
 
-/// The gate of a client.
-fn gate_of(alloc: Global, flags: &[Flag], part: &Part) -> Result<GatePlan, Fail> {
+pub(crate) fn client_of(alloc: Global, flags: &[Flag], part: &Part) -> Result<Client, Fail> {
     let mut input = Vec::from_slice(alloc, part.sends)?;
     for _ in 0..part.times {
         input.extend_from_slice(part.line)?;
     }
     let plan = plan_of(alloc, flags, part)?;
+    Ok(Client { input, plan })
+}
+
+/// The gate of a client.
+fn gate_of(alloc: Global, flags: &[Flag], part: &Part) -> Result<GatePlan, Fail> {
     let mut clients = VecDeque::new(alloc);
-    clients.push_back(Client { input, plan })?;
+    clients.push_back(client_of(alloc, flags, part)?)?;
     Ok(GatePlan {
         clients,
         script: Script::new(alloc),
     })
 }
 
-fn gates_of(alloc: Global, parts: &[Part]) -> Result<Vec<GatePlan>, Fail> {
+/// The flags of a row.
+pub(crate) fn new_flags(alloc: Global) -> Result<Vec<Flag>, Fail> {
     let mut flags = Vec::new(alloc);
     for _ in 0..3 {
         flags.push(Flag::new(alloc)?)?;
     }
+    Ok(flags)
+}
+
+fn gates_of(alloc: Global, parts: &[Part]) -> Result<Vec<GatePlan>, Fail> {
+    let flags = new_flags(alloc)?;
     let mut gates = Vec::new(alloc);
     for part in parts {
         gates.push(gate_of(alloc, &flags, part)?)?;
@@ -154,7 +171,7 @@ fn gates_of(alloc: Global, parts: &[Part]) -> Result<Vec<GatePlan>, Fail> {
 }
 
 /// What was put to a client is one of the two, or begins with one where more may be put.
-fn is_put(part: &Part, put: &[u8]) -> bool {
+pub(crate) fn is_put(part: &Part, put: &[u8]) -> bool {
     let [first, second] = part.put;
     if part.may_be_more {
         put.starts_with(first) || put.starts_with(second)
@@ -194,7 +211,7 @@ fn check_parts<R: Abort + Threads + Wait + Sync>(
 }
 
 /// The one's second line waits until the other is answered.
-static SIDE_BY_SIDE: [Part; 2] = [
+pub(crate) static SIDE_BY_SIDE: [Part; 2] = [
     Part {
         sends: b"A1Ha\n1 56\n",
         reads_wait: &[Mark { flag: 0, bytes: 5 }],

@@ -1,4 +1,5 @@
 use Rattle.std.proofs.Common.{ℕ, List, [], ◌∷◌, length, ap, arith}
+use Rattle.kom_commands.specs.declared.numbers.AtPort.{AtPort}
 use Rattle.kom_commands.specs.declared.words.Command.{Command}
 use Rattle.kom_commands.specs.declared.words.Command.TheVariants as command
 use Rattle.kom_commands.specs.Numbers.{SaysServe}
@@ -6,13 +7,13 @@ use Rattle.kom_commands.specs.Words.{IsSpelled}
 use Rattle.kom_commands.proofs.words.command_at.Goals as goal
 
 -- four words are no other command
-none_of_four : (a b d e : List ℕ) → ((port workers : ℕ) → SaysServe (a ∷ b ∷ d ∷ e ∷ []) port workers → ⊥) →
+none_of_four : (a b d e : List ℕ) → ((at : AtPort) → SaysServe (a ∷ b ∷ d ∷ e ∷ []) at → ⊥) →
     (said : Command) → IsSpelled (a ∷ b ∷ d ∷ e ∷ []) said → ⊥
 none_of_four a b d e no_serve command.Once spelled =
     omega (arith, ap (λ (words : List (List ℕ)). length words) spelled)
 none_of_four a b d e no_serve command.OnceOver spelled =
     omega (arith, ap (λ (words : List (List ℕ)). length words) spelled.1)
-none_of_four a b d e no_serve (command.Serve at) spelled = no_serve at.port at.workers spelled
+none_of_four a b d e no_serve (command.Serve at) spelled = no_serve at spelled
 none_of_four a b d e no_serve command.Init spelled =
     omega (arith, ap (λ (words : List (List ℕ)). length words) spelled.2)
 none_of_four a b d e no_serve command.Check spelled =

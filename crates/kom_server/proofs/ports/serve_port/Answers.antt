@@ -17,14 +17,14 @@ pub close-server-requires-clause-free : goal.close-server-requires-clause-free
 close-server-requires-clause-free g c =
     ready_free c.in-Ok-make.made.0 c.in-Ok-make.made.1.items c.in-Ok-make.ensures.ready
 
-pub close-server-requires-in_default-open_gates-clause-every :
-    goal.close-server-requires-in_default-open_gates-clause-every
-close-server-requires-in_default-open_gates-clause-every g c =
+pub close-server-requires-in_default-open_at-clause-every :
+    goal.close-server-requires-in_default-open_at-clause-every
+close-server-requires-in_default-open_at-clause-every g c =
     ready_every c.in-Ok-make.made.0 c.in-Ok-make.made.1.items c.in-Ok-make.ensures.ready
 
-pub close-server-requires-in_default-open_gates-clause-free :
-    goal.close-server-requires-in_default-open_gates-clause-free
-close-server-requires-in_default-open_gates-clause-free g c =
+pub close-server-requires-in_default-open_at-clause-free :
+    goal.close-server-requires-in_default-open_at-clause-free
+close-server-requires-in_default-open_at-clause-free g c =
     ready_free c.in-Ok-make.made.0 c.in-Ok-make.made.1.items c.in-Ok-make.ensures.ready
 
 pub serve_all-server-requires-clause-opening : goal.serve_all-server-requires-clause-opening
@@ -32,15 +32,15 @@ serve_all-server-requires-clause-opening g c κs within =
     subst (λ value. IsOpening (g.B.Acts.server value)) (sym c.in-Ok-make.ensures.hall.0) c.requires.opening
 
 pub serve_all-server-requires-clause-fresh : goal.serve_all-server-requires-clause-fresh
-serve_all-server-requires-clause-fresh g c κs within = c.in-Ok-open_gates.ensures.fresh
+serve_all-server-requires-clause-fresh g c κs within = c.in-Ok-open_at.ensures.fresh
 
 pub serve_all-server-requires-clause-passes : goal.serve_all-server-requires-clause-passes
 serve_all-server-requires-clause-passes g c κs within =
-    omega (arith, c.in-Ok-make.ensures.hall.1, c.in-Ok-open_gates.ensures.number)
+    omega (arith, c.in-Ok-make.ensures.hall.1, c.in-Ok-open_at.ensures.number)
 
 pub returns-clause-asks : goal.returns-clause-asks
 returns-clause-asks g c =
-    c.in-Ok-open_gates.ensures.counts ∙ ap (λ (counts : WorldCounts). with_port true counts) c.in-Ok.ensures.asks
+    c.in-Ok-open_at.ensures.counts ∙ ap (λ (counts : WorldCounts). with_port true counts) c.in-Ok.ensures.asks
 
 pub returns-clause-served : goal.returns-clause-served
 returns-clause-served g c =
@@ -61,7 +61,7 @@ returns-clause-led g c = (
 
 pub returns-clause-gates : goal.returns-clause-gates
 returns-clause-gates g c =
-    omega (arith, c.serve_all-server.ensures.number, c.in-Ok-open_gates.ensures.number)
+    omega (arith, c.serve_all-server.ensures.number, c.in-Ok-open_at.ensures.number)
 
 -- it was asked of all gates whether they failed
 failed : (g : _) (c : goal.After-result-1 g) →

@@ -1,4 +1,4 @@
-use Rattle.std.proofs.Common.{◌≡◌, [], ◌∷◌, refl, ap}
+use Rattle.std.proofs.Common.{◌≡◌, [], ◌∷◌, refl}
 use Rattle.kom_state_lock.specs.Passes.{AreReady}
 use Rattle.kom_state_lock.proofs.Ready.{ready_table, ready_every, ready_free}
 use Rattle.kom_server.proofs.WholeRuns.{dealt, both_ready, run_closed}
