@@ -19,7 +19,7 @@ class Limits:
     """What an operator may set; the words of the command line say what it is."""
 
     komd: int
-    workers: int
+    places: int
     connections: int
     greeting_seconds: float
     silent_seconds: float
@@ -34,7 +34,7 @@ class House:
     def __init__(self, limits, moving=None):
         self.limits, self.moving = limits, moving
         self.guesses = Guesses(limits.guess_seconds)
-        places = limits.workers - LEFT_FREE
+        places = limits.places - LEFT_FREE
         self.places = Crowd(places, places)
         self.sessions = Crowd(places + MOST_GREETING, limits.connections)
         # The sessions in which nobody has logged in yet, the oldest first.

@@ -26,8 +26,8 @@ def parser():
     tls.add_argument("--cleartext", action="store_true", help="without a certificate, serve another address than this machine's too")
     server = words.add_argument_group("the server")
     server.add_argument("--komd", type=port, metavar="PORT", default=4894, help="its port on this machine (4894)")
-    server.add_argument("--workers", type=workers, metavar="N", default=64,
-                        help="how many sessions it serves (64), of which the door takes all but two")
+    server.add_argument("--places", type=places, metavar="N", default=1_024,
+                        help="how many sessions it serves at a time (1024), of which the door takes all but two")
     server.add_argument("--open", action="store_true", help="let whoever has not logged in make a person (call 89)")
     web = words.add_argument_group("browsers")
     web.add_argument("--page", metavar="FOLDER", default=PAGE, type=pathlib.Path, help="the folder of the page (web, beside this program)")
@@ -68,7 +68,7 @@ def given(told=None):
 
 def limits_of(arg):
     """The limits among the words."""
-    return Limits(komd=arg.komd, workers=arg.workers, connections=arg.connections, greeting_seconds=arg.greeting,
+    return Limits(komd=arg.komd, places=arg.places, connections=arg.connections, greeting_seconds=arg.greeting,
                   silent_seconds=arg.silent, guess_seconds=arg.guess, stranger_seconds=arg.stranger, is_open=arg.open)
 
 
@@ -83,7 +83,7 @@ def port(word):
     return number(word, 1, 65_535)
 
 
-def workers(word):
+def places(word):
     return number(word, LEFT_FREE + 1, 65_535)
 
 

@@ -64,7 +64,7 @@ def serve(copy, store, processes):
         with socket.create_server((THIS_MACHINE, 0)) as free:
             port = free.getsockname()[1]
         with uninterrupted():
-            processes.append(subprocess.Popen([os.environ.get("KOMD", "komd"), "serve", copy, str(port), "1"], stdin=subprocess.DEVNULL,
+            processes.append(subprocess.Popen([os.environ.get("KOMD", "komd"), "hub", copy, str(port), "1"], stdin=subprocess.DEVNULL,
                                               preexec_fn=lambda: signal.pthread_sigmask(signal.SIG_UNBLOCK, ENDS)))
         while processes[-1].poll() is None:
             with contextlib.suppress(ConnectionRefusedError):
@@ -73,5 +73,5 @@ def serve(copy, store, processes):
             time.sleep(0.02)
         status = processes[-1].returncode
         if status != PORT_FAILED:
-            raise Trouble(f"komd serve ends with {status} on a copy of {store}", max(status, 1))
+            raise Trouble(f"komd hub ends with {status} on a copy of {store}", max(status, 1))
     raise Trouble("no port is free")

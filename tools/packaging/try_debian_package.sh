@@ -63,7 +63,7 @@ same 'why a komd ended' 'komd: status 4: /etc/passwd is no store of komd: it beg
 
 # What asks a server.
 port=$((20000 + RANDOM % 10000))
-chroot "$copy" setpriv --reuid komd --regid komd --clear-groups komd serve $store "$port" 4 &
+chroot "$copy" setpriv --reuid komd --regid komd --clear-groups komd hub $store "$port" 1 &
 server=$!
 for _ in {1..100}; do
     ! inside komd-probe localhost "$port" 2 >/dev/null || break
