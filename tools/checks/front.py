@@ -50,7 +50,7 @@ HARMLESS = b"\n \t\n1 56\n 02\t035 \r\n3 4 " + string(BODY) + b"\n0000000004 000
 
 WRONG_WORDS = (
     "", "--port 0", "--port 65536", "--port x", "--web +80", "--port 4895 more", "--port 4895 --listen 0.0.0.0",
-    "--port 4895 --listen nowhere", "--port 4895 --key file", "--port 4895 --workers 2", "--port 4895 --old 4894",
+    "--port 4895 --listen nowhere", "--port 4895 --key file", "--port 4895 --places 2", "--port 4895 --old 4894",
     "--port 4895 --greeting 0", "--port 4895 --proxy nobody")
 
 
@@ -79,7 +79,7 @@ class Place:
 
     def front(self, *words, **more):
         """A door before the served store, over TLS."""
-        return Front(self.folder, self.server.port, "--workers", "16", *words, certificate=self.certificate, **more)
+        return Front(self.folder, self.server.port, "--places", "16", *words, certificate=self.certificate, **more)
 
 
 def status_of(words):
@@ -264,7 +264,7 @@ def try_crowds(place):
 
 def try_greetings(place):
     """Part 6."""
-    tried, front = place.tried, place.front("--greeting", "1", "--workers", "3", "--connections", "20")
+    tried, front = place.tried, place.front("--greeting", "1", "--places", "3", "--connections", "20")
     sent = [b"", b"A", b"A99Hab", b"A" + b" " * 100]
     waiting = [front.connect() for _ in sent]
     for connection, data in zip(waiting, sent):
@@ -289,7 +289,7 @@ def try_places(place):
     """Part 7."""
     store = make_store(place.program, str(place.folder / "small"))
     server = place.serve(store, 5)
-    front = Front(place.folder, server.port, "--workers", "5", certificate=place.certificate)
+    front = Front(place.folder, server.port, "--places", "5", certificate=place.certificate)
     guests = [Guest(front).login() for _ in range(3)]
     full = front.connect()
     full.sendall(b"A1Ha")
@@ -306,7 +306,7 @@ def try_places(place):
 
 def try_strangers_places(place, server):
     """Part 7, where strangers have the places."""
-    front = Front(place.folder, server.port, "--workers", "5", "--stranger", "0.5", certificate=place.certificate)
+    front = Front(place.folder, server.port, "--places", "5", "--stranger", "0.5", certificate=place.certificate)
     member, first, second = Guest(front).login(), Guest(front), Guest(front)
     second.ask("35")
     time.sleep(0.6)
@@ -354,7 +354,7 @@ def try_return(place):
     """Part 9."""
     tried, store = place.tried, make_store(place.program, str(place.folder / "returning"))
     server = place.serve(store, 8)
-    front = Front(place.folder, server.port, "--workers", "8", certificate=place.certificate)
+    front = Front(place.folder, server.port, "--places", "8", certificate=place.certificate)
     guest = Guest(front).login()
     server.kill()
     tried.same("a session whose server is gone", [], guest.rest())
@@ -409,7 +409,7 @@ def try_moving(place):
     passwords = place.folder / "passwords"
     passwords.write_bytes(b"6\trandom 6\n7\trandom 7\n8\trandom 8\n9\trandom 9\n")
     passwords.chmod(0o600)
-    front = Front(place.folder, new.port, "--workers", "8", "--old", str(old.port), "--passwords", passwords, certificate=place.certificate)
+    front = Front(place.folder, new.port, "--places", "8", "--old", str(old.port), "--passwords", passwords, certificate=place.certificate)
     guest = Guest(front)
     tried.same("the old password", "=", guest.try_to(f"62 6 {string('sesam')} 0"))
     tried.same("it is the new one", "=", Session(new.port).try_to(f"62 6 {string('sesam')} 0"))

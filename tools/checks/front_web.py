@@ -124,10 +124,10 @@ class Place:
             if server.process.poll() is None:
                 server.kill()
 
-    def front(self, *words, server=None, tls=True, workers=12):
+    def front(self, *words, server=None, tls=True, places=12):
         """A door for browsers."""
         certificate = self.certificate if tls else ()
-        return Front(self.folder, (server or self.server).port, "--workers", str(workers), "--page", self.page, *words,
+        return Front(self.folder, (server or self.server).port, "--places", str(places), "--page", self.page, *words,
                      certificate=certificate, ports=("--web",))
 
     def url(self, front, path="/"):
@@ -231,7 +231,7 @@ async def try_ends(place):
     """Part 4."""
     tried, server = place.tried, Server(place.program, make_store(place.program, str(place.folder / "small")), 4)
     place.servers.append(server)
-    front = place.front("--greeting", "2", "--connections", "3", server=server, workers=4)
+    front = place.front("--greeting", "2", "--connections", "3", server=server, places=4)
     url = place.url(front, "/kom")
     async with place.browser() as browser, place.browser("127.0.0.2") as other:
         talks = [await browser.opens(url) for _ in range(2)]

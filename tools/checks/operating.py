@@ -295,6 +295,13 @@ def try_probe(tried):
     finally:
         server.kill()
     tried.same("a probe where nobody listens", 2, tried.run(*probe)[0])
+    server = Server(tried.program, store, 1, word="hub")
+    try:
+        one, other = Session(server.port, "one"), Session(server.port, "other")
+        tried.same("a probe of a worker that has many places", 0, tried.run(*probe[:2], server.port, 2)[0])
+        tried.same("what follows their ends", ([], []), (one.end(), other.end()))
+    finally:
+        server.kill()
     tried.same("a probe with other words", 3, tried.run(probe[0], "a", "b")[0])
 
 

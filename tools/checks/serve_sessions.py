@@ -1,17 +1,18 @@
 #!/usr/bin/env python3
-"""Drives the built program `komd` with its word `serve` over loopback: serve_sessions.py [PROGRAM [CONNECTIONS]]
+"""Drives the built program `komd` with its word `serve`, or `hub`, over loopback: serve_sessions.py [PROGRAM [hub] [CONNECTIONS]]
 
 In a folder of its own it makes stores, serves them, and looks at
 1. words that are refused, a port that is taken, a store that is served already, and both kinds of addresses;
-2. two workers that serve side by side while each waits for the other's client, and a third client that waits for one of them;
+2. two workers that serve side by side while each waits for the other's client, and a third client, who waits for one of them with
+   `serve`, and with `hub` does not;
 3. a session that is sent its messages while it makes no call;
 4. with three workers, a session that takes nothing while texts are written to a conference of its person: with 4,000 messages
    waiting it goes on, with 4,161 more than its connection takes it has ended;
 5. peers that reset, end what they send, send a byte a second, send nothing, or never read, beside sessions that go on meanwhile;
-6. 64 connections, or as many as are named, a worker for each: each makes a person, logs in, joins a conference, writes a text and
+6. 64 connections, or as many as are named, with `serve` a worker for each, with `hub` two for all: each makes a person, logs in, joins a conference, writes a text and
    is told of those of all others, reads, marks it as read, adds an aux-item, sends a message, and disconnects itself, or is
    disconnected;
-7. call 44 while connections are idle: `serve` ends with status 0 within a second;
+7. call 44 while connections are idle: the server ends with status 0 within a second;
 8. signal 9 while all connections write texts: each that was answered is there after the next start.
 
 It prints a line for each part, takes half a minute, and ends with 1 at the first thing that is otherwise, or after a minute, else
@@ -46,29 +47,38 @@ LONGEST_MESSAGE = 10_000
 SOON = 5.0
 
 
+# By which word the stores are served; with `hub` two workers have all connections.
+word, HUB_WORKERS = "serve", 2
+
+
+def serve(program, store, connections):
+    """A store that is served to so many connections."""
+    return Server(program, store, connections if word == "serve" else min(connections, HUB_WORKERS), word=word)
+
+
 def words(program, folder):
     """Part 1: the words that are refused."""
     store = str(folder / "s")
-    for line in ([], ["serve", store, "0", "4"], ["serve", store, "4894", "65"], ["serve", store, "65536", "4"],
-                 ["serve", store, "4894", "0"], ["serve", store, "4894"], ["serve", "", "4894", "4"],
-                 ["serve", store, "0004894", "4"], ["serve", store, "4894", "4", "4"], ["serve", store, "+4894", "4"]):
+    for line in ([], [word, store, "0", "4"], [word, store, "4894", "65"], [word, store, "65536", "4"],
+                 [word, store, "4894", "0"], [word, store, "4894"], [word, "", "4894", "4"],
+                 [word, store, "0004894", "4"], [word, store, "4894", "4", "4"], [word, store, "+4894", "4"]):
         done = subprocess.run([program, *line], capture_output=True, timeout=PATIENCE, check=False)
         wants(f"komd {' '.join(line)}", (done.returncode, done.stdout, done.stderr), (2, USAGE, b""))
     if pathlib.Path(store).exists():
         raise Wrong("refused words leave a file")
-    done = subprocess.run([program, "serve", str(folder / "none" / "s"), "4894", "1"], capture_output=True, check=False)
+    done = subprocess.run([program, word, str(folder / "none" / "s"), "4894", "1"], capture_output=True, check=False)
     wants("the status where a store's folder is missing", (done.returncode, done.stdout, done.stderr), (3, b"", b""))
 
 
 def ports(program, folder):
     """Part 1: a port that is taken, a store that is in use, and addresses."""
     first, other = make_store(program, folder / "first"), make_store(program, folder / "other")
-    server = Server(program, first, 4)
+    server = serve(program, first, 4)
     try:
-        done = subprocess.run([program, "serve", other, str(server.port), "4"], capture_output=True, timeout=PATIENCE, check=False)
+        done = subprocess.run([program, word, other, str(server.port), "4"], capture_output=True, timeout=PATIENCE, check=False)
         wants("the status at a port that is taken", (done.returncode, done.stdout, done.stderr), (5, b"", b""))
         wants("the check of the store after that", check_store(program, other)[0], 0)
-        done = subprocess.run([program, "serve", first, "19999", "4"], capture_output=True, timeout=PATIENCE, check=False)
+        done = subprocess.run([program, word, first, "19999", "4"], capture_output=True, timeout=PATIENCE, check=False)
         wants("the status over a store that is served", (done.returncode, done.stdout, done.stderr), (3, b"", b""))
         wants("the check of a store that is served", check_store(program, first)[0], 3)
         addresses = ["127.0.0.1"] + (["::1"] if has_ipv6() else [])
@@ -89,7 +99,7 @@ def ports(program, folder):
 
 def beside(program, folder):
     """Part 2: two workers, each of which waits for the other's client."""
-    server = Server(program, make_store(program, folder / "beside"), 2)
+    server = serve(program, make_store(program, folder / "beside"), 2)
     try:
         one = Session(server.port, "a")
         wants("the first session", one.ask("56"), "1")
@@ -98,13 +108,16 @@ def beside(program, folder):
         third = Session(server.port, None)
         third.write("A1Hc\n1 56\n")
         wants("a later call of the first session", one.ask("56"), "1")
-        third.socket.settimeout(0.4)
-        try:
-            raise Wrong(f"a third client has {third.socket.recv(100)!r} from two workers that are busy")
-        except TimeoutError:
-            third.socket.settimeout(PATIENCE)
-        wants("what follows the end of the first session", one.end(), [])
+        if word == "serve":
+            third.socket.settimeout(0.4)
+            try:
+                raise Wrong(f"a third client has {third.socket.recv(100)!r} from two workers that are busy")
+            except TimeoutError:
+                third.socket.settimeout(PATIENCE)
+            wants("what follows the end of the first session", one.end(), [])
         wants("what the third client reads then", (third.line(), third.line()), ("LysKOM", "=1 3"))
+        if word == "hub":
+            wants("what follows the end of the first session", one.end(), [])
         wants("what follows the end of the others", (other.end(), third.end()), ([], []))
         stop(server).rest()
         wants("the status", server.wait(), 0)
@@ -114,7 +127,7 @@ def beside(program, folder):
 
 def idle(program, folder):
     """Part 3: a session that makes no call is sent its messages."""
-    server = Server(program, make_store(program, folder / "idle"), 2)
+    server = serve(program, make_store(program, folder / "idle"), 2)
     try:
         listener, sender = Session(server.port, None), Session(server.port, None)
         listener.write("A1Hb\n1 62 5 0H 0\n2 80 1 { 12 }\n")
@@ -140,7 +153,7 @@ def idle(program, folder):
 
 def overrun(program, folder):
     """Part 4: a session that takes nothing, with three workers."""
-    server = Server(program, make_store(program, folder / "overrun"), 3)
+    server = serve(program, make_store(program, folder / "overrun"), 3)
     try:
         writer = Session(server.port, "writer").login()
         made = writer.ask_all(["88 4HOpen 0000 0 { }", "89 2HBo 2Hbo 00000000 0 { }", "89 2HCy 2Hcy 00000000 0 { }"])
@@ -197,7 +210,7 @@ def until_end_or(session, most, first, fill):
 def peers(program, folder):
     """Part 5: peers that do not behave, and sessions beside them."""
     good, bad = 8, 6
-    server = Server(program, make_store(program, folder / "peers"), good + 4 * bad + 2)
+    server = serve(program, make_store(program, folder / "peers"), good + 4 * bad + 2)
     try:
         before = server.resident()
         slow = Session(server.port, None)
@@ -353,7 +366,7 @@ def stop_idle(server, count):
 
 def kill(program, store, count, seconds):
     """Part 8: signal 9 while so many connections write texts; how many were answered, and how many were made beside them."""
-    server = Server(program, store, count)
+    server = serve(program, store, count)
     answered, sent = {}, set()
 
     def write(number):
@@ -383,7 +396,7 @@ def kill(program, store, count, seconds):
         wants("the status after signal 9", server.wait(), -signal.SIGKILL)
     finally:
         server.kill()
-    server = Server(program, store, count)
+    server = serve(program, store, count)
     try:
         session = Session(server.port, "reader").login()
         last = int(session.ask("115"))
@@ -407,7 +420,10 @@ def kill(program, store, count, seconds):
 
 
 def main(arguments):
+    global word  # pylint: disable=global-statement
     program = program_of(arguments)
+    if arguments[1:2] == ["hub"]:
+        word = arguments.pop(1)
     count = int(arguments[1]) if len(arguments) > 1 else 64
     begun = time.monotonic()
 
@@ -430,7 +446,7 @@ def main(arguments):
         bad, good, grown = peers(program, folder)
         tell(f"{bad} bad peers beside {good} sessions end alone, and the server has {grown} KiB more resident")
         store = make_store(program, folder / "store")
-        server = Server(program, store, count)
+        server = serve(program, store, count)
         try:
             talk(server, count)
             tell(f"{count} connections talked side by side")

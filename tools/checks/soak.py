@@ -1,6 +1,8 @@
 #!/usr/bin/env python3
 """Has the built program `komd` serve 64 connections over loopback for a while, and kills it again and again:
-soak.py [PROGRAM [SECONDS [SEED [FOLDER]]]]
+soak.py [PROGRAM [hub] [SECONDS [SEED [FOLDER]]]]
+
+They are served by the word `serve` with a worker for each, or by `hub` with two workers.
 
 Beside two connections of its own it has
 - 44 persons, each of whom makes random good calls on what is its own, knows what each reply has to be, and looks at some;
@@ -41,7 +43,7 @@ from known_person import Known, observed, random_call
 from protocol import string
 from served import ADMINISTRATOR, Server, Session, limit_seconds, stop
 
-WORKERS = 64
+WORKERS = {"serve": 64, "hub": 2}
 PERSONS, HOSTILE, SLOW, SILENT, UNREAD, HALF = 44, 8, 4, 2, 2, 2
 ROUNDS = 10
 SILENCE_SECONDS, STALL_SECONDS = 30, 60
@@ -68,8 +70,8 @@ STOPS = b"44"
 class Soak:
     """What the threads have in common."""
 
-    def __init__(self, program, store, seed):
-        self.program, self.store, self.seed = program, store, seed
+    def __init__(self, program, store, seed, word):
+        self.program, self.store, self.seed, self.word = program, store, seed, word
         self.changed = threading.Condition()
         self.server = None
         self.killed = True
@@ -78,7 +80,7 @@ class Soak:
         self.counts = collections.Counter()
 
     def start(self):
-        server = Server(self.program, self.store, WORKERS, MEMORY)
+        server = Server(self.program, self.store, WORKERS[self.word], MEMORY, word=self.word)
         with self.changed:
             self.server, self.killed = server, False
             self.changed.notify_all()
@@ -458,11 +460,14 @@ def fill(session, goes_on):
 
 
 def main(words):
-    program, seconds = program_of(words), int(words[1]) if len(words) > 1 else 600
+    program, word = program_of(words), "serve"
+    if words[1:2] == ["hub"]:
+        word = words.pop(1)
+    seconds = int(words[1]) if len(words) > 1 else 600
     seed = words[2] if len(words) > 2 else "1"
     limit_seconds(seconds + 300)
     with tempfile.TemporaryDirectory(dir=words[3] if len(words) > 3 else None) as folder:
-        soak = Soak(program, make_store(program, pathlib.Path(folder) / "store", PASSWORD), seed)
+        soak = Soak(program, make_store(program, pathlib.Path(folder) / "store", PASSWORD), seed, word)
         try:
             persons, residents = soak_for(soak, seconds)
             if not soak.faults:

@@ -164,7 +164,7 @@ class Front:
 
     def __init__(self, program, page, komd_port, port):
         self.program, self.page, self.komd_port, self.port = program, page, komd_port, port
-        words = [program, "--web", str(port), "--komd", str(komd_port), "--workers", "40", "--page", str(page)]
+        words = [program, "--web", str(port), "--komd", str(komd_port), "--places", "40", "--page", str(page)]
         # What it tells is of no interest here, unless it does not begin.
         self.process = subprocess.Popen(words, stdout=subprocess.DEVNULL, stderr=subprocess.PIPE, text=True)
         self.address = f"http://127.0.0.1:{port}/"

@@ -4,7 +4,10 @@ import subprocess
 import sys
 
 ROOT = pathlib.Path(__file__).resolve().parents[2]
-USAGE = b"usage: komd once [STORE] | serve STORE PORT WORKERS | init STORE PASSWORD | check STORE | load N\n"
+USAGE = (
+    b"usage: komd once [STORE] | serve STORE PORT WORKERS | hub STORE PORT WORKERS | init STORE PASSWORD "
+    b"| check STORE | load N\n"
+)
 
 
 class Wrong(Exception):

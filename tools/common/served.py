@@ -73,16 +73,17 @@ class Ended(Wrong):
 
 class Server:
     """A store that is served by so many workers, at the first of the ports that is free, or at one that is drawn: with more in the
-    environment than this process has, if it is given, and with what the process is to do before the program begins."""
+    environment than this process has, if it is given, with what the process is to do before the program begins, and by another
+    word than `serve`."""
 
-    def __init__(self, program, store, workers, environment=(), begin=None, ports=None, patience=PATIENCE):
+    def __init__(self, program, store, workers, environment=(), begin=None, ports=None, patience=PATIENCE, word="serve"):
         # Below the ports that systems give to connections.
         for port in ports or random.sample(range(20_000, 30_000), 5):
             if not is_free(port):
                 continue
             self.port = port
             self.process = subprocess.Popen(
-                [program, "serve", store, str(port), str(workers)],
+                [program, word, store, str(port), str(workers)],
                 stdout=subprocess.PIPE,
                 stderr=subprocess.STDOUT,
                 env={**os.environ, **dict(environment)},

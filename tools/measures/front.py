@@ -84,7 +84,7 @@ def compare(program, folder, certificate, where, seconds):
 def compare_served(server, certificate, where, seconds):
     """Part 1, once a store is served."""
     fill(server.port)
-    words = ("--workers", str(WORKERS))
+    words = ("--places", str(WORKERS))
     plain = Front(certificate[0].parent, server.port, *words)
     tls = Front(certificate[0].parent, server.port, *words, certificate=certificate)
     ways = {"the server": lambda: Session(server.port), "the door without TLS": lambda: Guest(plain), "the door": lambda: Guest(tls)}
@@ -123,7 +123,7 @@ class StandIn:
 
 def idle(folder, certificate):
     """Part 2."""
-    front = Front(folder, StandIn().port, "--workers", str(IDLE + 2), "--connections", str(IDLE), certificate=certificate)
+    front = Front(folder, StandIn().port, "--places", str(IDLE + 2), "--connections", str(IDLE), certificate=certificate)
     before = front.resident()
     guests = [Guest(front).login() for _ in range(IDLE)]
     time.sleep(1)

@@ -1,20 +1,23 @@
 #!/usr/bin/env python3
-"""Measures the built program `komd` with its word `serve` over loopback: measure_serve.py [PROGRAM [PART..]]
+"""Measures the built program `komd` with its word `serve`, or `hub`, over loopback: measure_serve.py [PROGRAM[:hub] [PART..]]
 
-Each part makes a store in memory and has it served by 64 workers:
+Each part makes a store in memory and has it served by 64 workers, or with `:hub` behind the program's name by one worker for all:
 - memory: what the server has resident after ten thousand calls of four connections that send what they can, and after ten
   million; of a hundred calls eighteen are stored;
 - idle: which part of a core the server takes in 20 seconds, by clock ticks, while 64 connections at which somebody is logged in
-  are idle, and what it takes without them; and what C (idle_waits.c) takes meanwhile of which 64 threads poll, again and again;
-- messages: how long 1,000 messages take to a session that is idle, of 64; the median, and what 99 of 100 do not exceed.
+  are idle, with `hub` 1,000, and what it takes without them; and what C (idle_waits.c) takes meanwhile of which 64 threads poll, again
+  and again;
+- messages: how long 1,000 messages take to a session that is idle, of as many; the median, and what 99 of 100 do not exceed.
 
 It prints a line for each, with the machine's load before and after: another load than its own makes the figures greater. All
 parts are measured unless some are named. Memory takes one to five minutes, the others three together. It ends with 1 where the
-memory has grown by more than 256 KiB, the idle server takes more than 1 % of a core, or the median is above 60 ms or the 99th of
-100 above 100 ms, else with 0. It ends each server that it starts, and needs a C compiler.
+memory has grown by more than 256 KiB, the idle server takes more than 1 % of a core (with `hub` 0.1 %), or the median is above 60 ms
+or the 99th of 100 above 100 ms (with `hub` 2 and 20), else with 0. It ends each server that it starts, and needs a C compiler.
 """
+import collections
 import os
 import pathlib
+import resource
 import statistics
 import subprocess
 import sys
@@ -27,15 +30,16 @@ from built import Wrong, compile_c, make_store, program_of, script
 from protocol import string
 from served import ADMINISTRATOR, Server, Session, folder_in_memory, limit_seconds, side_by_side, stop
 
-WORKERS = 64
+# How many workers serve, how many connections are idle, which part of a core they may take, and how long a message may.
+Way = collections.namedtuple("Way", "word workers idle most_idle most_median most_99")
+SERVE, HUB = Way("serve", 64, 64, 0.01, 0.060, 0.100), Way("hub", 1, 1_000, 0.001, 0.002, 0.020)
+POLLING = 64
 PAUSE_MILLISECONDS = 80
 CONNECTIONS = 4
 FEW, MANY = 10_000, 10_000_000
 MOST_GROWN_KIB = 256
 IDLE_SECONDS = 20
-MOST_IDLE = 0.01
 MESSAGES = 1_000
-MOST_MEDIAN, MOST_99 = 0.060, 0.100
 LIMIT_SECONDS = 1_800
 # A hundred calls, of which three are stored beside those that fetch a text; {0} is the number of the connection. None makes a row,
 # since a row that goes leaves its slot empty.
@@ -73,9 +77,9 @@ class Pusher:
             calls -= line[:1] in b"=%"
 
 
-def served(program, folder, name):
-    """A server of 64 workers over a store with a conference and four texts in it."""
-    server = Server(program, make_store(program, folder / name), WORKERS)
+def served(program, way, folder, name):
+    """A server over a store with a conference and four texts in it."""
+    server = Server(program, make_store(program, folder / name), way.workers, word=way.word)
     session = Session(server.port, "maker").login()
     session.ask("88 4HOpen 0000 0 { }")
     session.ask("100 6 5 100 0 00000000")
@@ -91,9 +95,9 @@ def end(server):
         raise Wrong(f"the server ends with status {status}")
 
 
-def memory(program, folder):
+def memory(program, way, folder):
     """What is resident after few and after many calls."""
-    server = served(program, folder, "memory")
+    server = served(program, way, folder, "memory")
     try:
         pushers = [Pusher(server.port, number + 1) for number in range(CONNECTIONS)]
         told, done, begun = {}, 0, time.monotonic()
@@ -112,7 +116,7 @@ def memory(program, folder):
 
 def parts_of_core(server, waits):
     """Which part of a core the server takes, and C that waits."""
-    process = subprocess.Popen([waits, str(WORKERS), str(PAUSE_MILLISECONDS), str(IDLE_SECONDS)], stdout=subprocess.PIPE, text=True)
+    process = subprocess.Popen([waits, str(POLLING), str(PAUSE_MILLISECONDS), str(IDLE_SECONDS)], stdout=subprocess.PIPE, text=True)
     time.sleep(1)
     before, begun = server.processor_seconds(), time.monotonic()
     time.sleep(IDLE_SECONDS)
@@ -120,29 +124,29 @@ def parts_of_core(server, waits):
     return part, float(process.communicate()[0])
 
 
-def idle(program, folder):
+def idle(program, way, folder):
     """What an idle server takes."""
     waits = compile_c(pathlib.Path(__file__).with_name("idle_waits.c"), folder / "idle_waits")
-    server = served(program, folder, "idle")
+    server = served(program, way, folder, "idle")
     try:
         alone, theirs_alone = parts_of_core(server, waits)
-        sessions = [Session(server.port, f"idle{number}").login() for number in range(WORKERS)]
+        sessions = [Session(server.port, f"idle{number}").login() for number in range(way.idle)]
         part, theirs = parts_of_core(server, waits)
-        print(f"with {WORKERS} workers an idle server takes {alone:.2%} of a core, {alone / theirs_alone:.1f} of C that polls;")
-        print(f"with {WORKERS} idle connections {part:.2%}, {part / theirs:.1f} of C that polls")
+        print(f"{way.word} with {way.workers} workers takes {alone:.2%} of a core, {alone / theirs_alone:.2f} of C that polls, while it is idle;")
+        print(f"with {way.idle} idle connections {part:.2%}, {part / theirs:.2f} of C that polls")
         for session in sessions:
             session.close()
         end(server)
-        return part <= MOST_IDLE
+        return part <= way.most_idle
     finally:
         server.kill()
 
 
-def messages(program, folder):
+def messages(program, way, folder):
     """How long messages take to an idle session."""
-    server = served(program, folder, "messages")
+    server = served(program, way, folder, "messages")
     try:
-        others = [Session(server.port, f"idle{number}").login() for number in range(WORKERS - 2)]
+        others = [Session(server.port, f"idle{number}").login() for number in range(way.idle - 2)]
         sender, listener = Session(server.port, "sender").login(), Session(server.port, "listener").login()
         listener.ask("80 1 { 12 }")
         times = []
@@ -156,12 +160,12 @@ def messages(program, folder):
             sender.reply(reference)
         times.sort()
         median, late = statistics.median(times), times[MESSAGES * 99 // 100 - 1]
-        print(f"of {MESSAGES} messages to an idle session the median takes {median * 1e3:.0f} ms, 99 of 100 at most "
-              f"{late * 1e3:.0f} ms")
+        print(f"of {MESSAGES} messages to an idle session of {way.idle} the median takes {median * 1e3:.1f} ms, 99 of 100 at most "
+              f"{late * 1e3:.1f} ms")
         for session in [*others, sender, listener]:
             session.close()
         end(server)
-        return median <= MOST_MEDIAN and late <= MOST_99
+        return median <= way.most_median and late <= way.most_99
     finally:
         server.kill()
 
@@ -170,14 +174,17 @@ PARTS = {"memory": memory, "idle": idle, "messages": messages}
 
 
 def main(words):
-    program = program_of(words)
+    path, _, word = (words[0] if words else "").partition(":")
+    program, way = program_of([path] if path else []), {"": SERVE, "hub": HUB}[word]
     parts = words[1:] or list(PARTS)
+    hard = resource.getrlimit(resource.RLIMIT_NOFILE)[1]
+    resource.setrlimit(resource.RLIMIT_NOFILE, (hard, hard))
     limit_seconds(LIMIT_SECONDS)
     print(f"load {os.getloadavg()[0]:.1f} on {os.cpu_count()} processors", flush=True)
     good = True
     with tempfile.TemporaryDirectory(dir=folder_in_memory()) as folder:
         for part in parts:
-            good = PARTS[part](program, pathlib.Path(folder)) and good
+            good = PARTS[part](program, way, pathlib.Path(folder)) and good
             sys.stdout.flush()
     print(f"load {os.getloadavg()[0]:.1f}")
     return 0 if good else 1

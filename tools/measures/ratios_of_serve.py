@@ -1,20 +1,22 @@
 #!/usr/bin/env python3
-"""Compares what the built program `komd` answers in a second, served by 64 workers, with a small C server at the same load:
-ratios_of_serve.py [PROGRAM [SECONDS [FOLDER [NAME..]]]]
+"""Compares what the built program `komd` answers in a second, by its word `serve` or `hub`, with a small C server at the same load:
+ratios_of_serve.py [PROGRAM[:hub[:WORKERS]] [SECONDS [FOLDER [NAME..]]]]
 
 The C server (fixed_replies.c) answers each line with the reply that `komd` gave to such a line once. The load (load_generator.c)
-comes over loopback from so many connections with so many calls under way at each: 1 and 1, 16 and 1, 64 and 16. The calls:
-who-am-i, get-time, get-text, get-text-stat, local-to-global of 100 texts, create-text, and nine get-text to one create-text; of
-1,000 texts of 500 bytes. Both servers take turns, three times for each row, SECONDS (1) each time; the medians of the three are
-compared. Calls that `komd` stores before it answers them, get-text among them since it counts what was fetched, are compared once
+comes over loopback from so many connections with so many calls under way at each: 1 and 1, 16 and 1, 64 and 1, 64 and 16, and with `hub`
+1,000 and 1. The calls: who-am-i, get-time, get-text, get-text-stat, local-to-global of 100 texts, create-text, and nine get-text to one
+create-text; of 1,000 texts of 500 bytes. Both servers take turns, three times for each row, SECONDS (1) each time; the medians of the three
+are compared. Calls that `komd` stores before it answers them, get-text among them since it counts what was fetched, are compared once
 more with the C server where that makes the same two writes and two syncs, in the same folder.
 
-It prints a row for each: the calls a second by the C server's, the median and the 99th of 100 of the times by the C server's, and
-which part of a core each of the generator's threads took beside `komd` and beside the C server: near 1 it is the limit, and the
-ratio is nearer to 1 than it should be. Last it compares `komd` at 64 and 16 with itself at 1 and 1. It takes six minutes, and
-says nothing unless the machine does nothing else. Stores lie in FOLDER, or in a folder of its own for a while; a folder in memory
-syncs nothing. With names of calls only these are compared. It needs a C compiler. The servers end with it. PROGRAM is the built `komd` unless it is named; with several programs, a comma between two, each has its rows, of the same minutes, so
-that one with another constant can be chosen.
+It prints a row for each: the calls a second, the median and the 99th of 100 of the times, all three by the C server's; the microseconds of
+processor time that each server took for a call; and which part of a core each of the generator's threads took beside `komd` and beside the
+C server: near 1 it is the limit, and the ratio is nearer to 1 than it should be. Last it compares `komd` at 64 and 16 with itself at 1 and 1.
+It takes ten minutes, and says nothing unless the machine does nothing else. Stores lie in FOLDER, or in a folder of its own for a while; a
+folder in memory syncs nothing. With names of calls only these are compared. It needs a C compiler. The servers end with it.
+
+PROGRAM is the built `komd` unless it is named. It serves by 64 workers, or with `:hub` behind its name by one worker for all connections, or as
+many as are named. With several programs, a comma between two, each has its rows, of the same minutes.
 """
 import pathlib
 import statistics
@@ -31,11 +33,13 @@ from served import Server, Session, limit_seconds, stop
 WORKERS = 64
 TEXTS, BODY = 1_000, 500
 TURNS = 3
+MOST_CONNECTIONS = 1_024
 LIMIT_SECONDS = 1_800
 # Connections, calls under way at each, threads of the generator.
-SHAPES = ((1, 1, 1), (16, 1, 1), (64, 16, 2))
+SHAPES = ((1, 1, 1), (16, 1, 1), (64, 1, 2), (64, 16, 2), (1000, 1, 2))
 GET_TEXT = f"25 ~{TEXTS}~ 0 4294967295"
 CREATE_TEXT = f"86 {string('x' * BODY)} 1 {{ 0 6 }} 0 {{ }}"
+MANY = SHAPES[3]
 # The calls with their weights, and whether `komd` stores one of them.
 LOADS = {
     "who-am-i": ([(1, "56")], False),
@@ -70,8 +74,21 @@ def fill(port):
     return replies
 
 
+def serve(word, folder):
+    """A store that is served by a program, and by which word and how many workers it is told to."""
+    path, way, workers = (word.split(":") + ["", ""])[:3]
+    program = program_of([path] if path else [])
+    server = Server(program, make_store(program, folder), int(workers or (1 if way else WORKERS)), word=way or "serve")
+    server.places = MOST_CONNECTIONS if way else WORKERS
+    server.name = pathlib.Path(program).name + (f", {way} of {workers or 1}" if way else "")
+    return server
+
+
 class Fixed:
     """The C server, which stores calls if a store is named."""
+
+    places = MOST_CONNECTIONS
+    processor_seconds = Server.processor_seconds
 
     def __init__(self, program, port, replies, store=""):
         words = [word for number, reply in replies.items()
@@ -91,15 +108,17 @@ class Fixed:
         self.process.wait()
 
 
-def measured(generator, port, shape, seconds, calls):
-    """The calls a second, the median and the 99th of 100 of the times, and how busy the generator was."""
+def measured(generator, server, shape, seconds, calls):
+    """The calls a second, the median and the 99th of 100 of the times, how busy the generator was, and the server's microseconds a call."""
     connections, under_way, threads = shape
     words = [str(word) for pair in calls for word in pair]
-    done = subprocess.run([generator, str(port), str(threads), str(connections), str(under_way), str(seconds), *words],
+    used = server.processor_seconds()
+    done = subprocess.run([generator, str(server.port), str(threads), str(connections), str(under_way), str(seconds), *words],
                           capture_output=True, text=True, timeout=seconds + 60, check=False)
     if done.returncode != 0:
         raise Wrong(f"the generator ends with status {done.returncode}: {done.stderr:.200}")
-    return [float(word) for word in done.stdout.split()]
+    told = [float(word) for word in done.stdout.split()]
+    return [*told, (server.processor_seconds() - used) * 1_000_000 / max(told[0] * seconds, 1)]
 
 
 def compare(generator, servers, shape, seconds, calls):
@@ -107,21 +126,21 @@ def compare(generator, servers, shape, seconds, calls):
     told = [[] for _ in servers]
     for _ in range(TURNS):
         for server, found in zip(servers, told):
-            found.append(measured(generator, server.port, shape, seconds, calls))
+            found.append(measured(generator, server, shape, seconds, calls))
     return [[statistics.median(column) for column in zip(*found)] for found in told]
 
 
 def row(name, shape, against, ours, theirs):
     """Prints what one server makes of what the C server makes."""
-    calls, median, late, busy = ours
+    calls, median, late, busy, used = ours
     if calls == 0 or 0 in theirs[:3]:
         raise Wrong(f"{name}: nothing is answered")
     print(f"| {name} | {shape[0]} x {shape[1]} | {against} | {calls / theirs[0]:.2f} | {median / theirs[1]:.1f} "
-          f"| {late / theirs[2]:.1f} | {busy:.2f}, {theirs[3]:.2f} |", flush=True)
+          f"| {late / theirs[2]:.1f} | {used:.2f}, {theirs[4]:.2f} | {busy:.2f}, {theirs[3]:.2f} |", flush=True)
 
 
 def main(words):
-    programs = [program_of([word]) for word in words[0].split(",")] if words else [program_of([])]
+    programs = words[0].split(",") if words else [""]
     seconds, names = float(words[1]) if len(words) > 1 else 1.0, words[3:] or list(LOADS)
     limit_seconds(LIMIT_SECONDS)
     with tempfile.TemporaryDirectory(dir=words[2] if len(words) > 2 else None) as name:
@@ -130,15 +149,15 @@ def main(words):
         servers, others = [], []
         try:
             for number, program in enumerate(programs):
-                servers.append(Server(program, make_store(program, folder / f"store{number}"), WORKERS))
+                servers.append(serve(program, folder / f"store{number}"))
                 replies = fill(servers[-1].port)
             port = servers[-1].port
             others.append(Fixed(fixed, port + 1, replies))
             others.append(Fixed(fixed, port + 2, replies, str(folder / "other")))
-            print("| calls | connections x under way | against C that | calls a second | median | 99 of 100 | generator busy |")
-            print("|---|---|---|---|---|---|---|")
+            print("| calls | connections x under way | against C that | calls a second | median | 99 of 100 | µs a call | generator busy |")
+            print("|---|---|---|---|---|---|---|---|")
             rises = compare_all(generator, servers, others, seconds, names)
-            print(f"calls a second at {SHAPES[-1][0]} x {SHAPES[-1][1]} by those at 1 x 1: {', '.join(rises)}")
+            print(f"calls a second at {MANY[0]} x {MANY[1]} by those at 1 x 1: {', '.join(rises)}")
             for server in servers:
                 stop(server).rest()
                 if (status := server.wait()) != 0:
@@ -154,17 +173,18 @@ def compare_all(generator, servers, others, seconds, names):
     rises = []
     for load in names:
         calls, is_stored = LOADS[load]
-        begun = []
+        found = {}
         for shape in SHAPES:
-            told = compare(generator, [*servers, *others[: 1 + is_stored]], shape, seconds, calls)
-            ours, (answers, *stores) = told[: len(servers)], told[len(servers) :]
-            begun = begun or ours
-            called = [load if len(servers) == 1 else f"{load}, {pathlib.Path(server.process.args[0]).name}" for server in servers]
-            for one, told in zip(called, ours):
-                row(one, shape, "answers", told, answers)
+            able = [server for server in servers if shape[0] <= server.places]
+            told = compare(generator, [*able, *others[: 1 + is_stored]], shape, seconds, calls)
+            ours, (answers, *stores) = told[: len(able)], told[len(able) :]
+            for server, one in zip(able, ours):
+                called = load if len(servers) == 1 else f"{load}, {server.name}"
+                found[called, shape] = one
+                row(called, shape, "answers", one, answers)
                 if is_stored:
-                    row(one, shape, "stores and answers", told, stores[0])
-        rises += [f"{one}: {last[0] / first[0]:.2f}" for one, first, last in zip(called, begun, ours)]
+                    row(called, shape, "stores and answers", one, stores[0])
+        rises += [f"{called}: {found[called, MANY][0] / found[called, SHAPES[0]][0]:.2f}" for called, shape in found if shape == MANY]
     return rises
 
 
