@@ -21,7 +21,7 @@ use Rattle.hall_desk.specs.declared.turning.Made.{Made}
 use Rattle.hall_desk.specs.Passes.{PassView}
 use Rattle.hall_desk.specs.Desks.{Kept}
 use Rattle.hall_desk.specs.Turns.{WasMade, WasRefused, HasNoTurn, IsConnect, Ends, entry_of, HadTurn, IsActed}
-use Rattle.hall_desk.specs.Turns.{said_flush, Tells}
+use Rattle.hall_desk.specs.Turns.{said_flush, AnswersStopped}
 use Rattle.hall_desk.specs.Rows.{WasPossible, IsLastTicket, IsAnswer, IsStopped}
 
 possible_made : (start : State) (old new : PassView) (entry : Entry) (items : List Item) (made : Made)
@@ -121,7 +121,8 @@ answers_flush old new moment items made answer turn is =
     (flush_turn old.start old.pass new.pass old.pass.number moment items made turn.ends)
 
 -- the question whether the server is stopped
-stopped_turn : (start : State) (old new : PassView) (answer : Result Bool DeskFault) → Tells start old new answer →
+stopped_turn : (start : State) (old new : PassView) (answer : Result Bool DeskFault) →
+    AnswersStopped start old new answer →
     IsStopped start new answer
 stopped_turn start old new (Ok stopped) (history, sees, logs, is) =
     is ∙ ap (λ (seen : List Record). (state_after start seen).stopped || (state_after start seen).store_refused)
@@ -131,7 +132,8 @@ stopped_turn start old new (Err (fault.Gone told)) tells = tells
 stopped_turn start old new (Err (fault.Full number)) tells = last_ticket old new number tells
 
 pub answers_stopped : (old mid new : Kept) (answer : Result Bool DeskFault) (said' : Result ⊤ DeskFault) →
-    Tells old.start old.pass mid.pass answer → new ≡ record mid { answers = mid.answers ++ (deed.Ask, said') ∷ [] } →
+    AnswersStopped old.start old.pass mid.pass answer →
+    new ≡ record mid { answers = mid.answers ++ (deed.Ask, said') ∷ [] } →
     IsStopped old.start new.pass answer
 answers_stopped old mid new answer said' tells told =
     subst (λ (kept : Kept). IsStopped old.start kept.pass answer) (sym told)

@@ -28,7 +28,7 @@ use Rattle.hall_desk.specs.declared.turning.Made.{Made}
 use Rattle.hall_desk.specs.Passes.{PassView, of_pass, connects_in, Knows}
 use Rattle.hall_desk.specs.Desks.{WasOnce, WasOverrun, WasStopped, WasFull, IsKnown, IsUndrained, WasUndrained}
 use Rattle.hall_desk.specs.Desks.{WasOnceAt, IfDrain, IsKnownAnswer, WasRefusedTo}
-use Rattle.hall_desk.specs.Turns.{IsOfOpen, Sees, LogsNone, Ends, Tells, IsConnect, said_flush}
+use Rattle.hall_desk.specs.Turns.{IsOfOpen, Sees, LogsNone, Ends, AnswersStopped, IsConnect, said_flush}
 use Rattle.hall_desk.proofs.Starting.{IsStart}
 use Rattle.hall_desk.proofs.Stepping.{connects_in-append}
 use Rattle.hall_desk.proofs.Histories.{or_cases, connects-state_after, connects_within, state_after-append}
@@ -241,7 +241,7 @@ module _ (start : State) where
   flush_known begins old new pass moment items (Err one) knows own ends =
       refusal_known begins old new pass moment act.Flush items one tt ends
 
-  pub question_known : (old new : PassView) (answer : Result Bool DeskFault) → Tells start old new answer →
+  pub question_known : (old new : PassView) (answer : Result Bool DeskFault) → AnswersStopped start old new answer →
       IsKnownAnswer start new (deed.Ask, said_stopped answer)
   question_known old new (Ok false) tells = tt
   question_known old new (Ok true) (history, sees, logs, is) =

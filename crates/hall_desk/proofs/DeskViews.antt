@@ -25,7 +25,7 @@ use Rattle.kom_model.specs.Out.{given_by, given_by_pass, given_from, taken_by}
 use Rattle.hall_desk.specs.declared.turning.Made.{Made}
 use Rattle.hall_desk.specs.Passes.{PassView, connects_in, Knows}
 use Rattle.hall_desk.specs.Desks.{IsKnownAnswer, Kept, desk_view, Stands, GoesOn}
-use Rattle.hall_desk.specs.Turns.{entry_of, IsOfOpen, HadTurn, IsActed, said_flush, Tells, Looks}
+use Rattle.hall_desk.specs.Turns.{entry_of, IsOfOpen, HadTurn, IsActed, said_flush, AnswersStopped, Looks}
 use Rattle.hall_desk.proofs.Starting.{IsStart, starts}
 use Rattle.hall_desk.proofs.Stepping.{connects_in-append}
 use Rattle.hall_desk.proofs.Histories.{gives_none, given_before, undrawn_absent, absent_of, connects-state_after}
@@ -136,7 +136,7 @@ flush_answer_known old mid moment items made answer turn is =
     refl turn.ends)
 
 pub question_answer_known : (old mid : Kept) (answer : Result Bool DeskFault) (told : Result ⊤ DeskFault) →
-    Tells old.start old.pass mid.pass answer → mid.start ≡ old.start → told ≡ said_stopped answer →
+    AnswersStopped old.start old.pass mid.pass answer → mid.start ≡ old.start → told ≡ said_stopped answer →
     IsKnownAnswer mid.start mid.pass (deed.Ask, told)
 question_answer_known old mid answer told tells same is =
     known_start old mid deed.Ask (said_stopped answer) told same is
@@ -493,7 +493,7 @@ flush_told old mid new moment items made answer turn is same told =
 -- ---- whether the server is stopped, and what is new
 
 asks_told : (old new : Kept) (answer : Result Bool DeskFault) → Stands old → new.start ≡ old.start →
-    Tells old.start old.pass new.pass answer → Logged old deed.Ask (said_stopped answer) new →
+    AnswersStopped old.start old.pass new.pass answer → Logged old deed.Ask (said_stopped answer) new →
     AsksStopped (desk_view old) answer (desk_view new)
 asks_told old new (Ok stopped) stands same tells logged =
     let keeps = tells_keeps old.start old.pass new.pass (Ok stopped) stands.knows tells in
@@ -519,7 +519,7 @@ asks_told old new (Err one) stands same tells logged =
 
 -- What a question leaves, before its answer is logged.
 pub record HasAsked (old : Kept) (answer : Result Bool DeskFault) (mid : Kept) : Type 0 where
-  pub tells : Tells old.start old.pass mid.pass answer
+  pub tells : AnswersStopped old.start old.pass mid.pass answer
   pub table : mid.table ≡ old.table
   pub start : mid.start ≡ old.start
   pub answers : mid.answers ≡ old.answers
@@ -531,7 +531,7 @@ pub stopped_told : (old mid new : Kept) (answer : Result Bool DeskFault) (said' 
     AsksStopped (desk_view old) answer (desk_view new)
 stopped_told old mid new answer said' asked is told =
     asks_told old new answer asked.stood (ap (λ (kept : Kept). kept.start) told ∙ asked.start)
-    (subst (λ (kept : Kept). Tells old.start old.pass kept.pass answer) (sym told) asked.tells)
+    (subst (λ (kept : Kept). AnswersStopped old.start old.pass kept.pass answer) (sym told) asked.tells)
     (logged_after old mid new deed.Ask said' asked.answers told
     ∙ ap (λ (answer : Result ⊤ DeskFault). old.answers ++ (deed.Ask, answer) ∷ []) is)
 

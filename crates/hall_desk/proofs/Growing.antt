@@ -17,7 +17,8 @@ use Rattle.kom_model.specs.Legal.{IsLegal, state_after}
 use Rattle.kom_model.specs.Out.{given_by, given_by_pass, taken_by}
 use Rattle.hall_desk.specs.declared.turning.Made.{Made}
 use Rattle.hall_desk.specs.Passes.{PassView, of_pass, Knows}
-use Rattle.hall_desk.specs.Turns.{Sees, LogsNone, HasNoTurn, record_in, WasMade, WasRefused, Ends, Tells, Looks}
+use Rattle.hall_desk.specs.Turns.{Sees, LogsNone, HasNoTurn, record_in, WasMade, WasRefused, Ends}
+use Rattle.hall_desk.specs.Turns.{AnswersStopped, Looks}
 use Rattle.hall_desk.proofs.Histories.{legal-append, of_pass-append, given-append, given_others}
 
 -- what a pass has seen goes on, legally, and so do the tickets that it knows
@@ -134,7 +135,7 @@ fault_keeps start old new entry items (fault.Full number) knows (inr was) =
     refused_keeps start old new entry.act _ knows was
 
 pub tells_keeps : (start : State) (old new : PassView) (result : Result Bool DeskFault) → Knows start old →
-    Tells start old new result → Keeps start old new
+    AnswersStopped start old new result → Keeps start old new
 tells_keeps start old new (Ok stopped) knows (history, sees, logs, is) = none_keeps start old new history knows sees
     logs
 tells_keeps start old new (Err fault.Memory) knows tells = absurd tells

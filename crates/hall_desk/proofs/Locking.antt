@@ -24,7 +24,7 @@ use Rattle.hall_desk.specs.Acts.{IsMadeBy, IsLed}
 use Rattle.hall_desk.specs.Passes.{PassView, pass_view, of_pass, Knows}
 use Rattle.hall_desk.specs.declared.turning.Made.{Made}
 use Rattle.hall_desk.specs.Turns.{IsOfOpen, Sees, Logs, LogsNone, record_in, fault_from, WasMade, WasRefused, IsConnect}
-use Rattle.hall_desk.specs.Turns.{Ends, Tells, Looks}
+use Rattle.hall_desk.specs.Turns.{Ends, AnswersStopped, Looks}
 use Rattle.hall_desk.proofs.Starting.{IsStart}
 use Rattle.hall_desk.proofs.Stepping.{by_owner}
 use Rattle.hall_desk.proofs.Histories.{legal-append, owners-append, entries-state_after, of_pass-append, of_own}
@@ -316,7 +316,7 @@ module _ {B E : Type 0} (made : E → Record) (server : B → State) (pass_of : 
       (stopped : Bool) → Knows (server hall.opening) (pass_view made old) → LookedTurn hall old value new →
       found ≡ value → stopped ≡ ((server found).stopped || (server found).store_refused) →
       Knows (server hall.opening) (pass_view made new)
-      × Tells (server hall.opening) (pass_view made old) (pass_view made new) (Ok stopped)
+      × AnswersStopped (server hall.opening) (pass_view made old) (pass_view made new) (Ok stopped)
   turn_asked hall old value found new stopped knows turn same is =
       let start : State = server hall.opening in
       let ends = looked_ends hall old value new knows turn in

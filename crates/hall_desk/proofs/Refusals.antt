@@ -24,7 +24,7 @@ use Rattle.kom_model.specs.Refusal.{connect_refused, unless_store_refused, refus
 use Rattle.kom_model.specs.Legal.{IsLegal, state_after}
 use Rattle.hall_desk.specs.Passes.{PassView, connects_in}
 use Rattle.hall_desk.specs.Desks.{WasStopped, IsKnown}
-use Rattle.hall_desk.specs.Turns.{IsOfOpen, Sees, LogsNone, HasNoTurn, Ends, Tells, IsConnect}
+use Rattle.hall_desk.specs.Turns.{IsOfOpen, Sees, LogsNone, HasNoTurn, Ends, AnswersStopped, IsConnect}
 use Rattle.hall_desk.proofs.Starting.{IsStart}
 use Rattle.hall_desk.proofs.Stepping.{Has}
 use Rattle.hall_desk.proofs.Histories.{and_both, or_second, open_has, connects-state_after, connects_within}
@@ -351,7 +351,7 @@ module _ (start : State) where
       ends
 
   -- whether the server is stopped
-  pub ask_told : (old new : PassView) (session : ℕ) (one : DeskFault) → Tells start old new (Err one) →
+  pub ask_told : (old new : PassView) (session : ℕ) (one : DeskFault) → AnswersStopped start old new (Err one) →
       IsTurnTold start IsLockFault old new session one
   ask_told old new session fault.Memory tells = absurd tells
   ask_told old new session (fault.Gone told) tells = absurd tells

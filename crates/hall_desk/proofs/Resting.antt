@@ -18,7 +18,7 @@ use Rattle.hall_desk.specs.declared.turning.Made.{Made}
 use Rattle.hall_desk.specs.Acts.{IsOpening}
 use Rattle.hall_desk.specs.Passes.{waits_in, pass_view, of_pass, Knows}
 use Rattle.hall_desk.specs.Desks.{IsKnownAnswer, Kept, kept_in, Stands, Rests, GoesOn, desk_view}
-use Rattle.hall_desk.specs.Turns.{IsOfOpen, Ends, entry_of, HadTurn, Tells, Looks}
+use Rattle.hall_desk.specs.Turns.{IsOfOpen, Ends, entry_of, HadTurn, AnswersStopped, Looks}
 use Rattle.hall_desk.proofs.Starting.{starts}
 use Rattle.hall_desk.proofs.Growing.{Grows, tells_keeps, looks_keeps, ended_grows}
 use Rattle.hall_desk.proofs.Causes.{all_known_on}
@@ -61,10 +61,10 @@ module _ {B E : Type 0} (made : E → Record) (server : B → State) (hall : Hal
     }
 
     pub tells_outside : (new : PassModel B E) (result : Result Bool DeskFault) →
-        Tells (server hall.opening) (pass_view made pass) (pass_view made new) result →
-        Tells kept.start kept.pass (pass_view made new) result
+        AnswersStopped (server hall.opening) (pass_view made pass) (pass_view made new) result →
+        AnswersStopped kept.start kept.pass (pass_view made new) result
     tells_outside new result tells =
-        subst (λ (kept : Kept). Tells kept.start kept.pass (pass_view made new) result) view tells
+        subst (λ (kept : Kept). AnswersStopped kept.start kept.pass (pass_view made new) result) view tells
 
     -- the server was looked at
     looks_outside : (new : PassModel B E) →
@@ -140,7 +140,7 @@ module _ {B E : Type 0} (made : E → Record) (server : B → State) (hall : Hal
 
   pub rests_asked : (new : PassModel B E) (result : Result Bool DeskFault) → Rests made server hall pass answers →
       IsPassOf hall new → HoldsNoTurn new.turn → Knows (server hall.opening) (pass_view made new) →
-      Tells (server hall.opening) (pass_view made pass) (pass_view made new) result →
+      AnswersStopped (server hall.opening) (pass_view made pass) (pass_view made new) result →
       Rests made server hall new answers
   rests_asked new result rests of_hall free knows tells =
       rests_grown new rests of_hall free knows

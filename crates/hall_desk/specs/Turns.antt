@@ -131,13 +131,13 @@ said_flush (Ok made) = if made.short then Err (fault.Gone why.Stopped) else Ok t
 said_flush (Err one) = Err one
 
 -- How the question whether the server is stopped ended.
-abbrev pub Tells : State → PassView → PassView → Result Bool DeskFault → Type 0
-Tells start old new (Ok stopped) =
+abbrev pub AnswersStopped : State → PassView → PassView → Result Bool DeskFault → Type 0
+AnswersStopped start old new (Ok stopped) =
     (history : List Record) × Sees start old new history × LogsNone old new history
     × (let state = state_after start history in stopped ≡ (state.stopped || state.store_refused))
-Tells start old new (Err (fault.Gone told)) = ⊥
-Tells start old new (Err (fault.Full number)) = HasNoTurn old new number
-Tells start old new (Err fault.Memory) = ⊥
+AnswersStopped start old new (Err (fault.Gone told)) = ⊥
+AnswersStopped start old new (Err (fault.Full number)) = HasNoTurn old new number
+AnswersStopped start old new (Err fault.Memory) = ⊥
 
 -- A turn in which the server was looked at, or for which none was left.
 abbrev pub Looks : State → PassView → PassView → Type 0

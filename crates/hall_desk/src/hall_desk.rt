@@ -13,7 +13,7 @@ ghost use Rattle.hall_desk.specs.Acts.{IsOpening};
 ghost use Rattle.hall_desk.specs.Passes.{pass_view};
 ghost use Rattle.hall_desk.specs.Desks.{IsKnownAnswer, Stands, GoesOn, desk_view};
 ghost use Rattle.hall_desk.specs.Going.{goes_on_itself, goes_on_further};
-ghost use Rattle.hall_desk.specs.Turns.{IsOfOpen, HadTurn, IsActed, Tells};
+ghost use Rattle.hall_desk.specs.Turns.{IsOfOpen, HadTurn, IsActed, AnswersStopped};
 ghost use Rattle.hall_desk.specs.Rows.{IsAnswer, IsStopped};
 
 use crate::acts::Acts;
@@ -158,7 +158,7 @@ impl<'a, R: Wait, B: Acts> HallDesk<'a, R, B> {
 
     /// Whether the server was shut down or its store refused a flush.
     fn ask_stopped(&mut self) -> Result<bool, DeskFault>
-        ensures tells { Tells self.old.start self.old.pass self.new.pass result }
+        ensures tells { AnswersStopped self.old.start self.old.pass self.new.pass result }
         ensures table { self.new.table ≡ self.old.table }
         ensures start { self.new.start ≡ self.old.start }
         ensures answers { self.new.answers ≡ self.old.answers }

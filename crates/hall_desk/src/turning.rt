@@ -3,7 +3,7 @@ ghost use Rattle.kom_state_lock.specs.Passes.{IsPassOf, HoldsNoTurn};
 ghost use Rattle.kom_model.specs.Legal.{HasUser};
 ghost use Rattle.hall_desk.specs.Acts.{IsOpening};
 ghost use Rattle.hall_desk.specs.Passes.{pass_view, Knows};
-ghost use Rattle.hall_desk.specs.Turns.{IsOfOpen, Ends, Tells, Looks, fault_from};
+ghost use Rattle.hall_desk.specs.Turns.{IsOfOpen, Ends, AnswersStopped, Looks, fault_from};
 
 use crate::acts::Acts;
 use arrayvec::ArrayVec;
@@ -83,7 +83,7 @@ pub(crate) fn ask<R: Wait, B: Acts>(
     ensures pass { IsPassOf hall.now pass.new }
     ensures free { HoldsNoTurn pass.new.turn }
     ensures knows { Knows (B.server hall.now.opening) (pass_view B.made pass.new) }
-    ensures tells { Tells (B.server hall.now.opening) (pass_view B.made pass.old)
+    ensures tells { AnswersStopped (B.server hall.now.opening) (pass_view B.made pass.old)
         (pass_view B.made pass.new) result }
 {
     let mut held = match hall.take(rt, pass) {

@@ -12,7 +12,7 @@ use Rattle.kom_types.specs.calls.Arguments.{Taken, Took, Departs, Malformed, int
 use Rattle.kom_types.specs.calls.Pattern.{Pattern}
 use Rattle.kom_calls.specs.declared.fault.ArgumentFault.{ArgumentFault}
 use Rattle.kom_calls.specs.declared.fault.ArgumentFault.TheVariants as fault
-use Rattle.kom_calls.specs.Telling.{Departed, Tells}
+use Rattle.kom_calls.specs.Telling.{Departed, ReadsAs}
 use Rattle.kom_calls.specs.Reads.{ReadsBy, pattern_of, takes_room}
 use Rattle.kom_calls.specs.Lines.{line_takes_room}
 
@@ -33,7 +33,7 @@ integer_at (token ∷ tokens) (suc place) =
     ∙ ap (λ n. integer_by (option_and_then integer_of (slice_get tokens place)) (drop n (token ∷ tokens))) next
 
 pub told_integer : (spelled : Option ℕ) (tail : List Token) →
-    Tells false (integer_by spelled tail) (ok_or spelled fault.Malformed) tail
+    ReadsAs false (integer_by spelled tail) (ok_or spelled fault.Malformed) tail
 told_integer (Some number) tail = refl
 told_integer None tail = refl
 

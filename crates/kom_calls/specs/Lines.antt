@@ -23,9 +23,9 @@ reading_told (Err fault.Malformed) = None
 reading_told (Err fault.Memory) = None
 
 -- the result tells the line's reading, unless memory ran out
-abbrev pub Tells : Option Request → Result (ℕ × Call) CallFault → Type 0
-Tells reading (Err fault.Memory) = Unit {0}
-Tells reading result = reading ≡ reading_told result
+abbrev pub TellsReading : Option Request → Result (ℕ × Call) CallFault → Type 0
+TellsReading reading (Err fault.Memory) = Unit {0}
+TellsReading reading result = reading ≡ reading_told result
 
 -- whether the call of these tokens has a string or an array
 abbrev pub line_takes_room : List Token → Bool

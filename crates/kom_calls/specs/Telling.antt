@@ -24,9 +24,9 @@ Departed room taken fault.LongArray = taken ≡ Departs LongArray
 Departed room taken fault.Memory = IsTrue room
 
 -- a value and the tokens that are left, or why there is none
-abbrev pub Tells : {X : Type 0} → Bool → Taken X → Result X ArgumentFault → List Token → Type 0
-Tells room taken (Ok value) rest = taken ≡ Took value rest
-Tells room taken (Err found) rest = Departed room taken found
+abbrev pub ReadsAs : {X : Type 0} → Bool → Taken X → Result X ArgumentFault → List Token → Type 0
+ReadsAs room taken (Ok value) rest = taken ≡ Took value rest
+ReadsAs room taken (Err found) rest = Departed room taken found
 
 -- the number of a run of digits, if they are so many binary digits
 abbrev pub bits_told : ℕ → List ℕ → Option ℕ

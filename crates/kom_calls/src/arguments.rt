@@ -1,6 +1,6 @@
 ghost use Rattle.std.specs.Prelude.{◌≡◌, ◌≤◌, ◌^◌, length, drop, true, false};
 ghost use Rattle.kom_types.specs.calls.Arguments as argument;
-ghost use Rattle.kom_calls.specs.Telling.{Next, Tells, Ends, Boxes};
+ghost use Rattle.kom_calls.specs.Telling.{Next, ReadsAs, Ends, Boxes};
 
 use crate::bits::bits_in;
 use crate::fault::ArgumentFault;
@@ -68,7 +68,7 @@ impl<'a> Arguments<'a> {
 
     /// Takes an integer.
     pub(crate) fn integer(&mut self) -> Result<u32, ArgumentFault>
-        ensures { Tells false (argument.integer self.old) result self.new }
+        ensures { ReadsAs false (argument.integer self.old) result self.new }
     {
         let place = self.place;
         if place >= self.line.len() {
@@ -80,7 +80,7 @@ impl<'a> Arguments<'a> {
 
     /// Takes an integer that ends at 255.
     pub(crate) fn byte(&mut self) -> Result<u8, ArgumentFault>
-        ensures { Tells false (argument.byte self.old) result self.new }
+        ensures { ReadsAs false (argument.byte self.old) result self.new }
     {
         let number = self.integer()?;
         if number <= 255 {
@@ -92,7 +92,7 @@ impl<'a> Arguments<'a> {
 
     /// Takes a truth value.
     pub(crate) fn flag(&mut self) -> Result<bool, ArgumentFault>
-        ensures { Tells false (argument.flag self.old) result self.new }
+        ensures { ReadsAs false (argument.flag self.old) result self.new }
     {
         match self.integer()? {
             0 => Ok(false),
@@ -103,7 +103,7 @@ impl<'a> Arguments<'a> {
 
     /// Takes a string, of which it makes a copy.
     pub(crate) fn string(&mut self) -> Result<Bytes, ArgumentFault>
-        ensures { Tells true (argument.string self.old) result self.new }
+        ensures { ReadsAs true (argument.string self.old) result self.new }
     {
         match self.next() {
             Some(Token::Text(text)) => Ok(Bytes::copy_of(self.alloc, text)?),
@@ -113,7 +113,7 @@ impl<'a> Arguments<'a> {
 
     /// Takes eight binary digits.
     pub(crate) fn bits_8(&mut self) -> Result<u8, ArgumentFault>
-        ensures { Tells false (argument.bits 8 self.old) result self.new }
+        ensures { ReadsAs false (argument.bits 8 self.old) result self.new }
     {
         match self.next() {
             Some(Token::Digits(digits)) => match bits_in(digits, 8) {
@@ -126,7 +126,7 @@ impl<'a> Arguments<'a> {
 
     /// Takes sixteen binary digits.
     pub(crate) fn bits_16(&mut self) -> Result<u16, ArgumentFault>
-        ensures { Tells false (argument.bits 16 self.old) result self.new }
+        ensures { ReadsAs false (argument.bits 16 self.old) result self.new }
     {
         match self.next() {
             Some(Token::Digits(digits)) => bits_in(digits, 16).ok_or(ArgumentFault::Malformed),
@@ -136,7 +136,7 @@ impl<'a> Arguments<'a> {
 
     /// Takes the bits of a conference's type: eight binary digits, or the first four.
     pub(crate) fn conference_type(&mut self) -> Result<u8, ArgumentFault>
-        ensures { Tells false (argument.conference_type self.old) result self.new }
+        ensures { ReadsAs false (argument.conference_type self.old) result self.new }
     {
         match self.next() {
             Some(Token::Digits(digits)) => match bits_in(digits, 8) {

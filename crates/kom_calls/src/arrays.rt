@@ -1,6 +1,6 @@
 ghost use Rattle.std.specs.Prelude.{◌≡◌, true};
 ghost use Rattle.kom_types.specs.calls.Arguments as argument;
-ghost use Rattle.kom_calls.specs.Telling.{Tells};
+ghost use Rattle.kom_calls.specs.Telling.{ReadsAs};
 
 use crate::arguments::Arguments;
 use crate::elements::Element;
@@ -12,35 +12,35 @@ use kom_types::{AuxInputs, MiscInputs, Numbers, ReadRanges, Sequence};
 impl Arguments<'_> {
     /// Takes an array of numbers.
     pub(crate) fn numbers(&mut self) -> Result<Numbers, ArgumentFault>
-        ensures { Tells true (argument.numbers self.old) result self.new }
+        ensures { ReadsAs true (argument.numbers self.old) result self.new }
     {
         self.array()
     }
 
     /// Takes an array of ranges of texts that were read.
     pub(crate) fn read_ranges(&mut self) -> Result<ReadRanges, ArgumentFault>
-        ensures { Tells true (argument.read_ranges self.old) result self.new }
+        ensures { ReadsAs true (argument.read_ranges self.old) result self.new }
     {
         self.array()
     }
 
     /// Takes an array of a text's links.
     pub(crate) fn misc_inputs(&mut self) -> Result<MiscInputs, ArgumentFault>
-        ensures { Tells true (argument.misc_inputs self.old) result self.new }
+        ensures { ReadsAs true (argument.misc_inputs self.old) result self.new }
     {
         self.array()
     }
 
     /// Takes an array of aux-items.
     pub(crate) fn aux_inputs(&mut self) -> Result<AuxInputs, ArgumentFault>
-        ensures { Tells true (argument.aux_inputs self.old) result self.new }
+        ensures { ReadsAs true (argument.aux_inputs self.old) result self.new }
     {
         self.array()
     }
 
     /// Takes an array.
     fn array<T: Element>(&mut self) -> Result<Sequence<T>, ArgumentFault>
-        ensures { Tells true (argument.array T.reads self.old) result self.new }
+        ensures { ReadsAs true (argument.array T.reads self.old) result self.new }
     {
         let count = self.integer()?;
         if count <= LONGEST_ARRAY {
@@ -52,7 +52,7 @@ impl Arguments<'_> {
 
     /// Takes so many elements in braces, or a star in place of none.
     fn array_of<T: Element>(&mut self, count: usize) -> Result<Sequence<T>, ArgumentFault>
-        ensures { Tells true (argument.array_of T.reads count self.old) result self.new }
+        ensures { ReadsAs true (argument.array_of T.reads count self.old) result self.new }
     {
         match self.next() {
             Some(Token::Open) => {
@@ -78,7 +78,7 @@ impl Arguments<'_> {
         &mut self,
         count: usize,
     ) -> Result<Sequence<T>, ArgumentFault>
-        ensures { Tells true (argument.elements T.reads count self.old) result self.new }
+        ensures { ReadsAs true (argument.elements T.reads count self.old) result self.new }
     {
         let mut values = Vec::with_capacity(self.allocator(), count.min(self.len()))?;
         for _ in 0..count {

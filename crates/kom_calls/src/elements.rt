@@ -2,7 +2,7 @@ ghost use Rattle.std.specs.Prelude.{◌≡◌, List, true, false};
 ghost use Rattle.kom_types.specs.Token.{Token};
 ghost use Rattle.kom_types.specs.calls.Arguments as argument;
 ghost use Rattle.kom_types.specs.calls.Arguments.{Taken};
-ghost use Rattle.kom_calls.specs.Telling.{Tells};
+ghost use Rattle.kom_calls.specs.Telling.{ReadsAs};
 
 use crate::arguments::Arguments;
 use crate::fault::ArgumentFault;
@@ -14,7 +14,7 @@ pub(crate) trait Element: Drop {
 
     /// Takes one.
     fn take_from(arguments: &mut Arguments<'_>) -> Result<Self, ArgumentFault>
-        ensures { Tells true (reads arguments.old) result arguments.new };
+        ensures { ReadsAs true (reads arguments.old) result arguments.new };
 }
 
 impl Element for u32 {
@@ -64,7 +64,7 @@ impl Element for AuxInput {
 
 /// Takes the value of a link with this tag.
 fn misc_value(arguments: &mut Arguments<'_>, tag: u32) -> Result<u32, ArgumentFault>
-    ensures { Tells true (argument.misc_value tag arguments.old) result arguments.new }
+    ensures { ReadsAs true (argument.misc_value tag arguments.old) result arguments.new }
 {
     match tag {
         0 | 1 | 2 | 3 | 4 | 5 | 6 | 8 | 15 => Ok(arguments.integer()?),
@@ -75,7 +75,7 @@ fn misc_value(arguments: &mut Arguments<'_>, tag: u32) -> Result<u32, ArgumentFa
 
 /// Takes a time, of which nothing is kept.
 fn time(arguments: &mut Arguments<'_>) -> Result<u32, ArgumentFault>
-    ensures { Tells true (argument.time arguments.old) result arguments.new }
+    ensures { ReadsAs true (argument.time arguments.old) result arguments.new }
 {
     let _parts: Numbers = arguments.elements(8)?;
     let _summer = arguments.flag()?;

@@ -1,7 +1,7 @@
 ghost use Rattle.std.specs.Prelude.{◌≡◌, IfOk};
 ghost use Rattle.kom_types.specs.Reading.{patterns, reading_of};
 ghost use Rattle.kom_calls.specs.Reads.{ReadsBy, IsKnown, pattern_of};
-ghost use Rattle.kom_calls.specs.Lines.{Tells, NeedsRoom};
+ghost use Rattle.kom_calls.specs.Lines.{TellsReading, NeedsRoom};
 
 use crate::arguments::Arguments;
 use crate::aux_items::aux_item_call;
@@ -33,7 +33,7 @@ pub enum CallFault {
 
 /// The reference of a line, and its call with the arguments, which are allocated there.
 pub fn read_call(alloc: Global, line: &Line) -> Result<(u32, Call), CallFault>
-    ensures reading { Tells (reading_of line.now.tokens) result }
+    ensures reading { TellsReading (reading_of line.now.tokens) result }
     ensures known { IfOk result (λ read. IsKnown read.1) }
     ensures room { NeedsRoom result line.now.tokens }
 {

@@ -9,7 +9,7 @@ use Rattle.std.proofs.lemmas.Bool.{eqb-true}
 use Rattle.kom_links.specs.declared.link.Took.TheVariants as took
 use Rattle.kom_links.specs.Outside.{LinkView, Rose, IsNothing, Writes, grown}
 use Rattle.kom_client.specs.declared.talk_end.TalkEnd.TheVariants as end
-use Rattle.kom_client.specs.Client.{Tells}
+use Rattle.kom_client.specs.Client.{HasCarried}
 use Rattle.kom_client.specs.Talking.{Listens, Puts, Sends}
 
 pub grown_nil : (told : Option (List ℕ)) → grown [] told ≡ told
@@ -43,7 +43,7 @@ nothing_told : (told : Option (List ℕ)) → IsNothing told → IfSome told (λ
 nothing_told None is = tt
 nothing_told (Some bytes) is = is
 
-pub tells_nothing : (link : LinkView) → IsNothing link.taken → IsNothing link.put → Tells link [] []
+pub tells_nothing : (link : LinkView) → IsNothing link.taken → IsNothing link.put → HasCarried link [] []
 tells_nothing link taken put = (nothing_told link.taken taken, nothing_told link.put put)
 
 pub rose_after : (a b c : ℕ) → a ≤ b → Rose b c → Rose a c
@@ -64,7 +64,7 @@ listens_trans {a} {b} {c} {first} {second} p q = record {
 }
 
 pub listens_tells : {old new : LinkView} {piece : List ℕ} (fed sent : List ℕ) → Listens old piece new
-    → Tells old fed sent → Tells new (fed ++ piece) sent
+    → HasCarried old fed sent → HasCarried new (fed ++ piece) sent
 listens_tells {old} {new} {piece} fed sent l t =
     (told_grown fed piece old.taken new.taken t.0 l.taken, told_same sent old.put new.put t.1 l.put)
 
@@ -81,8 +81,8 @@ puts_trans {a} {b} {c} {first} {second} p q = record {
   faults = omega (arith, p.faults, q.faults);
 }
 
-pub puts_tells : {old new : LinkView} {part : List ℕ} (fed sent : List ℕ) → Puts old part new → Tells old fed sent
-    → Tells new fed (sent ++ part)
+pub puts_tells : {old new : LinkView} {part : List ℕ} (fed sent : List ℕ) → Puts old part new → HasCarried old fed sent
+    → HasCarried new fed (sent ++ part)
 puts_tells {old} {new} {part} fed sent p t =
     (told_same fed old.taken new.taken t.0 p.taken, told_grown sent part old.put new.put t.1 p.put)
 

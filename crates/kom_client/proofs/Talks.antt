@@ -13,7 +13,7 @@ use Rattle.kom_links.specs.Outside.{LinkView, Rose, Reads, read_bytes}
 use Rattle.kom_client.specs.declared.talk_end.TalkEnd.{TalkEnd}
 use Rattle.kom_client.specs.declared.talk_end.TalkEnd.TheVariants as end
 use Rattle.kom_client.specs.Keys.{key_lines, lines_after}
-use Rattle.kom_client.specs.Client.{Course, Turn, Agrees, IsPart, IsWhole, IsUntouched, IsTalk, HasCause, Tells}
+use Rattle.kom_client.specs.Client.{Course, Turn, Agrees, IsPart, IsWhole, IsUntouched, IsTalk, HasCause, HasCarried}
 use Rattle.kom_client.specs.Client.{Shows, answers}
 use Rattle.kom_client.specs.Client.{before, ends, client, greeted, first_turn, greeting_line, end_without_line}
 use Rattle.kom_client.specs.Talking.{World, Typing, Counts, Past, Over, IsCaused, IsCausedBy, Finishes}
@@ -68,7 +68,7 @@ pub unanswered : (ending : TalkEnd) (user bytes : List ℕ) (start : Counts) (ol
 unanswered ending user bytes start old mid at e fresh shown from puts n = (
   n.piece,
   greeting_line user,
-  subst (λ (bytes : List ℕ). Tells at.link n.piece bytes) e
+  subst (λ (bytes : List ℕ). HasCarried at.link n.piece bytes) e
       (listens_tells [] bytes n.listens
       (puts_tells [] [] puts (tells_nothing old fresh.nothing_taken fresh.nothing_put))),
   shown,
@@ -123,7 +123,7 @@ answered user bytes name start old mid prior fault at e fresh shown from from' p
       refl,
       record {
         link_tells =
-            subst (λ (bytes : List ℕ). Tells at.link u.0 bytes) e
+            subst (λ (bytes : List ℕ). HasCarried at.link u.0 bytes) e
             (listens_tells [] bytes u.1
             (puts_tells [] [] puts (tells_nothing old fresh.nothing_taken fresh.nothing_put)));
         sink_tells = shown;
@@ -143,21 +143,21 @@ no_line_first line old mid prior after fault fault' nothing h =
 
 -- a read of the keys
 pub keys_tell : {old new : LinkView} {buffer : List ℕ} (typed : List ℕ) (answer : Got) → Reads old buffer answer new
-    → Tells old typed [] → Tells new (typed ++ read_bytes answer buffer) []
+    → HasCarried old typed [] → HasCarried new (typed ++ read_bytes answer buffer) []
 keys_tell {old} {new} {buffer} typed answer r t = (
   told_grown typed (read_bytes answer buffer) old.taken new.taken t.0 r.taken,
   told_same [] old.put new.put t.1 r.put,
 )
 
 pub keys_tell_end : {old new : LinkView} {buffer : List ℕ} (typed : List ℕ) → Reads old buffer got.End new
-    → Tells old typed [] → Tells new typed []
+    → HasCarried old typed [] → HasCarried new typed []
 keys_tell_end {old} {new} {buffer} typed r t =
-    subst (λ (bytes : List ℕ). Tells new bytes []) (append-nil typed) (keys_tell typed got.End r t)
+    subst (λ (bytes : List ℕ). HasCarried new bytes []) (append-nil typed) (keys_tell typed got.End r t)
 
 pub keys_tell_failed : {old new : LinkView} {buffer : List ℕ} (typed : List ℕ) → Reads old buffer got.Failed new
-    → Tells old typed [] → Tells new typed []
+    → HasCarried old typed [] → HasCarried new typed []
 keys_tell_failed {old} {new} {buffer} typed r t =
-    subst (λ (bytes : List ℕ). Tells new bytes []) (append-nil typed) (keys_tell typed got.Failed r t)
+    subst (λ (bytes : List ℕ). HasCarried new bytes []) (append-nil typed) (keys_tell typed got.Failed r t)
 
 -- nothing more is typed
 over_typed : (turn : Turn) (typed : List ℕ) (past : Past) (ending : TalkEnd) (at : World)
@@ -171,7 +171,7 @@ or_true true = refl
 or_true false = refl
 
 pub keys_ended : (old now : Typing) (keys prior after : LinkView) (buffer typed : List ℕ) →
-    old.held ≡ [] → Types (Ok tt) typed old now → Tells prior typed [] → Reads prior buffer got.End after
+    old.held ≡ [] → Types (Ok tt) typed old now → HasCarried prior typed [] → Reads prior buffer got.End after
     → Finishes end.End keys old after now.world
 keys_ended old now keys prior after buffer typed none types tells r = λ start past s.
     let one = types [] (inl none) in
@@ -195,7 +195,7 @@ keys_ended old now keys prior after buffer typed none types tells r = λ start p
     )
 
 pub keys_failed : (old now : Typing) (keys prior after : LinkView) (buffer typed : List ℕ) →
-    old.held ≡ [] → Types (Ok tt) typed old now → Tells prior typed [] → keys.faults ≤ prior.faults
+    old.held ≡ [] → Types (Ok tt) typed old now → HasCarried prior typed [] → keys.faults ≤ prior.faults
     → Reads prior buffer got.Failed after → Finishes end.KeysFault keys old after now.world
 keys_failed old now keys prior after buffer typed none types tells small r = λ start past s.
     let one = types [] (inl none) in
@@ -220,7 +220,7 @@ caused_by end.End faults start keys at c = absurd c
 caused_by end.KeysFault faults start keys at c = absurd c
 
 pub talk_stopped : (old mid new : Typing) (ending : TalkEnd) (keys prior after : LinkView)
-    (buffer typed piece : List ℕ) → old.held ≡ [] → Types (Ok tt) typed old mid → Tells after (typed ++ piece) [] →
+    (buffer typed piece : List ℕ) → old.held ≡ [] → Types (Ok tt) typed old mid → HasCarried after (typed ++ piece) [] →
     Types (Err ending) piece mid new → Finishes ending keys old after new.world
 talk_stopped old mid new ending keys prior after buffer typed piece none types tells stops =
     λ start past s.

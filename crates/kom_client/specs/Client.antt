@@ -136,8 +136,8 @@ Agrees end.SinkFault course sent shown = IsPart course sent shown
 Agrees end.Memory course sent shown = IsPart course sent shown
 
 -- these bytes were taken from a link, and these put to it, where it tells that
-abbrev pub Tells : LinkView → List ℕ → List ℕ → Type 0
-Tells link input output =
+abbrev pub HasCarried : LinkView → List ℕ → List ℕ → Type 0
+HasCarried link input output =
     IfSome link.taken (λ bytes. bytes ≡ input) × IfSome link.put (λ bytes. bytes ≡ output)
 
 -- these bytes were put to a sink, where it tells that
@@ -169,7 +169,7 @@ pub record IsTalk (user : List ℕ) (ending : TalkEnd) (keys link : LinkView)
   pub heard : List ℕ
   pub sent : List ℕ
   pub shown : List ℕ
-  pub keys_tell : Tells keys typed []
-  pub link_tells : Tells link heard sent
+  pub keys_tell : HasCarried keys typed []
+  pub link_tells : HasCarried link heard sent
   pub sink_tells : Shows sink shown
   pub agrees : Agrees ending (client user typed heard) sent shown

@@ -14,7 +14,7 @@ use Rattle.kom_client.specs.declared.talk_end.TalkEnd.{TalkEnd}
 use Rattle.kom_client.specs.declared.talk_end.TalkEnd.TheVariants as end
 use Rattle.kom_client.specs.Keys.{Request, request_line, lines_after, key_lines}
 use Rattle.kom_client.specs.Keys.{longest_key_line}
-use Rattle.kom_client.specs.Client.{Course, Turn, Tells, Shows, Agrees, ends, before, await}
+use Rattle.kom_client.specs.Client.{Course, Turn, HasCarried, Shows, Agrees, ends, before, await}
 use Rattle.kom_client.specs.Client.{answers}
 use Rattle.kom_client.specs.Client.{shown_first, greeting_line, client}
 
@@ -114,7 +114,7 @@ pub record Past : Type 0 where
 
 -- This came to pass till now.
 pub record Stands (start : Counts) (past : Past) (at : World) : Type 0 where
-  pub link_tells : Tells at.link past.fed past.sent
+  pub link_tells : HasCarried at.link past.fed past.sent
   pub sink_tells : Shows at.sink past.shown
   pub hears : IsHearing at.splitting at.fault past.fed
       (unit.Hello past.name ∷ map unit.Line past.done)
@@ -141,7 +141,7 @@ pub record Over (past : Past) (rest : Rest) (ending : TalkEnd) (at : World) : Ty
   pub sent : List ℕ
   pub shown : List ℕ
   pub left : List Line
-  pub link_tells : Tells at.link heard sent
+  pub link_tells : HasCarried at.link heard sent
   pub sink_tells : Shows at.sink shown
   pub name : (stream_by side.Server heard).greeting ≡ Some past.name
   pub lines : (stream_by side.Server heard).lines ≡ past.done ++ left
@@ -253,7 +253,7 @@ Types (Err ending) bytes old new =
 abbrev pub Greets : Result (Unit {0}) TalkEnd → List ℕ → Counts → World → Type 0
 Greets (Ok done) user start new = (past : Past) × (past.sent ≡ greeting_line user)
     × (past.shown ≡ []) × (past.done ≡ []) × Stands start past new
-Greets (Err ending) user start new = (heard sent : List ℕ) × Tells new.link heard sent
+Greets (Err ending) user start new = (heard sent : List ℕ) × HasCarried new.link heard sent
     × Shows new.sink [] × IsCaused ending start new
     × ((keys : List ℕ) → Agrees ending (client user keys heard) sent [])
 
@@ -270,5 +270,5 @@ IsCausedBy end.Memory faults start keys at = Unit {0}
 -- What was typed is done with, and the talk is over.
 abbrev pub Finishes : TalkEnd → LinkView → Typing → LinkView → World → Type 0
 Finishes ending keys old keys' new = (start : Counts) (past : Past) → Stands start past old.world
-    → (typed : List ℕ) × Tells keys' typed [] × IsCausedBy ending keys.faults start keys' new
+    → (typed : List ℕ) × HasCarried keys' typed [] × IsCausedBy ending keys.faults start keys' new
     × Over past (answers old.turn (key_lines typed)) ending new

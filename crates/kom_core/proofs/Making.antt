@@ -11,7 +11,7 @@ use Rattle.kom_model.proofs.Soundness.{IsSound-after}
 use Rattle.kom_core.specs.declared.server_state.Made.{Made}
 use Rattle.kom_laws.proofs.Refusing.{refused-keeps}
 use Rattle.kom_core.specs.Acts.{Kinded, KeepsRowsIfRefused}
-use Rattle.kom_core.specs.Steps.{Changes, ChangesBy, Steps, IsShort, Tells, made_of}
+use Rattle.kom_core.specs.Steps.{Changes, ChangesBy, Steps, IsShort, TellsRecord, made_of}
 
 -- the act of an entry, whatever its pass and moment
 pub Changes-by : (old new : State) (entry : Entry) (what : Act) (made : Made) → entry.act ≡ what →
@@ -59,7 +59,7 @@ pub Kinded-made : (old new : State) (entry : Entry) (came : Result Made Refusal)
     Kinded old entry (record { state = new; last = Some (kept entry made) }) made.answer
 Kinded-made old new entry came made is user steps =
     let made_step : Stepped old entry new made = stepped old new entry came made is steps in
-    let tells : Tells old entry made = made_step.1 in
+    let tells : TellsRecord old entry made = made_step.1 in
     rw (Kinded, made_step.0) (
       tells.answer,
       (

@@ -44,14 +44,15 @@ IsShort state moment act.Flush true = ⊥
 IsShort state moment (act.Close session) true = ⊥
 
 -- what an act that is made tells of its record
-pub record Tells (old : State) (entry : Entry) (made : Made) : Type 0 where
+pub record TellsRecord (old : State) (entry : Entry) (made : Made) : Type 0 where
   pub session : made.session ≡ session_in old entry.act
   pub answer : made.answer ≡ kind_of old entry.act
   pub short : IsShort old entry.moment entry.act made.short
 
 -- an act was made, but for the count of entries and the moment
 abbrev pub Changes : State → Entry → State → Made → Type 0
-Changes old entry new made = Tells old entry made × (new ≡ sent old (made_of old entry made.short))
+Changes old entry new made =
+    TellsRecord old entry made × (new ≡ sent old (made_of old entry made.short))
 
 -- the same, whatever the pass and the moment of the entry
 abbrev pub ChangesBy : State → Act → State → Made → Type 0
@@ -61,7 +62,7 @@ ChangesBy old what new made =
 -- an act was made, or refused
 abbrev pub Steps : State → Entry → State → Result Made Refusal → Type 0
 Steps old entry new (Ok made) =
-    (refusal_of old entry.act ≡ None) × Tells old entry made
+    (refusal_of old entry.act ≡ None) × TellsRecord old entry made
     × (new ≡ after old (made_of old entry made.short))
 Steps old entry new (Err refusal) = (refusal_of old entry.act ≡ Some refusal) × (new ≡ old)
 

@@ -26,7 +26,8 @@ use Rattle.kom_framing.proofs.Steps.{digit_bounds, digit_move, run_ends, string_
 use Rattle.kom_framing.proofs.Steps.{one_byte, does_window_move}
 
 -- a byte that is not of one kind
-other_kind : (byte : ℕ) (sort another : ByteKind) → kind_of byte ≡ sort → (sort ≡ another → ⊥) → kind_of byte ≡ another → ⊥
+other_kind : (byte : ℕ) (sort another : ByteKind) → kind_of byte ≡ sort → (sort ≡ another → ⊥) →
+    kind_of byte ≡ another → ⊥
 other_kind byte sort another e apart same = apart (sym e ∙ same)
 
 seen_length : (window : List ℕ) (at : ℕ) → at < length window → length (take at window) ≡ at

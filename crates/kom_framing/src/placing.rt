@@ -55,8 +55,8 @@ pub fn place_number(out: &mut [u8], used: usize, joined: bool, n: u32) -> usize
     end
 }
 
-/// Writes numbers, each with a space before it but a first one that is joined, and returns the place
-/// after them.
+/// Writes numbers, each with a space before it but a first one that is joined, and returns the
+/// place after them.
 pub fn place_numbers(out: &mut [u8], used: usize, joined: bool, values: &[u32]) -> usize
     requires some { 0 < length values.now }
     requires room { used + 11 * length values.now ≤ length out.old }

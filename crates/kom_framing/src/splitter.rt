@@ -1,5 +1,5 @@
-ghost use Rattle.std.specs.Prelude.{◌≡◌, ◌≢◌, ◌↔◌, true, false, ℕ, List, [], ◌∷◌, ◌++◌, Err, Some, IsNone, IfNone};
-ghost use Rattle.std.specs.Prelude.{IfSome, MatchOption};
+ghost use Rattle.std.specs.Prelude.{◌≡◌, ◌≢◌, ◌↔◌, true, false, ℕ, List, [], ◌∷◌, ◌++◌, Err, Some};
+ghost use Rattle.std.specs.Prelude.{IsNone, IfNone, IfSome, MatchOption};
 ghost use Rattle.kom_types.specs.declared.limits.TheConstants.{LONGEST_STREAM};
 ghost use Rattle.kom_types.specs.Stream as stream;
 ghost use Rattle.kom_framing.specs.declared.units.Unit.{Unit as StreamUnit};

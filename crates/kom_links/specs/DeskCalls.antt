@@ -87,8 +87,8 @@ IsLockFault (fault.Full number) = 2 ^ 62 ≤ number
 IsLockFault fault.Memory = ⊥
 
 -- A deed and what was answered to it stand at the end of the desk's answers.
-abbrev pub Tells : {X : Type 0} → DeskView → Deed → Result X DeskFault → DeskView → Type 0
-Tells old deed answer new = new.answers ≡ old.answers ++ (deed, said answer) ∷ []
+abbrev pub IsAnswered : {X : Type 0} → DeskView → Deed → Result X DeskFault → DeskView → Type 0
+IsAnswered old deed answer new = new.answers ≡ old.answers ++ (deed, said answer) ∷ []
 
 -- A session was connected, by a number that no record of the desk has, and nothing was given to it;
 -- or the desk refused.
@@ -100,7 +100,7 @@ pub record Connects (old : DeskView) (moment : ℕ) (user host : List ℕ)
   pub given : IfOk answer (λ session. ChangesAt session [] old.gave_to new.gave_to)
   pub none_added : OnErr answer (new.mine ≡ old.mine)
   pub none_given : OnErr answer (StaysForAll old.gave_to new.gave_to)
-  pub tells : Tells old deed.Connect answer new
+  pub tells : IsAnswered old deed.Connect answer new
   pub why : IfErr answer IsConnectFault
   pub lock_full : new.lock_full ≡ (old.lock_full || is_lock_full answer)
   pub pass : new.pass ≡ old.pass
@@ -109,7 +109,7 @@ pub record Connects (old : DeskView) (moment : ℕ) (user host : List ℕ)
 pub record IsTold {X : Type 0} (old : DeskView) (deed : Deed) (answer : Result X DeskFault)
     (new : DeskView) : Type 0 where
   pub none_added : OnErr answer (new.mine ≡ old.mine)
-  pub tells : Tells old deed answer new
+  pub tells : IsAnswered old deed answer new
   pub lock_full : new.lock_full ≡ (old.lock_full || is_lock_full answer)
   pub pass : new.pass ≡ old.pass
 
@@ -159,7 +159,7 @@ pub record Flushes {X : Type 0} (old : DeskView) (moment : ℕ) (answer : Result
   pub added : OnOk answer (new.mine ≡ old.mine ++ record_of old.pass moment act.Flush 0 false ∷ [])
   pub none_added : IfErr answer (λ fault. AddsNoneOrShort old moment fault new)
   pub given : StaysForAll old.gave_to new.gave_to
-  pub tells : Tells old deed.Flush answer new
+  pub tells : IsAnswered old deed.Flush answer new
   pub why : IfErr answer IsFlushFault
   pub lock_full : new.lock_full ≡ (old.lock_full || is_lock_full answer)
   pub pass : new.pass ≡ old.pass

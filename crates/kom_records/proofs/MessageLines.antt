@@ -21,7 +21,7 @@ use Rattle.kom_records.specs.Arguments.{two_numbers, three_numbers, new_name, se
 use Rattle.kom_records.specs.ByNumber.{one_argument, two_arguments, three_arguments, arguments_of}
 use Rattle.kom_records.specs.Replies.{ended, ReadsOnly}
 use Rattle.kom_records.specs.Rules.{head, number, made}
-use Rattle.kom_records.specs.Telling.{Tells}
+use Rattle.kom_records.specs.Telling.{ReadsAs}
 use Rattle.kom_records.specs.Words.{token_of_word, tokens_of_words}
 use Rattle.kom_records.proofs.Choices.{choose}
 use Rattle.kom_records.proofs.Spelled.{on, onward, glue, split, took_same, made_is, passed}
@@ -303,7 +303,7 @@ message_back (message.TextAuxChanged of) fits =
     (onward aux_items_is of.added [] _ _ fits.1.1 refl)))
 
 pub message_only : (tokens rest : List Token) (result : Result Message ReadFault) →
-    Tells true (message_line tokens) result rest → ReadsOnly (IsMessageLine tokens) result
+    ReadsAs true (message_line tokens) result rest → ReadsOnly (IsMessageLine tokens) result
 message_only tokens rest result told =
     reads_only (message_line tokens) (IsMessageLine tokens) result rest
     (λ read tail is. message_from tokens tail read is)

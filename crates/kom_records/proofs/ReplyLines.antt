@@ -25,7 +25,7 @@ use Rattle.kom_records.specs.Records.{mark, conference_name, membership, member,
 use Rattle.kom_records.specs.Replies.{IsMadeOf, IsResult, IsReply, IsReplyLine, ReadsOnly, result_of, refusal}
 use Rattle.kom_records.specs.Replies.{reference_of, body_of, ended, reply_line}
 use Rattle.kom_records.specs.Rules.{head, head_of, number, number_told, array, made}
-use Rattle.kom_records.specs.Telling.{Tells}
+use Rattle.kom_records.specs.Telling.{ReadsAs}
 use Rattle.kom_records.specs.Words.{token_of_word, tokens_of_words}
 use Rattle.kom_records.proofs.Spelled.{IsSpelled, on, onward, glue, took_same, made_is, passed, branch, yes}
 use Rattle.kom_records.proofs.Spelled.{not, departs_not}
@@ -252,14 +252,14 @@ reply_back which reference body within (inr good) =
 -- what a reader that tells a rule's answer says of all values that are spelled
 pub reads_only : {X : Type 0} (taken : Taken X) (Is : X → Type 0) (result : Result X ReadFault) (rest : List Token) →
     ((value : X) (tail : List Token) → taken ≡ Took value tail → Is value) →
-    ((value : X) → Is value → taken ≡ Took value []) → Tells true taken result rest → ReadsOnly Is result
+    ((value : X) → Is value → taken ≡ Took value []) → ReadsAs true taken result rest → ReadsOnly Is result
 reads_only taken Is (Ok value) rest forth back told =
     (forth value rest told, λ other is. (took_same other value [] rest (sym (back other is) ∙ told)).0)
 reads_only taken Is (Err fault.Departs) rest forth back told = λ value is. departs_not (sym told ∙ back value is)
 reads_only taken Is (Err fault.Memory) rest forth back told = tt
 
 pub reply_only : (which : ResultKind) (tokens rest : List Token) (result : Result (ℕ × Reply) ReadFault) →
-    Tells true (reply_line which tokens) result rest → ReadsOnly (IsReplyLine which tokens) result
+    ReadsAs true (reply_line which tokens) result rest → ReadsOnly (IsReplyLine which tokens) result
 reply_only which tokens rest result told =
     reads_only (reply_line which tokens) (IsReplyLine which tokens) result rest
     (λ read tail is. reply_from which tokens tail read is)

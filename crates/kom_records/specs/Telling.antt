@@ -18,9 +18,9 @@ Departed room taken fault.Departs = taken ≡ Departs Malformed
 Departed room taken fault.Memory = IsTrue room
 
 -- a value and the tokens that are left, or why there is none
-abbrev pub Tells : {X : Type 0} → Bool → Taken X → Result X ReadFault → List Token → Type 0
-Tells room taken (Ok value) rest = taken ≡ Took value rest
-Tells room taken (Err found) rest = Departed room taken found
+abbrev pub ReadsAs : {X : Type 0} → Bool → Taken X → Result X ReadFault → List Token → Type 0
+ReadsAs room taken (Ok value) rest = taken ≡ Took value rest
+ReadsAs room taken (Err found) rest = Departed room taken found
 
 -- whether no token is left
 abbrev pub Ends : Result (Unit {0}) ReadFault → List Token → Type 0

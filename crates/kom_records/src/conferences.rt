@@ -1,6 +1,6 @@
 ghost use Rattle.std.specs.Prelude.{◌≡◌, true};
 ghost use Rattle.kom_records.specs.Records as records;
-ghost use Rattle.kom_records.specs.Telling.{Tells};
+ghost use Rattle.kom_records.specs.Telling.{ReadsAs};
 
 use crate::fault::ReadFault;
 use crate::tokens::Tokens;
@@ -9,7 +9,7 @@ use kom_types::{Conference, Person, UConference};
 impl Tokens<'_> {
     /// Takes what most clients want of a conference.
     pub(crate) fn uconference(&mut self) -> Result<UConference, ReadFault>
-        ensures { Tells true (records.uconference self.old) result self.new }
+        ensures { ReadsAs true (records.uconference self.old) result self.new }
     {
         let name = self.string()?;
         let kind = self.bits_8()?;
@@ -25,7 +25,7 @@ impl Tokens<'_> {
 
     /// Takes a conference.
     pub(crate) fn conference(&mut self) -> Result<Conference, ReadFault>
-        ensures { Tells true (records.conference self.old) result self.new }
+        ensures { ReadsAs true (records.conference self.old) result self.new }
     {
         let name = self.string()?;
         let kind = self.bits_8()?;
@@ -67,7 +67,7 @@ impl Tokens<'_> {
 
     /// Takes a person.
     pub(crate) fn person(&mut self) -> Result<Person, ReadFault>
-        ensures { Tells true (records.person self.old) result self.new }
+        ensures { ReadsAs true (records.person self.old) result self.new }
     {
         let user = self.string()?;
         let privileges = self.bits_16()?;

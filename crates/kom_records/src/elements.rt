@@ -3,7 +3,7 @@ ghost use Rattle.kom_types.specs.Token.{Token};
 ghost use Rattle.kom_types.specs.calls.Arguments.{Taken};
 ghost use Rattle.kom_records.specs.Records as records;
 ghost use Rattle.kom_records.specs.Rules as rule;
-ghost use Rattle.kom_records.specs.Telling.{Tells};
+ghost use Rattle.kom_records.specs.Telling.{ReadsAs};
 
 use crate::fault::ReadFault;
 use crate::tokens::Tokens;
@@ -15,7 +15,7 @@ pub(crate) trait Element: Drop {
 
     /// Takes one.
     fn take_from(tokens: &mut Tokens<'_>) -> Result<Self, ReadFault>
-        ensures { Tells true (reads tokens.old) result tokens.new };
+        ensures { ReadsAs true (reads tokens.old) result tokens.new };
 }
 
 impl Element for u32 {

@@ -1,6 +1,6 @@
 ghost use Rattle.std.specs.Prelude.{◌≡◌, List, true};
 ghost use Rattle.kom_records.specs.Records as records;
-ghost use Rattle.kom_records.specs.Telling.{Tells};
+ghost use Rattle.kom_records.specs.Telling.{ReadsAs};
 
 use crate::elements::Element;
 use crate::fault::ReadFault;
@@ -35,7 +35,7 @@ impl Element for Membership {
 impl Tokens<'_> {
     /// Takes the ranges of a membership, or how many they are.
     fn ranges(&mut self) -> Result<RangesShown, ReadFault>
-        ensures { Tells true (records.ranges self.old) result self.new }
+        ensures { ReadsAs true (records.ranges self.old) result self.new }
     {
         let count = self.number()?;
         self.ranges_by(count)
@@ -43,7 +43,7 @@ impl Tokens<'_> {
 
     /// Takes so many ranges, or the star that stands for them.
     fn ranges_by(&mut self, count: u32) -> Result<RangesShown, ReadFault>
-        ensures { Tells true (records.ranges_by count self.old) result self.new }
+        ensures { ReadsAs true (records.ranges_by count self.old) result self.new }
     {
         if count > 0 && self.is_starred() {
             self.next();

@@ -1,5 +1,5 @@
 ghost use Rattle.std.specs.Prelude.{◌≡◌, true};
-ghost use Rattle.kom_records.specs.Telling.{Tells};
+ghost use Rattle.kom_records.specs.Telling.{ReadsAs};
 ghost use Rattle.kom_records.specs.Replies.{ReadsOnly};
 ghost use Rattle.kom_records.specs.Arguments.{new_name, sent, aux_changed};
 ghost use Rattle.kom_records.specs.ByNumber.{one_argument, two_arguments, three_arguments};
@@ -22,7 +22,7 @@ pub fn read_message(alloc: Global, line: &Line) -> Result<Message, ReadFault>
 
 /// Takes a message, after which no token is left.
 fn message_line(tokens: &mut Tokens<'_>) -> Result<Message, ReadFault>
-    ensures { Tells true (message_line tokens.old) result tokens.new }
+    ensures { ReadsAs true (message_line tokens.old) result tokens.new }
 {
     let begun = tokens.head()?;
     if begun.sign != b':' {
@@ -36,7 +36,7 @@ fn message_line(tokens: &mut Tokens<'_>) -> Result<Message, ReadFault>
 
 /// Takes the arguments of a message of this number, which are so many.
 fn arguments_of(count: u32, which: u32, tokens: &mut Tokens<'_>) -> Result<Message, ReadFault>
-    ensures { Tells true (arguments_of count which tokens.old) result tokens.new }
+    ensures { ReadsAs true (arguments_of count which tokens.old) result tokens.new }
 {
     match count {
         1 => one_argument(which, tokens),
@@ -48,7 +48,7 @@ fn arguments_of(count: u32, which: u32, tokens: &mut Tokens<'_>) -> Result<Messa
 
 /// Takes the argument of message 8.
 fn one_argument(which: u32, tokens: &mut Tokens<'_>) -> Result<Message, ReadFault>
-    ensures { Tells true (one_argument which tokens.old) result tokens.new }
+    ensures { ReadsAs true (one_argument which tokens.old) result tokens.new }
 {
     match which {
         8 => {
@@ -61,7 +61,7 @@ fn one_argument(which: u32, tokens: &mut Tokens<'_>) -> Result<Message, ReadFaul
 
 /// Takes the arguments of message 9, 13, 14, 15 or 18.
 fn two_arguments(which: u32, tokens: &mut Tokens<'_>) -> Result<Message, ReadFault>
-    ensures { Tells true (two_arguments which tokens.old) result tokens.new }
+    ensures { ReadsAs true (two_arguments which tokens.old) result tokens.new }
 {
     match which {
         9 => {
@@ -97,7 +97,7 @@ fn two_arguments(which: u32, tokens: &mut Tokens<'_>) -> Result<Message, ReadFau
 
 /// Takes the arguments of message 5, 12, 16, 17 or 22.
 fn three_arguments(which: u32, tokens: &mut Tokens<'_>) -> Result<Message, ReadFault>
-    ensures { Tells true (three_arguments which tokens.old) result tokens.new }
+    ensures { ReadsAs true (three_arguments which tokens.old) result tokens.new }
 {
     match which {
         5 => new_name(tokens),
@@ -129,7 +129,7 @@ fn three_arguments(which: u32, tokens: &mut Tokens<'_>) -> Result<Message, ReadF
 
 /// Takes the arguments of message 5.
 fn new_name(tokens: &mut Tokens<'_>) -> Result<Message, ReadFault>
-    ensures { Tells true (new_name tokens.old) result tokens.new }
+    ensures { ReadsAs true (new_name tokens.old) result tokens.new }
 {
     let conference = tokens.number()?;
     let old_name = tokens.string()?;
@@ -144,7 +144,7 @@ fn new_name(tokens: &mut Tokens<'_>) -> Result<Message, ReadFault>
 
 /// Takes the arguments of message 12.
 fn sent(tokens: &mut Tokens<'_>) -> Result<Message, ReadFault>
-    ensures { Tells true (sent tokens.old) result tokens.new }
+    ensures { ReadsAs true (sent tokens.old) result tokens.new }
 {
     let recipient = tokens.number()?;
     let sender = tokens.number()?;
@@ -159,7 +159,7 @@ fn sent(tokens: &mut Tokens<'_>) -> Result<Message, ReadFault>
 
 /// Takes the arguments of message 22.
 fn aux_changed(tokens: &mut Tokens<'_>) -> Result<Message, ReadFault>
-    ensures { Tells true (aux_changed tokens.old) result tokens.new }
+    ensures { ReadsAs true (aux_changed tokens.old) result tokens.new }
 {
     let text = tokens.number()?;
     let deleted = tokens.array()?;

@@ -1,5 +1,5 @@
 ghost use Rattle.std.specs.Prelude.{◌≡◌, true, false};
-ghost use Rattle.kom_records.specs.Telling.{Tells};
+ghost use Rattle.kom_records.specs.Telling.{ReadsAs};
 ghost use Rattle.kom_records.specs.Replies.{IsReplyLine, ReadsOnly, result_of, refusal, body_of};
 ghost use Rattle.kom_records.specs.Replies.{reply_line, reference_by, reference_of};
 
@@ -78,7 +78,7 @@ fn reference_by(sign: u8, digits: &[u8]) -> Option<u32>
 
 /// Takes a reply, after which no token is left.
 fn reply_line(kind: ResultKind, tokens: &mut Tokens<'_>) -> Result<(u32, Reply), ReadFault>
-    ensures { Tells true (reply_line kind tokens.old) result tokens.new }
+    ensures { ReadsAs true (reply_line kind tokens.old) result tokens.new }
 {
     let begun = tokens.head()?;
     let body = body_of(kind, begun.sign, tokens)?;
@@ -88,7 +88,7 @@ fn reply_line(kind: ResultKind, tokens: &mut Tokens<'_>) -> Result<(u32, Reply),
 
 /// Takes the body of a reply that begins with this sign.
 fn body_of(kind: ResultKind, sign: u8, tokens: &mut Tokens<'_>) -> Result<Reply, ReadFault>
-    ensures { Tells true (body_of kind sign tokens.old) result tokens.new }
+    ensures { ReadsAs true (body_of kind sign tokens.old) result tokens.new }
 {
     match sign {
         b'=' => result_of(kind, tokens),
@@ -99,7 +99,7 @@ fn body_of(kind: ResultKind, sign: u8, tokens: &mut Tokens<'_>) -> Result<Reply,
 
 /// Takes a refusal's code and its status.
 fn refusal(tokens: &mut Tokens<'_>) -> Result<Reply, ReadFault>
-    ensures { Tells true (refusal tokens.old) result tokens.new }
+    ensures { ReadsAs true (refusal tokens.old) result tokens.new }
 {
     let code = tokens.number()?;
     let status = tokens.number()?;
@@ -108,7 +108,7 @@ fn refusal(tokens: &mut Tokens<'_>) -> Result<Reply, ReadFault>
 
 /// Takes such a result.
 fn result_of(kind: ResultKind, tokens: &mut Tokens<'_>) -> Result<Reply, ReadFault>
-    ensures { Tells true (result_of kind tokens.old) result tokens.new }
+    ensures { ReadsAs true (result_of kind tokens.old) result tokens.new }
 {
     match kind {
         ResultKind::Done => Ok(Reply::Done),

@@ -1,7 +1,7 @@
 ghost use Rattle.std.specs.Prelude.{◌≡◌, true};
 ghost use Rattle.kom_records.specs.Links.{misc_by};
 ghost use Rattle.kom_records.specs.Records as records;
-ghost use Rattle.kom_records.specs.Telling.{Tells};
+ghost use Rattle.kom_records.specs.Telling.{ReadsAs};
 
 use crate::elements::Element;
 use crate::fault::ReadFault;
@@ -20,7 +20,7 @@ impl Element for MiscInfo {
 impl Tokens<'_> {
     /// Takes the value of a link with this tag.
     fn misc_by(&mut self, tag: u32) -> Result<MiscInfo, ReadFault>
-        ensures { Tells true (misc_by tag self.old) result self.new }
+        ensures { ReadsAs true (misc_by tag self.old) result self.new }
     {
         match tag {
             0 => Ok(MiscInfo::Recipient(self.number()?)),
@@ -40,7 +40,7 @@ impl Tokens<'_> {
 
     /// Takes what is told of a text.
     pub(crate) fn text_stat(&mut self) -> Result<TextStat, ReadFault>
-        ensures { Tells true (records.text_stat self.old) result self.new }
+        ensures { ReadsAs true (records.text_stat self.old) result self.new }
     {
         let created = self.time()?;
         let author = self.number()?;
@@ -62,7 +62,7 @@ impl Tokens<'_> {
 
     /// Takes a part of the texts of a conference or an author.
     pub(crate) fn mapping(&mut self) -> Result<Mapping, ReadFault>
-        ensures { Tells true (records.mapping self.old) result self.new }
+        ensures { ReadsAs true (records.mapping self.old) result self.new }
     {
         let begin = self.number()?;
         let end = self.number()?;
@@ -78,7 +78,7 @@ impl Tokens<'_> {
 
     /// Takes the pairs of a mapping.
     fn block(&mut self) -> Result<Block, ReadFault>
-        ensures { Tells true (records.block self.old) result self.new }
+        ensures { ReadsAs true (records.block self.old) result self.new }
     {
         match self.number()? {
             0 => Ok(Block::Sparse(self.array()?)),
@@ -89,7 +89,7 @@ impl Tokens<'_> {
 
     /// Takes the pairs of a mapping that has no gap.
     fn dense(&mut self) -> Result<Block, ReadFault>
-        ensures { Tells true (records.dense self.old) result self.new }
+        ensures { ReadsAs true (records.dense self.old) result self.new }
     {
         let first = self.number()?;
         let texts = self.array()?;

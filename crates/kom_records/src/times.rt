@@ -1,6 +1,6 @@
 ghost use Rattle.std.specs.Prelude.{◌≡◌, ◌≤◌, ◌-◌, false};
 ghost use Rattle.kom_records.specs.Times as time;
-ghost use Rattle.kom_records.specs.Telling.{Tells};
+ghost use Rattle.kom_records.specs.Telling.{ReadsAs};
 ghost use Rattle.kom_records.specs.Times.{days_of_years, is_told, moment_of};
 
 use crate::fault::ReadFault;
@@ -28,7 +28,7 @@ const DAYS_TO_1970: u32 = 4_371_587;
 impl Tokens<'_> {
     /// Takes a time.
     pub(crate) fn time(&mut self) -> Result<Moment, ReadFault>
-        ensures { Tells false (time.time self.old) result self.new }
+        ensures { ReadsAs false (time.time self.old) result self.new }
     {
         let parts = self.time_parts()?;
         moment_of(&parts).ok_or(ReadFault::Departs)
@@ -36,7 +36,7 @@ impl Tokens<'_> {
 
     /// Takes the numbers of a time.
     fn time_parts(&mut self) -> Result<TimeParts, ReadFault>
-        ensures { Tells false (time.time_parts self.old) result self.new }
+        ensures { ReadsAs false (time.time_parts self.old) result self.new }
     {
         let seconds = self.number()?;
         let minutes = self.number()?;

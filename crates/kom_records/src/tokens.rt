@@ -2,7 +2,7 @@ ghost use Rattle.std.specs.Prelude.{◌≡◌, ◌≤◌, ◌^◌, length, drop,
 ghost use Rattle.kom_types.specs.calls.Arguments as argument;
 ghost use Rattle.kom_records.specs.Records.{starred};
 ghost use Rattle.kom_records.specs.Rules as rule;
-ghost use Rattle.kom_records.specs.Telling.{Next, Tells, Ends, Boxes};
+ghost use Rattle.kom_records.specs.Telling.{Next, ReadsAs, Ends, Boxes};
 
 use crate::fault::ReadFault;
 use crate::numbers::{bits_in, number_in};
@@ -99,7 +99,7 @@ impl<'a> Tokens<'a> {
 
     /// Takes the sign with which a line begins, and its number.
     pub(crate) fn head(&mut self) -> Result<Head, ReadFault>
-        ensures { Tells false (rule.head self.old) result self.new }
+        ensures { ReadsAs false (rule.head self.old) result self.new }
     {
         match self.next() {
             Some(Token::Signed(sign, digits)) => match number_in(digits) {
@@ -112,7 +112,7 @@ impl<'a> Tokens<'a> {
 
     /// Takes a number.
     pub(crate) fn number(&mut self) -> Result<u32, ReadFault>
-        ensures { Tells false (rule.number self.old) result self.new }
+        ensures { ReadsAs false (rule.number self.old) result self.new }
     {
         match self.next() {
             Some(Token::Digits(digits)) => number_in(digits).ok_or(ReadFault::Departs),
@@ -122,7 +122,7 @@ impl<'a> Tokens<'a> {
 
     /// Takes a number that ends at 255.
     pub(crate) fn byte(&mut self) -> Result<u8, ReadFault>
-        ensures { Tells false (rule.byte self.old) result self.new }
+        ensures { ReadsAs false (rule.byte self.old) result self.new }
     {
         let number = self.number()?;
         if number <= 255 {
@@ -134,7 +134,7 @@ impl<'a> Tokens<'a> {
 
     /// Takes a truth value.
     pub(crate) fn flag(&mut self) -> Result<bool, ReadFault>
-        ensures { Tells false (rule.flag self.old) result self.new }
+        ensures { ReadsAs false (rule.flag self.old) result self.new }
     {
         match self.number()? {
             0 => Ok(false),
@@ -145,7 +145,7 @@ impl<'a> Tokens<'a> {
 
     /// Takes a string, of which it makes a copy.
     pub(crate) fn string(&mut self) -> Result<Bytes, ReadFault>
-        ensures { Tells true (rule.text self.old) result self.new }
+        ensures { ReadsAs true (rule.text self.old) result self.new }
     {
         match self.next() {
             Some(Token::Text(text)) => {
@@ -160,7 +160,7 @@ impl<'a> Tokens<'a> {
 
     /// Takes eight binary digits.
     pub(crate) fn bits_8(&mut self) -> Result<u8, ReadFault>
-        ensures { Tells false (argument.bits 8 self.old) result self.new }
+        ensures { ReadsAs false (argument.bits 8 self.old) result self.new }
     {
         match self.next() {
             Some(Token::Digits(digits)) => match bits_in(digits, 8) {
@@ -173,7 +173,7 @@ impl<'a> Tokens<'a> {
 
     /// Takes four binary digits, as the first four of eight.
     pub(crate) fn bits_4(&mut self) -> Result<u8, ReadFault>
-        ensures { Tells false (rule.first_bits self.old) result self.new }
+        ensures { ReadsAs false (rule.first_bits self.old) result self.new }
     {
         match self.next() {
             Some(Token::Digits(digits)) => match bits_in(digits, 4) {
@@ -186,7 +186,7 @@ impl<'a> Tokens<'a> {
 
     /// Takes sixteen binary digits.
     pub(crate) fn bits_16(&mut self) -> Result<u16, ReadFault>
-        ensures { Tells false (argument.bits 16 self.old) result self.new }
+        ensures { ReadsAs false (argument.bits 16 self.old) result self.new }
     {
         match self.next() {
             Some(Token::Digits(digits)) => bits_in(digits, 16).ok_or(ReadFault::Departs),

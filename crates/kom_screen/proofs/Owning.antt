@@ -1,5 +1,6 @@
 -- The program's own words, and a text behind them.
-use Rattle.std.proofs.Common.{◌≡◌, ℕ, ◌<◌, ◌≤◌, ◌^◌, true, nat_lt, List, [], ◌∷◌, ◌++◌, length, All, codes, refl, ap, sym, subst, min}
+use Rattle.std.proofs.Common.{◌≡◌, ℕ, ◌<◌, ◌≤◌, ◌^◌, true, nat_lt, List, [], ◌∷◌, ◌++◌, length, All}
+use Rattle.std.proofs.Common.{codes, refl, ap, sym, subst, min}
 use Rattle.std.proofs.Common.{◌∙◌, arith, lit≤, lit<}
 use Rattle.std.specs.Fmt.{decimal}
 use Rattle.std.specs.List.{list_all}

@@ -29,7 +29,7 @@ use Rattle.kom_model.specs.Refusal.{refusal_of}
 use Rattle.kom_model.specs.Legal.{IsLegal, AreByOwners, state_after}
 use Rattle.kom_model.proofs.Closing.{IsOver, IsOver-state_after}
 use Rattle.kom_model.specs.Out.{given_along, given_by_pass}
-use Rattle.kom_session.specs.Ends.{IsEndOf, HasCause, TellsFault, IsOwn, Tells, given_to}
+use Rattle.kom_session.specs.Ends.{IsEndOf, HasCause, TellsFault, IsOwn, HasCarried, given_to}
 use Rattle.hall_desk.specs.Passes.{PassView, of_pass}
 use Rattle.hall_desk.specs.Desks.{WasOverrun, WasDropped, WasStopped, WasFull, IsKnown, IsUndrained}
 use Rattle.hall_desk.proofs.Starting.{IsStart}
@@ -405,7 +405,7 @@ pub record Service (start : State) (pass : ℕ) (history more mine added : List 
   pub refused : waits ≡ true → 2 ^ 62 < drawn
   pub input : List ℕ
   pub output : List ℕ
-  pub tells : Tells link input output
+  pub tells : HasCarried link input output
   pub talk : IsTalk link.host input output link.ended added served.session
       (given_to served.session (given_by_pass start pass served.session (history ++ more)))
       served.end waits

@@ -25,7 +25,7 @@ use Rattle.kom_model.specs.State.{State, IsSound, opening}
 use Rattle.kom_model.specs.Legal.{IsLegal, AreByOwners}
 use Rattle.kom_model.specs.Out.{out_of, given_along}
 use Rattle.kom_model.specs.Laws.{all_given, IsPrefix as IsItemPrefix}
-use Rattle.kom_session.specs.Ends.{Tells}
+use Rattle.kom_session.specs.Ends.{HasCarried}
 use Rattle.noninterference.specs.Hiding.{IsHiding}
 use Rattle.hall_desk.specs.Passes.{of_pass}
 use Rattle.hall_desk.specs.Desks.{WasOverrun, WasDropped, WasStopped, WasFull}
@@ -111,7 +111,7 @@ pub record Talks (start : State) (history mine : List Record) (drawn : ℕ) (lin
     (served : Served) : Type 0 where
   pub input : List ℕ
   pub output : List ℕ
-  pub tells : Tells link input output
+  pub tells : HasCarried link input output
   pub talk : IsTalk link.host input output link.ended mine served.session
       (given_of start served.session history) served.end (is_lock_full drawn)
   pub connected : served.session ≢ 0 → IsTrue (has_connect served.session mine)
@@ -161,8 +161,8 @@ told_sessions gate = elim gate.returned [ None ↦ [] | Some links ↦ sessions_
 
 -- What was seen is a legal history of the one-thread server from this sound state on, in which each
 -- session's acts are made by the pass that connected it; what the drains of a session gave is the
--- beginning of all that was queued for it, in order; each record is of one of the passes that have a
--- clock; each of these has served its gate by it; and different links have different sessions.
+-- beginning of all that was queued for it, in order; each record is of one of the passes that have
+-- a clock; each of these has served its gate by it; and different links have different sessions.
 pub record IsRun {L : Type 0} (view : L → LinkView) (start : State) (history : List Record)
     (drawn : ℕ) (gates : List (GateView L)) (clocks : List (Option (List ℕ))) : Type 0 where
   pub sound : IsSound start

@@ -53,8 +53,8 @@ pub record IsUntouched (link : LinkView) : Type 0 where
   pub no_read : IfSome link.reads (λ looks. looks ≡ [])
 
 -- these bytes were read, and these put, where the link tells that
-abbrev pub Tells : LinkView → List ℕ → List ℕ → Type 0
-Tells link input output =
+abbrev pub HasCarried : LinkView → List ℕ → List ℕ → Type 0
+HasCarried link input output =
     IfSome link.taken (λ bytes. bytes ≡ input) × IfSome link.put (λ bytes. bytes ≡ output)
 
 -- a record of the session, or a flush

@@ -245,8 +245,8 @@ IfClosed risen old desk gave result desk' gave' = (start : Seen) (link : LinkVie
     × AreTimed start.gave gave added)
     → IsKept start old (seen desk link gave) → ServesLink start result (seen desk' link gave')
 
--- A session was closed, if there is one: no record was added to a desk, or the session's Close, which
--- has a reading of the clock.
+-- A session was closed, if there is one: no record was added to a desk, or the session's Close,
+-- which has a reading of the clock.
 pub record AddsClose (session : ℕ) (old : DeskView) (gave : Option (List ℕ)) (new : DeskView)
     (gave' : Option (List ℕ)) : Type 0 where
   pub added : List Record

@@ -22,7 +22,7 @@ use Rattle.kom_links.specs.Talk.{Step, steps_of, lines_before, printed, AreTimed
 use Rattle.kom_session.specs.declared.phase.Phase.{Phase}
 use Rattle.kom_session.specs.declared.phase.Phase.TheVariants as phase
 use Rattle.kom_session.specs.Course.{IsFlushed, IsSettled, IsRecent, IsCourse}
-use Rattle.kom_session.specs.Ends.{IsOwn, IsUntouched, HasCause, Tells, TellsFault, given_to}
+use Rattle.kom_session.specs.Ends.{IsOwn, IsUntouched, HasCause, HasCarried, TellsFault, given_to}
 use Rattle.kom_session.specs.Known.{Known, Seen, LeavesOthers}
 use Rattle.kom_session.specs.Left.{IsSending, IfSending, IsSentAll}
 use Rattle.kom_session.specs.Waits.{IsChecked, AreAnswered, NoneWaits}
@@ -206,7 +206,7 @@ steps_in now session added =
 pub record ServesLink (old : Seen) (result : Served) (new : Seen) : Type 0 where
   pub talk : Adds old.desk new.desk (λ added answers. AllByRecursion (IsOwn result.session) added
       × AreTimed old.gave new.gave added
-      × (input output : List ℕ) × Tells new.link input output
+      × (input output : List ℕ) × HasCarried new.link input output
       × TellsFault old.link.faults new.link.faults (refused result.session answers) input result.end
       × IsTalk old.link.host input output new.link.ended added result.session
       (given_to result.session (new.desk.gave_to result.session)) result.end new.desk.lock_full)

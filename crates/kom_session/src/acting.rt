@@ -207,7 +207,8 @@ impl Machine {
     }
 
     /// Closes the session of a service that is over, if there is one; `risen` says whether the link
-    /// failed since the start. It is served so also where nobody asks for the readings of the clock.
+    /// failed since the start. It is served so also where nobody asks for the readings of the
+    /// clock.
     pub fn close<K: Desk, C: Clock>(&mut self, desk: &mut K, clock: &mut C, risen: bool) -> Served
         requires over { IsDone (known self.old).stage }
         requires can { CanGo (known self.old) (K.view desk.old) (C.gave clock.old) }

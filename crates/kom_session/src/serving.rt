@@ -6,7 +6,8 @@ ghost use Rattle.kom_links.specs.Outside.{LinkView, Writes};
 ghost use Rattle.kom_links.specs.Answers.{refused, asks_in};
 ghost use Rattle.kom_links.specs.Records.{has_connect};
 ghost use Rattle.kom_links.specs.Talk.{IsTalk, AreTimed};
-ghost use Rattle.kom_session.specs.Ends.{HasCause, TellsFault, IsOwn, IsUntouched, Tells, given_to};
+ghost use Rattle.kom_session.specs.Ends.{HasCause, TellsFault, IsOwn, IsUntouched, HasCarried};
+ghost use Rattle.kom_session.specs.Ends.{given_to};
 ghost use Rattle.kom_session.specs.Known.{Seen, seen, state, known, unwritten, LeavesOthers};
 ghost use Rattle.kom_session.specs.Kept.{IsKept, Goes, MayRead, MayAct, MayAsk, MayFlush, MayDrain};
 ghost use Rattle.kom_session.specs.Kept.{IsDone, IsOn, IsAskedFor};
@@ -39,7 +40,7 @@ pub fn serve_link<R: Wait, K: Desk, L: Link, C: Clock>(
     ensures talk { Adds (K.view desk.old) (K.view desk.new) (λ added answers.
         AllByRecursion (IsOwn result.session) added
         × AreTimed (C.gave clock.old) (C.gave clock.new) added
-        × (input output : List ℕ) × Tells (L.view link.new) input output
+        × (input output : List ℕ) × HasCarried (L.view link.new) input output
         × TellsFault (L.view link.old).faults (L.view link.new).faults
         (refused result.session answers) input result.end
         × IsTalk (L.view link.old).host input output (L.view link.new).ended added result.session

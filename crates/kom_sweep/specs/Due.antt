@@ -174,8 +174,8 @@ all_let_go rooms moment stat children =
     else lets_go moment (age moment stat) children without_recipients
 
 -- A text is due that was told, that has no mark and no item that keeps it, all of whose comments
--- and footnotes were told, that nobody names, and that each recipient lets go. Where it is not known
--- what is named, none is due.
+-- and footnotes were told, that nobody names, and that each recipient lets go. Where it is not
+-- known what is named, none is due.
 abbrev pub is_due_by : ℕ → Walk Room → ℕ → Option TextStat → List (ℕ × Option Reply) → Bool
 is_due_by moment rooms text None children = false
 is_due_by moment rooms text (Some stat) children = is_whole rooms && ((stat.marks == 0)

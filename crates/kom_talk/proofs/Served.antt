@@ -15,7 +15,7 @@ use Rattle.kom_links.specs.Records.{is_connect, has_connect, has_session}
 use Rattle.kom_links.specs.Talk.{IsTalk, AreTimed}
 use Rattle.kom_hub.specs.Passing.{IsBlank, IsSeatOf}
 use Rattle.kom_hub.specs.Seats.{is_flush, is_shown}
-use Rattle.kom_session.specs.Ends.{HasCause, TellsFault, IsOwn, Tells, given_to}
+use Rattle.kom_session.specs.Ends.{HasCause, TellsFault, IsOwn, HasCarried, given_to}
 use Rattle.kom_session.specs.Kept.{IsKept, IfClosed, AddsClose}
 use Rattle.kom_session.specs.Known.{Known, Seen, seen}
 use Rattle.kom_session.specs.Left.{IfSending, IsSentAll}
@@ -44,7 +44,7 @@ served_link start desk link served blank fresh s =
     let talk = all_added start.desk desk (λ added answers.
     AllByRecursion (IsOwn served.session) added
     × AreTimed start.gave None added
-    × (input output : List ℕ) × Tells link input output
+    × (input output : List ℕ) × HasCarried link input output
     × TellsFault start.link.faults link.faults (refused served.session answers) input served.end
     × IsTalk start.link.host input output link.ended added served.session given served.end
     desk.lock_full) blank s.talk in

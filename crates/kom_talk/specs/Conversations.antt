@@ -8,7 +8,7 @@ use Rattle.kom_links.specs.Outside.{LinkView, IsFresh}
 use Rattle.kom_links.specs.Records.{has_connect}
 use Rattle.kom_links.specs.Talk.{Step, steps_of, IsTalk}
 use Rattle.kom_hub.specs.Passing.{IsBlank}
-use Rattle.kom_session.specs.Ends.{HasCause, TellsFault, IsOwn, Tells, given_to}
+use Rattle.kom_session.specs.Ends.{HasCause, TellsFault, IsOwn, HasCarried, given_to}
 use Rattle.kom_session.specs.Kept.{IsKept}
 use Rattle.kom_session.specs.Known.{Seen, State, state, seen, known}
 use Rattle.kom_session.specs.Left.{IfSending, IsSentAll}
@@ -39,7 +39,7 @@ steps_at session desk = steps_of session desk.mine (given_to session (desk.gave_
 pub record IsServedLink (desk : DeskView) (link : LinkView) (served : Served) : Type 0 where
   pub input : List ℕ
   pub output : List ℕ
-  pub tells : Tells link input output
+  pub tells : HasCarried link input output
   pub talk : IsTalk link.host input output link.ended desk.mine served.session
       (given_to served.session (desk.gave_to served.session)) served.end desk.lock_full
   pub own : AllByRecursion (IsOwn served.session) desk.mine

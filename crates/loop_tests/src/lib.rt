@@ -1,6 +1,6 @@
-//! Tests of what waits, over doors in memory whose waits, faults and ends come by script: the loop of
-//! a session at a scripted desk, runs of the top call, with workers side by side too, and the talk
-//! of a client; of these doors themselves; and of a server and a client in one process, over a
+//! Tests of what waits, over doors in memory whose waits, faults and ends come by script: the loop
+//! of a session at a scripted desk, runs of the top call, with workers side by side too, and the
+//! talk of a client; of these doors themselves; and of a server and a client in one process, over a
 //! socket.
 #![tactic(auto)]
 

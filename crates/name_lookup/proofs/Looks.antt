@@ -8,7 +8,7 @@ use Rattle.std.proofs.lemmas.List.{take_all}
 use Rattle.name_lookup.specs.declared.steps.Step.{Step}
 use Rattle.name_lookup.specs.declared.steps.Step.TheVariants.{Found, Seek}
 use Rattle.name_lookup.specs.Letters.{after_word, first_word, ends_word, matches}
-use Rattle.name_lookup.specs.Steps.{Tells, Passes, Bumps}
+use Rattle.name_lookup.specs.Steps.{IsStepOf, Passes, Bumps}
 use Rattle.name_lookup.proofs.Skips.{Hit, To, Past, over, skip, wrap, bumped, wrap-over, bumped-take}
 use Rattle.name_lookup.proofs.Skips.{through_word-ended, through_word-all, tells_found, tells_seek, tells_end}
 
@@ -43,7 +43,7 @@ module _ (pattern name : List ℕ) (start : ℕ) (target : List ℕ) (asked : �
 
   -- the name has ended
   pub told_ended : (rest after : List ℕ) → eqb asked 32 ≡ true → Passes false left rest target after →
-      Tells (cond (matches later []) Found Seek) pattern name after
+      IsStepOf (cond (matches later []) Found Seek) pattern name after
   told_ended rest after blank passes = by (matches later []) refl
     where
       ends : ends_word left ≡ false
@@ -58,7 +58,7 @@ module _ (pattern name : List ℕ) (start : ℕ) (target : List ℕ) (asked : �
           ∙ ap (λ l. l ++ left) (take-append-drop start target)
           ∙ ap (λ l. target ++ l) (sym (through_word-all left ends)) ∙ sym passes.target
 
-      by : (all : Bool) → matches later [] ≡ all → Tells (cond all Found Seek) pattern name after
+      by : (all : Bool) → matches later [] ≡ all → IsStepOf (cond all Found Seek) pattern name after
       by true is =
           tells_found pattern name after
           (told ∙ ap (wrap (take start target) (drop start target)) (here ∙ ap (λ b. cond b Hit (To left)) is))
@@ -83,7 +83,7 @@ module _ (pattern name : List ℕ) (start : ℕ) (target : List ℕ) (asked : �
 
   pub told_above : (letter : Option ℕ) (rest after : List ℕ) (step : Step) → eqb asked 32 ≡ false →
       MatchOption letter ((left ≡ []) × (rest ≡ [])) (λ l. left ≡ l ∷ rest) → letter ≢ Some asked →
-      option_map_or (ltb asked) letter false ≡ true → Bumps start target step after → Tells step pattern name after
+      option_map_or (ltb asked) letter false ≡ true → Bumps start target step after → IsStepOf step pattern name after
   told_above letter rest after step other gives unlike above bumps = by start within past bumps
     where
       past : skip pattern name ≡ bumped (take start target)
@@ -92,17 +92,17 @@ module _ (pattern name : List ℕ) (start : ℕ) (target : List ℕ) (asked : �
           (other_letter letter rest other gives unlike ∙ ap (λ b. cond b Past (To (first_word (asked ∷ later)))) above)
 
       by : (at : ℕ) → at ≤ length target → skip pattern name ≡ bumped (take at target) → Bumps at target step after →
-          Tells step pattern name after
+          IsStepOf step pattern name after
       by zero le is bumps =
-          subst (λ s. Tells s pattern name after) (sym bumps) (tells_end pattern name after is)
+          subst (λ s. IsStepOf s pattern name after) (sym bumps) (tells_end pattern name after is)
       by (suc at) le is bumps =
-          subst (λ s. Tells s pattern name after) (sym bumps.0)
+          subst (λ s. IsStepOf s pattern name after) (sym bumps.0)
           (tells_seek pattern name after (is ∙ bumped-take at target le ∙ ap To (sym bumps.1)))
 
   pub told_below : (letter : Option ℕ) (rest after : List ℕ) → eqb asked 32 ≡ false →
       MatchOption letter ((left ≡ []) × (rest ≡ [])) (λ l. left ≡ l ∷ rest) → letter ≢ Some asked →
       option_map_or (ltb asked) letter false ≡ false → after ≡ target ++ first_word (asked ∷ later) →
-      Tells Seek pattern name after
+      IsStepOf Seek pattern name after
   told_below letter rest after other gives unlike below is =
       let word = first_word (asked ∷ later) in
       tells_seek pattern name after

@@ -8,7 +8,7 @@ use Rattle.std.proofs.lemmas.Cmp.{lists_total, nat_cmp_total, tied_itself}
 use Rattle.name_lookup.specs.Letters.{after_word, first_word, through_word, ends_word, matches}
 use Rattle.std.proofs.lemmas.List.{take_all, take-append-le}
 use Rattle.name_lookup.specs.declared.steps.Step.TheVariants.{Found, Seek, End}
-use Rattle.name_lookup.specs.Steps.{NoneUpTo, NoneFrom, Tells}
+use Rattle.name_lookup.specs.Steps.{NoneUpTo, NoneFrom, IsStepOf}
 use Rattle.name_lookup.specs.Order.{letters_cmp}
 use Rattle.name_lookup.proofs.Words.{HasNoBlank, after_word-joined, after_word-none}
 
@@ -337,13 +337,13 @@ skip_holds (asked ∷ pattern) name = by (skip_holds pattern) (cases_Bool (eqb a
         (at_letter asked (first_word (asked ∷ pattern)) (skip pattern) name)) (asked ∷ pattern) name in
         subst P (sym other) (letter_holds asked pattern other name rest)
 
-pub tells_found : (pattern name target : List ℕ) → skip pattern name ≡ Hit → Tells Found pattern name target
+pub tells_found : (pattern name target : List ℕ) → skip pattern name ≡ Hit → IsStepOf Found pattern name target
 tells_found pattern name target is = subst (λ told. Holds told pattern name) is (skip_holds pattern name)
 
-pub tells_seek : (pattern name target : List ℕ) → skip pattern name ≡ To target → Tells Seek pattern name target
+pub tells_seek : (pattern name target : List ℕ) → skip pattern name ≡ To target → IsStepOf Seek pattern name target
 tells_seek pattern name target is = subst (λ told. Holds told pattern name) is (skip_holds pattern name)
 
-pub tells_end : (pattern name target : List ℕ) → skip pattern name ≡ Past → Tells End pattern name target
+pub tells_end : (pattern name target : List ℕ) → skip pattern name ≡ Past → IsStepOf End pattern name target
 tells_end pattern name target is = subst (λ told. Holds told pattern name) is (skip_holds pattern name)
 
 -- ---- a look that has come so far: past some words, and some letters of the next

@@ -13,7 +13,7 @@ use Rattle.name_lookup.specs.declared.walking.Passed.{Passed}
 use Rattle.name_lookup.specs.Blocks.{StandsAt}
 use Rattle.name_lookup.specs.Letters.{letters_of, matches}
 use Rattle.name_lookup.specs.Order.{letters_cmp, name_in, letters_in, is_below, IsByName}
-use Rattle.name_lookup.specs.Steps.{Tells}
+use Rattle.name_lookup.specs.Steps.{IsStepOf}
 use Rattle.name_lookup.specs.Walks.{StopsBy, PassesFound}
 use Rattle.name_lookup.proofs.Orders.{not_below_later}
 
@@ -61,7 +61,7 @@ module _ (entries : List (ℕ × List ℕ)) (order pattern : List ℕ) (place : 
     (there : place < length order) where
   -- what a look tells of the names after the one at a place
   pub none_sought : (target : List ℕ) (sought : ℕ) → sought ≤ length order →
-      Tells Seek pattern (letters_in entries (get_or order place 0)) target →
+      IsStepOf Seek pattern (letters_in entries (get_or order place 0)) target →
       AllWithin (λ number. is_lt (letters_cmp (letters_in entries number) target) ≡ true) order 0 sought →
       (k d : ℕ) → place ≤ k → k < max sought (place + 1) →
       matches pattern (letters_in entries (get_or order k d)) ≡ false
@@ -76,7 +76,7 @@ module _ (entries : List (ℕ × List ℕ)) (order pattern : List ℕ) (place : 
           (not_below_later entries order sorted place k 0 low (omega arith))
           (below k 0 (omega arith) (omega arith))
 
-  pub none_later : (target : List ℕ) → Tells End pattern (letters_in entries (get_or order place 0)) target →
+  pub none_later : (target : List ℕ) → IsStepOf End pattern (letters_in entries (get_or order place 0)) target →
       (k d : ℕ) → place ≤ k → k < length order → matches pattern (letters_in entries (get_or order k d)) ≡ false
   none_later target tells k d low high =
       ap (λ number. matches pattern (letters_in entries number)) (get_or_default order k d 0 high)
@@ -85,12 +85,12 @@ module _ (entries : List (ℕ × List ℕ)) (order pattern : List ℕ) (place : 
 -- what a step tells where a walk along some numbers stops
 pub stops_by : (step : Step) (entries : List (ℕ × List ℕ)) (pattern ahead : List ℕ) (len : ℕ) (name target : List ℕ) →
     (step ≡ Found → ⊥) → len < length ahead → name ≡ name_in entries (get_or ahead len 0) →
-    Tells step pattern (letters_of name) target → StopsBy step entries pattern ahead len target
+    IsStepOf step pattern (letters_of name) target → StopsBy step entries pattern ahead len target
 stops_by Found entries pattern ahead len name target other lt is tells = absurd (other refl)
 stops_by Seek entries pattern ahead len name target other lt is tells =
-    (lt, subst (λ n. Tells Seek pattern (letters_of n) target) is tells)
+    (lt, subst (λ n. IsStepOf Seek pattern (letters_of n) target) is tells)
 stops_by End entries pattern ahead len name target other lt is tells =
-    (lt, subst (λ n. Tells End pattern (letters_of n) target) is tells)
+    (lt, subst (λ n. IsStepOf End pattern (letters_of n) target) is tells)
 
 module _ (entries : List (ℕ × List ℕ)) (order pattern ahead : List ℕ) (place : ℕ) (passed : Passed)
     (target : List ℕ) (sorted : IsByName entries order) (stands : StandsAt ahead place order)
@@ -122,8 +122,8 @@ module _ (entries : List (ℕ × List ℕ)) (order pattern ahead : List ℕ) (pl
       subst (λ s. StopsBy s entries pattern ahead passed.len target) is went.stops in
       let lt : passed.len < length ahead = stops.0 in
       let there : place + passed.len < length order = omega (arith, stands.within) in
-      let tells : Tells Seek pattern (letters_in entries (get_or order (place + passed.len) 0)) target =
-      subst (λ n. Tells Seek pattern (letters_in entries n) target) (stands.same passed.len lt) stops.1 in
+      let tells : IsStepOf Seek pattern (letters_in entries (get_or order (place + passed.len) 0)) target =
+      subst (λ n. IsStepOf Seek pattern (letters_in entries n) target) (stands.same passed.len lt) stops.1 in
       let within : max sought (place + passed.len + 1) ≤ length order = omega arith in (
         within,
         filter_on (λ number. matches pattern (letters_in entries number)) order (place + passed.len)
@@ -140,8 +140,8 @@ module _ (entries : List (ℕ × List ℕ)) (order pattern ahead : List ℕ) (pl
       subst (λ s. StopsBy s entries pattern ahead passed.len target) is went.stops in
       let lt : passed.len < length ahead = stops.0 in
       let there : place + passed.len < length order = omega (arith, stands.within) in
-      let tells : Tells End pattern (letters_in entries (get_or order (place + passed.len) 0)) target =
-      subst (λ n. Tells End pattern (letters_in entries n) target) (stands.same passed.len lt) stops.1 in
+      let tells : IsStepOf End pattern (letters_in entries (get_or order (place + passed.len) 0)) target =
+      subst (λ n. IsStepOf End pattern (letters_in entries n) target) (stands.same passed.len lt) stops.1 in
       filter_on (λ number. matches pattern (letters_in entries number)) order (place + passed.len) (length order)
       (omega arith) (omega arith)
       (none_later entries order pattern (place + passed.len) sorted there target tells) ∙ walked_on

@@ -17,11 +17,11 @@ NoneFrom pattern name = (other : List ℕ) → is_lt (letters_cmp other name) �
 
 -- what a step tells of a pattern and a name: the pattern finds it; or no name up to a target; or
 -- none from it on
-abbrev pub Tells : Step → List ℕ → List ℕ → List ℕ → Type 0
-Tells Found pattern name target = IsTrue (matches pattern name)
-Tells Seek pattern name target =
+abbrev pub IsStepOf : Step → List ℕ → List ℕ → List ℕ → Type 0
+IsStepOf Found pattern name target = IsTrue (matches pattern name)
+IsStepOf Seek pattern name target =
     (matches pattern name ≡ false) × NoneUpTo pattern name target
-Tells End pattern name target = NoneFrom pattern name
+IsStepOf End pattern name target = NoneFrom pattern name
 
 -- the letters of a word, with its blank if it has one, are put after others
 pub record Passes (ended : Bool) (old new before after : List ℕ) : Type 0 where

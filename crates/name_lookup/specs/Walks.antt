@@ -5,15 +5,15 @@ use Rattle.name_lookup.specs.declared.steps.Step.TheVariants.{Found, Seek, End}
 use Rattle.name_lookup.specs.declared.walking.Passed.{Passed}
 use Rattle.name_lookup.specs.Letters.{matches}
 use Rattle.name_lookup.specs.Order.{letters_in}
-use Rattle.name_lookup.specs.Steps.{Tells}
+use Rattle.name_lookup.specs.Steps.{IsStepOf}
 
 -- the step at the first of some numbers whose name a pattern does not find, if there is one
 abbrev pub StopsBy : Step → List (ℕ × List ℕ) → List ℕ → List ℕ → ℕ → List ℕ → Type 0
 StopsBy Found entries pattern ahead place target = place ≡ length ahead
 StopsBy Seek entries pattern ahead place target = (place < length ahead)
-    × Tells Seek pattern (letters_in entries (slice_index ahead place)) target
+    × IsStepOf Seek pattern (letters_in entries (slice_index ahead place)) target
 StopsBy End entries pattern ahead place target = (place < length ahead)
-    × Tells End pattern (letters_in entries (slice_index ahead place)) target
+    × IsStepOf End pattern (letters_in entries (slice_index ahead place)) target
 
 -- a pattern finds the names of so many numbers, and there the walk stops
 pub record PassesFound (entries : List (ℕ × List ℕ)) (pattern ahead : List ℕ) (passed : Passed)

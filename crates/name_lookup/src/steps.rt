@@ -2,7 +2,7 @@ ghost use Rattle.std.specs.Prelude.{◌≡◌, ◌++◌, [], IfOk, OnOk, false, 
 ghost use Rattle.std.specs.Prelude.{if◌then◌else◌};
 ghost use Rattle.std.specs.Option.{option_map_or};
 ghost use Rattle.name_lookup.specs.Letters.{letters_of, letters_left, first_word, matches};
-ghost use Rattle.name_lookup.specs.Steps.{Tells, Passes, Bumps};
+ghost use Rattle.name_lookup.specs.Steps.{IsStepOf, Passes, Bumps};
 
 use crate::letters::Letters;
 use kom_types::Memory;
@@ -21,7 +21,7 @@ pub(crate) enum Step {
 /// What a walk does at a name, by the pattern's letters. The target is set where it is to seek one.
 pub(crate) fn look_at(pattern: &[u8], name: &[u8], target: &mut Vec<u8>) -> Result<Step, Memory>
     ensures { IfOk result
-        (λ step. Tells step pattern.now (letters_of name.now) target.new.items) }
+        (λ step. IsStepOf step pattern.now (letters_of name.now) target.new.items) }
 {
     target.clear();
     let mut letters = Letters::of(name);

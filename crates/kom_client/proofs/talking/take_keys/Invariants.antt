@@ -1,7 +1,7 @@
 -- What was typed so far was taken.
 use Rattle.std.proofs.Common.{◌≤◌, ℕ, List, [], Ok, Result}
 use Rattle.kom_client.specs.declared.talk_end.TalkEnd.{TalkEnd}
-use Rattle.kom_client.specs.Client.{Tells}
+use Rattle.kom_client.specs.Client.{HasCarried}
 use Rattle.kom_client.specs.Talking.{Types}
 use Rattle.kom_client.specs.Talkers.{typing}
 use Rattle.kom_client.proofs.talking.take_keys.Given as goal
@@ -13,7 +13,7 @@ invariant-loop g l =
       can : (goal.iterator-loop g).can_next l.iterator';
       finite : (goal.iterator-loop g).is_finite l.iterator';
       faults : (g.K.Link.view l.fn.keys).faults ≤ (g.K.Link.view l.keys).faults;
-      typed : (typed : List ℕ) × Tells (g.K.Link.view l.keys) typed []
+      typed : (typed : List ℕ) × HasCarried (g.K.Link.view l.keys) typed []
           × Types one typed
           (typing l.fn.talker l.fn.line.items (g.L.Link.view l.fn.link) (g.S.Sink.view l.fn.out))
           (typing l.talker l.line.items (g.L.Link.view l.link) (g.S.Sink.view l.out));

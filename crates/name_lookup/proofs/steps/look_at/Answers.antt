@@ -4,7 +4,7 @@ use Rattle.std.proofs.lemmas.Bool.{eq-eqb, ne_eqb}
 use Rattle.std.proofs.lemmas.Bool.Decides.{nat_tests}
 use Rattle.std.proofs.lemmas.Grind.{common_steps}
 use Rattle.name_lookup.specs.Letters.{letters_of, letters_left, first_word}
-use Rattle.name_lookup.specs.Steps.{Passes, Tells, Bumps}
+use Rattle.name_lookup.specs.Steps.{Passes, IsStepOf, Bumps}
 use Rattle.name_lookup.proofs.Skips.{skip, wrap}
 use Rattle.name_lookup.proofs.Looks.{Told, told_word, told_ended, told_above, told_below, told_found, if_ok}
 use Rattle.name_lookup.proofs.steps.look_at.Goals as goal
@@ -56,7 +56,7 @@ returns-then-is_above c =
     let above : option_map_or (λ l. ltb asked l) c.next-letter.result false ≡ true =
     sym c.is_above.ensures ∙ c.if-is_above.true in
     if_ok (λ step. Bumps c.loop-asked.start target step c.pass_word.new.target.items)
-    (λ step. Tells step pattern name c.pass_word.new.target.items) c.pass_word.result
+    (λ step. IsStepOf step pattern name c.pass_word.new.target.items) c.pass_word.result
     (λ step bumps. told_above pattern name c.loop-asked.start target asked later left c.loop-asked.invariant.within told
     c.next-letter.result rest c.pass_word.new.target.items step (ne_eqb asked 32 c.if-asked-eq32.false)
     c.next-letter.ensures.steps unlike above bumps)

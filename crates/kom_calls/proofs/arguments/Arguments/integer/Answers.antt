@@ -5,7 +5,7 @@ use Rattle.kom_types.specs.Token.{Token, integer_of}
 use Rattle.kom_types.specs.calls.Arguments.{Taken, integer}
 use Rattle.kom_calls.specs.declared.fault.ArgumentFault.{ArgumentFault}
 use Rattle.kom_calls.specs.declared.fault.ArgumentFault.TheVariants as fault
-use Rattle.kom_calls.specs.Telling.{Tells}
+use Rattle.kom_calls.specs.Telling.{ReadsAs}
 use Rattle.kom_calls.proofs.Readings.{integer_at, integer_by, told_integer}
 use Rattle.kom_calls.proofs.arguments.Arguments.integer.Goals as goal
 
@@ -15,8 +15,8 @@ returns c =
     let place : ℕ = c.self.inside.place in
     let rest : List Token = drop (place + 1) tokens in
     let spelled : Option ℕ = option_and_then integer_of (slice_get tokens place) in
-    subst (λ (taken : Taken ℕ). Tells false taken c.ok_or.result rest)
+    subst (λ (taken : Taken ℕ). ReadsAs false taken c.ok_or.result rest)
     (sym (integer_at tokens place) ∙ ap integer c.self.view_is)
-    (subst (λ (result : Result ℕ ArgumentFault). Tells false (integer_by spelled rest) result rest)
+    (subst (λ (result : Result ℕ ArgumentFault). ReadsAs false (integer_by spelled rest) result rest)
     (ap (λ (told : Option ℕ). ok_or told fault.Malformed) (sym c.integer.ensures) ∙ sym c.ok_or.ensures.value)
     (told_integer spelled rest))
