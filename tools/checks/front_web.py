@@ -26,7 +26,7 @@ sys.path.insert(0, str(pathlib.Path(__file__).resolve().parents[1] / "common"))
 from built import ROOT, make_store, program_of, script
 from doors import NAME, Front, free_port, is_closed, kill_all, make_certificate
 from protocol import string
-from served import PATIENCE, Server, folder_in_memory, is_free, limit_seconds
+from served import PATIENCE, Server, folder_in_memory, is_heard, limit_seconds
 from tried import Tried
 
 try:
@@ -321,7 +321,7 @@ async def try_nginx(place, front):
     nginx = subprocess.Popen(["nginx", "-e", folder / "log", "-c", folder / "conf"])
     try:
         end = time.monotonic() + PATIENCE
-        while is_free(port) and nginx.poll() is None and time.monotonic() < end:
+        while not is_heard(port) and nginx.poll() is None and time.monotonic() < end:
             await asyncio.sleep(0.02)
         async with place.browser("127.0.0.5") as browser:
             status, headers, body = await browser.get(f"https://{NAME}:{port}/")

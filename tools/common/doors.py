@@ -9,7 +9,7 @@ import time
 
 from built import ROOT, Wrong
 from protocol import string
-from served import PATIENCE, Server, Session, is_free
+from served import PATIENCE, Server, Session, is_free, is_heard
 
 FRONT = ROOT / "contrib" / "komd-front"
 NAME = "localhost"
@@ -91,7 +91,7 @@ class Front:
         """Waits until somebody listens at the ports."""
         end = time.monotonic() + PATIENCE
         for port in filter(None, ports):
-            while is_free(port):
+            while not is_heard(port):
                 if self.process.poll() is not None or time.monotonic() > end:
                     raise Wrong(f"the door does not listen: {self.told()}")
                 time.sleep(0.02)

@@ -51,6 +51,16 @@ def has_ipv6():
         return False
 
 
+def is_heard(port):
+    """Whether somebody listens at a port. The port is left alone, so that nobody who is about to take it is refused."""
+    for family in ("tcp", "tcp6"):
+        for line in pathlib.Path("/proc/self/net", family).read_text(encoding="ascii").splitlines()[1:]:
+            _, local, _, state = line.split()[:4]
+            if state == "0A" and int(local.rpartition(":")[2], 16) == port:
+                return True
+    return False
+
+
 def is_free(port):
     """Whether nobody listens at a port of any address."""
     for family, address in ((socket.AF_INET, "0.0.0.0"), (socket.AF_INET6, "::")):

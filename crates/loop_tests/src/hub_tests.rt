@@ -21,7 +21,7 @@ const LINES: usize = 10_000;
 
 /// The call at which a link or a gate fails that gives something at its first one, and nothing
 /// between.
-const LAST: u64 = 100_000;
+const LAST: u64 = 1_000_002;
 
 /// The clients of one gate are served by one worker.
 fn serve<R: Abort + Threads + Wait + Sync>(
