@@ -1,8 +1,9 @@
 #!/usr/bin/env python3
-"""Serves clients that are silent by `komd serve` with two workers, and tells its clock the time: silent_clients.py [PROGRAM]
+"""Serves clients that are silent with two workers, and tells the server's clock the time: silent_clients.py [PROGRAM [serve|hub]]
 
 A library that is loaded before the C library has the clock stand still unless this script tells it to go on, and cuts each wait short:
-so days pass in seconds. Clients of each kind take both workers, and a third waits for one of them:
+so days pass in seconds. By `serve`, unless the word is hub, clients of each kind take both workers, and a third waits for one of them;
+by `hub` the third is answered beside them:
 
 - one that sends a letter, or a letter of its greeting each nine seconds, is there after 29 seconds, and gone after 30;
 - one that greets and sends no more, or a line feed each minute, is there a second before 30 minutes, and gone after them;
@@ -67,8 +68,8 @@ int epoll_wait(int set, struct epoll_event *events, int count, int millis) {
 class Late:
     """The clock of a server."""
 
-    def __init__(self, folder):
-        self.path, self.seconds, self.server = folder / "later", DAY, None
+    def __init__(self, folder, word):
+        self.path, self.seconds, self.server, self.word = folder / "later", DAY, None, word
         self.path.write_bytes(DAY.to_bytes(8, sys.byteorder))
         self.file = self.path.open("r+b")
         self.map = mmap.mmap(self.file.fileno(), 8)
@@ -149,26 +150,36 @@ def is_there(client):
 
 
 def are_gone(what, late, port, clients, seconds, passed=0):
-    """Clients that take both workers, for whom some seconds have gone by, are there a second before all have, and gone then: a third
-    is answered."""
-    waiting = Session(port, None)
-    waiting.write("A1Hw\n1 56\n")
+    """Clients for whom some seconds have gone by are there a second before all have, and gone then: a third is answered, once a worker
+    of `serve` has no other."""
+    waiting = third(late, port, what, "1 56\n")
     late.pass_by(seconds - 1 - passed)
-    wants(f"{what}, a second before", [is_there(client) for client in (*clients, waiting)], [True] * 3)
+    wants(f"{what}, a second before", [is_there(client) for client in (*clients, *waiting)], [True] * len((*clients, *waiting)))
     late.pass_by(1)
-    is_served(what, waiting)
+    are_let_in(what, waiting)
     wants(f"{what}, what came at the end", [client.line() for client in clients], [None, None])
     for client in clients:
         client.close()
     print(f"{what}: gone after {seconds} seconds")
 
 
-def is_served(what, waiting):
-    """A client that waited for a worker is answered."""
-    if not select.select([waiting.socket], [], [], PATIENCE)[0]:
-        raise Wrong(f"{what}: both workers are still taken")
-    wants(f"{what}, who waited", waiting.line(), "LysKOM")
-    waiting.end()
+def third(late, port, what, more=""):
+    """A third client, in a list: it waits for a worker of `serve`. By `hub` it is answered at once, and the list is empty."""
+    waiting = Session(port, None)
+    waiting.write(f"A1Hw\n{more}")
+    if late.word == "serve":
+        return [waiting]
+    are_let_in(what, [waiting])
+    return []
+
+
+def are_let_in(what, waiting):
+    """Clients that waited for a worker are answered."""
+    for one in waiting:
+        if not select.select([one.socket], [], [], PATIENCE)[0]:
+            raise Wrong(f"{what}: a third is not answered")
+        wants(f"{what}, who waited", one.line(), "LysKOM")
+        one.end()
 
 
 def are_served(what, late, clients, minutes=(31, 1_440, 40 * 1_440)):
@@ -200,8 +211,7 @@ def unread(late, port):
     clients = [Session(port, receive=4_096).login() for _ in range(2)]
     for client in clients:
         client.write("".join(f"{place} 25 {text} 0 1000000\n" for place in range(40)))
-    waiting = Session(port, None)
-    waiting.write("A1Hw\n")
+    waiting = third(late, port, "clients that read nothing")
     seen = []
 
     def are_full():
@@ -210,19 +220,21 @@ def unread(late, port):
 
     until("two clients are sent no more", are_full)
     late.pass_by(59)
-    wants("clients that read nothing, who waits", is_there(waiting), True)
+    wants("clients that read nothing, who waits", [is_there(one) for one in waiting], [True] * len(waiting))
     late.pass_by(1)
-    is_served("clients that read nothing", waiting)
+    are_let_in("clients that read nothing", waiting)
+    if late.word == "hub":
+        until("two clients are gone", lambda: not list(connections(port)))
     for client in clients:
         client.close()
     print("clients that read nothing: gone after 60 seconds")
 
 
-def served_late(program, folder):
+def served_late(program, folder, word):
     """All that time alone brings about."""
-    late = Late(folder)
+    late = Late(folder, word)
     shim = {"LD_PRELOAD": build(folder), "LATER": str(late.path)}
-    late.server = server = Server(program, make_store(program, folder / "late"), 2, shim)
+    late.server = server = Server(program, make_store(program, folder / "late"), 2, shim, word=word)
     port = server.port
     try:
         dribble("a letter", late, port, connected(port), ["A"], 0, 30)
@@ -239,9 +251,9 @@ def served_late(program, folder):
         server.kill()
 
 
-def asked(program, folder):
+def asked(program, folder, word):
     """The system asks a silent client whether it is there."""
-    server = Server(program, make_store(program, folder / "asked"), 1)
+    server = Server(program, make_store(program, folder / "asked"), 1, word=word)
     try:
         client = Session(server.port)
         client.ask("56")
@@ -263,14 +275,15 @@ def asked(program, folder):
 
 
 def main(words):
-    program = program_of(words)
+    word = words[1] if words[1:] in (["serve"], ["hub"]) else "serve"
+    program = program_of(words[:1])
     if not shutil.which("cc"):
         print("there is no C compiler, so no clock was told the time")
         return 0
     limit_seconds(LIMIT_SECONDS)
     with tempfile.TemporaryDirectory(dir=folder_in_memory()) as folder:
-        served_late(program, pathlib.Path(folder))
-        asked(program, pathlib.Path(folder))
+        served_late(program, pathlib.Path(folder), word)
+        asked(program, pathlib.Path(folder), word)
     return 0
 
 
