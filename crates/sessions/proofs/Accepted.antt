@@ -13,7 +13,7 @@ use Rattle.row_slots.specs.Lists.{list_of, room_of}
 use Rattle.sessions.specs.Accepting.{accepts, accepting, placed, moved, IsAccepting, MayMove}
 use Rattle.sessions.specs.Rows.{IsRising, with_row}
 use Rattle.sessions.proofs.Moved.{moved-after}
-use Rattle.sessions.proofs.Places.{number_of, AllAbove, KeepsNumbers}
+use Rattle.sessions.proofs.Rising.{number_of, AllAbove, NoneIs, none_above, with_row-none, filter-none, KeepsNumbers}
 
 -- the numbers of the rows that a test passes
 abbrev numbers : (Session → Bool) → List Session → List ℕ
@@ -43,22 +43,6 @@ removed-absent number [] above = refl
 removed-absent number (other ∷ others) above =
     let apart : nat_eq number other ≡ false = ne_eqb _ _ (λ e. let below : number < other = above.0 in omega arith) in
     rw apart (ap (λ rest. other ∷ rest) (removed-absent number others above.1))
-
--- no row is that of the session
-abbrev NoneIs : ℕ → List Session → Type 0
-NoneIs number rows = AllByRecursion (λ row. is_session number row ≡ false) rows
-
-none_above : (number : ℕ) (rows : List Session) → AllAbove number rows → NoneIs number rows
-none_above number [] above = tt
-none_above number (row ∷ rows) above =
-    (ne_eqb _ _ (λ e. let below : number < number_of row = above.0 in omega arith), none_above number rows above.1)
-
-same-rows : (number : ℕ) (change : Session → Session) (rows : List Session) → NoneIs number rows →
-    with_row number change rows ≡ rows
-same-rows number change [] none = refl
-same-rows number change (row ∷ rows) none =
-    let other : is_session number row ≡ false = none.0 in
-    rw other (ap (λ rest. row ∷ rest) (same-rows number change rows none.1))
 
 -- the row that is found has the number
 found-number : (number : ℕ) (rows : List Session) (old : Session) → find (is_session number) rows ≡ Some old →
@@ -99,7 +83,7 @@ module _ (message number : ℕ) (change : Session → Session) (keeps : KeepsNum
       let old_is : old ≡ row = cc in
       let number_is : number_of row ≡ number = eqb-true _ _ here in
       let above : AllAbove number rows = rw number_is at rising.0 in
-      let rest : after rows ≡ rows = same-rows number change rows (none_above number rows above) in
+      let rest : after rows ≡ rows = with_row-none number change rows (none_above number rows above) in
       let was' : accepts message row ≡ was = rw (← old_is) was_is in
       let is' : accepts message (change row) ≡ is = rw (← old_is) is_is in
       let kept : number_of (change row) ≡ number = keeps row ∙ number_is in
@@ -164,13 +148,6 @@ above-at bound (first ∷ list) zero number above at =
     let first_is : first ≡ number = cc in rw (← first_is) above.0
 above-at bound (first ∷ list) (suc place) number above at = above-at bound list place number above.1 at
 
-kept-rows : (number : ℕ) (rows : List Session) → NoneIs number rows →
-    filter (λ row. not (is_session number row)) rows ≡ rows
-kept-rows number [] none = refl
-kept-rows number (row ∷ rows) none =
-    let other : is_session number row ≡ false = none.0 in
-    rw other (ap (λ rest. row ∷ rest) (kept-rows number rows none.1))
-
 -- of the first row, and the others
 found-first : (message : ℕ) (row : Session) (rows : List Session) (place number : ℕ) → IsRising (row ∷ rows) →
     slice_get (number_of row ∷ accepting message rows) place ≡ Some number → accepts message row ≡ true →
@@ -203,7 +180,7 @@ accepting-closed message number (row ∷ rows) old was rising found was_is =
           let above : AllAbove number rows = rw number_is at rising.0 in
           let none : NoneIs number rows = none_above number rows above in
           let was' : accepts message row ≡ was = rw (← old_is) was_is in
-          let rest : filter (λ row. not (is_session number row)) rows ≡ rows = kept-rows number rows none in
+          let rest : filter (λ row. not (is_session number row)) rows ≡ rows = filter-none number rows none in
           let first : nat_eq number (number_of row) ≡ true = eq-eqb _ _ (sym number_is) in
           rw (here, rest, was')
           (elim was as (λ b. accepting message rows ≡ moved number b false (map number_of (cond b

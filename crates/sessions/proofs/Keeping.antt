@@ -6,7 +6,7 @@ use Rattle.kom_types.specs.declared.session_changes.SessionChange.{SessionChange
 use Rattle.kom_types.specs.declared.session_changes.SessionChange.TheVariants as change
 use Rattle.kom_types.specs.Sessions.{Session, Limits, fits, queued, drained, changed, with_person, with_invisible}
 use Rattle.sessions.proofs.Accepted.{KeepsAccepted}
-use Rattle.sessions.proofs.Places.{number_of, KeepsNumbers}
+use Rattle.sessions.proofs.Rising.{number_of, KeepsNumbers}
 
 abbrev accepted_of : Session → ℕ
 accepted_of row = row.seat.accepted

@@ -16,7 +16,7 @@ use Rattle.row_slots.specs.Lists.{list_of}
 use Rattle.sessions.specs.Accepting.{accepts, accepting, moved, HasRoom, IsAccepting}
 use Rattle.sessions.specs.Rows.{IsRising, with_row}
 use Rattle.sessions.proofs.Accepted.{accepting-push, accepting-changed, accepting-closed, accepting-found}
-use Rattle.sessions.proofs.Places.{KeepsNumbers}
+use Rattle.sessions.proofs.Rising.{KeepsNumbers}
 use Rattle.sessions.proofs.Seats.{find-seat}
 
 -- room for fewer

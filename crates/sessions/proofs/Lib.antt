@@ -1,7 +1,7 @@
 pub mod Counting
 pub mod Keeping
-pub mod Places
-pub mod Searching
+pub mod Rising
+pub mod Numbered
 pub mod Taking
 pub mod Seats
 pub mod Moved

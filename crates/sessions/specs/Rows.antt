@@ -1,9 +1,14 @@
 -- The rows of the sessions, in the order of their numbers.
-use Rattle.std.specs.Prelude.{◌≡◌, ℕ, ◌<◌, Bool, not, ◌&&◌, List, [], ◌∷◌, length, map, slice_index}
+use Rattle.std.specs.Prelude.{◌≡◌, ℕ, ◌<◌, Bool, not, ◌&&◌, List, [], ◌∷◌, map}
 use Rattle.std.specs.Prelude.{if◌then◌else◌}
 use Rattle.std.specs.List.{AllByRecursion}
+use Rattle.indexmap.specs.IndexMap.{IndexMap, keys, values}
 use Rattle.kom_types.specs.declared.items.Item.{Item}
 use Rattle.kom_types.specs.Sessions.{Session, is_session, fits, waiting_limits}
+
+-- the numbers of the rows
+abbrev pub numbers_of : List Session → List ℕ
+numbers_of rows = map (λ row. row.seat.number) rows
 
 -- the numbers of all rows are below this one
 abbrev pub AllBelow : ℕ → List Session → Type 0
@@ -15,10 +20,9 @@ IsRising [] = Unit {0}
 IsRising (row ∷ rows) =
     AllByRecursion (λ later. row.seat.number < later.seat.number) rows × IsRising rows
 
--- the row at this place is that of the session
-pub record IsAt (rows : List Session) (session place : ℕ) : Type 0 where
-  pub in_range : place < length rows
-  pub has_number : slice_index (map (λ row. row.seat.number) rows) place ≡ session
+-- each row is kept under its number
+abbrev pub AreNumbered : {S : Type 0} → IndexMap ℕ Session S → Type 0
+AreNumbered map = keys map ≡ numbers_of (values map)
 
 -- with this change in the row of a session
 abbrev pub with_row : ℕ → (Session → Session) → List Session → List Session

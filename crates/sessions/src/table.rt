@@ -1,24 +1,25 @@
-ghost use Rattle.std.specs.Prelude.{slice_get, ◌≡◌, ◌<◌, ◌==◌, ◌^◌, ◌-◌, ◌++◌, ◌∷◌, [], not};
-ghost use Rattle.std.specs.Prelude.{false, None};
+ghost use Rattle.std.specs.Prelude.{slice_get, ◌≡◌, ◌<◌, ◌==◌, ◌^◌, ◌-◌, ◌++◌, ◌∷◌, [], not, false};
 ghost use Rattle.std.specs.Prelude.{filter, find, length, take, option_copied, IfSome, OnOk, OnErr};
-ghost use Rattle.std.specs.Prelude.{IsSome, MatchOption, min, map};
+ghost use Rattle.std.specs.Prelude.{IsSome, min, map};
 ghost use Rattle.kom_types.specs.Bits.{is_on};
 ghost use Rattle.kom_types.specs.Printing.{print_of};
 ghost use Rattle.kom_types.specs.Sessions.{is_session, waiting_limits, queued, drained_count};
 ghost use Rattle.kom_types.specs.Sessions.{drained, changed_session, is_stop, changed};
-ghost use Rattle.sessions.specs.Rows.{AllBelow, IsRising, IsAt, with_row, takes};
+ghost use Rattle.sessions.specs.Rows.{AllBelow, IsRising, with_row, takes};
 
 use crate::accepting::Accepting;
 use crate::changing::session_of;
 use crate::row::SessionRow;
 use arrayvec::ArrayVec;
+use indexmap::IndexMap;
 use kom_types::{Item, Memory, Moment, Seat, SessionChange};
 use std::alloc::Global;
 use std::marker::Model;
 
 /// The rows of the sessions, in the order of their numbers.
 pub struct Sessions {
-    rows: Vec<SessionRow>,
+    /// Each under its number.
+    rows: IndexMap<u32, SessionRow>,
     /// The sessions that accept each message.
     accepting: Accepting,
     /// How often something came to a session unasked: a message, its end, or more than may wait.
@@ -40,15 +41,17 @@ impl Drop for Sessions {
 
 impl Model for Sessions {
     ghost use Rattle.std.specs.Prelude.{List};
+    ghost use Rattle.indexmap.specs.IndexMap.{values};
     ghost use Rattle.kom_types.specs.Sessions.{Session};
     ghost use Rattle.sessions.specs.Accepting.{IsAccepting};
-    ghost use Rattle.sessions.specs.Rows.{IsRising};
+    ghost use Rattle.sessions.specs.Rows.{IsRising, AreNumbered};
 
     ghost Value = { List Session };
 
-    ghost view = { λ s. s.rows.items };
+    ghost view = { λ s. values s.rows };
 
-    ghost invariant = { λ s. IsRising s.rows.items × IsAccepting s.accepting.lists s.rows.items };
+    ghost invariant = { λ s. IsRising (values s.rows)
+        × IsAccepting s.accepting.lists (values s.rows) × AreNumbered s.rows };
 }
 
 impl Sessions {
@@ -56,7 +59,7 @@ impl Sessions {
         ensures { result ≡ [] }
     {
         Sessions {
-            rows: Vec::new(alloc),
+            rows: IndexMap::new(alloc),
             accepting: Accepting::new(alloc),
             news: 0,
         }
@@ -77,9 +80,10 @@ impl Sessions {
         ensures ok { OnOk result (self.new ≡ self.old ++ row ∷ []) }
         ensures err { OnErr result (self.new ≡ self.old) }
     {
-        let count = self.len();
+        let number = row.seat().number;
+        let count = self.rows.len();
         self.accepting.reserve(count + 1)?;
-        self.rows.push(row)?;
+        self.rows.insert(number, row)?;
         Ok(())
     }
 
@@ -87,8 +91,7 @@ impl Sessions {
     pub fn get(&self, session: u32) -> Option<&SessionRow>
         ensures { option_copied result ≡ find (is_session session) self.now }
     {
-        let place = self.search(session)?;
-        Some(&self.rows[place])
+        self.rows.get(&session)
     }
 
     /// All that a call may read of a session, if it is there.
@@ -103,7 +106,7 @@ impl Sessions {
     pub fn nth_seat(&self, place: usize) -> Option<&Seat>
         ensures { option_copied result ≡ slice_get (map (λ row. row.seat) self.now) place }
     {
-        let row = self.rows.get(place)?;
+        let (_, row) = self.rows.get_index(place)?;
         Some(row.seat())
     }
 
@@ -123,8 +126,7 @@ impl Sessions {
         ensures row { result ≡ find (is_session session) self.old }
         ensures rest { self.new ≡ filter (λ row. not (is_session session row)) self.old }
     {
-        let place = self.search(session)?;
-        let row = self.rows.remove(place);
+        let row = self.rows.shift_remove(&session)?;
         self.accepting.change(session, row.seat().accepted, 0);
         Some(row)
     }
@@ -138,8 +140,8 @@ impl Sessions {
             (λ row. result ≡ takes item row) }
         ensures rows { self.new ≡ with_row session (queued waiting_limits entry item) self.old }
     {
-        let place = self.place(session);
-        self.rows[place].queue(item, len, entry, &mut self.news)
+        let row = self.rows.get_mut(&session).unwrap();
+        row.queue(item, len, entry, &mut self.news)
     }
 
     /// Moves the first items that wait for a session, 64 at most, of entries below this one into an
@@ -151,8 +153,8 @@ impl Sessions {
             ≡ map (λ one. one.item) (take (drained_count below row.waiting) row.waiting)) }
         ensures rest { self.new ≡ with_row session (drained below) self.old }
     {
-        let place = self.place(session);
-        self.rows[place].drain_into(below, into);
+        let row = self.rows.get_mut(&session).unwrap();
+        row.drain_into(below, into);
     }
 
     /// Makes a change of a session, at this moment. Takes no memory.
@@ -162,8 +164,7 @@ impl Sessions {
         ensures { self.new ≡ with_row (changed_session change) (changed change at) self.old }
     {
         let session = session_of(&change);
-        let place = self.place(session);
-        let row = &mut self.rows[place];
+        let row = self.rows.get_mut(&session).unwrap();
         let was = row.seat().accepted;
         row.change(change, at, &mut self.news);
         let is = row.seat().accepted;
@@ -180,54 +181,12 @@ impl Sessions {
     pub fn next_news(&self, pass: u32, above: u32, since: u64) -> Option<u32>
         ensures { IfSome result (λ session. above < session) }
     {
-        for row in self.rows.as_slice() {
+        for row in self.rows.values() {
             let number = row.seat().number;
             if number > above && row.seat().pass == pass && row.has_news(since) {
                 return Some(number);
             }
         }
         None
-    }
-
-    /// The place of the row of a session that is there.
-    fn place(&self, session: u32) -> usize
-        requires { IsSome (find (is_session session) self.now) }
-        ensures { IsAt self.now session result }
-    {
-        self.search(session).unwrap()
-    }
-
-    /// The place of a session's row, if it is there.
-    fn search(&self, session: u32) -> Option<usize>
-        ensures { MatchOption result (find (is_session session) self.now ≡ None)
-            (IsAt self.now session) }
-    {
-        match self.guess(session) {
-            Some(place) => Some(place),
-            None => self.search_all(session),
-        }
-    }
-
-    /// The place of a session's row, if the rows from the first to it are of all numbers between.
-    fn guess(&self, session: u32) -> Option<usize>
-        ensures { IfSome result (IsAt self.now session) }
-    {
-        let first = self.rows.first()?.seat().number;
-        let place = session.checked_sub(first)? as usize;
-        let row = self.rows.get(place)?;
-        if row.seat().number != session {
-            return None;
-        }
-        Some(place)
-    }
-
-    /// The place of a session's row, if it is there, by a search of all rows.
-    fn search_all(&self, session: u32) -> Option<usize>
-        ensures { MatchOption result (find (is_session session) self.now ≡ None)
-            (IsAt self.now session) }
-    {
-        self.rows
-            .binary_search_by_key(&session, |row| row.seat().number)
-            .ok()
     }
 }

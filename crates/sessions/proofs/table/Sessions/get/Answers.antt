@@ -1,8 +1,7 @@
-use Rattle.std.proofs.Common.{sym}
-use Rattle.sessions.proofs.Places.{found}
+use Rattle.std.proofs.Common.{◌∙◌}
+use Rattle.sessions.proofs.Numbered.{got}
 use Rattle.sessions.proofs.table.Sessions.get.Goals as goal
 
 pub returns : goal.returns
 returns c =
-    sym (found c.args.session c.in_ok-place.place c.self.inside.rows.items c.args.self.now c.index.result.now
-    c.self.view_is c.self.invariant.0 c.in_ok-place.ensures c.index.ensures)
+    rw (← c.self.view_is) (c.get.ensures.value ∙ got c.self.inside.rows c.self.invariant.2 c.args.session)
