@@ -177,11 +177,13 @@ impl Sessions {
     }
 
     /// The first session of a pass, above this number, to which something came unasked after this
-    /// count of news.
+    /// count of news. Who walks on from the one found looks at none below it again.
     pub fn next_news(&self, pass: u32, above: u32, since: u64) -> Option<u32>
         ensures { IfSome result (λ session. above < session) }
     {
-        for row in self.rows.values() {
+        let first = self.rows.get_index_of(&above).unwrap_or(0);
+        for place in first..self.rows.len() {
+            let (_, row) = self.rows.get_index(place)?;
             let number = row.seat().number;
             if number > above && row.seat().pass == pass && row.has_news(since) {
                 return Some(number);
