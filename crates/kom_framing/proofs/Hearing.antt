@@ -136,7 +136,7 @@ is_length first digits short =
     ap (λ (b : Bool). b && leb (length (first ∷ digits)) 4 && leb (number_of (first ∷ digits)) LONGEST_USER_NAME)
     (le-leb 1 (length (first ∷ digits)) (omega arith))
     ∙ ap (λ (b : Bool). b && leb (number_of (first ∷ digits)) LONGEST_USER_NAME)
-      (le-leb (length (first ∷ digits)) 4 short)
+    (le-leb (length (first ∷ digits)) 4 short)
 
 -- a run with what is after it, in a greeting that has these digits of it already
 abbrev told_from : List ℕ → List ℕ → Greets

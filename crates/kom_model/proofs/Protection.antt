@@ -53,7 +53,7 @@ guarded-without number [] all = tt
 guarded-without number (row ∷ rows) all =
     elim (row.number == number) as (λ b. AllByRecursion IsGuarded
     (cond (not b) (row ∷ without_row number_of_conference number rows)
-      (without_row number_of_conference number rows))) [
+    (without_row number_of_conference number rows))) [
       | true ↦ guarded-without number rows all.1
       | false ↦ (all.0, guarded-without number rows all.1)
     ]

@@ -6,4 +6,4 @@ use Rattle.kom_reader.proofs.recipients.footnotes_of.Given as goal
 abbrev pub invariant-loop-link : goal.invariant-loop-link
 invariant-loop-link l =
     rising l.texts.items (filter_map footnote_in (drop l.link-index l.links))
-      ≡ rising [] (filter_map footnote_in l.links)
+    ≡ rising [] (filter_map footnote_in l.links)

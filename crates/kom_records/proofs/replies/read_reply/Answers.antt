@@ -8,5 +8,5 @@ pub returns : goal.returns
 returns c =
     reply_only c.args.kind c.args.line.now.tokens c.reply_line.new.tokens c.reply_line.result
     (subst (λ t. ReadsAs true (reply_line c.args.kind t) c.reply_line.result c.reply_line.new.tokens)
-      c.of-tokens.ensures
+    c.of-tokens.ensures
     c.reply_line.ensures)

@@ -21,9 +21,13 @@ returns-clause-serves g c =
     (record {
       talk = c.serve_link-served.ensures.talk;
       session = c.serve_link-served.ensures.session;
-      waits = let waits = c.serve_link-served.ensures.waits in
-          (waits.0, waits.1, waits.2, waits.3,
-            first_fact _ _ (g.G.Link.Link.view c.serve_link-served.new.link).reads waits.4);
+      waits = let waits = c.serve_link-served.ensures.waits in (
+        waits.0,
+        waits.1,
+        waits.2,
+        waits.3,
+        first_fact _ _ (g.G.Link.Link.view c.serve_link-served.new.link).reads waits.4,
+      );
       cause = c.serve_link-served.ensures.cause;
       left = c.serve_link-served.ensures.left;
       others = c.serve_link-served.ensures.others;
