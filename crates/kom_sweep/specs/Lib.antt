@@ -1,3 +1,10 @@
+pub mod Told
 pub mod Replies
+pub mod Acting
 pub mod Due
+pub mod Ages
+pub mod Names
+pub mod Walks
+pub mod Ends
+pub mod Sweeps
 pub mod DueRows

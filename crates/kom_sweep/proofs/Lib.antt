@@ -1,0 +1,15 @@
+mod Times
+mod Replying
+mod Lists
+mod Opening
+mod Going
+mod Asking
+mod Judging
+mod Learning
+mod Aging
+mod Walking
+mod Looks
+mod Stepping
+mod Spelling
+mod Ending
+mod Working
