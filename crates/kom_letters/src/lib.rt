@@ -9,8 +9,6 @@ mod kinds;
 mod names;
 mod showing;
 mod spacing;
-#[cfg(test)]
-mod tests;
 mod typing;
 mod unsendable;
 

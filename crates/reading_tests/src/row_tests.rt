@@ -160,7 +160,7 @@ fn line_of(rt: &impl Abort, alloc: Global, text: &[u8]) -> Result<Line, Fail> {
 fn check_print(rt: &impl Abort, alloc: Global, item: &Item, text: &[u8]) -> Result<(), Fail> {
     let mut out = Writer::new(alloc);
     print_item(item, &mut out)?;
-    assert!(rt; out.bytes() == text, "of {text:?}");
+    assert!(rt; out.bytes() == text);
     Ok(())
 }
 
@@ -184,17 +184,25 @@ fn messages_are_read_as_they_are_printed(rt: HostRuntime) -> Result<(), Fail> {
     Ok(())
 }
 
+/// Whether a line is refused, since it departs from the replies of a kind.
+fn departs_as_reply(alloc: Global, kind: ResultKind, line: &Line) -> bool {
+    matches!(read_reply(alloc, kind, line), Err(ReadFault::Departs))
+}
+
+/// Whether a line is refused, since it departs from a message.
+fn departs_as_message(alloc: Global, line: &Line) -> bool {
+    matches!(read_message(alloc, line), Err(ReadFault::Departs))
+}
+
 #[test]
 fn lines_that_depart_are_refused(rt: HostRuntime) -> Result<(), Fail> {
     for (kind, text) in &DEPARTING {
         let line = line_of(&rt, rt.alloc(), text)?;
-        let found = read_reply(rt.alloc(), *kind, &line);
-        assert!(&rt; matches!(found, Err(ReadFault::Departs)), "of {text:?}");
+        assert!(rt; departs_as_reply(rt.alloc(), *kind, &line));
     }
     for text in &OTHER_MESSAGES {
         let line = line_of(&rt, rt.alloc(), text)?;
-        let found = read_message(rt.alloc(), &line);
-        assert!(&rt; matches!(found, Err(ReadFault::Departs)), "of {text:?}");
+        assert!(rt; departs_as_message(rt.alloc(), &line));
     }
     Ok(())
 }

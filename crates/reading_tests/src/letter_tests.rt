@@ -1,5 +1,7 @@
-//! Rows that were worked out by hand.
-use crate::{Charset, Start, Unsendable, charset_of, name_bytes, show, show_name, text_bytes};
+//! Rows of letters that were worked out by hand.
+use kom_letters::{
+    Charset, Start, Unsendable, charset_of, name_bytes, show, show_name, text_bytes,
+};
 use std::test::Fail;
 
 // Bytes, their charset, and what 20 columns show of them on lines of their own.
