@@ -1,6 +1,6 @@
 #!/usr/bin/env python3
 """Compares what the built program `komd` answers in a second, by its word `serve` or `hub`, with a small C server at the same load:
-ratios_of_serve.py [PROGRAM[:hub[:WORKERS]] [SECONDS [FOLDER [NAME..]]]]
+ratios_of_serve.py [PROGRAM[:hub[:WORKERS]] [SECONDS [FOLDER [NAME..] [SHAPE..]]]]
 
 The C server (fixed_replies.c) answers each line with the reply that `komd` gave to such a line once. The load (load_generator.c)
 comes over loopback from so many connections with so many calls under way at each: 1 and 1, 16 and 1, 64 and 1, 64 and 16, and with `hub`
@@ -13,7 +13,8 @@ It prints a row for each: the calls a second, the median and the 99th of 100 of 
 processor time that each server took for a call; and which part of a core each of the generator's threads took beside `komd` and beside the
 C server: near 1 it is the limit, and the ratio is nearer to 1 than it should be. Last it compares `komd` at 64 and 16 with itself at 1 and 1.
 It takes ten minutes, and says nothing unless the machine does nothing else. Stores lie in FOLDER, or in a folder of its own for a while; a
-folder in memory syncs nothing. With names of calls only these are compared. It needs a C compiler. The servers end with it.
+folder in memory syncs nothing. With names of calls only these are compared, and with shapes, as 64x16, only these loads. It needs a C
+compiler. The servers end with it.
 
 PROGRAM is the built `komd` unless it is named. It serves by 64 workers, or with `:hub` behind its name by one worker for all connections, or as
 many as are named. With several programs, a comma between two, each has its rows, of the same minutes.
@@ -37,6 +38,8 @@ MOST_CONNECTIONS = 1_024
 LIMIT_SECONDS = 1_800
 # Connections, calls under way at each, threads of the generator.
 SHAPES = ((1, 1, 1), (16, 1, 1), (64, 1, 2), (64, 16, 2), (1000, 1, 2))
+# The generator loads for so many seconds more, before those in which it counts the calls.
+BEFORE = 0.2
 GET_TEXT = f"25 ~{TEXTS}~ 0 4294967295"
 CREATE_TEXT = f"86 {string('x' * BODY)} 1 {{ 0 6 }} 0 {{ }}"
 MANY = SHAPES[3]
@@ -118,7 +121,7 @@ def measured(generator, server, shape, seconds, calls):
     if done.returncode != 0:
         raise Wrong(f"the generator ends with status {done.returncode}: {done.stderr:.200}")
     told = [float(word) for word in done.stdout.split()]
-    return [*told, (server.processor_seconds() - used) * 1_000_000 / max(told[0] * seconds, 1)]
+    return [*told, (server.processor_seconds() - used) * 1_000_000 / max(told[0] * seconds * (1 + BEFORE), 1)]
 
 
 def compare(generator, servers, shape, seconds, calls):
@@ -141,7 +144,9 @@ def row(name, shape, against, ours, theirs):
 
 def main(words):
     programs = words[0].split(",") if words else [""]
-    seconds, names = float(words[1]) if len(words) > 1 else 1.0, words[3:] or list(LOADS)
+    seconds = float(words[1]) if len(words) > 1 else 1.0
+    names = [word for word in words[3:] if word in LOADS] or list(LOADS)
+    shapes = [shape for shape in SHAPES if f"{shape[0]}x{shape[1]}" in words[3:]] or SHAPES
     limit_seconds(LIMIT_SECONDS)
     with tempfile.TemporaryDirectory(dir=words[2] if len(words) > 2 else None) as name:
         folder = pathlib.Path(name)
@@ -156,8 +161,9 @@ def main(words):
             others.append(Fixed(fixed, port + 2, replies, str(folder / "other")))
             print("| calls | connections x under way | against C that | calls a second | median | 99 of 100 | µs a call | generator busy |")
             print("|---|---|---|---|---|---|---|---|")
-            rises = compare_all(generator, servers, others, seconds, names)
-            print(f"calls a second at {MANY[0]} x {MANY[1]} by those at 1 x 1: {', '.join(rises)}")
+            rises = compare_all(generator, servers, others, seconds, names, shapes)
+            if rises:
+                print(f"calls a second at {MANY[0]} x {MANY[1]} by those at 1 x 1: {', '.join(rises)}")
             for server in servers:
                 stop(server).rest()
                 if (status := server.wait()) != 0:
@@ -168,13 +174,13 @@ def main(words):
     return 0
 
 
-def compare_all(generator, servers, others, seconds, names):
-    """Prints the rows of these calls; how the calls a second rise with the load is returned."""
+def compare_all(generator, servers, others, seconds, names, shapes):
+    """Prints the rows of these calls at these loads; how the calls a second rise with the load is returned."""
     rises = []
     for load in names:
         calls, is_stored = LOADS[load]
         found = {}
-        for shape in SHAPES:
+        for shape in shapes:
             able = [server for server in servers if shape[0] <= server.places]
             told = compare(generator, [*able, *others[: 1 + is_stored]], shape, seconds, calls)
             ours, (answers, *stores) = told[: len(able)], told[len(able) :]
@@ -184,7 +190,8 @@ def compare_all(generator, servers, others, seconds, names):
                 row(called, shape, "answers", one, answers)
                 if is_stored:
                     row(called, shape, "stores and answers", one, stores[0])
-        rises += [f"{called}: {found[called, MANY][0] / found[called, SHAPES[0]][0]:.2f}" for called, shape in found if shape == MANY]
+        rises += [f"{called}: {found[called, MANY][0] / one[0]:.2f}" for (called, shape), one in found.items()
+                  if shape == SHAPES[0] and (called, MANY) in found]
     return rises
 
 
