@@ -1,9 +1,9 @@
 #!/usr/bin/env python3
 """Looks after the edits that must fail: edits.py [--check | CRATE..]
 
-Without a word, or with --check, it sees that each edit of crates/CRATE/must-fail and of tests/edits/CRATE still applies to that
-crate, and asks no prover: each `old:` text stands exactly once in its file, where a later pair meets what the earlier ones made.
-It prints a line for each edit that does not apply, and a count, and ends with 1 if there is one, else with 0.
+Without a word, or with --check, it sees that each edit of crates/CRATE/must-fail, tests/edits/CRATE and tests/wrong_bodies/CRATE still
+applies to that crate, and asks no prover: each `old:` text stands exactly once in its file, where a later pair meets what the earlier
+ones made. It prints a line for each edit that does not apply, and a count, and ends with 1 if there is one, else with 0.
 
 With names of crates it tries their shelves, which the gate does not: in a copy of the working tree, which it removes, the edits
 of tests/edits/CRATE take the place of those in must-fail, and `rt must-fail CRATE..` says of each whether it is refused. That
@@ -24,15 +24,23 @@ from built import ROOT, script
 
 CRATES = ROOT / "crates"
 SHELVES = ROOT / "tests" / "edits"
+WRONG_BODIES = ROOT / "tests" / "wrong_bodies"
 NAME = re.compile(r"[A-Za-z0-9_-][A-Za-z0-9_.-]*\.edit")
 PARTS = ("src/", "specs/", "proofs/")
 
 
-def why_not(edit, crate):
-    """Why the edit does not apply to the files of the crate as they stand, or None. It is read as `rt must-fail` reads it."""
+def applied(edit, crate):
+    """Why the edit does not apply to the files of the crate as they stand, or None, and the files that it changes with what they become.
+    It is read as `rt must-fail` reads it."""
+    texts = {}
+    return why_not(edit, crate, texts), texts
+
+
+def why_not(edit, crate, texts):
+    """Why the edit does not apply; what it makes of the files is left in these texts."""
     if not NAME.fullmatch(edit.name):
         return "its name is not one of letters, digits, _, - and . that ends in .edit"
-    path, old, texts, earlier, pairs = None, None, {}, {}, 0
+    path, old, earlier, pairs = None, None, {}, 0
     for line in edit.read_text(encoding="utf-8", errors="replace").split("\n"):
         if line.startswith("file: "):
             path = line.removeprefix("file: ").strip()
@@ -68,10 +76,11 @@ def check():
     """Sees that each edit applies, and returns the status to end with."""
     found = [(edit, folder) for folder in sorted(CRATES.glob("*/must-fail")) for edit in edits_in(folder)]
     places = [(edit, folder.parent, edit.parent == folder) for edit, folder in found]
-    places += [(edit, CRATES / edit.parent.name, edit.parent.parent == SHELVES) for edit in edits_in(SHELVES)]
+    for shelf in (SHELVES, WRONG_BODIES):
+        places += [(edit, CRATES / edit.parent.name, edit.parent.parent == shelf) for edit in edits_in(shelf)]
     lost = 0
     for edit, crate, is_there in places:
-        why = why_not(edit, crate) if is_there else "an edit stands in crates/CRATE/must-fail or in tests/edits/CRATE"
+        why = applied(edit, crate)[0] if is_there else "an edit stands in crates/CRATE/must-fail, tests/edits/CRATE or tests/wrong_bodies/CRATE"
         if why:
             print(f"{edit.relative_to(ROOT)} does not apply: {why}")
             lost += 1

@@ -1,5 +1,5 @@
 #!/usr/bin/env python3
-"""Drives the built program `komd` with its word `serve`, or `hub`, over loopback: serve_sessions.py [PROGRAM [hub] [CONNECTIONS]]
+"""Drives the built program `komd` with its word `serve`, or `hub`, over loopback: serve_sessions.py [PROGRAM [hub] [CONNECTIONS [KILLS]]]
 
 In a folder of its own it makes stores, serves them, and looks at
 1. words that are refused, a port that is taken, a store that is served already, and both kinds of addresses;
@@ -13,12 +13,14 @@ In a folder of its own it makes stores, serves them, and looks at
    is told of those of all others, reads, marks it as read, adds an aux-item, sends a message, and disconnects itself, or is
    disconnected;
 7. call 44 while connections are idle: the server ends with status 0 within a second;
-8. signal 9 while all connections write texts: each that was answered is there after the next start.
+8. signal 9 while all connections write texts, once, or so often as is said, at random moments: each text that was answered is there after
+   the next start.
 
-It prints a line for each part, takes half a minute, and ends with 1 at the first thing that is otherwise, or after a minute, else
-with 0. It ends each server that it starts. PROGRAM is the built `komd` unless it is named.
+It prints a line for each part, takes half a minute and some seconds for each kill more, and ends with 1 at the first thing that is
+otherwise, or after a minute and a quarter of one for each kill more, else with 0. It ends each server that it starts. PROGRAM is the built `komd` unless it is named.
 """
 import pathlib
+import random
 import re
 import select
 import signal
@@ -35,7 +37,7 @@ from built import USAGE, Wrong, check_store, make_store, program_of, script
 from protocol import TIME, string
 from served import PATIENCE, Server, Session, folder_in_memory, has_ipv6, limit_seconds, side_by_side, stop, wants
 
-LIMIT_SECONDS = 60
+LIMIT_SECONDS, LIMIT_OF_A_KILL = 60, 15
 MOST_WAITING = 4_096
 FEW_WAITING = 4_000
 MOST_DRAINED = 64
@@ -425,12 +427,13 @@ def main(arguments):
     if arguments[1:2] == ["hub"]:
         word = arguments.pop(1)
     count = int(arguments[1]) if len(arguments) > 1 else 64
+    kills = int(arguments[2]) if len(arguments) > 2 else 1
     begun = time.monotonic()
 
     def tell(line):
         print(f"{time.monotonic() - begun:5.1f} s: {line}", flush=True)
 
-    limit_seconds(LIMIT_SECONDS)
+    limit_seconds(LIMIT_SECONDS + (kills - 1) * LIMIT_OF_A_KILL)
     # What is killed lies on a disk, the rest in memory, if the system has such a folder: there a flush waits for nothing.
     with tempfile.TemporaryDirectory() as disk, tempfile.TemporaryDirectory(dir=folder_in_memory()) as memory:
         folder = pathlib.Path(memory)
@@ -455,8 +458,9 @@ def main(arguments):
         finally:
             server.kill()
         store = make_store(program, pathlib.Path(disk) / "store")
-        answered, more = kill(program, store, count, 2.0)
-        tell(f"{answered} texts were answered before signal 9 and are there, and {more} that were not")
+        for place in range(kills):
+            answered, more = kill(program, store, count, 2.0 if place == 0 else random.uniform(1, 3))
+            tell(f"{answered} texts were answered before signal 9 and are there, and {more} that were not")
     return 0
 
 

@@ -2,7 +2,8 @@
 """Has the built program `komd` serve 64 connections over loopback for a while, and kills it again and again:
 soak.py [PROGRAM [hub] [SECONDS [SEED [FOLDER]]]]
 
-They are served by the word `serve` with a worker for each, or by `hub` with two workers.
+They are served by the word `serve` with a worker for each, or by `hub` with two workers; there 936 members more are idle beside them, one
+of whom asks something a few times a second, so that 1,000 are connected.
 
 Beside two connections of its own it has
 - 44 persons, each of whom makes random good calls on what is its own, knows what each reply has to be, and looks at some;
@@ -28,6 +29,7 @@ import collections
 import pathlib
 import random
 import re
+import resource
 import select
 import signal
 import socket
@@ -43,7 +45,9 @@ from known_person import Known, observed, random_call
 from protocol import string
 from served import ADMINISTRATOR, Server, Session, limit_seconds, stop
 
-WORKERS = {"serve": 64, "hub": 2}
+WORKERS, IDLE = {"serve": 64, "hub": 2}, {"serve": 0, "hub": 936}
+# A pause of the idle ones between two calls of one of them.
+IDLE_PAUSE = 0.2
 PERSONS, HOSTILE, SLOW, SILENT, UNREAD, HALF = 44, 8, 4, 2, 2, 2
 ROUNDS = 10
 SILENCE_SECONDS, STALL_SECONDS = 30, 60
@@ -349,6 +353,28 @@ def half(soak):
     return one
 
 
+def idle(soak):
+    """Connections that are idle, but for one of them at a time."""
+
+    def one(server, chosen):
+        sessions = []
+        try:
+            for number in range(IDLE[soak.word]):
+                sessions.append(Session(server.port, f"idle {number}"))
+            numbers = [session.ask("56") for session in sessions]
+            while soak.is_running(server):
+                place = chosen.randrange(len(sessions))
+                if (told := sessions[place].ask("56")) != numbers[place]:
+                    raise Wrong(f"session {numbers[place]}, which was idle, is told that it is {told}")
+                soak.counts["calls of connections that were idle"] += 1
+                time.sleep(IDLE_PAUSE)
+        finally:
+            for session in sessions:
+                session.close()
+
+    return one
+
+
 def prepare(soak):
     """Makes what is needed, and returns the persons and the hostile clients."""
     server = soak.running()
@@ -379,6 +405,7 @@ def soak_for(soak, seconds):
     works += [(f"hostile {number}", hostile.one) for number in range(HOSTILE)]
     for name, count, kind in (("slow", SLOW, slow), ("silent", SILENT, silent), ("unread", UNREAD, unread), ("half", HALF, half)):
         works += [(f"{name} {number}", kind(soak)) for number in range(count)]
+    works += [("idle", idle(soak))] if IDLE[soak.word] else []
     threads = [threading.Thread(target=soak.repeat, args=work, daemon=True) for work in works]
     for thread in threads:
         thread.start()
@@ -466,6 +493,8 @@ def main(words):
     seconds = int(words[1]) if len(words) > 1 else 600
     seed = words[2] if len(words) > 2 else "1"
     limit_seconds(seconds + 300)
+    hard = resource.getrlimit(resource.RLIMIT_NOFILE)[1]
+    resource.setrlimit(resource.RLIMIT_NOFILE, (hard, hard))
     with tempfile.TemporaryDirectory(dir=words[3] if len(words) > 3 else None) as folder:
         soak = Soak(program, make_store(program, pathlib.Path(folder) / "store", PASSWORD), seed, word)
         try:
