@@ -11,6 +11,7 @@ use Rattle.kom_commands.specs.declared.numbers.Way.TheVariants as way
 use Rattle.kom_commands.specs.declared.words.Command.{Command}
 use Rattle.kom_commands.specs.declared.words.Command.TheVariants as command
 use Rattle.kom_commands.specs.Loads.{SaysLoad}
+use Rattle.kom_commands.specs.Sweeps.{SweepsBy}
 use Rattle.kom_commands.specs.Numbers.{is_number, number_in, word_of, SaysServe}
 use Rattle.kom_commands.specs.Words.{IsSpelled}
 
@@ -29,6 +30,10 @@ seconds words a b c d s t one other = cc
 letters : (a b : List ℕ) → a ≡ b → (slice_index a 0 ≡ slice_index b 0 → ⊥) → ⊥
 letters a b is other = other (ap (λ (word : List ℕ). slice_index word 0) is)
 
+-- and so are those of two second letters
+second_letters : (a b : List ℕ) → a ≡ b → (slice_index a 1 ≡ slice_index b 1 → ⊥) → ⊥
+second_letters a b is other = other (ap (λ (word : List ℕ). slice_index word 1) is)
+
 pub once_is : (words : List (List ℕ)) (said : Command) → IsSpelled words said → words ≡ codes "once" ∷ [] →
     said ≡ command.Once
 once_is words command.Once spelled is = refl
@@ -37,6 +42,8 @@ once_is words (command.Serve at) spelled is = absurd (apart words _ _ is spelled
 once_is words command.Init spelled is = absurd (apart words _ _ is spelled.2 (λ long. omega (arith, long)))
 once_is words command.Check spelled is = absurd (apart words _ _ is spelled.1 (λ long. omega (arith, long)))
 once_is words (command.Load count) spelled is = absurd (apart words _ _ is spelled.1 (λ long. omega (arith, long)))
+once_is words (command.Sweep person) spelled is =
+    absurd (apart words _ _ is spelled.2.1 (λ long. omega (arith, long)))
 
 pub once_over_is : (words : List (List ℕ)) (said : Command) (store : List ℕ) → IsSpelled words said →
     words ≡ codes "once" ∷ store ∷ [] → said ≡ command.OnceOver
@@ -49,6 +56,8 @@ once_over_is words command.Check store spelled is =
     absurd (letters (codes "once") (codes "check") (heads words _ _ _ _ is spelled.1) (λ same. omega (arith, same)))
 once_over_is words (command.Load count) store spelled is =
     absurd (letters (codes "once") (codes "load") (heads words _ _ _ _ is spelled.1) (λ same. omega (arith, same)))
+once_over_is words (command.Sweep person) store spelled is =
+    absurd (apart words _ _ is spelled.2.1 (λ long. omega (arith, long)))
 
 pub check_is : (words : List (List ℕ)) (said : Command) (store : List ℕ) → IsSpelled words said →
     words ≡ codes "check" ∷ store ∷ [] → said ≡ command.Check
@@ -61,6 +70,8 @@ check_is words command.Init store spelled is = absurd (apart words _ _ is spelle
 check_is words command.Check store spelled is = refl
 check_is words (command.Load count) store spelled is =
     absurd (letters (codes "check") (codes "load") (heads words _ _ _ _ is spelled.1) (λ same. omega (arith, same)))
+check_is words (command.Sweep person) store spelled is =
+    absurd (apart words _ _ is spelled.2.1 (λ long. omega (arith, long)))
 
 pub init_is : (words : List (List ℕ)) (said : Command) (store password : List ℕ) → IsSpelled words said →
     words ≡ codes "init" ∷ store ∷ password ∷ [] → said ≡ command.Init
@@ -75,6 +86,8 @@ init_is words command.Check store password spelled is =
     absurd (apart words _ _ is spelled.1 (λ long. omega (arith, long)))
 init_is words (command.Load count) store password spelled is =
     absurd (apart words _ _ is spelled.1 (λ long. omega (arith, long)))
+init_is words (command.Sweep person) store password spelled is =
+    absurd (apart words _ _ is spelled.2.1 (λ long. omega (arith, long)))
 
 same_count : (number : List ℕ) (count other : ℕ) → number_in 0 100000 number ≡ Some count →
     number_in 0 100000 number ≡ Some other → count ≡ other
@@ -96,6 +109,8 @@ load_is words (command.Load other) count spelled says =
     let word : spelled.0 ≡ says.0 = seconds words _ _ _ _ _ _ spelled.1 says.1 in
     ap (λ (n : ℕ). command.Load n)
     (same_count says.0 other count (ap (λ (w : List ℕ). number_in 0 100000 w) (sym word) ∙ spelled.2) says.2)
+load_is words (command.Sweep person) count spelled says =
+    absurd (apart words _ _ says.1 spelled.2.1 (λ long. omega (arith, long)))
 
 thirds : (words : List (List ℕ)) (a b c d e f : List ℕ) (s t : List (List ℕ)) → words ≡ a ∷ b ∷ c ∷ s →
     words ≡ d ∷ e ∷ f ∷ t → c ≡ f
@@ -125,6 +140,16 @@ same_place one other port workers way =
     ∙ ap (λ (workers : ℕ). place other.port workers one.way) workers
     ∙ ap (λ (way : Way). place other.port other.workers way) way
 
+-- a store that is swept is not served
+no_sweep : (words : List (List ℕ)) (at : AtPort) (store port workers other number password : List ℕ) →
+    words ≡ word_of at.way ∷ store ∷ port ∷ workers ∷ [] → words ≡ codes "sweep" ∷ other ∷ number ∷ password ∷ [] → ⊥
+no_sweep words at store port workers other number password is says =
+    other_word at.way (heads words (word_of at.way) (codes "sweep") _ _ is says)
+  where
+    other_word : (way : Way) → word_of way ≡ codes "sweep" → ⊥
+    other_word way.OneAtATime same = second_letters (codes "serve") (codes "sweep") same (λ e. omega (arith, e))
+    other_word way.ManyAtATime same = letters (codes "hub") (codes "sweep") same (λ e. omega (arith, e))
+
 pub serve_is : (words : List (List ℕ)) (said : Command) (at : AtPort) (store port workers : List ℕ) →
     IsSpelled words said → words ≡ word_of at.way ∷ store ∷ port ∷ workers ∷ [] →
     number_in 1 65535 port ≡ Some at.port → number_in 1 64 workers ≡ Some at.workers → said ≡ command.Serve at
@@ -145,6 +170,27 @@ serve_is words command.Check at store port workers spelled is at_port by =
     absurd (apart words _ _ is spelled.1 (λ long. omega (arith, long)))
 serve_is words (command.Load count) at store port workers spelled is at_port by =
     absurd (apart words _ _ is spelled.1 (λ long. omega (arith, long)))
+serve_is words (command.Sweep person) at store port workers spelled is at_port by =
+    absurd (no_sweep words at store port workers spelled.0 spelled.2.0 spelled.1 is spelled.2.1)
+
+pub sweep_is : (words : List (List ℕ)) (said : Command) (store : List ℕ) (person : ℕ) (password : List ℕ) →
+    IsSpelled words said → SweepsBy words store person password → said ≡ command.Sweep person
+sweep_is words command.Once store person password spelled says =
+    absurd (apart words _ _ says.1 spelled (λ long. omega (arith, long)))
+sweep_is words command.OnceOver store person password spelled says =
+    absurd (apart words _ _ says.1 spelled.1 (λ long. omega (arith, long)))
+sweep_is words (command.Serve at) store person password spelled says =
+    absurd (no_sweep words at spelled.0 spelled.1 spelled.2 store says.0 password spelled.3 says.1)
+sweep_is words command.Init store person password spelled says =
+    absurd (apart words _ _ says.1 spelled.2 (λ long. omega (arith, long)))
+sweep_is words command.Check store person password spelled says =
+    absurd (apart words _ _ says.1 spelled.1 (λ long. omega (arith, long)))
+sweep_is words (command.Load count) store person password spelled says =
+    absurd (apart words _ _ says.1 spelled.1 (λ long. omega (arith, long)))
+sweep_is words (command.Sweep other) store person password spelled says =
+    ap (λ (n : ℕ). command.Sweep n)
+    (same_number 0 999999 spelled.2.0 says.0 other person
+    (thirds words _ _ spelled.2.0 _ _ says.0 _ _ spelled.2.1 says.1) spelled.2.3 says.3)
 
 -- the words are one command
 pub same_command : (words : List (List ℕ)) (one other : Command) → IsSpelled words one → IsSpelled words other →
@@ -156,6 +202,7 @@ same_command words one (command.Serve at) spelled is =
 same_command words one command.Init spelled is = init_is words one is.0 is.1 spelled is.2
 same_command words one command.Check spelled is = check_is words one is.0 spelled is.1
 same_command words one (command.Load count) spelled is = load_is words one count spelled is
+same_command words one (command.Sweep person) spelled is = sweep_is words one is.0 person is.1 spelled is.2
 
 picked : (a b c : Bool) (n m : ℕ) → (if a && b && c then Some n else None) ≡ Some m →
     (b ≡ true) × (c ≡ true) × (n ≡ m)

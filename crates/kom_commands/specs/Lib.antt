@@ -3,3 +3,4 @@ pub mod Statuses
 pub mod Reports
 pub mod Numbers
 pub mod Loads
+pub mod Sweeps

@@ -14,6 +14,10 @@ check_lines batches conferences persons texts =
     line (codes "batches") batches ++ line (codes "conferences") conferences
     ++ line (codes "persons") persons ++ line (codes "texts") texts
 
+-- how many texts a sweep deleted, and how many others it was told of
+abbrev pub sweep_lines : ℕ → ℕ → List ℕ
+sweep_lines swept kept = line (codes "swept") swept ++ line (codes "kept") kept
+
 -- what is printed when a store was made
 abbrev pub made_line : List ℕ
 made_line = codes "store made\n"

@@ -5,6 +5,7 @@ use Rattle.kom_commands.specs.declared.words.Command.{Command}
 use Rattle.kom_commands.specs.declared.words.Command.TheVariants as command
 use Rattle.kom_commands.specs.Numbers.{SaysServe}
 use Rattle.kom_commands.specs.Loads.{SaysLoad}
+use Rattle.kom_commands.specs.Sweeps.{SaysSweep}
 
 -- The words are this command. A store is named by a path that is not empty.
 abbrev pub IsSpelled : List (List ℕ) → Command → Type 0
@@ -18,6 +19,7 @@ IsSpelled words command.Init = (store password : List ℕ)
 IsSpelled words command.Check =
     (store : List ℕ) × (words ≡ codes "check" ∷ store ∷ []) × (store ≢ [])
 IsSpelled words (command.Load count) = SaysLoad words count
+IsSpelled words (command.Sweep person) = SaysSweep words person
 
 -- the words are no command
 abbrev pub IsRefused : List (List ℕ) → Type 0
@@ -31,6 +33,7 @@ serves (command.Serve at) = true
 serves command.Init = false
 serves command.Check = false
 serves (command.Load count) = false
+serves (command.Sweep person) = false
 
 -- whether a command names a store
 abbrev pub names_store : Command → Bool
@@ -40,3 +43,4 @@ names_store (command.Serve at) = true
 names_store command.Init = true
 names_store command.Check = true
 names_store (command.Load count) = false
+names_store (command.Sweep person) = true

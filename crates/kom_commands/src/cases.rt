@@ -10,7 +10,11 @@ pub struct Cases {
     pub is_unfit: bool,
     /// A gate failed, or the world.
     pub gate_failed: bool,
-    /// Memory ran out outside a session.
+    /// Who was to sweep the store was not let in, or may not.
+    pub is_refused: bool,
+    /// A sweep was given up in the middle, and the store did not fail.
+    pub is_given_up: bool,
+    /// Memory ran out outside a session, or in a sweep.
     pub no_memory: bool,
 }
 
@@ -25,6 +29,10 @@ impl Cases {
             4
         } else if self.gate_failed {
             5
+        } else if self.is_refused {
+            8
+        } else if self.is_given_up {
+            10
         } else if sink_failed {
             7
         } else if self.no_memory {

@@ -1,7 +1,7 @@
 // The lines of the program's reports.
 ghost use Rattle.std.specs.Prelude.{◌≡◌, ◌++◌, IfOk, OnOk};
 ghost use Rattle.kom_links.specs.Doors.{IsNewSink};
-ghost use Rattle.kom_commands.specs.Reports.{line, check_lines, HasText};
+ghost use Rattle.kom_commands.specs.Reports.{line, check_lines, sweep_lines, HasText};
 
 use itoa::Buffer;
 use kom_links::Sink;
@@ -35,6 +35,16 @@ pub fn check_report(
     push_line(&mut bytes, b"conferences", conferences)?;
     push_line(&mut bytes, b"persons", persons)?;
     push_line(&mut bytes, b"texts", texts)?;
+    Ok(Bytes::of(bytes))
+}
+
+/// The report of a sweep: how many texts it deleted, and how many others it was told of.
+pub fn sweep_report(alloc: Global, swept: u64, kept: u64) -> Result<Bytes, Memory>
+    ensures { IfOk result (λ bytes. bytes ≡ sweep_lines swept kept) }
+{
+    let mut bytes = Vec::new(alloc);
+    push_line(&mut bytes, b"swept", swept)?;
+    push_line(&mut bytes, b"kept", kept)?;
     Ok(Bytes::of(bytes))
 }
 

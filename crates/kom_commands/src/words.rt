@@ -4,6 +4,7 @@ ghost use Rattle.kom_commands.specs.Words.{IsSpelled, IsRefused};
 
 use crate::loads::load_of;
 use crate::numbers::{AtPort, serve_of};
+use crate::sweeps::{LONGEST_PASSWORD, sweep_of};
 use kom_types::Words;
 
 /// A command of the program.
@@ -21,10 +22,9 @@ pub enum Command {
     Check,
     /// Loads a new server in memory with so many calls, and tells what they came to.
     Load(u32),
+    /// Deletes the texts of a store that nobody keeps, by a session of this person.
+    Sweep(u32),
 }
-
-// The most bytes of a password.
-const LONGEST_PASSWORD: usize = 128;
 
 /// The command that the words are, if they are one.
 pub fn command_of(words: &Words) -> Option<Command>
@@ -79,13 +79,16 @@ fn command_with(word: &str, store: &str, password: &str) -> Option<Command>
     }
 }
 
-fn command_at(word: &str, store: &str, port: &str, workers: &str) -> Option<Command>
+fn command_at(word: &str, store: &str, third: &str, fourth: &str) -> Option<Command>
     ensures { MatchOption result
-        (IsRefused (word.now ∷ store.now ∷ port.now ∷ workers.now ∷ []))
-        (IsSpelled (word.now ∷ store.now ∷ port.now ∷ workers.now ∷ [])) }
+        (IsRefused (word.now ∷ store.now ∷ third.now ∷ fourth.now ∷ []))
+        (IsSpelled (word.now ∷ store.now ∷ third.now ∷ fourth.now ∷ [])) }
 {
-    match serve_of(word, store, port, workers) {
-        Some(at) => Some(Command::Serve(at)),
+    if let Some(at) = serve_of(word, store, third, fourth) {
+        return Some(Command::Serve(at));
+    }
+    match sweep_of(word, store, third, fourth) {
+        Some(person) => Some(Command::Sweep(person)),
         None => None,
     }
 }

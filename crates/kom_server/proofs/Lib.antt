@@ -24,3 +24,5 @@ pub mod StatusCases
 pub mod Spelling
 pub mod Carried
 pub mod Sending
+pub mod SweepEnds
+pub mod SweepRuns

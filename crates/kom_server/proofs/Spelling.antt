@@ -6,7 +6,7 @@ use Rattle.kom_commands.specs.declared.numbers.AtPort.{AtPort}
 use Rattle.kom_commands.specs.declared.words.Command.{Command}
 use Rattle.kom_commands.specs.declared.words.Command.TheVariants as command
 use Rattle.kom_commands.specs.Words.{IsSpelled, serves, names_store}
-use Rattle.kom_commands.proofs.Spelling.{same_command, once_over_is, serve_is, check_is}
+use Rattle.kom_commands.proofs.Spelling.{same_command, once_over_is, serve_is, check_is, sweep_is}
 use Rattle.kom_server.specs.Statuses.{Serves, NamesStore, ServesStore, OpensStore, serve_over, opens_store}
 
 pub second : (words : List (List ℕ)) (a store : List ℕ) (rest : List (List ℕ)) → words ≡ a ∷ store ∷ rest →
@@ -16,6 +16,10 @@ second words a store rest is = ap (λ (l : List (List ℕ)). slice_get l 1) is
 pub third : (words : List (List ℕ)) (a b password : List ℕ) (rest : List (List ℕ)) →
     words ≡ a ∷ b ∷ password ∷ rest → slice_get words 2 ≡ Some password
 third words a b password rest is = ap (λ (l : List (List ℕ)). slice_get l 2) is
+
+pub fourth : (words : List (List ℕ)) (a b c password : List ℕ) (rest : List (List ℕ)) →
+    words ≡ a ∷ b ∷ c ∷ password ∷ rest → slice_get words 3 ≡ Some password
+fourth words a b c password rest is = ap (λ (l : List (List ℕ)). slice_get l 3) is
 
 pub same_word : (words : List (List ℕ)) (place : ℕ) (given word : List ℕ) → slice_get words place ≡ Some given →
     slice_get words place ≡ Some word → word ≡ given
@@ -33,9 +37,13 @@ two_words words (command.Serve at) spelled names = omega (arith, long words _ sp
 two_words words command.Init spelled names = omega (arith, long words _ spelled.2)
 two_words words command.Check spelled names = omega (arith, long words _ spelled.1)
 two_words words (command.Load count) spelled names = cc
+two_words words (command.Sweep person) spelled names = omega (arith, long words _ spelled.2.1)
 
 pub three_words : (words : List (List ℕ)) → IsSpelled words command.Init → 2 < length words
 three_words words spelled = omega (arith, long words _ spelled.2)
+
+pub four_words : (words : List (List ℕ)) (person : ℕ) → IsSpelled words (command.Sweep person) → 3 < length words
+four_words words person spelled = omega (arith, long words _ spelled.2.1)
 
 pub over_is : (words : List (List ℕ)) (said : Command) (store : List ℕ) (port : Option AtPort) →
     IsSpelled words said → ServesStore words store port → said ≡ serve_over port
@@ -56,11 +64,14 @@ pub opens_so : (words : List (List ℕ)) (said : Command) (store : List ℕ) →
     OpensStore words store → opens_store said ≡ true
 opens_so words said store spelled (inl (port, is)) =
     ap opens_store (over_is words said store port spelled is) ∙ opens_over port
-opens_so words said store spelled (inr is) = ap opens_store (check_is words said store spelled is)
+opens_so words said store spelled (inr (inl is)) = ap opens_store (check_is words said store spelled is)
+opens_so words said store spelled (inr (inr (person, password, by))) =
+    ap opens_store (sweep_is words said store person password spelled by)
 
 pub opened_at : (words : List (List ℕ)) (store : List ℕ) → OpensStore words store → slice_get words 1 ≡ Some store
 opened_at words store (inl (port, is)) = served_at words store port is
-opened_at words store (inr is) = second words _ store _ is
+opened_at words store (inr (inl is)) = second words _ store _ is
+opened_at words store (inr (inr (person, password, by))) = second words _ store _ by.1
 
 -- what words say that are this command
 pub serves_so : (words : List (List ℕ)) (said : Command) → IsSpelled words said →

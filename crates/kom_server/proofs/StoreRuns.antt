@@ -59,11 +59,11 @@ pub told_so : {D : Type 0} (told : Type 0) (P : D → Type 0) (disk : Option D) 
 told_so told P None holds = tt
 told_so told P (Some d) holds = holds
 
-pub wrong_by_gate : (a u g m : Bool) → g ≡ true → (a || u || g || m) ≡ true
-wrong_by_gate true u g m failed = refl
-wrong_by_gate false true g m failed = refl
-wrong_by_gate false false true m failed = refl
-wrong_by_gate false false false m failed = absurd (false≢true failed)
+pub wrong_by_gate : (a u g m r b : Bool) → g ≡ true → (a || u || g || m || r || b) ≡ true
+wrong_by_gate true u g m r b failed = refl
+wrong_by_gate false true g m r b failed = refl
+wrong_by_gate false false true m r b failed = refl
+wrong_by_gate false false false m r b failed = absurd (false≢true failed)
 
 -- where nothing failed, or something went wrong
 pub wrong_or_so : {T : Type 0} (P : T → Type 0) (end : Option T) (failed : Bool) (cases : Cases) →
@@ -71,7 +71,8 @@ pub wrong_or_so : {T : Type 0} (P : T → Type 0) (end : Option T) (failed : Boo
     IfSome end (λ x. IsWrong cases ⊎ P x)
 wrong_or_so P None failed cases wrong so = tt
 wrong_or_so P (Some x) true cases wrong so =
-    inl (wrong_by_gate cases.store_failed cases.is_unfit cases.gate_failed cases.no_memory (wrong refl))
+    inl (wrong_by_gate cases.store_failed cases.is_unfit cases.gate_failed cases.no_memory cases.is_refused
+    cases.is_given_up (wrong refl))
 wrong_or_so P (Some x) false cases wrong so = inr (so refl)
 
 pub not_true : (b : Bool) → (b ≡ true → ⊥) → b ≡ false

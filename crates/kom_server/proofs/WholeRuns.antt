@@ -40,7 +40,7 @@ none_later number made history none =
     ]
 
 -- where no other pass has a record, each is of pass 0
-all_zero : (history : List Record) → ((number : ℕ) → 1 ≤ number → of_pass number history ≡ []) →
+pub all_zero : (history : List Record) → ((number : ℕ) → 1 ≤ number → of_pass number history ≡ []) →
     AllByRecursion (λ made. made.entry.pass < 1) history
 all_zero [] others = tt
 all_zero (made ∷ history) others = (

@@ -4,3 +4,4 @@ pub mod Workers
 pub mod Statuses
 pub mod Stops
 pub mod Loads
+pub mod Sweeps

@@ -38,7 +38,8 @@ new_server moment = opening (initial [] moment)
 abbrev pub usage : List ℕ
 usage =
     codes "usage: komd once [STORE] | serve STORE PORT WORKERS "
-    ++ codes "| hub STORE PORT WORKERS | init STORE PASSWORD | check STORE | load N\n"
+    ++ codes "| hub STORE PORT WORKERS | init STORE PASSWORD | check STORE | load N "
+    ++ codes "| sweep STORE PERSON PASSWORD\n"
 
 -- what the drains of a session give along a history that begins in this state; of no session,
 -- nothing
@@ -222,6 +223,12 @@ abbrev pub Opens : Bool → WorldCounts → WorldCounts → Type 0
 Opens true old new = new ≡ with_gate true (with_clock old)
 Opens false old new =
     (new ≡ old) ⊎ ((new ≡ with_clock old) ⊎ (new ≡ with_gate false (with_clock old)))
+
+-- What a sweep asks its world for, beside a sink and a disk: a clock. It was given that, and is
+-- left with it (`true`), or it did not come to that, or memory was refused.
+abbrev pub AsksClock : Bool → WorldCounts → WorldCounts → Type 0
+AsksClock true old new = new ≡ with_clock old
+AsksClock false old new = (new ≡ old) ⊎ (new ≡ with_clock old)
 
 -- so many times for a clock
 abbrev pub with_clocks : ℕ → WorldCounts → WorldCounts

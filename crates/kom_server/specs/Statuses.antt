@@ -12,9 +12,10 @@ use Rattle.kom_commands.specs.declared.words.Command.{Command}
 use Rattle.kom_commands.specs.declared.words.Command.TheVariants as command
 use Rattle.kom_commands.specs.Numbers.{number_in, word_of}
 use Rattle.kom_commands.specs.Words.{IsSpelled, serves, names_store}
+use Rattle.kom_commands.specs.Sweeps.{SweepsBy, SaysSweep}
 use Rattle.kom_journal.specs.Images.{as_read}
 use Rattle.store_check.specs.Stores.{Fails, IsNoStore}
-use Rattle.kom_server.specs.Runs.{Opens, AsksPort}
+use Rattle.kom_server.specs.Runs.{Opens, AsksPort, AsksClock}
 
 -- the words are a command that serves sessions
 abbrev pub Serves : List (List ℕ) → Type 0
@@ -31,7 +32,13 @@ ServesStore words store (Some at) = (port workers : List ℕ)
 -- the words are a command that opens this store as it is found
 abbrev pub OpensStore : List (List ℕ) → List ℕ → Type 0
 OpensStore words store =
-    ((port : Option AtPort) × ServesStore words store port) ⊎ (words ≡ codes "check" ∷ store ∷ [])
+    ((port : Option AtPort) × ServesStore words store port)
+    ⊎ ((words ≡ codes "check" ∷ store ∷ []) ⊎ ((person : ℕ) × (password : List ℕ)
+    × SweepsBy words store person password))
+
+-- the words are a command that sweeps a store
+abbrev pub Sweeps : List (List ℕ) → Type 0
+Sweeps words = (person : ℕ) × SaysSweep words person
 
 -- what the run found at this path was no store, as the world and its disks tell
 abbrev pub HoldsNoStore : Bool → Option (List ℕ → List ℕ) → List ℕ → Type 0
@@ -51,6 +58,7 @@ opens_store (command.Serve at) = true
 opens_store command.Init = false
 opens_store command.Check = true
 opens_store (command.Load count) = false
+opens_store (command.Sweep person) = true
 
 -- the words are a command that names a store
 abbrev pub NamesStore : List (List ℕ) → Type 0
@@ -86,3 +94,5 @@ Asks command.Init has_disk serves old new = (serves ≡ false)
 Asks command.Check has_disk serves old new = (serves ≡ false) × (new ≡ with_disk has_disk old)
 Asks (command.Load count) has_disk serves old new =
     (has_disk ≡ false) × (serves ≡ false) × (new ≡ old)
+Asks (command.Sweep person) has_disk sweeps old new =
+    AsksClock sweeps (with_disk has_disk old) new

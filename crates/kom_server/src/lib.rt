@@ -14,6 +14,8 @@ mod serving;
 mod spaces;
 mod standard;
 mod store_runs;
+mod sweep_runs;
+mod sweeping;
 mod workers;
 
 pub use loads::load;

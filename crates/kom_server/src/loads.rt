@@ -1,7 +1,7 @@
 // The word that has a new server loaded.
 ghost use Rattle.std.specs.Prelude.{◌≡◌, ◌⊎◌, ◌≤◌, IsNone, false};
 ghost use Rattle.kom_links.specs.Doors.{IsNewSink};
-ghost use Rattle.store_check.specs.Stores.{IsWrong};
+ghost use Rattle.store_check.specs.Stores.{IsWrong, IsUnswept};
 ghost use Rattle.kom_server.specs.Loads.{IsLoaded};
 
 use crate::ran::Ran;
@@ -17,7 +17,7 @@ pub fn load<W: World>(alloc: Global, count: u32, sink: &mut W::Sink) -> Ran<W>
     requires fresh { IsNewSink (W.Sink.view sink.old) }
     ensures alone { IsNone result.disk × IsNone result.end }
     ensures well { (result.cases.store_failed ≡ false) × (result.cases.is_unfit ≡ false)
-        × (result.cases.gate_failed ≡ false) }
+        × (result.cases.gate_failed ≡ false) × IsUnswept result.cases }
     ensures silent { IsWrong result.cases → W.Sink.view sink.new ≡ W.Sink.view sink.old }
     ensures loaded { IsWrong result.cases ⊎ IsLoaded count (W.Sink.view sink.new) }
 {
@@ -27,6 +27,8 @@ pub fn load<W: World>(alloc: Global, count: u32, sink: &mut W::Sink) -> Ran<W>
             store_failed: false,
             is_unfit: false,
             gate_failed: false,
+            is_refused: false,
+            is_given_up: false,
             no_memory: told.is_err(),
         },
         disk: None,

@@ -3,7 +3,7 @@ ghost use Rattle.std.specs.Prelude.{◌≡◌, ◌≢◌, ◌↔◌, ◌⊎◌, 
 ghost use Rattle.std.specs.Prelude.{false, true, IfSome};
 ghost use Rattle.kom_journal.specs.Journals.{EndsAtGate};
 ghost use Rattle.kom_book.specs.Books.{state_in, disk_in};
-ghost use Rattle.store_check.specs.Stores.{Fails};
+ghost use Rattle.store_check.specs.Stores.{IsUnswept, Fails};
 
 use crate::outcome::Closing;
 use crate::standard::Left;
@@ -31,6 +31,8 @@ pub(crate) fn unopened<W: World>(gate_failed: bool) -> Ran<W>
         store_failed = true;
         is_unfit = false;
         gate_failed = gate_failed;
+        is_refused = false;
+        is_given_up = false;
         no_memory = false;
       };
       disk = None;
@@ -42,6 +44,8 @@ pub(crate) fn unopened<W: World>(gate_failed: bool) -> Ran<W>
             store_failed: true,
             is_unfit: false,
             gate_failed,
+            is_refused: false,
+            is_given_up: false,
             no_memory: false,
         },
         disk: None,
@@ -60,6 +64,7 @@ pub(crate) fn settle<W: World>(left: Left<Book<W::Disk>, W>, world_failed: bool)
     ensures unfit { result.cases.is_unfit ≡ false }
     ensures gate { IsTrue result.cases.gate_failed ↔ (IsTrue left.failed ⊎ IsTrue world_failed) }
     ensures memory { IsTrue result.cases.no_memory ↔ IsNone left.end }
+    ensures unswept { IsUnswept result.cases }
 {
     let Left {
         server,
@@ -74,6 +79,8 @@ pub(crate) fn settle<W: World>(left: Left<Book<W::Disk>, W>, world_failed: bool)
             store_failed: disk_failed || refused,
             is_unfit: false,
             gate_failed: failed || world_failed,
+            is_refused: false,
+            is_given_up: false,
             no_memory: end.is_none(),
         },
         disk,

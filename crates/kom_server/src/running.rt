@@ -10,6 +10,7 @@ ghost use Rattle.kom_commands.specs.Reports.{HasText, made_line};
 ghost use Rattle.kom_commands.specs.Statuses.{IsStatus};
 ghost use Rattle.kom_commands.specs.Words.{IsSpelled, IsRefused, serves, names_store};
 ghost use Rattle.kom_commands.specs.Loads.{SaysLoad};
+ghost use Rattle.kom_commands.specs.Sweeps.{SweepsBy};
 ghost use Rattle.kom_links.specs.Outside.{IsNothing, Rose};
 ghost use Rattle.kom_links.specs.Doors.{IsNewSink};
 ghost use Rattle.kom_links.specs.WorldCounts.{with_sink, with_disk};
@@ -18,20 +19,24 @@ ghost use Rattle.kom_model.specs.Initial.{initial};
 ghost use Rattle.kom_model.specs.State.{opening};
 ghost use Rattle.kom_journal.specs.Images.{AreFor, StandsFor, images, images_at};
 ghost use Rattle.kom_journal.specs.Images.{moment as moment_on};
-ghost use Rattle.store_check.specs.Stores.{IsNoStore, IfFound, IsWrong, IsReported};
+ghost use Rattle.store_check.specs.Stores.{IsNoStore, IfFound, IsWrong, IsUnswept};
+ghost use Rattle.store_check.specs.Stores.{IsReported};
 ghost use Rattle.kom_server.specs.Runs.{new_server, usage, Opens, IsHidingRun, IsFirstReading};
 ghost use Rattle.kom_server.specs.Runs.{HasFailed, IsOverAt, gates_at, IsFirstMoment};
 ghost use Rattle.kom_server.specs.Statuses.{Serves, NamesStore, ServesStore, OpensStore};
 ghost use Rattle.kom_server.specs.Statuses.{StoreFails, HasRefused, Asks, serve_over, opens_store};
-ghost use Rattle.kom_server.specs.Statuses.{HoldsNoStore};
+ghost use Rattle.kom_server.specs.Statuses.{HoldsNoStore, Sweeps};
 ghost use Rattle.kom_server.specs.Stops.{HasServed};
 ghost use Rattle.kom_server.specs.Loads.{IsLoaded};
+ghost use Rattle.kom_server.specs.Sweeps.{IsSweepRun, IsMetBy, IsEndAt};
+ghost use Rattle.kom_sweep.specs.declared.ends.SweepEnd.{SweepEnd};
 
 use crate::loads::load;
 use crate::outcome::{Closing, Outcome};
 use crate::ran::{Ran, settle};
 use crate::standard::serve_standard;
 use crate::store_runs::{init, serve_store};
+use crate::sweep_runs::sweep_store;
 use kom_book::Book;
 use kom_commands::{Cases, Command, command_of, put_text};
 use kom_disk::Disk;
@@ -44,7 +49,8 @@ use store_check::{Checked, check};
 
 /// The usage line.
 const USAGE: &[u8] = b"usage: komd once [STORE] | serve STORE PORT WORKERS \
-    | hub STORE PORT WORKERS | init STORE PASSWORD | check STORE | load N\n";
+    | hub STORE PORT WORKERS | init STORE PASSWORD | check STORE | load N \
+    | sweep STORE PERSON PASSWORD\n";
 
 /// Carries out a command line.
 pub fn run<R: Threads + Wait + Sync, W: World<Gate: Gate<Link: Send>>>(
@@ -67,7 +73,8 @@ pub fn run<R: Threads + Wait + Sync, W: World<Gate: Gate<Link: Send>>>(
     // The other statuses, in the order in which they are tried: 3 says that the store failed; 4
     // that there is no store, or something where one is to be made; 5 that a gate or the world
     // failed; 7 that the sink failed; 6 that memory ran out; 0 that each gate has ended or the
-    // server was stopped, or that the report was written.
+    // server was stopped, or that the report was written. Of a sweep also, between 4 and 7: 8 says
+    // that the person was refused, 10 that the server or the store gave up in the middle.
     ensures statuses { (result.status ≡ 2) ⊎ IsStatus result.status }
     ensures store { (result.status ≡ 3) ↔ StoreFails W.Disk.faults (NamesStore words.now
         × Rose (W.view world.old).faults (W.view world.new).faults) result.disk
@@ -79,7 +86,8 @@ pub fn run<R: Threads + Wait + Sync, W: World<Gate: Gate<Link: Send>>>(
     ensures sink { (result.status ≡ 7) ↔ ((¬ IsRefused words.now) × (result.status ≢ 3)
         × (result.status ≢ 4) × ((W.Sink.view result.sink).faults ≢ 0)) }
     ensures named { result.status ≡ 4 → NamesStore words.now }
-    ensures unserved { result.status ≡ 6 → IsNone result.end }
+    ensures unserved { result.status ≡ 6 → IsNone result.end ⊎ Sweeps words.now }
+    ensures sweeping { (result.status ≡ 8) ⊎ (result.status ≡ 10) → Sweeps words.now }
     ensures zero { Serves words.now → result.status ≡ 0 → IsSome result.end }
     ensures silent { Serves words.now → IsNothing (W.Sink.view result.sink).put }
 
@@ -155,6 +163,26 @@ pub fn run<R: Threads + Wait + Sync, W: World<Gate: Gate<Link: Send>>>(
     ensures load { (count : ℕ) → SaysLoad words.now count
         → (result.status ≡ 0) ⊎ (result.status ≡ 7)
         → IsLoaded count (W.Sink.view result.sink) }
+
+    // `sweep`: one session of the server that the store stands for as it is found, where that is
+    // told, deleted what is due by the replies that it was given, or the first of that; what that
+    // came to, which the status and the report tell, unless the store failed; and what a stop would
+    // leave of the store at any moment.
+    ensures sweep { (store : List ℕ) (person : ℕ) (password : List ℕ)
+        → SweepsBy words.now store person password → IfSome result.end (λ closing. (db : Db)
+        × (ending : SweepEnd)
+        × IfFound W.Disk.tells (W.view world.old).files store (StandsFor db)
+        × IsSweepRun (opening db) person password (W.view world.old).moment
+        (map (λ entry. entry.made) closing.pass.seen) closing.pass.drawn
+        (map (λ clock. W.Clock.gave clock) closing.clocks.items) ending
+        × (result.status ≢ 3 → IsEndAt ending result.status (W.Sink.view result.sink))
+        × (closing.gates.items ≡ [])
+        × IfSome result.disk (HasServed (moment_on W.Disk.moment) (images_at W.Disk.images_at)
+        W.Disk.tells W.Disk.faults W.Disk.size (opening db) closing.pass.seen)) }
+    ensures swept { Sweeps words.now → (result.status ≡ 3) ⊎ ((result.status ≡ 4)
+        ⊎ ((result.status ≡ 6) ⊎ IsSome result.end)) }
+    ensures unreported { Sweeps words.now → (result.status ≢ 0) → (result.status ≢ 7)
+        → IsNothing (W.Sink.view result.sink).put }
 {
     let before = world.faults();
     let mut sink = world.out();
@@ -212,6 +240,8 @@ fn carry_out<R: Threads + Wait + Sync, W: World<Gate: Gate<Link: Send>>>(
     ensures untouched { IsTrue (serves command)
         → W.Sink.view sink.new ≡ W.Sink.view sink.old }
     ensures silent { IsWrong result.cases → W.Sink.view sink.new ≡ W.Sink.view sink.old }
+    ensures unswept { IsUnswept result.cases
+        ⊎ (IsSome result.end × ((person : ℕ) × (command ≡ said.Sweep person))) }
 
     // What was served.
     ensures once { command ≡ said.Once → IfSome result.end (λ closing. (opened : ℕ)
@@ -266,6 +296,22 @@ fn carry_out<R: Threads + Wait + Sync, W: World<Gate: Gate<Link: Send>>>(
         → IsTrue W.Disk.tells → IfSome (W.view world.old).files (λ found. found store ≢ []) }
     ensures load { (count : ℕ) → command ≡ said.Load count
         → IsWrong result.cases ⊎ IsLoaded count (W.Sink.view sink.new) }
+
+    // What was swept.
+    ensures sweep { (store : List ℕ) (person : ℕ) (password : List ℕ)
+        → slice_get words.now 1 ≡ Some store → slice_get words.now 3 ≡ Some password
+        → command ≡ said.Sweep person → IfSome result.end (λ closing. (db : Db)
+        × (ending : SweepEnd)
+        × IfFound W.Disk.tells (W.view world.old).files store (StandsFor db)
+        × IsSweepRun (opening db) person password (W.view world.old).moment
+        (map (λ entry. entry.made) closing.pass.seen) closing.pass.drawn
+        (map (λ clock. W.Clock.gave clock) closing.clocks.items) ending
+        × IsMetBy ending result.cases (W.Sink.view sink.new)
+        × (result.cases.is_unfit ≡ false) × (closing.gates.items ≡ [])
+        × IfSome result.disk (HasServed (moment_on W.Disk.moment) (images_at W.Disk.images_at)
+        W.Disk.tells W.Disk.faults W.Disk.size (opening db) closing.pass.seen)) }
+    ensures swept { (person : ℕ) → command ≡ said.Sweep person → IsWrong result.cases
+        ⊎ IsSome result.end }
 {
     match command {
         Command::Once => once(rt, alloc, before, world),
@@ -281,6 +327,15 @@ fn carry_out<R: Threads + Wait + Sync, W: World<Gate: Gate<Link: Send>>>(
             }
         }
         Command::Load(count) => load(alloc, count, sink),
+        Command::Sweep(person) => sweep_store(
+            rt,
+            alloc,
+            words.word(1),
+            person,
+            words.word(3).as_bytes(),
+            world,
+            sink,
+        ),
     }
 }
 
@@ -300,6 +355,7 @@ fn once<R: Wait, W: World>(rt: &R, alloc: Global, before: u64, world: &mut W) ->
         HasFailed (map (λ gate. W.Gate.view gate) closing.gates.items))) }
     ensures unserved { IsTrue result.cases.no_memory → IsNone result.end }
     ensures served { IsWrong result.cases ⊎ IsSome result.end }
+    ensures unswept { IsUnswept result.cases }
 
     // What was served.
     ensures once { IfSome result.end (λ closing. (opened : ℕ)
@@ -330,6 +386,8 @@ fn unserved<W: World>(gate_failed: bool) -> Ran<W>
         store_failed = false;
         is_unfit = false;
         gate_failed = gate_failed;
+        is_refused = false;
+        is_given_up = false;
         no_memory = true;
       };
       disk = None;
@@ -341,6 +399,8 @@ fn unserved<W: World>(gate_failed: bool) -> Ran<W>
             store_failed: false,
             is_unfit: false,
             gate_failed,
+            is_refused: false,
+            is_given_up: false,
             no_memory: true,
         },
         disk: None,

@@ -13,7 +13,7 @@ ghost use Rattle.kom_journal.specs.Images.{moment as moment_on};
 ghost use Rattle.kom_commands.specs.Reports.{HasText, made_line};
 ghost use Rattle.hall_desk.specs.Acts.{IsOpening};
 ghost use Rattle.kom_book.specs.Books.{IsPlain, StandsNow, state_in};
-ghost use Rattle.store_check.specs.Stores.{IsNoStore, IfFound, IsWrong, Fails};
+ghost use Rattle.store_check.specs.Stores.{IsNoStore, IfFound, IsWrong, IsUnswept, Fails};
 ghost use Rattle.store_check.specs.Stores.{is_of_content, is_memory};
 ghost use Rattle.kom_server.specs.Runs.{IsRun, IsHidingRun, HasFailed, AsksPlace, gates_at};
 ghost use Rattle.kom_server.specs.Runs.{IsOverAt, IsWithin, IsFirstMoment};
@@ -67,6 +67,7 @@ pub(crate) fn serve_store<R: Threads + Wait + Sync, W: World<Gate: Gate<Link: Se
         HasFailed (map (λ gate. W.Gate.view gate) closing.gates.items))) }
     ensures unserved { IsTrue result.cases.no_memory → IsNone result.end }
     ensures served { IsWrong result.cases ⊎ IsSome result.end }
+    ensures unswept { IsUnswept result.cases }
 
     // What was served.
     ensures over { IfSome result.end (λ closing. (db : Db)
@@ -119,6 +120,7 @@ fn serve_opened<R: Threads + Wait + Sync, W: World<Gate: Gate<Link: Send>>>(
         ⊎ IsSomeAnd result.end (λ closing.
         HasFailed (map (λ gate. W.Gate.view gate) closing.gates.items))) }
     ensures memory { IsTrue result.cases.no_memory ↔ IsNone result.end }
+    ensures unswept { IsUnswept result.cases }
 
     // What was served.
     ensures run { IfSome result.end (λ closing. IsHidingRun W.Gate.Link.view (state_in book)
@@ -138,13 +140,14 @@ fn serve_opened<R: Threads + Wait + Sync, W: World<Gate: Gate<Link: Send>>>(
 }
 
 /// A store was not opened, or not made, for this reason, and the world may have failed.
-fn refused<W: World>(disk: W::Disk, fault: OpenFault, gate_failed: bool) -> Ran<W>
+pub(crate) fn refused<W: World>(disk: W::Disk, fault: OpenFault, gate_failed: bool) -> Ran<W>
     ensures disk { result.disk ≡ Some disk }
     ensures end { result.end ≡ None }
     ensures failed { IsTrue result.cases.store_failed ↔ (W.Disk.faults disk ≢ 0) }
     ensures unfit { result.cases.is_unfit ≡ is_of_content fault }
     ensures gate { result.cases.gate_failed ≡ gate_failed }
     ensures memory { result.cases.no_memory ≡ is_memory fault }
+    ensures unswept { IsUnswept result.cases }
 {
     let cases = cases_of(fault, disk.faults());
     Ran {
@@ -215,6 +218,7 @@ pub fn init<W: World>(
     ensures exact { IsWrong result.cases
         ⊎ (IsTrue W.Disk.tells → IfSome (W.view world.old).files (λ found. found path.now ≡ [])) }
     ensures gate { result.cases.gate_failed ≡ false }
+    ensures unswept { IsUnswept result.cases }
 
     // What is made, and what is put to the sink.
     ensures silent { IsWrong result.cases → W.Sink.view sink.new ≡ W.Sink.view sink.old }
@@ -232,6 +236,8 @@ pub fn init<W: World>(
                 store_failed: disk.faults() != 0,
                 is_unfit: false,
                 gate_failed: false,
+                is_refused: false,
+                is_given_up: false,
                 no_memory: true,
             },
             disk: Some(disk),
@@ -247,6 +253,8 @@ pub fn init<W: World>(
                     store_failed: false,
                     is_unfit: false,
                     gate_failed: false,
+                    is_refused: false,
+                    is_given_up: false,
                     no_memory: false,
                 },
                 disk: book.into_disk(),

@@ -1,5 +1,5 @@
 -- What a store is that is not opened, and what a check of one comes to.
-use Rattle.std.specs.Prelude.{◌≢◌, ◌⊎◌, ◌||◌, ℕ, Bool, true, false, IsTrue, List, Option, Some}
+use Rattle.std.specs.Prelude.{◌≡◌, ◌≢◌, ◌⊎◌, ◌||◌, ℕ, Bool, true, false, IsTrue, List, Option, Some}
 use Rattle.std.specs.Prelude.{None}
 use Rattle.std.specs.Prelude.{length, IfSome}
 use Rattle.kom_commands.specs.declared.cases.Cases.{Cases}
@@ -42,7 +42,12 @@ IfFound tells files path P = IsTrue tells → IfSome files (λ found. P (as_read
 -- something went wrong
 abbrev pub IsWrong : Cases → Type 0
 IsWrong cases =
-    IsTrue (cases.store_failed || cases.is_unfit || cases.gate_failed || cases.no_memory)
+    IsTrue (cases.store_failed || cases.is_unfit || cases.gate_failed || cases.no_memory
+    || cases.is_refused || cases.is_given_up)
+
+-- no sweep was refused or given up
+abbrev pub IsUnswept : Cases → Type 0
+IsUnswept cases = (cases.is_refused ≡ false) × (cases.is_given_up ≡ false)
 
 -- the disk failed, or was not opened, which is this fact
 abbrev pub Fails : {D : Type 0} → (D → ℕ) → Type 0 → Option D → Type 0

@@ -5,7 +5,8 @@ ghost use Rattle.kom_commands.specs.Reports.{check_lines, HasText};
 ghost use Rattle.kom_links.specs.Doors.{IsNewSink, KeepsTold};
 ghost use Rattle.kom_links.specs.Outside.{Rose};
 ghost use Rattle.kom_links.specs.WorldCounts.{with_disk};
-ghost use Rattle.store_check.specs.Stores.{IsNoStore, IfFound, IsWrong, Fails, IsReported};
+ghost use Rattle.store_check.specs.Stores.{IsNoStore, IfFound, IsWrong, IsUnswept, Fails};
+ghost use Rattle.store_check.specs.Stores.{IsReported};
 
 use crate::unopened::cases_of;
 use kom_commands::{Cases, check_report, put_text};
@@ -45,6 +46,7 @@ pub fn check<W: World>(
     ensures exact { IsWrong result.cases ⊎ IfFound W.Disk.tells (W.view world.old).files path.now
         (λ image. IsNoStore image → ⊥) }
     ensures gate { result.cases.gate_failed ≡ false }
+    ensures unswept { IsUnswept result.cases }
 
     // What is put to the sink.
     ensures silent { IsWrong result.cases → W.Sink.view sink.new ≡ W.Sink.view sink.old }
@@ -57,6 +59,8 @@ pub fn check<W: World>(
                 store_failed: true,
                 is_unfit: false,
                 gate_failed: false,
+                is_refused: false,
+                is_given_up: false,
                 no_memory: false,
             },
             disk: None,
@@ -69,6 +73,8 @@ pub fn check<W: World>(
                 store_failed: false,
                 is_unfit: false,
                 gate_failed: false,
+                is_refused: false,
+                is_given_up: false,
                 no_memory: told.is_err(),
             };
             Checked {

@@ -1,6 +1,6 @@
 // Why a store is not opened, as a case of a run.
 ghost use Rattle.std.specs.Prelude.{◌≡◌, ◌≢◌, ◌↔◌, IsTrue, false};
-ghost use Rattle.store_check.specs.Stores.{is_of_content, is_memory};
+ghost use Rattle.store_check.specs.Stores.{IsUnswept, is_of_content, is_memory};
 
 use kom_commands::Cases;
 use kom_journal::OpenFault;
@@ -11,6 +11,7 @@ pub fn cases_of(fault: OpenFault, faults: u64) -> Cases
     ensures failed { IsTrue result.store_failed ↔ (faults ≢ 0) }
     ensures unfit { result.is_unfit ≡ is_of_content fault }
     ensures gate { result.gate_failed ≡ false }
+    ensures unswept { IsUnswept result }
     ensures memory { result.no_memory ≡ is_memory fault }
 {
     let (is_unfit, no_memory) = match fault {
@@ -25,6 +26,8 @@ pub fn cases_of(fault: OpenFault, faults: u64) -> Cases
         store_failed: faults != 0,
         is_unfit,
         gate_failed: false,
+        is_refused: false,
+        is_given_up: false,
         no_memory,
     }
 }

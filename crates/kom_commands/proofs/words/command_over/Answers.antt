@@ -23,6 +23,8 @@ none_of_two a b no_load no_once no_check command.Init spelled =
 none_of_two a b no_load no_once no_check command.Check spelled =
     no_check (heads (a ∷ b ∷ []) a (codes "check") _ _ refl spelled.1)
 none_of_two a b no_load no_once no_check (command.Load count) spelled = no_load count spelled
+none_of_two a b no_load no_once no_check (command.Sweep person) spelled =
+    omega (arith, ap (λ (words : List (List ℕ)). length words) spelled.2.1)
 
 pub returns-else-eq-2 : goal.returns-else-eq-2
 returns-else-eq-2 c =

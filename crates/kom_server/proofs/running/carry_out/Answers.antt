@@ -1,10 +1,12 @@
-use Rattle.std.proofs.Common.{◌≡◌, ℕ, List, refl, sym, ap, subst, ◌∙◌}
+use Rattle.std.proofs.Common.{◌≡◌, ℕ, inl, List, refl, sym, ap, subst, ◌∙◌}
 use Rattle.std.proofs.lemmas.Bool.{false≢true}
+use Rattle.std.specs.Prelude.{is_some}
 use Rattle.kom_commands.specs.declared.words.Command.{Command}
 use Rattle.kom_commands.specs.Words.{IsSpelled, serves, names_store}
 use Rattle.kom_server.specs.Statuses.{opens_store, HoldsNoStore}
 use Rattle.kom_server.proofs.Carried.{never_fails, fails_alone, fails_unserved, fails_served, also, neither, rose_from}
 use Rattle.kom_server.proofs.Carried.{not_served, not_named, over_none, over_some, same_load, none_there, both_or}
+use Rattle.kom_server.proofs.Carried.{fails_more, there_and, there_or, same_sweep}
 use Rattle.kom_server.proofs.Spelling.{same_word}
 use Rattle.kom_server.proofs.running.carry_out.Goals as goal
 
@@ -46,6 +48,9 @@ pub returns-in-Once-clause-a_store : goal.returns-in-Once-clause-a_store
 returns-in-Once-clause-a_store g c store at opens =
     absurd (false≢true (sym (ap opens_store c.in-Once.is) ∙ opens))
 
+pub returns-in-Once-clause-unswept : goal.returns-in-Once-clause-unswept
+returns-in-Once-clause-unswept g c = inl c.once.ensures.unswept
+
 -- ---- once over a store
 
 pub returns-in-OnceOver-clause-asks : goal.returns-in-OnceOver-clause-asks
@@ -86,6 +91,9 @@ returns-in-OnceOver-clause-unopened g c store at opens holds =
 pub returns-in-OnceOver-clause-a_store : goal.returns-in-OnceOver-clause-a_store
 returns-in-OnceOver-clause-a_store g c store at opens =
     rw (same_word c.args.words.now 1 c.word.result.now store c.word.ensures at) c.serve_store.ensures.exact
+
+pub returns-in-OnceOver-clause-unswept : goal.returns-in-OnceOver-clause-unswept
+returns-in-OnceOver-clause-unswept g c = inl c.serve_store.ensures.unswept
 
 -- ---- serve
 
@@ -129,6 +137,9 @@ pub returns-in-Serve-clause-a_store : goal.returns-in-Serve-clause-a_store
 returns-in-Serve-clause-a_store g c store at opens =
     rw (same_word c.args.words.now 1 c.word-in-Serve.result.now store c.word-in-Serve.ensures at)
     c.serve_store-in-Serve.ensures.exact
+
+pub returns-in-Serve-clause-unswept : goal.returns-in-Serve-clause-unswept
+returns-in-Serve-clause-unswept g c = inl c.serve_store-in-Serve.ensures.unswept
 
 -- ---- init
 
@@ -178,6 +189,9 @@ returns-in-Init-clause-used g c store at is unfit =
     rw (same_word c.args.words.now 1 c.word-in-Init.result.now store c.word-in-Init.ensures at)
     (c.init.ensures.unfit unfit)
 
+pub returns-in-Init-clause-unswept : goal.returns-in-Init-clause-unswept
+returns-in-Init-clause-unswept g c = inl c.init.ensures.unswept
+
 -- ---- check
 
 pub returns-in-Check-clause-asks : goal.returns-in-Check-clause-asks
@@ -220,6 +234,9 @@ pub returns-in-Check-clause-over : goal.returns-in-Check-clause-over
 returns-in-Check-clause-over g c store port at is =
     absurd (not_served c.args.command port (ap serves c.in-Check.is) is)
 
+pub returns-in-Check-clause-unswept : goal.returns-in-Check-clause-unswept
+returns-in-Check-clause-unswept g c = inl c.check-disk.ensures.unswept
+
 -- ---- load
 
 pub returns-in-Load-clause-store : goal.returns-in-Load-clause-store
@@ -257,3 +274,64 @@ returns-in-Load-clause-load g c count is =
 pub returns-in-Load-clause-over : goal.returns-in-Load-clause-over
 returns-in-Load-clause-over g c store port at is =
     absurd (not_served c.args.command port (ap serves c.in-Load.is) is)
+
+pub returns-in-Load-clause-unswept : goal.returns-in-Load-clause-unswept
+returns-in-Load-clause-unswept g c = inl c.load.ensures.well.3
+
+-- ---- sweep
+
+pub returns-in-Sweep-clause-asks : goal.returns-in-Sweep-clause-asks
+returns-in-Sweep-clause-asks g c = rw c.in-Sweep.is c.sweep_store.ensures.asks
+
+pub returns-in-Sweep-clause-store : goal.returns-in-Sweep-clause-store
+returns-in-Sweep-clause-store g c =
+    fails_more g.W.Disk.Disk.faults _ _ _ c.sweep_store.result.disk _
+    (λ rose. (ap names_store c.in-Sweep.is, rose_from _ _ _ c.requires.before rose)) c.sweep_store.ensures.no_disk
+    c.sweep_store.ensures.store
+
+pub returns-in-Sweep-clause-named : goal.returns-in-Sweep-clause-named
+returns-in-Sweep-clause-named g c unfit = ap names_store c.in-Sweep.is
+
+pub returns-in-Sweep-clause-gate : goal.returns-in-Sweep-clause-gate
+returns-in-Sweep-clause-gate g c =
+    neither c.sweep_store.result.cases.gate_failed (serves c.args.command) c.sweep_store.ensures.gate
+    (ap serves c.in-Sweep.is)
+
+pub returns-in-Sweep-clause-unswept : goal.returns-in-Sweep-clause-unswept
+returns-in-Sweep-clause-unswept g c =
+    there_and _ _ (is_some c.sweep_store.result.end) (λ none. (c.sweep_store.ensures.opened none).0)
+    (c.in-Sweep.person, c.in-Sweep.is)
+
+pub returns-in-Sweep-clause-over : goal.returns-in-Sweep-clause-over
+returns-in-Sweep-clause-over g c store port at is =
+    absurd (not_served c.args.command port (ap serves c.in-Sweep.is) is)
+
+pub returns-in-Sweep-clause-no_store : goal.returns-in-Sweep-clause-no_store
+returns-in-Sweep-clause-no_store g c store at opens unfit =
+    rw (same_word c.args.words.now 1 c.word-in-Sweep.result.now store c.word-in-Sweep.ensures at)
+    (c.sweep_store.ensures.unfit unfit)
+
+pub returns-in-Sweep-clause-unopened : goal.returns-in-Sweep-clause-unopened
+returns-in-Sweep-clause-unopened g c store at opens holds =
+    c.sweep_store.ensures.unopened
+    (subst (λ (path : List ℕ). HoldsNoStore g.W.Disk.Disk.tells (g.W.World.view c.args.world.now).files path)
+    (same_word c.args.words.now 1 c.word-in-Sweep.result.now store c.word-in-Sweep.ensures at) holds)
+
+pub returns-in-Sweep-clause-a_store : goal.returns-in-Sweep-clause-a_store
+returns-in-Sweep-clause-a_store g c store at opens =
+    rw (same_word c.args.words.now 1 c.word-in-Sweep.result.now store c.word-in-Sweep.ensures at)
+    c.sweep_store.ensures.exact
+
+pub returns-in-Sweep-clause-sweep : goal.returns-in-Sweep-clause-sweep
+returns-in-Sweep-clause-sweep g c store person password at at' is =
+    rw (
+      same_word c.args.words.now 1 c.word-in-Sweep.result.now store c.word-in-Sweep.ensures at,
+      same_word c.args.words.now 3 c.word-in-Sweep-2.result.now password c.word-in-Sweep-2.ensures at'
+          ∙ sym c.as_bytes-in-Sweep.ensures.value,
+      same_sweep c.in-Sweep.person person (sym c.in-Sweep.is ∙ is),
+    )
+    c.sweep_store.ensures.swept
+
+pub returns-in-Sweep-clause-swept : goal.returns-in-Sweep-clause-swept
+returns-in-Sweep-clause-swept g c person is =
+    there_or _ (is_some c.sweep_store.result.end) (λ none. (c.sweep_store.ensures.opened none).1)

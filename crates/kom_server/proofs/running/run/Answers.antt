@@ -1,17 +1,22 @@
 use Rattle.std.proofs.Common.{◌≡◌, ◌↔◌, ℕ, List, Option, false, not, eqb, inl, inr, refl, sym, ap, subst, ◌∙◌, arith}
 use Rattle.std.specs.Prelude.{is_some}
+use Rattle.std.proofs.lemmas.Bool.{false≢true}
+use Rattle.kom_commands.specs.declared.words.Command.TheVariants as command
 use Rattle.kom_commands.specs.Words.{serves}
-use Rattle.kom_commands.proofs.Spelling.{same_command, once_is, check_is, init_is, load_is}
+use Rattle.kom_commands.proofs.Spelling.{same_command, once_is, check_is, init_is, load_is, sweep_is}
 use Rattle.kom_links.specs.declared.world_counts.WorldCounts.{WorldCounts}
 use Rattle.kom_links.specs.Doors.{SinkView}
 use Rattle.kom_links.specs.WorldCounts.{with_disk}
 use Rattle.kom_links.specs.Outside.{Rose}
 use Rattle.store_check.specs.Stores.{IsWrong}
-use Rattle.kom_server.specs.Statuses.{Asks, HoldsNoStore}
+use Rattle.kom_server.specs.Statuses.{Asks, HoldsNoStore, Sweeps}
 use Rattle.kom_server.proofs.Carried.{some_status, no_refusal, store_status, unfit_status, gate_status, sink_status}
 use Rattle.kom_server.proofs.Carried.{memory_status, all_well, some_wrong, fails_served, unserved_end, zero_failed}
-use Rattle.kom_server.proofs.Carried.{has_failed, gate_apart, unfit_alone}
-use Rattle.kom_server.proofs.Spelling.{second, third, over_is, served_at, opens_so, opened_at, serves_so, names_so}
+use Rattle.kom_server.proofs.Carried.{has_failed, sink_apart, unfit_alone, unless_there, sweep_status}
+use Rattle.kom_server.proofs.Carried.{not_gate, was_sweep, swept_end, which_status, failed_gate}
+use Rattle.kom_server.proofs.SweepEnds.{end_at}
+use Rattle.kom_server.proofs.Spelling.{second, third, fourth, over_is, served_at, opens_so, opened_at, serves_so}
+use Rattle.kom_server.proofs.Spelling.{names_so}
 use Rattle.kom_server.proofs.StoreRuns.{some_then, not_held}
 use Rattle.kom_server.proofs.running.run.Goals as goal
 
@@ -79,6 +84,23 @@ pub returns-in_default-clause-load : goal.returns-in_default-clause-load
 returns-in_default-clause-load g c count says (inl zero) = absurd (omega (arith, zero))
 returns-in_default-clause-load g c count says (inr seven) = absurd (omega (arith, seven))
 
+pub returns-in_default-clause-unserved : goal.returns-in_default-clause-unserved
+returns-in_default-clause-unserved g c six = inl refl
+
+pub returns-in_default-clause-sweeping : goal.returns-in_default-clause-sweeping
+returns-in_default-clause-sweeping g c (inl eight) = absurd (omega (arith, eight))
+returns-in_default-clause-sweeping g c (inr ten) = absurd (omega (arith, ten))
+
+pub returns-in_default-clause-sweep : goal.returns-in_default-clause-sweep
+returns-in_default-clause-sweep g c store person password by = tt
+
+pub returns-in_default-clause-swept : goal.returns-in_default-clause-swept
+returns-in_default-clause-swept g c sweeps = absurd (c.in_default.ensures (command.Sweep sweeps.0) sweeps.1)
+
+pub returns-in_default-clause-unreported : goal.returns-in_default-clause-unreported
+returns-in_default-clause-unreported g c sweeps not_zero not_seven =
+    absurd (c.in_default.ensures (command.Sweep sweeps.0) sweeps.1)
+
 -- ---- they are one
 
 -- the sink has not failed where nothing was put to it
@@ -143,8 +165,7 @@ returns-clause-gates g c =
 pub returns-clause-sink : goal.returns-clause-sink
 returns-clause-sink g c =
     sink_status c.carry_out-ran.result.cases _ _ c.status-status.ensures _ _
-    (gate_apart (serves c.in-Some.command) c.carry_out-ran.result.cases.gate_failed _
-    (λ is. (c.carry_out-ran.ensures.gate.0 is).0) (λ is. unfailed g c (c.carry_out-ran.ensures.untouched is)))
+    (sink_apart c.carry_out-ran.result.cases _ (quiet g c))
     (has_failed c.faults.result (g.W.Sink.Sink.view c.carry_out-ran.new.sink).faults c.faults.ensures)
     (λ refused. refused c.in-Some.command c.in-Some.ensures)
 
@@ -155,7 +176,8 @@ returns-clause-named g c four =
 
 pub returns-clause-unserved : goal.returns-clause-unserved
 returns-clause-unserved g c six =
-    unserved_end c.in-Some.command _ (is_some c.carry_out-ran.result.end) _ _ c.carry_out-ran.ensures.asks
+    unserved_end c.args.words.now c.in-Some.command _ (is_some c.carry_out-ran.result.end) _ _ c.in-Some.ensures
+    c.carry_out-ran.ensures.asks
     (λ is. c.carry_out-ran.ensures.unserved is
     (memory_status c.carry_out-ran.result.cases _ _ c.status-status.ensures six))
 
@@ -217,7 +239,8 @@ returns-clause-unopened g c store opens accepted holds =
     let unserved = c.carry_out-ran.ensures.unopened store at command held in (
       unserved.0,
       unserved.1 ∙ ap (with_disk (is_some c.carry_out-ran.result.disk)) c.out-sink.ensures.counts,
-      unfit_alone c.carry_out-ran.result.cases _ _ c.status-status.ensures (λ well.
+      unfit_alone c.carry_out-ran.result.cases _ _ c.status-status.ensures
+          (unless_there _ _ (is_some c.carry_out-ran.result.end) unserved.0 c.carry_out-ran.ensures.unswept) (λ well.
           not_held g.W.Disk.Disk.tells _ store
           (all_well c.carry_out-ran.result.cases _ _ c.status-status.ensures _ (quiet g c)
           (c.carry_out-ran.ensures.a_store store at command) well) held),
@@ -261,3 +284,56 @@ pub returns-clause-load : goal.returns-clause-load
 returns-clause-load g c count says well =
     all_well c.carry_out-ran.result.cases _ _ c.status-status.ensures _ (quiet g c)
     (c.carry_out-ran.ensures.load count (load_is c.args.words.now c.in-Some.command count c.in-Some.ensures says)) well
+
+-- the command of words that have a store swept
+sweeps_by : (g : _) (c : goal.After-status-status g) (sweeps : Sweeps c.args.words.now) →
+    c.in-Some.command ≡ command.Sweep sweeps.0
+sweeps_by g c sweeps =
+    same_command c.args.words.now c.in-Some.command (command.Sweep sweeps.0) c.in-Some.ensures sweeps.1
+
+pub returns-clause-sweeping : goal.returns-clause-sweeping
+returns-clause-sweeping g c ended =
+    was_sweep c.args.words.now c.in-Some.command c.carry_out-ran.result.cases (is_some c.carry_out-ran.result.end)
+    c.in-Some.ensures c.carry_out-ran.ensures.unswept
+    (λ unswept. sweep_status c.carry_out-ran.result.cases _ _ c.status-status.ensures unswept ended)
+
+pub returns-clause-sweep : goal.returns-clause-sweep
+returns-clause-sweep g c store person password by =
+    let is : c.in-Some.command ≡ command.Sweep person =
+    sweep_is c.args.words.now c.in-Some.command store person password c.in-Some.ensures by in
+    some_then _ _ c.carry_out-ran.result.end
+    (c.carry_out-ran.ensures.sweep store person password (second c.args.words.now _ store _ by.1)
+    (fourth c.args.words.now _ _ _ password _ by.1) is)
+    (λ closing facts. (
+      facts.0,
+      facts.1,
+      rw (sym c.out-sink.ensures.told.files) facts.2,
+      rw (sym c.out-sink.ensures.told.moment) facts.3,
+      end_at facts.1 c.carry_out-ran.result.cases _ _ _ c.status-status.ensures facts.5
+          (not_gate c.in-Some.command c.carry_out-ran.result.cases.gate_failed (ap serves is)
+          c.carry_out-ran.ensures.gate) (quiet g c) facts.4,
+      facts.6,
+      facts.7,
+    ))
+
+pub returns-clause-swept : goal.returns-clause-swept
+returns-clause-swept g c sweeps =
+    let is = sweeps_by g c sweeps in
+    swept_end c.status-status.result (is_some c.carry_out-ran.result.end)
+    (which_status c.carry_out-ran.result.cases _ _ c.status-status.ensures)
+    (all_well c.carry_out-ran.result.cases _ _ c.status-status.ensures _ (quiet g c)
+    (c.carry_out-ran.ensures.swept sweeps.0 is))
+    (λ ended. elim c.carry_out-ran.ensures.unswept [
+      | inl unswept ↦
+          absurd (sweep_status c.carry_out-ran.result.cases _ _ c.status-status.ensures unswept ended)
+      | inr both ↦ both.0
+    ])
+    (λ five. false≢true (sym
+    (not_gate c.in-Some.command c.carry_out-ran.result.cases.gate_failed (ap serves is) c.carry_out-ran.ensures.gate)
+    ∙ failed_gate c.carry_out-ran.result.cases _ _ c.status-status.ensures five))
+
+pub returns-clause-unreported : goal.returns-clause-unreported
+returns-clause-unreported g c sweeps not_zero not_seven =
+    rw (c.carry_out-ran.ensures.silent
+    (some_wrong c.carry_out-ran.result.cases _ _ c.status-status.ensures not_zero not_seven))
+    c.out-sink.ensures.fresh.nothing_put

@@ -5,7 +5,7 @@ use Rattle.kom_links.specs.Doors.{SinkView}
 use Rattle.kom_model.specs.Db.{Db}
 use Rattle.kom_journal.specs.Images.{Image, as_read, StandsFor, HasCount}
 use Rattle.store_check.specs.Stores.{IsNoStore, IsReported}
-use Rattle.store_check.proofs.Causes.{of_content, unopened_wrong, wrong_or, found_so}
+use Rattle.store_check.proofs.Causes.{of_content, unopened_wrong, wrong_or, untold_so, found_so}
 use Rattle.store_check.proofs.Content.{is_store}
 use Rattle.store_check.proofs.checking.check.Goals as goal
 
@@ -44,6 +44,8 @@ returns-in-Ok-open-clause-reported g c =
       store_failed = false;
       is_unfit = false;
       gate_failed = false;
+      is_refused = false;
+      is_given_up = false;
       no_memory = c.is_err.result;
     } in
     wrong_or c.tell-told.result cases (says c.batches.result)
@@ -58,3 +60,7 @@ returns-in-Ok-open-clause-reported g c =
           (g.W.Disk.Disk.faults c.in-Ok.disk) (StandsFor db) c.in-Ok.ensures.found c.in-Ok-open.ensures.stands;
       put = subst says c.batches.ensures put;
     })
+
+pub returns-in-Ok-open-clause-silent : goal.returns-in-Ok-open-clause-silent
+returns-in-Ok-open-clause-silent g c wrong =
+    untold_so c.tell-told.result c.is_err.result _ c.is_err.ensures.value c.tell-told.ensures.untold wrong
