@@ -1,7 +1,7 @@
 //! Tests of what waits, over doors in memory whose waits, faults and ends come by script: the loop
-//! of a session at a scripted desk, runs of the top call, with workers side by side too, and the
-//! talk of a client; of these doors themselves; and of a server and a client in one process, over a
-//! socket.
+//! of a session at a scripted desk, runs of the top call, with workers side by side too, and over a
+//! store that is swept, the talk of a client; of these doors themselves; and of a server and a
+//! client in one process, over a socket.
 #![tactic(auto)]
 
 #[cfg(test)]
@@ -16,6 +16,8 @@ mod serve_tests;
 mod session_tests;
 #[cfg(test)]
 mod side_by_side_tests;
+#[cfg(test)]
+mod sweep_tests;
 #[cfg(test)]
 mod talk_tests;
 #[cfg(test)]

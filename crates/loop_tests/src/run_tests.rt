@@ -343,7 +343,8 @@ const REFUSED: Row = Row {
     status: 2,
     left: &[],
     report: b"usage: komd once [STORE] | serve STORE PORT WORKERS | hub STORE PORT WORKERS \
-        | init STORE PASSWORD | check STORE | load N\n",
+        | init STORE PASSWORD | check STORE | load N \
+        | sweep STORE PERSON PASSWORD\n",
     ..PLAIN
 };
 
