@@ -20,33 +20,43 @@ ENDS = (signal.SIGINT, signal.SIGTERM, signal.SIGHUP)
 @contextlib.contextmanager
 def uninterrupted():
     """Has signals that end the tool wait until something is done."""
-    before = signal.pthread_sigmask(signal.SIG_BLOCK, ENDS)
+    before = signal.pthread_sigmask(signal.SIG_BLOCK, ())
     try:
+        # (one that came just before is told here)
+        signal.pthread_sigmask(signal.SIG_BLOCK, ENDS)
         yield
     finally:
         signal.pthread_sigmask(signal.SIG_SETMASK, before)
 
 
-@contextlib.contextmanager
-def served_copy(store):
-    """The port at which a copy of a store is served."""
-    folder, processes = None, []
+def serve_copy(store, work):
+    """Serves a copy of a store, and does a work with the port. It is no context: a signal could come before the block of that begins."""
+    folders, processes = [], []
     try:
-        with uninterrupted():
-            folder = tempfile.mkdtemp(prefix="komd-sweep.", dir=os.environ.get("TMPDIR", "/var/tmp"))
-        copy = os.path.join(folder, "store")
-        with open(store, "rb") as file, open(copy, "xb") as new:
-            wants_unserved(file, store)
-            # (from the first byte to the last, so that each batch is whole, whoever begins to write meanwhile)
-            shutil.copyfileobj(file, new, 1 << 20)
-        yield serve(copy, store, processes)
+        try:
+            with uninterrupted():
+                folders.append(tempfile.mkdtemp(prefix="komd-sweep.", dir=os.environ.get("TMPDIR", "/var/tmp")))
+            copy = os.path.join(folders[0], "store")
+            with open(store, "rb") as file, open(copy, "xb") as new:
+                wants_unserved(file, store)
+                # (from the first byte to the last, so that each batch is whole, whoever begins to write meanwhile)
+                shutil.copyfileobj(file, new, 1 << 20)
+            work(serve(copy, store, processes))
+        finally:
+            take_away(processes, folders)
     finally:
-        with uninterrupted():
-            for process in processes:
-                process.kill()
-                process.wait()
-            if folder:
-                shutil.rmtree(folder)
+        # (again, since a signal may come just before signals are made to wait)
+        take_away(processes, folders)
+
+
+def take_away(processes, folders):
+    """Ends what was begun, and removes what was made, if that is not done yet."""
+    with uninterrupted():
+        while processes:
+            processes[-1].kill()
+            processes.pop().wait()
+        while folders:
+            shutil.rmtree(folders.pop())
 
 
 def wants_unserved(file, store):
