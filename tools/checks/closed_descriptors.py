@@ -90,6 +90,8 @@ def try_reports(tried):
     tried.looks("init STORE PASSWORD", (status, said, b""), tried.run([komd, "init", made, "secret"]))
     counts = {"batches": 1, "conferences": 5, "persons": 1, "texts": 0}
     tried.looks("the store that init made", (0, counts), check_store(komd, made))
+    swept = tried.run([komd, "sweep", made, "5", "secret"])
+    tried.looks("sweep STORE PERSON PASSWORD", (status, b"" if failed else b"swept 0\nkept 0\n", b""), swept)
     # (there is a store now)
     tried.looks("a second init", STORE_STATUS, tried.run([komd, "init", made, "other"])[0])
     status, printed, reported = tried.run([komd])

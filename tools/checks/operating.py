@@ -126,9 +126,11 @@ def try_statuses(tried):
     with open("/dev/full", "wb") as full:
         done = subprocess.run([komd, "check", store], stdout=full, timeout=PATIENCE, check=False)
         tried.same("a report that cannot be written", 7, done.returncode)
+    tried.same("a sweep with another password", 8, tried.run(komd, "sweep", store, 5, "another")[0])
     server = Server(komd, store, 1)
     try:
         tried.same("a store that is served", [3, 3], [tried.run(komd, word, store)[0] for word in ("check", "once")])
+        tried.same("a sweep of it", 3, tried.run(komd, "sweep", store, 5, "")[0])
         tried.same("a backup put over it", 3, tried.run(CONTRIB / "komd-backup", "restore", store, store)[0])
         tried.same("a rescue in it", 3, tried.run(RESCUE, store, 5, given=b"new password\n")[0])
     finally:

@@ -30,6 +30,12 @@ REFUSED = [
     ("a call too many", ["load", "100001"]),
     ("calls that are no number", ["load", "8x"]),
     ("calls without a number", ["load", ""]),
+    ("a sweep without a password", ["sweep", "store", "5"]),
+    ("a sweep by nobody", ["sweep", "store", "", "password"]),
+    ("a sweep by a name", ["sweep", "store", "Anna", "password"]),
+    ("a sweep by a number of seven digits", ["sweep", "store", "0000005", "password"]),
+    ("a sweep of no store", ["sweep", "", "5", "password"]),
+    ("a sweep with a password that is too long", ["sweep", "store", "5", "p" * 129]),
 ]
 
 

@@ -1,14 +1,16 @@
 #!/usr/bin/env python3
-"""Tries contrib/komd-sweep over served stores whose clock is told the time: sweep.py [PROGRAM [STORES]]
+"""Tries contrib/komd-sweep, and `komd sweep`, over stores whose clock is told the time: sweep.py [PROGRAM [STORES]]
 
 1. Each condition of the rule by itself, at the second before the day on which it lets a text go, and at the second of that: what
    conferences keep, comments, footnotes, no recipients, marks, items, each way in which a text is named. Rows worked out by hand.
+   `komd sweep` says the same of a copy.
 2. Stores of random calls (40, or STORES): what is listed, and then deleted, is what a second model of the rule tells, which reads the
-   replies itself; and all else is as it was, but for links to what is gone.
+   replies itself; and all else is as it was, but for links to what is gone. Of 20 of them a copy is swept by `komd sweep`, with the same.
 3. What comes between: a text that changes, or is named, after it was judged stays; where a call of the walk over the names is refused, or
    the connection breaks, nothing is deleted, and where it breaks later the first ones are; 16 calls are under way at most.
 4. A person who is not strong, other passwords and words; a store that is served is not copied, and of a copy nothing is left.
 5. A disk that gets full in the middle: the first ones are gone, and with room again the rest goes (as root).
+6. The statuses of `komd sweep`: other passwords and persons, a store that is served, what is no store, a report that cannot be written.
 
 It prints a line for each thing that is otherwise, and a count, and ends with 1 if there is one, else with 0. It takes some fifteen
 seconds, and needs a C compiler; where there is none it says so, and ends with 0. PROGRAM is the built `komd` unless it is named.
@@ -34,17 +36,17 @@ import types
 
 TOP = pathlib.Path(__file__).resolve().parents[2]
 sys.path[:0] = [str(TOP / "tools" / "common"), str(TOP / "contrib")]
-from built import make_store, program_of, script
+from built import USAGE, make_store, program_of, script
 from clock import DAY, Clock
 from protocol import string
 from served import PATIENCE, Server, Session, folder_in_memory, limit_seconds
 from tried import Tried
 
 SWEEP = TOP / "contrib" / "komd-sweep"
-LIMIT_SECONDS, STORES, UNDER_WAY = 600, 40, 16
+LIMIT_SECONDS, STORES, COPIES, UNDER_WAY = 600, 40, 20, 16
 FIRST = 1_500_000_000
 FOR_EVER, PERSON = 1_000_000, 5
-STORE_OPEN, UNFIT = 3, 4
+STORE_OPEN, UNFIT, UNWRITTEN, REFUSED = 3, 4, 7, 8
 DONT_GARB, SECRET = "00001000", "00100000"
 
 
@@ -187,6 +189,16 @@ class Sweeping(Tried):
         *lines, first, second = out.getvalue().splitlines()
         return [int(line.split()[1]) for line in lines], f"{first} {second}"
 
+    def copied(self, store):
+        """A copy of a store as it is now: what was answered is durable."""
+        return shutil.copyfile(store, f"{store} copied")
+
+    def swept(self, store, person=PERSON, password="", out=subprocess.PIPE):
+        """The status of `komd sweep` at the moment that it is now, and what it prints."""
+        done = subprocess.run([self.program, "sweep", store, str(person), password], stdout=out, stderr=subprocess.PIPE, text=True,
+                              timeout=PATIENCE * 4, env={**os.environ, **self.clock.environment}, check=False)
+        return done.returncode, (done.stdout or "") + done.stderr
+
     def begin(self, *words, environment=(), **more):
         given = {**os.environ, "KOMD": self.program, **dict(environment)}
         return subprocess.Popen([str(word) for word in (SWEEP, *words)], stdout=subprocess.PIPE, stderr=subprocess.PIPE, text=True, env=given, **more)
@@ -305,7 +317,9 @@ def try_conditions(tried):
         wanted, texts = [number for _, number, day in made if day], stats(session)
         tried.same("all that are due", (wanted, f"due {len(wanted)} kept {len(texts) - len(wanted)}"), tried.said("--port", server.port))
         tried.same("what the model tells", wanted, model(session, tried.clock.moment))
-        said = f"swept {len(wanted)} kept {len(texts) - len(wanted)}"
+        left = len(texts) - len(wanted)
+        tried.same("what `komd sweep` says of a copy", (0, f"swept {len(wanted)}\nkept {left}\n"), tried.swept(tried.copied(server.store)))
+        said = f"swept {len(wanted)} kept {left}"
         tried.same("what is said of the sweep", ([], said), tried.said("--port", server.port, "--delete"))
         tried.same("what is left", without(texts, wanted), stats(session))
         tried.same("a second sweep", ([], f"swept 0 kept {len(texts) - len(wanted)}"), tried.said("--port", server.port, "--delete"))
@@ -323,10 +337,13 @@ def try_worked(tried):
             tried.clock.go_on(77 * DAY)
             write(session, room, parents=[1])
             tried.clock.go_on(DAY)
+            lines = (0, first.replace(" kept", "\nkept") + "\n")
+            tried.same(f"what `komd sweep` says of three texts, {what}", lines, tried.swept(tried.copied(server.store)))
             tried.same(f"what is swept of three texts, {what}", ([], first), tried.said("--port", server.port, "--delete"))
             tried.same(f"what is left of three texts, {what}", left, sorted(stats(session)))
             if not change:
                 tried.clock.go_on(77 * DAY)
+                tried.same("what `komd sweep` says 77 days later", (0, "swept 2\nkept 0\n"), tried.swept(tried.copied(server.store)))
                 tried.same("what is swept 77 days later", ([], "swept 2 kept 0"), tried.said("--port", server.port, "--delete"))
 
 
@@ -388,10 +405,17 @@ def try_random(tried, stores):
             rest = len(texts) - len(due)
             tried.same(f"what is listed of store {seed}", (due, f"due {len(due)} kept {rest}"), tried.said("--port", server.port))
             tried.same(f"what listing changes of store {seed}", texts, stats(session))
+            copy = tried.copied(server.store) if seed < COPIES else None
             tried.same(f"what is swept of store {seed}", ([], f"swept {len(due)} kept {rest}"), tried.said("--port", server.port, "--delete"))
             tried.same(f"what is left of store {seed}", without(texts, due), stats(session))
             swept, kept = swept + len(due), kept + rest
             store = server.store
+        if seed < COPIES:
+            moment = tried.clock.moment
+            tried.same(f"what `komd sweep` says of a copy of store {seed}", (0, f"swept {len(due)}\nkept {rest}\n"), tried.swept(copy))
+            with tried.served(copy, moment) as (_, session):
+                tried.same(f"what it leaves of the copy of store {seed}", without(texts, due), stats(session))
+            os.unlink(copy)
         os.unlink(store)
     print(f"{stores} random stores, {swept} texts of them swept and {kept} kept")
     tried.same("whether much was swept, and much kept", True, min(swept, kept) > 3 * stores)
@@ -648,6 +672,58 @@ def try_full_disk(tried):
         room.rmdir()
 
 
+def try_own_full_disk(tried):
+    """Part 5, by `komd sweep`."""
+    room = tried.folder / "own room"
+    room.mkdir()
+    if subprocess.run(["mount", "-t", "tmpfs", "-o", "size=256k", "tmpfs", room], capture_output=True, check=False).returncode:
+        return
+    try:
+        store = make_store(tried.program, str(room / "store"))
+        with tried.served(store) as (_, session):
+            _, made = old_texts(tried, session, 1500)
+            moment = tried.clock.moment
+        with open(room / "filler", "wb", buffering=0) as filler, contextlib.suppress(OSError):
+            while filler.write(bytes(4096)) == 4096:
+                pass
+        tried.same("`komd sweep` on a full disk", (STORE_OPEN, ""), tried.swept(store))
+        os.unlink(room / "filler")
+        with tried.served(store, moment) as (_, session):
+            left = sorted(stats(session))
+            tried.same("what a full disk leaves of `komd sweep`", made[len(made) - len(left):], left)
+            tried.same("whether some were left", True, 0 < len(left) < len(made))
+        tried.same("`komd sweep` with room again", (0, f"swept {len(left)}\nkept 0\n"), tried.swept(store))
+    finally:
+        subprocess.run(["umount", room], check=True)
+        room.rmdir()
+
+
+# Part 6.
+
+def try_statuses(tried):
+    """Part 6."""
+    with tried.served() as (server, session):
+        _, made = old_texts(tried, session, 3)
+        person, _ = a_person(session, server.port)
+        moment, store = tried.clock.moment, server.store
+        tried.same("a store that is served", (STORE_OPEN, ""), tried.swept(store))
+    for what, who, password in (("another password", PERSON, "pw"), ("a person who is not strong", person, "pw"), ("person 0", 0, ""),
+                                ("a person that is not there", 77, "")):
+        tried.same(f"the status of `komd sweep` with {what}", (REFUSED, ""), tried.swept(store, who, password))
+    for what, words in (("no number", (store, "five")), ("a long number", (store, "0000005")), ("no store", ("",)),
+                        ("a long password", (store, PERSON, "p" * 129))):
+        status, said = tried.swept(*words)
+        tried.same(f"the status of `komd sweep` with {what}", (2, USAGE.decode()), (status, said))
+    nothing = tried.folder / "no store"
+    tried.same("a store that is not there", (UNFIT, ""), tried.swept(str(nothing)))
+    tried.same("whether it is there then", False, nothing.exists())
+    with tried.served(store, moment) as (server, session):
+        tried.same("what they all leave", made, sorted(stats(session)))
+    with open("/dev/full", "w", encoding="ascii") as full:
+        tried.same("a report that cannot be written", (UNWRITTEN, ""), tried.swept(store, out=full))
+    tried.same("a second sweep by `komd sweep`", (0, "swept 0\nkept 0\n"), tried.swept(store))
+
+
 def main(words):
     program = program_of(words)
     stores = int(words[1]) if words[1:] else STORES
@@ -664,6 +740,8 @@ def main(words):
         try_breaks(tried)
         try_copies(tried, *try_words(tried))
         try_full_disk(tried)
+        try_own_full_disk(tried)
+        try_statuses(tried)
     print(f"{tried.count} things looked at, {tried.failed} are otherwise")
     return 1 if tried.failed else 0
 

@@ -132,6 +132,7 @@ def try_others(tried):
     tried.says("a limit on open files", "5", f"port {port}, which is free now, could not be served", end, store, port)
     with open("/dev/full", "wb") as full:
         tried.says("a report that is not taken", "7", "could not be written", tried.end("check", store, stdout=full))
+    tried.says("a sweep by another password", "8", "could not log in", tried.end("sweep", store, 5, "another"), store)
     small = written(tried, "small", (SAMPLES / "lived-3.store").read_bytes())
     for limit in range(2 << 20, 40 << 20, 1 << 18):
         end = tried.end("check", small, preexec_fn=lambda most=limit: resource.setrlimit(resource.RLIMIT_AS, (most, most)))

@@ -6,7 +6,7 @@ import sys
 ROOT = pathlib.Path(__file__).resolve().parents[2]
 USAGE = (
     b"usage: komd once [STORE] | serve STORE PORT WORKERS | hub STORE PORT WORKERS | init STORE PASSWORD "
-    b"| check STORE | load N\n"
+    b"| check STORE | load N | sweep STORE PERSON PASSWORD\n"
 )
 
 

@@ -1,14 +1,19 @@
 #!/usr/bin/env python3
-"""Measures contrib/komd-sweep over a club of ten years of which half is due: sweep.py [PROGRAM [TEXTS]]
+"""Measures contrib/komd-sweep and `komd sweep` over a club of ten years of which half is due: sweep.py [PROGRAM [TEXTS]]
 
 It serves a store in memory by a clock that is told the time, and has so many texts made (100,000) over ten years, in ten conferences that
 keep them for five, four of five of them comments. Then the texts are listed, and then swept, and of both the processor time that a text
 takes is printed, of the tool and of the server, with the load of the machine; and what the sweep leaves of memory and of the file.
-PROGRAM is the built `komd` unless it is named.
+
+Of two copies, of a time when the conferences kept all and of the time before the sweep, `komd sweep` makes its walk, and its walk and the
+deletions. Of these the processor time and the memory are printed, less what it takes to open the store, which is what a sweep takes
+that is refused; and, where there is strace, how many syncs a deletion makes. PROGRAM is the built `komd` unless it is named.
 """
 import os
 import pathlib
 import random
+import re
+import shutil
 import subprocess
 import sys
 import tempfile
@@ -29,16 +34,22 @@ NEAR = 100
 
 
 def make_club(session, clock, texts):
-    """The texts, in the order of their moments. Half of them are older than what the conferences keep."""
+    """The texts, in the order of their moments. The conferences keep all."""
     seconds = YEARS * 365 * DAY
     session.ask("42 255")
     for number in range(CONFERENCES):
-        conference = session.ask(f"88 {string(f'Conference {number}')} 00000000 0 {{ }}")
-        session.ask(f"22 {conference} {YEARS * 365 // 2}")
+        session.ask(f"88 {string(f'Conference {number}')} 00000000 0 {{ }}")
+    keep(session, YEARS * 365)
     for first in range(0, texts, TOGETHER):
         clock.set(FIRST_MOMENT + seconds * first // texts)
         write(session, first, min(first + TOGETHER, texts))
     clock.set(FIRST_MOMENT + seconds)
+
+
+def keep(session, days):
+    """Has the conferences keep texts for so many days."""
+    for number in range(CONFERENCES):
+        session.ask(f"22 {FIRST_CONFERENCE + number} {days}")
 
 
 def write(session, first, end):
@@ -55,14 +66,47 @@ def write(session, first, end):
 def timed(server, words):
     """The seconds of a komd-sweep, what the system tells that it used, the server's processor time for it, and the last lines that it prints."""
     served, begin = server.processor_seconds(), time.monotonic()
-    process = subprocess.Popen(words, stdout=subprocess.PIPE, text=True)
+    used, said = ran(words)
+    return time.monotonic() - begin, used, server.processor_seconds() - served, said[-2:]
+
+
+def ran(words, status=0, environment=()):
+    """What the system tells that a program used which ends so, and the lines that it prints."""
+    process = subprocess.Popen(words, stdout=subprocess.PIPE, text=True, env={**os.environ, **dict(environment)})
     with process.stdout as lines:
         said = lines.read()
-    _, status, used = os.wait4(process.pid, 0)
-    process.returncode = os.waitstatus_to_exitcode(status)
-    if process.returncode:
-        raise Wrong(f"komd-sweep ends with {process.returncode}")
-    return time.monotonic() - begin, used, server.processor_seconds() - served, said.splitlines()[-2:]
+    _, ended, used = os.wait4(process.pid, 0)
+    process.returncode = os.waitstatus_to_exitcode(ended)
+    if process.returncode != status:
+        raise Wrong(f"{words[0]} ends with {process.returncode}")
+    return used, said.splitlines()
+
+
+def try_alone(program, clock, texts, copies):
+    """Prints what `komd sweep` takes of a copy of which nothing is due, and of one of which half is."""
+    for what, copy in copies:
+        traced = f"{copy} traced"
+        shutil.copyfile(copy, traced)
+        words = [program, "sweep", copy, "5"]
+        opened, _ = ran([*words, "another password"], 8, clock.environment)
+        used, said = ran([*words, ""], 0, clock.environment)
+        gone = int(said[0].split()[1])
+        spent = used.ru_utime + used.ru_stime - opened.ru_utime - opened.ru_stime
+        print(f"komd sweep of {texts} texts, {what}, {', '.join(said)}: {spent / texts * 1e6:.2f} us of processor time a text, and "
+              f"{(used.ru_maxrss - opened.ru_maxrss) * 1024 / texts:.1f} bytes, beside {opened.ru_utime + opened.ru_stime:.2f} s and "
+              f"{opened.ru_maxrss} KiB to open it, at a load of {os.getloadavg()[0]:.1f}", flush=True)
+        if gone and shutil.which("strace"):
+            print(f"{syncs(program, clock, traced) / gone:.4f} syncs a deletion")
+        os.unlink(traced)
+
+
+def syncs(program, clock, store):
+    """How many syncs a sweep makes."""
+    told = f"{store} calls"
+    environment = [f"-E{name}={value}" for name, value in clock.environment.items()]
+    tracing = ["strace", "-f", "--seccomp-bpf", "-c", "-o", told, "-e", "trace=fsync,fdatasync,sync_file_range,msync", *environment]
+    ran([*tracing, program, "sweep", store, "5", ""])
+    return sum(int(calls) for calls in re.findall(r"^ *[\d.]+ +[\d.]+ +\d+ +(\d+) .*sync", pathlib.Path(told).read_text(), re.MULTILINE))
 
 
 def main(words):
@@ -79,6 +123,10 @@ def main(words):
         try:
             session = Session(server.port).login()
             make_club(session, clock, texts)
+            copies = [("none due", shutil.copyfile(store, folder / "none due"))]
+            keep(session, YEARS * 365 // 2)
+            copies.append(("half due", shutil.copyfile(store, folder / "half due")))
+            try_alone(program, clock, texts, copies)
             for what, more in (("listed", []), ("swept", ["--delete"])):
                 before = server.resident(), os.stat(store).st_size
                 took, used, served, said = timed(server, [SWEEP, "--port", str(server.port), *more, "5", str(password)])
