@@ -361,7 +361,8 @@ def idle(soak):
         try:
             for number in range(IDLE[soak.word]):
                 sessions.append(Session(server.port, f"idle {number}"))
-            numbers = [session.ask("56") for session in sessions]
+            references = [session.send("56") for session in sessions]
+            numbers = [session.reply(reference) for session, reference in zip(sessions, references)]
             while soak.is_running(server):
                 place = chosen.randrange(len(sessions))
                 if (told := sessions[place].ask("56")) != numbers[place]:
