@@ -129,7 +129,7 @@ fn world_of(
         clients,
         script: Script::new(alloc),
     };
-    let moments = Vec::from_slice(alloc, &[Moment::at_most(days * DAY)])?;
+    let moments = Vec::from_slice(alloc, &[Moment::at_most(days.saturating_mul(DAY))])?;
     let mut world = MemoryWorld::new(alloc, Some(gate), moments, Vec::new(alloc));
     let mut files = Vec::new(alloc);
     files.push(FilePlan {
