@@ -92,7 +92,9 @@ impl LocalMap {
             (λ taken. taken.items ≡ take count (from_on local self.now.pairs)) }
         ensures rising { IsRising self.now.pairs }
     {
-        Ok(self.pairs_from(local).take(count).collect(self.alloc)?)
+        let mut taken = Vec::with_capacity(self.alloc, count.min(self.len()))?;
+        taken.extend(self.pairs_from(local).take(count))?;
+        Ok(taken)
     }
 
     /// The last pairs of local numbers below this one, falling, `count` at most.
@@ -100,7 +102,9 @@ impl LocalMap {
         ensures { IfOk result
             (λ taken. taken.items ≡ take count (reverse (below local self.now.pairs))) }
     {
-        Ok(self.pairs_before(local).take(count).collect(self.alloc)?)
+        let mut taken = Vec::with_capacity(self.alloc, count.min(self.len()))?;
+        taken.extend(self.pairs_before(local).take(count))?;
+        Ok(taken)
     }
 
     /// Adds a text after the others.
