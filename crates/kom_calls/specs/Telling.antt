@@ -6,15 +6,8 @@ use Rattle.kom_types.specs.Token.{Token}
 use Rattle.kom_types.specs.calls.Arguments.{Taken, Took, Departs, Malformed, BadBool, LongArray}
 use Rattle.kom_types.specs.calls.Arguments.{is_binary, bits_of}
 use Rattle.kom_types.specs.calls.Pattern.{none}
-use Rattle.kom_framing.specs.declared.token.Token.{Token as SeenToken}
-use Rattle.kom_framing.specs.Spans.{token_seen}
 use Rattle.kom_calls.specs.declared.fault.ArgumentFault.{ArgumentFault}
 use Rattle.kom_calls.specs.declared.fault.ArgumentFault.TheVariants as fault
-
--- the next token, and those after it
-abbrev pub Next : Option SeenToken → List Token → List Token → Type 0
-Next None tokens rest = tokens ≡ []
-Next (Some token) tokens rest = tokens ≡ token_seen token ∷ rest
 
 -- the tokens depart so, or else memory ran out, which a reader may tell that needs room
 abbrev pub Departed : {X : Type 0} → Bool → Taken X → ArgumentFault → Type 0

@@ -1,10 +1,11 @@
-ghost use Rattle.std.specs.Prelude.{◌≡◌, ◌≤◌, ◌^◌, length, drop, true, false};
+ghost use Rattle.std.specs.Prelude.{◌≡◌, length, true, false};
 ghost use Rattle.kom_types.specs.calls.Arguments as argument;
-ghost use Rattle.kom_calls.specs.Telling.{Next, ReadsAs, Ends, Boxes};
+ghost use Rattle.kom_framing.specs.Spans.{Takes};
+ghost use Rattle.kom_calls.specs.Telling.{ReadsAs, Ends, Boxes};
 
 use crate::bits::bits_in;
 use crate::fault::ArgumentFault;
-use kom_framing::{Line, Token};
+use kom_framing::{Line, Token, Tokens};
 use kom_types::{Boxed, Bytes};
 use std::alloc::Global;
 use std::marker::Model;
@@ -12,20 +13,17 @@ use std::marker::Model;
 /// The tokens of a line that are left.
 #[derive(Drop)]
 pub(crate) struct Arguments<'a> {
-    line: &'a Line,
-    place: usize,
+    tokens: Tokens<'a>,
     alloc: Global,
 }
 
 impl<'a> Model for Arguments<'a> {
-    ghost use Rattle.std.specs.Prelude.{◌≤◌, List, length, drop};
+    ghost use Rattle.std.specs.Prelude.{List};
     ghost use Rattle.kom_types.specs.Token.{Token};
 
     ghost Value = { List Token };
 
-    ghost view = { λ a. drop a.place a.line.now.tokens };
-
-    ghost invariant = { λ a. a.place ≤ length a.line.now.tokens };
+    ghost view = { λ a. a.tokens };
 }
 
 impl<'a> Arguments<'a> {
@@ -34,8 +32,7 @@ impl<'a> Arguments<'a> {
         ensures { result ≡ line.now.tokens }
     {
         Arguments {
-            line,
-            place: 0,
+            tokens: line.tokens(),
             alloc,
         }
     }
@@ -49,33 +46,21 @@ impl<'a> Arguments<'a> {
     pub(crate) fn len(&self) -> usize
         ensures { result ≡ length self.now }
     {
-        self.line.len() - self.place
+        self.tokens.len()
     }
 
     /// Takes the next token.
     pub(crate) fn next(&mut self) -> Option<Token<'a>>
-        ensures { Next result self.old self.new }
+        ensures { Takes result self.old self.new }
     {
-        let line = self.line;
-        let place = self.place;
-        if place < line.len() {
-            self.place = place + 1;
-            Some(line.token(place))
-        } else {
-            None
-        }
+        self.tokens.next()
     }
 
     /// Takes an integer.
     pub(crate) fn integer(&mut self) -> Result<u32, ArgumentFault>
         ensures { ReadsAs false (argument.integer self.old) result self.new }
     {
-        let place = self.place;
-        if place >= self.line.len() {
-            return Err(ArgumentFault::Malformed);
-        }
-        self.place = place + 1;
-        self.line.integer(place).ok_or(ArgumentFault::Malformed)
+        self.tokens.integer().ok_or(ArgumentFault::Malformed)
     }
 
     /// Takes an integer that ends at 255.

@@ -6,7 +6,7 @@ pub mod Hearing
 pub mod Streams
 pub mod Steps
 pub mod Spans
-pub mod Tokens
+pub mod PlacedTokens
 pub mod BegunLines
 pub mod WholeLines
 pub mod BegunGreetings

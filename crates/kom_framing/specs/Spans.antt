@@ -1,5 +1,6 @@
 -- The tokens of a line, by the places of its bytes at which they begin.
-use Rattle.std.specs.Prelude.{◌≡◌, ℕ, List, [], ◌∷◌, drop, map}
+use Rattle.std.specs.Prelude.{◌≡◌, ℕ, ◌^◌, ◌&&◌, nat_le, nat_lt, true, false, List, [], ◌∷◌, drop}
+use Rattle.std.specs.Prelude.{map, Option, Some, None}
 use Rattle.kom_types.specs.declared.side.Side.TheVariants as side
 use Rattle.kom_types.specs.Token.{Token, Digits, Text, Open, Close, Star, Signed}
 use Rattle.kom_types.specs.Grammar.{Form, Prefix, Whole, Unfit, Cut, token_at}
@@ -42,3 +43,13 @@ token_of bytes start = token_cut (cut_of (drop start bytes))
 
 abbrev pub tokens_of : List ℕ → List ℕ → List Token
 tokens_of bytes starts = map (token_of bytes) starts
+
+-- the next token is taken, and those after it are left
+abbrev pub Takes : Option SeenToken → List Token → List Token → Type 0
+Takes None tokens rest = tokens ≡ []
+Takes (Some token) tokens rest = tokens ≡ token_seen token ∷ rest
+
+-- the integer of so many digits that spell this number: ten at most, below 2^32
+abbrev pub integer_told : ℕ → ℕ → Option ℕ
+integer_told count number =
+    elim (nat_le count 10 && nat_lt number (2 ^ 32)) [ true ↦ Some number | false ↦ None ]

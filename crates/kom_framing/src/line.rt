@@ -6,6 +6,7 @@ ghost use Rattle.kom_framing.specs.Spans.{token_seen, token_of, tokens_of, IsTok
 
 use crate::lines::{LineStarts, LineText};
 use crate::token::Token;
+use crate::tokens::Tokens;
 use kom_types::{ByteKind, kind_of_byte};
 use std::marker::Model;
 
@@ -50,15 +51,11 @@ impl Line {
         token_at(self.text.as_slice(), self.starts.as_slice()[index] as usize)
     }
 
-    /// The integer that the token at an index spells, if there is such a token and it spells one.
-    pub fn integer(&self, index: usize) -> Option<u32>
-        ensures { result ≡ option_and_then integer_of (slice_get self.now.tokens index) }
+    /// All its tokens, to take one after the other.
+    pub fn tokens(&self) -> Tokens<'_>
+        ensures { result ≡ self.now.tokens }
     {
-        if index < self.starts.len() {
-            integer_at(self.text.as_slice(), self.starts.as_slice()[index] as usize)
-        } else {
-            None
-        }
+        Tokens::of(self.text.as_slice(), self.starts.as_slice())
     }
 
     /// The place of the line feed in the stream.
@@ -77,8 +74,8 @@ impl Line {
     }
 }
 
-// The token that begins at a place of these bytes.
-fn token_at(text: &[u8], start: usize) -> Token<'_>
+/// The token that begins at a place of these bytes.
+pub fn token_at(text: &[u8], start: usize) -> Token<'_>
     requires { IsToken text.now start }
     ensures { token_seen result ≡ token_of text.now start }
 {
@@ -106,45 +103,6 @@ fn run_at(text: &[u8], start: usize) -> Token<'_>
         Token::Text(&text[end + 1..end + 1 + count])
     } else {
         Token::Digits(&text[start..end])
-    }
-}
-
-// The integer of the token that begins at a place of these bytes, if it spells one.
-fn integer_at(text: &[u8], start: usize) -> Option<u32>
-    requires { IsToken text.now start }
-    ensures { result ≡ integer_of (token_of text.now start) }
-{
-    if text[start].is_ascii_digit() {
-        integer_of_run(text, start)
-    } else {
-        None
-    }
-}
-
-// The same of a token that begins with a digit.
-#[inline(always)]
-fn integer_of_run(text: &[u8], start: usize) -> Option<u32>
-    requires token { IsToken text.now start }
-    requires digit { kind_of (get_or text.now start 0) ≡ ByteKind.Digit }
-    ensures { result ≡ integer_of (token_of text.now start) }
-{
-    let end = end_of_digits(text, start);
-    if text[end] == b'H' {
-        None
-    } else {
-        integer_in(&text[start..end])
-    }
-}
-
-// The integer that a run of digits spells: ten digits at most, below 2^32.
-#[inline(always)]
-fn integer_in(digits: &[u8]) -> Option<u32>
-    ensures { result ≡ integer_of (Digits digits.now) }
-{
-    if digits.len() <= 10 {
-        u32::try_from(number(digits)).ok()
-    } else {
-        None
     }
 }
 

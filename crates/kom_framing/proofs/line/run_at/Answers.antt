@@ -1,6 +1,6 @@
 use Rattle.std.proofs.Common.{rules, ◌+◌, ◌-◌, ℕ, take, drop, sym, ap, ◌∙◌, arith}
 use Rattle.kom_types.specs.Token.{Text}
-use Rattle.kom_framing.proofs.Tokens.{run_found}
+use Rattle.kom_framing.proofs.PlacedTokens.{run_found}
 use Rattle.kom_framing.proofs.line.run_at.Goals as goal
 
 pub bounds-text-end : goal.bounds-text-end

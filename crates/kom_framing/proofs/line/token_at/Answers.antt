@@ -1,5 +1,5 @@
 use Rattle.std.proofs.Common.{sym, ◌∙◌}
-use Rattle.kom_framing.proofs.Tokens.{star_found, signed_found}
+use Rattle.kom_framing.proofs.PlacedTokens.{star_found, signed_found}
 use Rattle.kom_framing.proofs.line.token_at.Goals as goal
 
 pub returns-in-Sign : goal.returns-in-Sign

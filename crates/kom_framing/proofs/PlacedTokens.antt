@@ -1,10 +1,12 @@
 -- What is found at the place of a token is that token.
-use Rattle.std.proofs.Common.{◌≡◌, ℕ, ◌+◌, ◌-◌, ◌<◌, ◌≤◌, Bool, true, false, ◌&&◌, eqb, leb, List, [], ◌∷◌, length}
-use Rattle.std.proofs.Common.{get_or, take, drop, None, refl, sym, ap, ◌∙◌, inl, inr, arith}
+use Rattle.std.proofs.Common.{◌≡◌, ℕ, ◌+◌, ◌*◌, ◌-◌, ◌^◌, ◌<◌, ◌≤◌, Bool, true, false, ◌&&◌, eqb, leb, List, [], ◌∷◌}
+use Rattle.std.proofs.Common.{length, get_or, take, drop, None, refl, sym, ap, subst, ◌∙◌, inl, inr, add-one, arith}
 use Rattle.std.specs.List.{take_while, slice_range}
 use Rattle.std.proofs.Math.Seq.{drop-append_seam, take-append_seam}
 use Rattle.std.proofs.lemmas.Bool.{cases_Bool, and_parts, both_ways, eqb-true, leb-true}
-use Rattle.std.proofs.lemmas.List.{drop-drop, drop_more, length-drop}
+use Rattle.std.proofs.lemmas.List.{drop-drop, drop_more, get_or-drop, length-drop}
+use Rattle.std.proofs.lemmas.List.Sums.{fold_more}
+use Rattle.std.proofs.Math.Nat.{pow-suc}
 use Rattle.kom_types.specs.declared.byte_kind.ByteKind.{ByteKind}
 use Rattle.kom_types.specs.declared.byte_kind.ByteKind.TheVariants as kind
 use Rattle.kom_types.specs.declared.side.Side.TheVariants as side
@@ -12,8 +14,9 @@ use Rattle.kom_types.specs.ByteKind.{is_digit, kind_of}
 use Rattle.kom_types.specs.Token.{Token, Digits, Text, Star, Signed, number_of, is_integer, integer_of}
 use Rattle.kom_types.specs.Grammar.{Form, Prefix, Whole, Unfit, Cut, drop_while, string_at, run_at, signed_run_at}
 use Rattle.kom_framing.specs.Spans.{cut_of, IsToken, token_cut, token_of}
-use Rattle.kom_framing.proofs.Lists.{take_while-yes, drop_while-yes, parted}
-use Rattle.kom_framing.proofs.Looks.{digit_is}
+use Rattle.kom_framing.proofs.Lists.{take_while-yes, take_while-no, drop_while-yes, parted}
+use Rattle.kom_framing.proofs.Looks.{digit_is, digit_kind}
+use Rattle.kom_framing.proofs.Steps.{digit_bounds}
 use Rattle.kom_framing.proofs.Runs.{choice, run_string}
 use Rattle.kom_framing.proofs.Lexing.{token_of_kind, token_kind}
 use Rattle.kom_framing.proofs.Spans.{begins_within}
@@ -97,6 +100,7 @@ string_found count bytes cut e =
 -- what the byte after a run of digits says of the token that begins with them
 pub record IsRunAt (bytes : List ℕ) (start end : ℕ) : Type 0 where
   pub inside : end < length bytes
+  pub few : length (slice_range bytes start end) ≤ 16
   pub short : get_or bytes end 0 ≡ 72 → length (slice_range bytes start end) ≤ 10
   pub within : get_or bytes end 0 ≡ 72 → end + 1 + number_of (slice_range bytes start end) ≤ length bytes
   pub text : get_or bytes end 0 ≡ 72
@@ -106,6 +110,7 @@ pub record IsRunAt (bytes : List ℕ) (start end : ℕ) : Type 0 where
 -- the same of a cut
 record Found (bytes digits : List ℕ) (end : ℕ) (token : Token) : Type 0 where
   inside : end < length bytes
+  few : length digits ≤ 16
   short : get_or bytes end 0 ≡ 72 → length digits ≤ 10
   within : get_or bytes end 0 ≡ 72 → end + 1 + number_of digits ≤ length bytes
   text : get_or bytes end 0 ≡ 72 → token ≡ Text (slice_range bytes (end + 1) (end + 1 + number_of digits))
@@ -126,6 +131,18 @@ found bytes digits (byte ∷ tail) end cut left whole =
     (sym (run_string digits byte tail (ap (λ (b : ℕ). eqb b 72) (sym head ∙ e))) ∙ whole) in
     record {
       inside = inside;
+      few = elim (cases_Bool (eqb byte 72)) [
+        | inl e ↦
+            let ten : length digits ≤ 10 =
+            leb-true (length digits) 10 (and_parts _ _ (string (head ∙ eqb-true byte 72 e)).0).0 in
+            omega arith
+        | inr e ↦
+            leb-true (length digits) 16 (choice_unfit (leb (length digits) 16)
+            (Whole (record { token = Digits digits; tail = byte ∷ tail })) cut
+            (sym (ap (λ (b : Bool). choice b (choice (is_integer digits) (string_at count tail) Unfit)
+            (choice (leb (length digits) 16) (Whole (record { token = Digits digits; tail = byte ∷ tail })) Unfit)) e)
+            ∙ whole)).0
+      ];
       short = λ e. leb-true (length digits) 10 (and_parts _ _ (string e).0).0;
       within = λ e. omega (
         arith,
@@ -167,6 +184,7 @@ run_found bytes start end token e at =
     let same : token_of bytes start ≡ token.cut.token = ap token_cut token.whole in
     record {
       inside = it.inside;
+      few = it.few;
       short = it.short;
       within = it.within;
       text = λ h. same ∙ it.text h;
@@ -191,6 +209,85 @@ signed_found bytes start end token e at =
     ∙ signed_of mark (take_while is_digit tail) (drop_while is_digit tail) token.cut
     (sym (from_first bytes start kind.Sign token e) ∙ token.whole)
     ∙ ap (Signed mark) (sym parts.digits)
+
+-- ---- the number that digits spell
+
+-- the first digits of a token, up to a place, and the number that they spell
+pub record IsSpelled (bytes : List ℕ) (start end number : ℕ) : Type 0 where
+  pub counts : start + length (take_while is_digit (drop start bytes))
+      ≡ end + length (take_while is_digit (drop end bytes))
+  pub from : start ≤ end
+  pub spelled : number ≡ number_of (slice_range bytes start end)
+  pub small : number < 10 ^ (end - start)
+
+pub spelled_first : (bytes : List ℕ) (start : ℕ) → IsSpelled bytes start start 0
+spelled_first bytes start =
+    let none : 0 ≡ start - start = omega arith in
+    record {
+      counts = refl;
+      from = omega arith;
+      spelled = ap (λ (n : ℕ). number_of (take n (drop start bytes))) none;
+      small = subst (λ (n : ℕ). 0 < 10 ^ n) none (omega arith);
+    }
+
+-- how many digits there are from a place that has one
+one_at_least : (bytes : List ℕ) (at : ℕ) → at < length bytes → is_digit (get_or bytes at 0) ≡ true
+    → length (take_while is_digit (drop at bytes)) ≡ 1 + length (take_while is_digit (drop (at + 1) bytes))
+one_at_least bytes at within digit =
+    ap (λ (t : List ℕ). length (take_while is_digit t)) (drop_more bytes at 0 within)
+    ∙ ap length (take_while-yes is_digit (get_or bytes at 0) (drop (at + 1) bytes) digit) ∙ omega arith
+
+none_at : (bytes : List ℕ) (at : ℕ) → at < length bytes → is_digit (get_or bytes at 0) ≡ false
+    → length (take_while is_digit (drop at bytes)) ≡ 0
+none_at bytes at within digit =
+    ap (λ (t : List ℕ). length (take_while is_digit t)) (drop_more bytes at 0 within)
+    ∙ ap length (take_while-no is_digit (get_or bytes at 0) (drop (at + 1) bytes) digit)
+
+-- a token has a byte after its digits, and sixteen of them at most
+pub spelled_within : (bytes : List ℕ) (start end number : ℕ) → IsToken bytes start
+    → kind_of (get_or bytes start 0) ≡ kind.Digit → IsSpelled bytes start end number
+    → (end < length bytes) × (is_digit (get_or bytes end 0) ≡ true → end - start < 16)
+spelled_within bytes start end number token e is =
+    let count : ℕ = length (take_while is_digit (drop start bytes)) in
+    let run = run_found bytes start (start + count) token e refl in
+    let within : end < length bytes = omega (arith, is.counts, run.inside) in
+    let few : count ≤ 16 =
+    subst (λ (n : ℕ). n ≤ 16) (ap length (digitwise bytes start (start + count) refl).digits) run.few in
+    (within, λ digit. omega (arith, is.counts, one_at_least bytes end within digit))
+
+grows : (number digit index : ℕ) → number < 10 ^ index → digit ≤ 9 → 10 * number + digit < 10 ^ (index + 1)
+grows number digit index small low =
+    let power : 10 ^ (index + 1) ≡ 10 ^ index * 10 = ap (λ (k : ℕ). 10 ^ k) (add-one index) ∙ pow-suc 10 index in
+    omega arith
+
+pub spelled_next : (bytes : List ℕ) (start end number : ℕ) → end < length bytes
+    → is_digit (get_or bytes end 0) ≡ true → IsSpelled bytes start end number
+    → IsSpelled bytes start (end + 1) (10 * number + (get_or bytes end 0 - 48))
+spelled_next bytes start end number within digit is =
+    let step : ℕ → ℕ → ℕ = λ number digit. 10 * number + (digit - 48) in
+    let byte : ℕ = get_or bytes end 0 in
+    let rest : List ℕ = drop start bytes in
+    let index : ℕ = end - start in
+    let one_more : index + 1 ≡ end + 1 - start = omega (arith, is.from) in
+    let below : index < length rest = omega (arith, is.from, length-drop start bytes) in
+    let same : get_or rest index 0 ≡ byte =
+    get_or-drop start bytes index 0 ∙ ap (λ (n : ℕ). get_or bytes n 0) (omega (arith, is.from)) in
+    let bounds = digit_bounds byte (digit_kind byte digit) in
+    record {
+      counts = is.counts ∙ omega (arith, one_at_least bytes end within digit);
+      from = omega (arith, is.from);
+      spelled = ap (λ (n : ℕ). step n byte) is.spelled
+          ∙ ap (step (number_of (take index rest))) (sym same)
+          ∙ sym (fold_more step 0 rest index 0 below)
+          ∙ ap (λ (n : ℕ). number_of (take n rest)) one_more;
+      small = subst (λ (n : ℕ). 10 * number + (byte - 48) < 10 ^ n) one_more
+          (grows number (byte - 48) index is.small (omega (arith, bounds.1)));
+    }
+
+pub spelled_end : (bytes : List ℕ) (start end number : ℕ) → end < length bytes
+    → is_digit (get_or bytes end 0) ≡ false → IsSpelled bytes start end number
+    → end ≡ start + length (take_while is_digit (drop start bytes))
+spelled_end bytes start end number within digit is = omega (arith, is.counts, none_at bytes end within digit)
 
 -- ---- integers
 
