@@ -5,3 +5,4 @@ pub mod Firm
 pub mod Sending
 pub mod Making
 pub mod Worlds
+pub mod Lengths

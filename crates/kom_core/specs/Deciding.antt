@@ -1,5 +1,5 @@
 -- What a call of an entry comes to.
-use Rattle.std.specs.Prelude.{◌≡◌, true, List, Result, Ok, Err}
+use Rattle.std.specs.Prelude.{◌≡◌, ℕ, ◌-◌, ◌^◌, true, List, length, min, Result, Ok, Err}
 use Rattle.kom_types.specs.declared.acts.Act.{Act}
 use Rattle.kom_types.specs.declared.acts.Act.TheVariants as act
 use Rattle.kom_types.specs.declared.acts.Entry.{Entry}
@@ -7,6 +7,7 @@ use Rattle.kom_types.specs.declared.decisions.Decision.{Decision}
 use Rattle.kom_types.specs.declared.items.Item.{Item}
 use Rattle.kom_types.specs.declared.items.Item.TheVariants as item
 use Rattle.kom_types.specs.declared.replies.Reply.{Reply}
+use Rattle.kom_types.specs.Printing.{print_of}
 use Rattle.kom_model.specs.declared.call_errors.CallError.{CallError}
 use Rattle.kom_model.specs.declared.call_errors.CallError.TheVariants as error
 use Rattle.kom_model.specs.State.{State}
@@ -24,6 +25,25 @@ IsCall (act.Broken session) = ⊥
 IsCall (act.Drain session) = ⊥
 IsCall act.Flush = ⊥
 IsCall (act.Close session) = ⊥
+
+-- the act is a call of this reference
+abbrev pub IsCallBy : ℕ → Act → Type 0
+IsCallBy number (act.Connect user host) = ⊥
+IsCallBy number (act.Call session reference call) = number ≡ reference
+IsCallBy number (act.Broken session) = ⊥
+IsCallBy number (act.Drain session) = ⊥
+IsCallBy number act.Flush = ⊥
+IsCallBy number (act.Close session) = ⊥
+
+-- this reply to the act, which is a call, prints to so many bytes
+abbrev pub IsLong : Act → Reply → ℕ → Type 0
+IsLong (act.Connect user host) reply len = Unit {0}
+IsLong (act.Call session reference call) reply len =
+    len ≡ min (length (print_of (item.Reply reference reply))) (2 ^ 64 - 1)
+IsLong (act.Broken session) reply len = Unit {0}
+IsLong (act.Drain session) reply len = Unit {0}
+IsLong act.Flush reply len = Unit {0}
+IsLong (act.Close session) reply len = Unit {0}
 
 -- memory did not run out
 abbrev pub HadMemory : Result Decision CallError → Type 0

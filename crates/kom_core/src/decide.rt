@@ -4,6 +4,7 @@ ghost use Rattle.kom_types.specs.Printing.{print_of};
 ghost use Rattle.kom_model.specs.calls.Call.{refuse};
 ghost use Rattle.kom_model.specs.Decide.{definition_of, is_firm, limited as limited_decision};
 ghost use Rattle.kom_core.specs.Deciding.{IsCall, Defines, Decides, DecidesFirm, IsReply, HasBody};
+ghost use Rattle.kom_core.specs.Deciding.{IsLong};
 
 use crate::calls;
 use crate::server_state::ServerState;
@@ -14,11 +15,19 @@ use kom_types::limits::LONGEST_REPLY;
 use kom_types::{Act, Call, Decision, Entry, Item, Memory, Reply, Sequence, errors};
 use std::alloc::Global;
 
+/// What a call comes to, and how many bytes its reply prints to, as many as a `u64` holds at most.
+#[derive(Drop)]
+pub(crate) struct Measured {
+    pub(crate) decision: Decision,
+    pub(crate) len: u64,
+}
+
 /// What the call of an entry comes to. A firm call takes no memory.
 #[tactic(auto, unfolding(kom_model::specs::Decide::decision_of))]
-pub(crate) fn decide(state: &ServerState, entry: &Entry) -> Result<Decision, Memory>
+pub(crate) fn decide(state: &ServerState, entry: &Entry) -> Result<Measured, Memory>
     requires { IsCall entry.now.act }
-    ensures decided { IfOk result (Decides state.now entry.now) }
+    ensures decided { IfOk result (λ came. Decides state.now entry.now came.decision) }
+    ensures len { IfOk result (λ came. IsLong entry.now.act came.decision.reply came.len) }
     ensures firm { DecidesFirm state.now entry.now → IsOk result }
 {
     match &entry.act {
@@ -48,25 +57,38 @@ fn define(asked: &Asked<'_>, call: &Call) -> Result<Decision, Memory>
 }
 
 /// The last guard of every call: a reply whose line is too long is refused, and nothing changes.
-fn limited(alloc: Global, reference: u32, decision: Decision) -> Decision
-    ensures { result ≡ limited_decision reference decision }
+fn limited(alloc: Global, reference: u32, decision: Decision) -> Measured
+    ensures decision { result.decision ≡ limited_decision reference decision }
+    ensures len { result.len
+        ≡ min (length (print_of (item.Reply reference result.decision.reply))) (2 ^ 64 - 1) }
 {
-    let (length, reply) = measured(reference, decision.reply);
-    if length <= LONGEST_REPLY as u64 {
-        Decision {
+    let came = with_len(reference, decision);
+    if came.len <= LONGEST_REPLY as u64 {
+        came
+    } else {
+        drop(came);
+        let refused = Refused {
+            code: errors::LONG_ARRAY,
+            status: 0,
+        };
+        with_len(reference, refuse(alloc, refused))
+    }
+}
+
+/// A decision, and how many bytes its reply prints to.
+fn with_len(reference: u32, decision: Decision) -> Measured
+    ensures decision { result.decision ≡ decision }
+    ensures len { result.len
+        ≡ min (length (print_of (item.Reply reference result.decision.reply))) (2 ^ 64 - 1) }
+{
+    let (len, reply) = measured(reference, decision.reply);
+    Measured {
+        decision: Decision {
             reply,
             effects: decision.effects,
             changes: decision.changes,
-        }
-    } else {
-        drop((reply, decision.effects, decision.changes));
-        refuse(
-            alloc,
-            Refused {
-                code: errors::LONG_ARRAY,
-                status: 0,
-            },
-        )
+        },
+        len,
     }
 }
 

@@ -4,13 +4,13 @@ ghost use Rattle.kom_state.specs.Room.{IsOrderly};
 ghost use Rattle.kom_model.specs.Effects.{apply_all, all_fit};
 ghost use Rattle.kom_model.specs.State.{IsSound};
 ghost use Rattle.kom_model.specs.After.{make_change, make_changes};
-ghost use Rattle.kom_core.specs.Deciding.{IsCall, DecidesFirm};
+ghost use Rattle.kom_core.specs.Deciding.{IsCall, IsCallBy, IsLong, DecidesFirm};
 ghost use Rattle.kom_model.specs.Kept.{effects_of};
 ghost use Rattle.kom_state.specs.Keepers.{appended};
 ghost use Rattle.kom_core.specs.Steps.{ComesTo, CarriesOut, Answers, IsOf};
 
 use super::{ServerState, later};
-use crate::decide::decide;
+use crate::decide::{Measured, decide};
 use crate::fan_out::fan_out;
 use async_fanout::Delivery;
 use kom_state::Keeper;
@@ -32,6 +32,7 @@ impl ServerState {
     ) -> bool
         requires sound { IsSound self.old }
         requires call { IsCall entry.now.act }
+        requires named { IsCallBy reference entry.now.act }
         ensures answers { Answers self.old entry.now session reference result self.new }
         ensures kept { K.pending keeper.new
             ≡ appended (if result then [] else effects_of self.old entry.now)
@@ -39,9 +40,9 @@ impl ServerState {
         ensures rest { K.stays keeper.old keeper.new }
     {
         match self.carry_out(entry, keeper) {
-            Ok((body, messages)) => {
+            Ok((body, len, messages)) => {
                 self.queue_all(messages);
-                self.queue(session, Item::Reply { reference, body });
+                self.queue_measured(session, Item::Reply { reference, body }, len);
                 false
             }
             Err(Memory) => {
@@ -52,18 +53,20 @@ impl ServerState {
         }
     }
 
-    /// Makes what the call of an entry changes, and returns its reply and the messages that it
-    /// sends. A keeper gets its effects. Where memory runs out, nothing is changed or kept.
+    /// Makes what the call of an entry changes, and returns its reply, how many bytes that prints
+    /// to, and the messages that it sends. A keeper gets its effects. Where memory runs out, nothing
+    /// is changed or kept.
     #[tactic(auto, using(crate::proofs::Keeping::decided_effects))]
     fn carry_out<K: Keeper>(
         &mut self,
         entry: &Entry,
         keeper: &mut K,
-    ) -> Result<(Reply, Vec<Delivery>), Memory>
+    ) -> Result<(Reply, u64, Vec<Delivery>), Memory>
         requires sound { IsSound self.old }
         requires call { IsCall entry.now.act }
-        ensures ok { IfOk result (λ both.
-            CarriesOut self.old entry.now both.0 both.1.items self.new) }
+        ensures ok { IfOk result (λ all.
+            CarriesOut self.old entry.now all.0 all.2.items self.new) }
+        ensures len { IfOk result (λ all. IsLong entry.now.act all.0 all.1) }
         ensures kept { OnOk result (K.pending keeper.new
             ≡ appended (effects_of self.old entry.now) (K.pending keeper.old)) }
         ensures err { OnErr result (self.new ≡ self.old) }
@@ -71,7 +74,7 @@ impl ServerState {
         ensures rest { K.stays keeper.old keeper.new }
         ensures firm { DecidesFirm self.old entry.now → IsOk result }
     {
-        let (decision, messages) = self.comes_to(entry)?;
+        let (decision, len, messages) = self.comes_to(entry)?;
         let Decision {
             reply,
             effects,
@@ -79,18 +82,20 @@ impl ServerState {
         } = decision;
         self.apply(effects, keeper)?;
         self.make_changes(changes, later(self.moment, entry.moment));
-        Ok((reply, messages))
+        Ok((reply, len, messages))
     }
 
-    /// What the call of an entry comes to, and the messages that it sends. Nothing is changed yet.
-    fn comes_to(&self, entry: &Entry) -> Result<(Decision, Vec<Delivery>), Memory>
+    /// What the call of an entry comes to, how many bytes its reply prints to, and the messages
+    /// that it sends. Nothing is changed yet.
+    fn comes_to(&self, entry: &Entry) -> Result<(Decision, u64, Vec<Delivery>), Memory>
         requires { IsCall entry.now.act }
-        ensures comes_to { IfOk result (λ both. ComesTo self.now entry.now both.0 both.1.items) }
+        ensures comes_to { IfOk result (λ all. ComesTo self.now entry.now all.0 all.2.items) }
+        ensures len { IfOk result (λ all. IsLong entry.now.act all.0.reply all.1) }
         ensures firm { DecidesFirm self.now entry.now → IsOk result }
     {
-        let decision = decide(self, entry)?;
+        let Measured { decision, len } = decide(self, entry)?;
         let messages = fan_out(self, entry, &decision)?;
-        Ok((decision, messages))
+        Ok((decision, len, messages))
     }
 
     /// Makes effects, of which each fits after those before it, on the stored rows, in order, and

@@ -1,4 +1,5 @@
-ghost use Rattle.std.specs.Prelude.{◌≡◌};
+ghost use Rattle.std.specs.Prelude.{◌≡◌, ◌-◌, ◌^◌, length, min};
+ghost use Rattle.kom_types.specs.Printing.{print_of};
 ghost use Rattle.kom_types.specs.Sessions.{waiting_limits, queued};
 ghost use Rattle.kom_model.specs.After.{with_session, queue_all};
 
@@ -23,8 +24,17 @@ impl ServerState {
         ensures { self.new
             ≡ with_session session (queued waiting_limits self.old.entries item) self.old }
     {
+        let len = printed_len(&item);
+        self.queue_measured(session, item, len);
+    }
+
+    /// The same of an item that prints to so many bytes.
+    pub(super) fn queue_measured(&mut self, session: u32, item: Item, len: u64)
+        requires { len ≡ min (length (print_of item)) (2 ^ 64 - 1) }
+        ensures { self.new
+            ≡ with_session session (queued waiting_limits self.old.entries item) self.old }
+    {
         if self.sessions.get(session).is_some() {
-            let len = printed_len(&item);
             self.sessions.queue(session, item, len, self.entries);
         } else {
             drop(item);

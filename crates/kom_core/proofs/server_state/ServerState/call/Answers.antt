@@ -3,8 +3,13 @@ use Rattle.kom_types.specs.declared.decisions.Decision.{Decision}
 use Rattle.kom_types.specs.Sessions.{waiting_limits}
 use Rattle.kom_model.specs.State.{State}
 use Rattle.kom_model.specs.After.{moment_of, queue_all, reply_to, carry_out}
+use Rattle.kom_core.proofs.Lengths.{length_told}
 use Rattle.kom_core.proofs.Rows.{queue_all-push}
 use Rattle.kom_core.proofs.server_state.ServerState.call.Goals as goal
+
+pub queue_measured-requires : goal.queue_measured-requires
+queue_measured-requires g c =
+    length_told c.args.entry.now.act c.args.reference c.in-Ok.body c.in-Ok.len c.requires.named c.in-Ok.ensures.len
 
 pub returns-in-Ok : goal.returns-in-Ok
 returns-in-Ok g c =
@@ -20,7 +25,7 @@ returns-in-Ok g c =
         decision,
         messages,
         carried.1,
-        c.queue.ensures
+        c.queue_measured.ensures
             ∙ ap (queue_all waiting_limits (reply_to c.args.session c.args.reference c.in-Ok.body ∷ [])) sent
             ∙ ap
             (λ body. queue_all waiting_limits (reply_to c.args.session c.args.reference body ∷ [])

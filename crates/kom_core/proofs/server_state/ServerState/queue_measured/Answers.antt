@@ -1,6 +1,6 @@
 use Rattle.std.proofs.Common.{sym, ◌∙◌}
 use Rattle.kom_core.proofs.Rows.{gone-copied, absent_stays}
-use Rattle.kom_core.proofs.server_state.ServerState.queue.Goals as goal
+use Rattle.kom_core.proofs.server_state.ServerState.queue_measured.Goals as goal
 
 pub returns-else-is_some : goal.returns-else-is_some
 returns-else-is_some c =
