@@ -20,3 +20,4 @@ pub mod FittedItems
 pub mod ItemRooms
 pub mod NewItems
 pub mod Secrecy
+pub mod Roomless

@@ -121,6 +121,15 @@ name_given (effect.ConfAdded number name kind at creator supervisor) = Some name
 name_given (effect.ConfNamed number name) = Some name
 name_given other = None
 
+-- whether an effect needs no room but that for texts
+abbrev pub is_roomless : Effect → Bool
+is_roomless (effect.ConfAdded number name kind at creator supervisor) = false
+is_roomless (effect.ConfNamed number name) = false
+is_roomless (effect.PersonAdded number privileges flags last_login) = false
+is_roomless (effect.MemberSet person conference position priority added_by added_at kind) = false
+is_roomless (effect.AuxAdded on_text object item) = false
+is_roomless other = true
+
 -- at most one name is given, and it is the one that is ready
 abbrev pub IsReady : Option (List ℕ) → List (List ℕ) → Type 0
 IsReady ready [] = Unit {0}

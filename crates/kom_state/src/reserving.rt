@@ -1,10 +1,10 @@
 ghost use Rattle.std.specs.Prelude.{◌≡◌, ◌++◌, OnOk, IfOk, count_by, option_copied};
-ghost use Rattle.std.specs.List.{filter_map};
+ghost use Rattle.std.specs.List.{filter_map, list_all};
 ghost use Rattle.texts.specs.Needs.{HasRoom as HasTextRoom};
 ghost use Rattle.kom_state.specs.Room.{all_needs, needs_of};
 ghost use Rattle.kom_state.specs.Room.{HasRoom, IsOrderly, IsReady, HasMemberRoom};
 ghost use Rattle.kom_state.specs.Room.{adds_conference, adds_person, key_set};
-ghost use Rattle.kom_state.specs.Room.{sets_membership, name_given};
+ghost use Rattle.kom_state.specs.Room.{sets_membership, name_given, is_roomless};
 
 mod items;
 mod needs;
@@ -27,6 +27,10 @@ impl StoredRows {
         ensures ok { OnOk result (HasRoom self.new.room effects.now) }
     {
         self.sweep(effects);
+        reserve_texts(&mut self.texts, effects, self.alloc)?;
+        if are_of_texts(effects) {
+            return Ok(());
+        }
         let conferences = effects
             .iter()
             .filter(|effect| adds_conference(effect))
@@ -35,7 +39,6 @@ impl StoredRows {
         let persons = effects.iter().filter(|effect| adds_person(effect)).count();
         self.persons.reserve(persons)?;
         reserve_memberships(&mut self.memberships, effects)?;
-        reserve_texts(&mut self.texts, effects, self.alloc)?;
         reserve_items(&mut self.items, effects)?;
         reserve_name(&mut self.names, effects)
     }
@@ -56,6 +59,27 @@ impl StoredRows {
         self.texts.sweep(going.saturating_mul(2));
         self.items.sweep(going.saturating_mul(2));
         self.memberships.sweep(going.saturating_mul(2));
+    }
+}
+
+/// Whether no effect needs room but that for texts.
+fn are_of_texts(effects: &[Effect]) -> bool
+    ensures { result ≡ list_all is_roomless effects.now }
+{
+    effects.iter().all(|effect| is_roomless(effect))
+}
+
+/// Whether an effect needs no room but that for texts.
+fn is_roomless(effect: &Effect) -> bool
+    ensures { result ≡ is_roomless effect.now }
+{
+    match effect {
+        Effect::ConfAdded { .. }
+        | Effect::ConfNamed { .. }
+        | Effect::PersonAdded { .. }
+        | Effect::MemberSet { .. }
+        | Effect::AuxAdded { .. } => false,
+        _ => true,
     }
 }
 
