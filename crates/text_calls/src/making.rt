@@ -92,6 +92,11 @@ fn has_local(rows: &StoredRows, item: &MiscInput) -> bool
     !names_recipient(item) || rows.next_local(item.value) <= LAST_DRAWN
 }
 
+/// How many effects a text without aux-items has at most: four, and two for each item.
+fn usual_count(given: &NewText) -> usize {
+    given.misc_inputs.len().saturating_mul(2).saturating_add(4)
+}
+
 /// A text is made, with all that is named.
 fn text_effects(
     asked: &Asked<'_>,
@@ -104,7 +109,7 @@ fn text_effects(
         ≡ NewTexts.text_effects asked.now anonymous text given.now) }
 {
     let alloc = asked.allocator();
-    let mut effects = Sequence::new(alloc);
+    let mut effects = Sequence::of(Vec::with_capacity(alloc, usual_count(given))?);
     effects.push(Effect::TextAdded {
         number: text,
         author: if anonymous { 0 } else { asked.caller().person },
