@@ -43,6 +43,7 @@ fn grow(out: &mut Vec<u8>, used: usize, more: usize) -> Result<(), Memory>
 }
 
 /// Writes a number, with a space before it unless it is joined, and returns the place after it.
+#[inline(always)]
 pub fn place_number(out: &mut [u8], used: usize, joined: bool, n: u32) -> usize
     requires { used + 11 ≤ length out.old }
     ensures written { take result out.new
