@@ -1,8 +1,8 @@
 -- What a splitter owes after a piece, by how the unit that had begun goes on.
 use Rattle.std.proofs.Common.{◌≡◌, ℕ, ◌+◌, ◌-◌, ◌≤◌, List, [], ◌∷◌, ◌++◌, length, drop, map, Option, Some, None, refl}
-use Rattle.std.proofs.Common.{sym, ap, ◌∙◌, arith, append_assoc}
+use Rattle.std.proofs.Common.{sym, ap, subst, ◌∙◌, arith, append_assoc}
 use Rattle.std.specs.Prelude.{option_to_list, option_map}
-use Rattle.std.proofs.lemmas.List.{append-nil, length-append, length-drop, map-append}
+use Rattle.std.proofs.lemmas.List.{append-nil, drop_all, length-append, length-drop, map-append}
 use Rattle.kom_types.specs.declared.limits.TheConstants.{LONGEST_STREAM}
 use Rattle.kom_types.specs.declared.side.Side.{Side}
 use Rattle.kom_types.specs.declared.side.Side.TheVariants as sides
@@ -22,7 +22,7 @@ use Rattle.kom_framing.specs.Spans.{tokens_of}
 use Rattle.kom_framing.specs.Hearing.{Going, heard}
 use Rattle.kom_framing.specs.BegunLines.{fault_seen, FailsAt, IsLine, ScansOn, ScansTo, units_at}
 use Rattle.kom_framing.specs.BegunGreetings.{greeting_kept, IsBegunGreeting, GreetsOn, GreetsTo, GreetsFail}
-use Rattle.kom_framing.specs.WholeLines.{AreLines}
+use Rattle.kom_framing.specs.WholeLines.{AddsAll, AreLines}
 use Rattle.kom_framing.specs.Advancing as advancing
 use Rattle.kom_framing.proofs.Hearing.{heard-told, told}
 use Rattle.kom_framing.proofs.Streams.{greeted, greeting-append, leaves_prefix, after_letter}
@@ -145,6 +145,28 @@ module _ (side : Side) where
           count = omega (arith, stands.count, length-append fed piece);
         };
   }
+
+  -- whole lines came where none had begun
+  pub lines_pass : (units after : List StreamUnit) (begun : Begun) (place : ℕ) (piece fed : List ℕ)
+      (taken : List StreamUnit)
+      → begun ≡ InLine [] → AddsAll place piece units after → advancing.Stands side units begun place fed taken
+      → advancing.Stands side after begun (place + length piece) (fed ++ piece) taken
+  lines_pass units after begun place piece fed taken fresh adds stands =
+      let fed_so =
+      fed_line units [] place piece fed taken
+      (subst (λ (b : Begun). advancing.Stands side units b place fed taken) fresh stands) in
+      let left : lines_from side (place + length piece) [] (drop (length piece) piece) ≡ stopped_in [] None =
+      ap (lines_from side (place + length piece) []) (drop_all (length piece) piece (omega arith)) in
+      let split = adds.split side in
+      record {
+        all = fed_so.all
+            ∙ ap (λ (us : List StreamUnit). taken ++ (units ++ us))
+            (split.lines ∙ ap (λ (s : Split). adds.added ++ map unit.Line s.lines) left ∙ append-nil adds.added)
+            ∙ ap (λ (us : List StreamUnit). taken ++ us) (sym adds.units);
+        sound = fed_so.fault ∙ split.fault ∙ ap (λ (s : Split). s.fault) left;
+        unit = fresh ∙ sym (fed_so.begun ∙ ap InLine (split.rest ∙ ap (λ (s : Split). s.rest) left));
+        count = omega (arith, stands.count, length-append fed piece);
+      }
 
   pub line_goes_wrong : (units : List StreamUnit) (place : ℕ) (old new : BegunLine) (piece : List ℕ) (found : CodeFault)
       → FailsAt side place old.text.items piece found × IsLine side new

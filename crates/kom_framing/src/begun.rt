@@ -1,16 +1,17 @@
-ghost use Rattle.std.specs.Prelude.{◌≡◌, ◌+◌, ◌-◌, ◌≤◌, [], ◌++◌, IfOk, option_to_list};
+ghost use Rattle.std.specs.Prelude.{◌≡◌, ◌+◌, ◌-◌, ◌≤◌, false, [], ◌++◌, IfOk, option_to_list};
 ghost use Rattle.std.specs.VecDeque.{deque_len, deque_capacity};
 ghost use Rattle.kom_types.specs.declared.limits.TheConstants.{LONGEST_STREAM};
 ghost use Rattle.kom_types.specs.Stream as stream;
 ghost use Rattle.kom_framing.specs.WholeLines.{AreLines};
-ghost use Rattle.kom_framing.specs.Advancing.{IsBegunUnit, IsMark, Restores, ScansUnit};
+ghost use Rattle.kom_framing.specs.Splitting.{InLine};
+ghost use Rattle.kom_framing.specs.Advancing.{begun_seen, IsBegunUnit, IsMark, Restores, ScansUnit};
 ghost use Rattle.kom_framing.specs.Advancing.{units_ended, CanEnd, Advances, Follows};
 ghost use Rattle.kom_framing.specs.Room.{HasRoom, HasRoomFor};
 
 use crate::fault::Fault;
 use crate::greeting::{Greeting, Phase};
 use crate::lexer::Lexer;
-use crate::lines::{BegunLine, Lines, Scan, lines_of};
+use crate::lines::{BegunLine, Lines, Scan, add_all, lines_of};
 use crate::units::Unit;
 use kom_types::{Bytes, Memory, Side};
 use std::collections::VecDeque;
@@ -52,6 +53,38 @@ pub enum Advanced {
 
 /// Takes a piece of the stream, or changes nothing.
 pub fn follow(
+    side: Side,
+    units: &mut VecDeque<Unit>,
+    begun: &mut BegunUnit,
+    place: u64,
+    piece: &[u8],
+) -> Result<Option<Fault>, Memory>
+    requires kept { IsBegunUnit side begun.old }
+    requires early { place ≤ LONGEST_STREAM }
+    ensures follows { Follows side result units.old.items begun.old place piece.now units.new.items
+        begun.new }
+    ensures kept { IsBegunUnit side begun.new }
+{
+    if begun.has_begun() || !ends_line(piece) {
+        return follow_begun(side, units, begun, place, piece);
+    }
+    let all = add_all(units, place, piece)?;
+    if all {
+        return Ok(None);
+    }
+    follow_begun(side, units, begun, place, piece)
+}
+
+// Whether a piece may be whole lines.
+fn ends_line(piece: &[u8]) -> bool {
+    match piece.last() {
+        Some(byte) => *byte == b'\n',
+        None => false,
+    }
+}
+
+// The same, by the unit that has begun first.
+fn follow_begun(
     side: Side,
     units: &mut VecDeque<Unit>,
     begun: &mut BegunUnit,
@@ -141,6 +174,16 @@ fn spare_queue(units: &mut VecDeque<Unit>) -> VecDeque<Unit>
 }
 
 impl BegunUnit {
+    // Whether it is the greeting, or a line of which something has come.
+    fn has_begun(&self) -> bool
+        ensures { result ≡ false → begun_seen self.now ≡ InLine [] }
+    {
+        match self {
+            BegunUnit::Greeting(_) => true,
+            BegunUnit::Line(line) => !line.text.is_empty(),
+        }
+    }
+
     // How much of the unit has come.
     fn mark(&self) -> Mark
         ensures { IsMark result self.now }

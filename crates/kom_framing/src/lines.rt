@@ -1,11 +1,11 @@
 ghost use Rattle.std.specs.Prelude.{◌≡◌, ◌≢◌, ◌+◌, ◌-◌, ◌<◌, ◌≤◌, [], ◌++◌, length, take, OnOk};
-ghost use Rattle.std.specs.Prelude.{OnErr, IfOk, option_to_list};
+ghost use Rattle.std.specs.Prelude.{OnErr, IfOk, Ok, true, option_to_list};
 ghost use Rattle.kom_types.specs.Stream as stream;
 ghost use Rattle.kom_framing.specs.Spans.{tokens_of, AreTokens};
 ghost use Rattle.kom_framing.specs.Scanning.{IsBegun};
 ghost use Rattle.kom_framing.specs.BegunLines.{IsLine, Extends, Reads, Tries, Takes, FailsAt};
 ghost use Rattle.kom_framing.specs.BegunLines.{Scans, TakesWhole, units_at};
-ghost use Rattle.kom_framing.specs.WholeLines.{AreLines};
+ghost use Rattle.kom_framing.specs.WholeLines.{AreLines, AddsAll, AddsLine};
 
 use crate::fault::Fault;
 use crate::lexer::{Lexer, Step};
@@ -22,8 +22,8 @@ use std::mem;
 /// The bytes of a line. Up to 24 take no memory of their own.
 pub type LineText = SmallVec<u8, 24>;
 
-/// The places of a line at which its tokens begin. Up to eight take no memory of their own.
-pub type LineStarts = SmallVec<u32, 8>;
+/// The places of a line at which its tokens begin. Up to twelve take no memory of their own.
+pub type LineStarts = SmallVec<u32, 12>;
 
 /// A line that has begun: its bytes so far, where its whole tokens begin, and how far the last one
 /// is.
@@ -290,26 +290,29 @@ pub fn lines_of(
     let mut begun = BegunLine::new(alloc);
     let mut at = 0;
     while at < piece.len() {
-        match begun.scan(side, place + at as u64, &piece[at..])? {
-            Scan::Goes => {
-                return Ok(Lines {
-                    whole,
-                    begun,
-                    fault: None,
-                });
-            }
-            Scan::Fails(found) => {
-                return Ok(Lines {
-                    whole,
-                    begun,
-                    fault: Some(found),
-                });
-            }
-            Scan::Ends(count) => {
-                at += count;
-                let line = mem::replace(&mut begun, BegunLine::new(alloc));
-                add(&mut whole, line.into_unit(place + at as u64 - 1))?;
-            }
+        match add_whole(&mut whole, place + at as u64, &piece[at..])? {
+            Some(count) => at += count,
+            None => match begun.scan(side, place + at as u64, &piece[at..])? {
+                Scan::Goes => {
+                    return Ok(Lines {
+                        whole,
+                        begun,
+                        fault: None,
+                    });
+                }
+                Scan::Fails(found) => {
+                    return Ok(Lines {
+                        whole,
+                        begun,
+                        fault: Some(found),
+                    });
+                }
+                Scan::Ends(count) => {
+                    at += count;
+                    let line = mem::replace(&mut begun, BegunLine::new(alloc));
+                    add(&mut whole, line.into_unit(place + at as u64 - 1))?;
+                }
+            },
         }
     }
     Ok(Lines {
@@ -317,6 +320,71 @@ pub fn lines_of(
         begun,
         fault: None,
     })
+}
+
+/// Adds the lines of a piece to the units, if each is whole there and needs no lexer, and says
+/// whether it did. Else nothing is added.
+pub fn add_all(units: &mut VecDeque<Unit>, place: u64, piece: &[u8]) -> Result<bool, Memory>
+    requires early { place ≤ LONGEST_STREAM }
+    ensures all { IfOk result (λ all. all ≡ true
+        → AddsAll place piece.now units.old.items units.new.items) }
+    ensures none { result ≢ Ok true → units.new.items ≡ units.old.items }
+{
+    let known = units.len();
+    match add_lines(units, place, piece) {
+        Ok(true) => Ok(true),
+        Ok(false) => {
+            units.truncate(known);
+            Ok(false)
+        }
+        Err(Memory) => {
+            units.truncate(known);
+            Err(Memory)
+        }
+    }
+}
+
+// The same, where those lines may have been added that are before another one.
+#[tactic(auto, using(crate::proofs::WholeLines::adds_after))]
+fn add_lines(units: &mut VecDeque<Unit>, place: u64, piece: &[u8]) -> Result<bool, Memory>
+    requires early { place ≤ LONGEST_STREAM }
+    ensures all { IfOk result (λ all. all ≡ true
+        → AddsAll place piece.now units.old.items units.new.items) }
+    ensures kept { take (length units.old.items) units.new.items ≡ units.old.items }
+{
+    let mut at = 0;
+    while at < piece.len() {
+        match add_whole(units, place + at as u64, &piece[at..])? {
+            Some(count) => at += count,
+            None => return Ok(false),
+        }
+    }
+    Ok(true)
+}
+
+// Adds the line with which a piece begins, if it is whole there and needs no lexer, and tells how
+// many bytes it has. No line that has begun is made of it first.
+#[inline(always)]
+fn add_whole(units: &mut VecDeque<Unit>, place: u64, piece: &[u8]) -> Result<Option<usize>, Memory>
+    requires early { place ≤ LONGEST_STREAM }
+    ensures { AddsLine result place piece.now units.old.items units.new.items }
+{
+    let alloc = *units.allocator();
+    let window = window_of(0, place, piece);
+    let mut starts = SmallVec::new(alloc);
+    match whole_line(window, &mut starts)? {
+        None => Ok(None),
+        Some(count) => {
+            if starts.is_empty() {
+                return Ok(Some(count));
+            }
+            let text = SmallVec::from_slice(alloc, &window[..count])?;
+            let end = place + count as u64 - 1;
+            units.reserve(1)?;
+            units.push_back_reserved(Unit::Line(Line::of(text, starts, end)));
+            Ok(Some(count))
+        }
+    }
 }
 
 // Adds a unit at the end, if there is one.

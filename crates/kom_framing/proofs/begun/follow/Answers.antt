@@ -1,22 +1,14 @@
-use Rattle.std.proofs.Common.{◌+◌, ◌++◌, List, length, sym, subst}
+use Rattle.std.proofs.Common.{◌≡◌, ◌+◌, ◌++◌, List, length, sym, subst}
 use Rattle.kom_framing.specs.declared.units.Unit.{Unit as StreamUnit}
-use Rattle.kom_framing.specs.Advancing.{Stands, Falls, begun_seen}
+use Rattle.kom_framing.specs.Advancing.{Follows, begun_seen}
+use Rattle.kom_framing.proofs.Fed.{lines_pass}
 use Rattle.kom_framing.proofs.begun.follow.Goals as goal
 
-pub returns-in-Goes-clause-follows : goal.returns-in-Goes-clause-follows
-returns-in-Goes-clause-follows c =
-    let goes = rw c.in-Goes.is at c.in_ok-advance.ensures.advances in (
-      λ e. goes.early,
-      λ fed taken stands. subst (λ (us : List StreamUnit). Stands c.args.side us (begun_seen c.advance.new.begun)
-          (c.args.place + length c.args.piece.now) (fed ++ c.args.piece.now) taken) (sym c.in_ok-advance.ensures.units)
-          (goes.stands fed taken stands),
-    )
-
-pub returns-in-Fails-clause-follows : goal.returns-in-Fails-clause-follows
-returns-in-Fails-clause-follows c =
-    let fails = rw c.in-Fails.is at c.in_ok-advance.ensures.advances in (
-      λ e. absurd cc,
-      λ fed taken stands. subst
-          (λ (us : List StreamUnit). Falls c.args.side us c.in-Fails.found (fed ++ c.args.piece.now) taken)
-          (sym c.in_ok-advance.ensures.units) (fails.falls fed taken stands),
+pub returns-then-all-clause-follows : goal.returns-then-all-clause-follows
+returns-then-all-clause-follows c =
+    let adds = c.in_ok-all.ensures.all c.if-all.true in (
+      λ e. adds.early,
+      λ fed taken stands. lines_pass c.args.side c.args.units.now.items c.add_all.new.units.items
+          (begun_seen c.args.begun.now) c.args.place c.args.piece.now fed taken (c.has_begun.ensures c.if-has_begun.false)
+          adds stands,
     )
