@@ -11,8 +11,8 @@ use Rattle.kom_types.specs.declared.answers.Refusal.{Refusal}
 use Rattle.kom_types.specs.declared.answers.Why.TheVariants as why
 use Rattle.kom_types.specs.declared.items.Item.{Item}
 use Rattle.kom_links.specs.declared.deeds.Deed.TheVariants as deed
-use Rattle.kom_links.specs.declared.desk.DeskFault.{DeskFault}
-use Rattle.kom_links.specs.declared.desk.DeskFault.TheVariants as fault
+use Rattle.kom_types.specs.declared.answers.NotMade.{NotMade}
+use Rattle.kom_types.specs.declared.answers.NotMade.TheVariants as fault
 use Rattle.kom_links.specs.Answers.{said}
 use Rattle.kom_model.specs.State.{State}
 use Rattle.kom_model.specs.Refusal.{refusal_of}
@@ -53,7 +53,7 @@ connect_is act.Flush is = absurd is
 connect_is (act.Close session) is = absurd is
 
 refused_is : (X : Type 0) (start : State) (old new : PassView) (what : Act) (entry : Entry) (items : List Item)
-    (one : DeskFault) → entry.act ≡ what → Ends start old new entry items (Err one) →
+    (one : NotMade) → entry.act ≡ what → Ends start old new entry items (Err one) →
     IsAnswer {X = X} start new entry.act (Err one)
 refused_is X start old new what entry items fault.Memory is ends = connect_is entry.act ends.1
 refused_is X start old new what entry items (fault.Gone told) is ends = inl (refused_now start old new entry.act _ ends)
@@ -63,7 +63,7 @@ refused_is X start old new what entry items (fault.Full number) is (inr was) =
 
 -- any act but a flush
 answers_turn : (start : State) (old new : PassView) (pass moment : ℕ) (what : Act) (items : List Item)
-    (made : Result Made DeskFault) →
+    (made : Result Made NotMade) →
     Ends start old new (record { pass = pass; moment = moment; act = what }) items made → (what ≡ act.Flush → ⊥) →
     IsAnswer {X = ⊤} start new what (said made)
 answers_turn start old new pass moment what items (Ok made) ends other =
@@ -71,11 +71,11 @@ answers_turn start old new pass moment what items (Ok made) ends other =
 answers_turn start old new pass moment what items (Err one) ends other =
     refused_is ⊤ start old new what (record { pass = pass; moment = moment; act = what }) items one refl ends
 
-pub answers_told : (old new : Kept) (moment : ℕ) (what : Act) (items : List Item) (made : Result Made DeskFault)
-    (answer : Result ⊤ DeskFault) → HadTurn old moment what items made new → (what ≡ act.Flush → ⊥) →
+pub answers_told : (old new : Kept) (moment : ℕ) (what : Act) (items : List Item) (made : Result Made NotMade)
+    (answer : Result ⊤ NotMade) → HadTurn old moment what items made new → (what ≡ act.Flush → ⊥) →
     answer ≡ said made → IsAnswer old.start new.pass what answer
 answers_told old new moment what items made answer turn other is =
-    subst (λ (answer : Result ⊤ DeskFault). IsAnswer old.start new.pass what answer) (sym is)
+    subst (λ (answer : Result ⊤ NotMade). IsAnswer old.start new.pass what answer) (sym is)
     (answers_turn old.start old.pass new.pass old.pass.number moment what items made turn.ends other)
 
 -- a Connect
@@ -87,7 +87,7 @@ answers_connected old new moment what user host made is acted =
     (possible_made old.start old.pass new.pass _ acted.items made false acted.turn.ends
     (λ flush. let wrong : act.Connect user host ≡ act.Flush = sym is ∙ flush in cc))
 
-pub answers_unconnected : (old new : Kept) (moment : ℕ) (what : Act) (user host : List ℕ) (one : DeskFault) →
+pub answers_unconnected : (old new : Kept) (moment : ℕ) (what : Act) (user host : List ℕ) (one : NotMade) →
     what ≡ act.Connect user host → IsActed old moment what (Err one) new →
     IsAnswer {X = ℕ} old.start new.pass (act.Connect user host) (Err one)
 answers_unconnected old new moment what user host one is acted =
@@ -104,7 +104,7 @@ flush_short start old new entry items made false flush was is =
     possible_made start old new entry items made false was (λ e. is)
 
 flush_turn : (start : State) (old new : PassView) (pass moment : ℕ) (items : List Item)
-    (made : Result Made DeskFault) →
+    (made : Result Made NotMade) →
     Ends start old new (record { pass = pass; moment = moment; act = act.Flush }) items made →
     IsAnswer {X = ⊤} start new act.Flush (said_flush made)
 flush_turn start old new pass moment items (Ok made) ends =
@@ -113,15 +113,15 @@ flush_turn start old new pass moment items (Ok made) ends =
 flush_turn start old new pass moment items (Err one) ends =
     refused_is ⊤ start old new act.Flush (record { pass = pass; moment = moment; act = act.Flush }) items one refl ends
 
-pub answers_flush : (old new : Kept) (moment : ℕ) (items : List Item) (made : Result Made DeskFault)
-    (answer : Result ⊤ DeskFault) → HadTurn old moment act.Flush items made new → answer ≡ said_flush made →
+pub answers_flush : (old new : Kept) (moment : ℕ) (items : List Item) (made : Result Made NotMade)
+    (answer : Result ⊤ NotMade) → HadTurn old moment act.Flush items made new → answer ≡ said_flush made →
     IsAnswer old.start new.pass act.Flush answer
 answers_flush old new moment items made answer turn is =
-    subst (λ (answer : Result ⊤ DeskFault). IsAnswer old.start new.pass act.Flush answer) (sym is)
+    subst (λ (answer : Result ⊤ NotMade). IsAnswer old.start new.pass act.Flush answer) (sym is)
     (flush_turn old.start old.pass new.pass old.pass.number moment items made turn.ends)
 
 -- the question whether the server is stopped
-stopped_turn : (start : State) (old new : PassView) (answer : Result Bool DeskFault) →
+stopped_turn : (start : State) (old new : PassView) (answer : Result Bool NotMade) →
     AnswersStopped start old new answer →
     IsStopped start new answer
 stopped_turn start old new (Ok stopped) (history, sees, logs, is) =
@@ -131,7 +131,7 @@ stopped_turn start old new (Err fault.Memory) tells = tells
 stopped_turn start old new (Err (fault.Gone told)) tells = tells
 stopped_turn start old new (Err (fault.Full number)) tells = last_ticket old new number tells
 
-pub answers_stopped : (old mid new : Kept) (answer : Result Bool DeskFault) (said' : Result ⊤ DeskFault) →
+pub answers_stopped : (old mid new : Kept) (answer : Result Bool NotMade) (said' : Result ⊤ NotMade) →
     AnswersStopped old.start old.pass mid.pass answer →
     new ≡ record mid { answers = mid.answers ++ (deed.Ask, said') ∷ [] } →
     IsStopped old.start new.pass answer

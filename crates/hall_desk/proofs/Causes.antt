@@ -15,8 +15,8 @@ use Rattle.kom_types.specs.declared.items.Item.{Item}
 use Rattle.kom_types.specs.Sessions.{Session}
 use Rattle.kom_links.specs.declared.deeds.Deed.{Deed}
 use Rattle.kom_links.specs.declared.deeds.Deed.TheVariants as deed
-use Rattle.kom_links.specs.declared.desk.DeskFault.{DeskFault}
-use Rattle.kom_links.specs.declared.desk.DeskFault.TheVariants as fault
+use Rattle.kom_types.specs.declared.answers.NotMade.{NotMade}
+use Rattle.kom_types.specs.declared.answers.NotMade.TheVariants as fault
 use Rattle.kom_links.specs.Answers.{Answer, said_stopped, deed_of, concerns, refused, sends, HasRefused}
 use Rattle.kom_links.specs.DeskCalls.{record_of}
 use Rattle.kom_links.specs.Records.{IsOpen}
@@ -185,7 +185,7 @@ module _ (start : State) where
   overrun_at old new pass moment act.Flush items open' ends told = absurd told.may
   overrun_at old new pass moment (act.Close session) items open' ends told = absurd told.may
 
-  told_known : (old new : PassView) (pass moment : ℕ) (what : Act) (items : List Item) (one : DeskFault) →
+  told_known : (old new : PassView) (pass moment : ℕ) (what : Act) (items : List Item) (one : NotMade) →
       IsOfOpen old.mine what →
       Ends start old new (record { pass = pass; moment = moment; act = what }) items (Err one) →
       IsTurnTold start (MayRefuse what) old new (acting what) one → IsKnownAnswer start new (deed_of what, Err one)
@@ -201,7 +201,7 @@ module _ (start : State) where
 
   -- of an act that was refused
   pub refusal_known : IsStart start → (old new : PassView) (pass moment : ℕ) (what : Act) (items : List Item)
-      (one : DeskFault) → IsOfOpen old.mine what →
+      (one : NotMade) → IsOfOpen old.mine what →
       Ends start old new (record { pass = pass; moment = moment; act = what }) items (Err one) →
       IsKnownAnswer start new (deed_of what, Err one)
   refusal_known begins old new pass moment what items one open' ends =
@@ -231,7 +231,7 @@ module _ (start : State) where
       )
 
   pub flush_known : IsStart start → (old new : PassView) (pass moment : ℕ) (items : List Item)
-      (made : Result Made DeskFault) → Knows start old → pass ≡ old.number →
+      (made : Result Made NotMade) → Knows start old → pass ≡ old.number →
       Ends start old new (record { pass = pass; moment = moment; act = act.Flush }) items made →
       IsKnownAnswer start new (deed.Flush, said_flush made)
   flush_known begins old new pass moment items (Ok made) knows own ends = elim (cases_Bool made.short) [
@@ -241,7 +241,7 @@ module _ (start : State) where
   flush_known begins old new pass moment items (Err one) knows own ends =
       refusal_known begins old new pass moment act.Flush items one tt ends
 
-  pub question_known : (old new : PassView) (answer : Result Bool DeskFault) → AnswersStopped start old new answer →
+  pub question_known : (old new : PassView) (answer : Result Bool NotMade) → AnswersStopped start old new answer →
       IsKnownAnswer start new (deed.Ask, said_stopped answer)
   question_known old new (Ok false) tells = tt
   question_known old new (Ok true) (history, sees, logs, is) =
@@ -270,7 +270,7 @@ module _ (start : State) where
     concerned_once test (deed.Close caller) was is = caller_once test caller was is
     concerned_once test deed.Ask was is = absurd was
 
-    concerned_known : (what : Deed) (one : DeskFault) → IsKnownAnswer start pass (what, Err one) →
+    concerned_known : (what : Deed) (one : NotMade) → IsKnownAnswer start pass (what, Err one) →
         concerns session what ≡ true → IsKnown start pass.seen pass.drawn session (Some one)
     concerned_known what fault.Memory known is = tt
     concerned_known what (fault.Full number) known is = known.0
@@ -281,7 +281,7 @@ module _ (start : State) where
     concerned_known what (fault.Gone why.Stopped) known is = known
 
     -- the first fault that concerns a session has its cause
-    pub refused_known : (answers : List Answer) (one : DeskFault) →
+    pub refused_known : (answers : List Answer) (one : NotMade) →
         AllByRecursion (IsKnownAnswer start pass) answers → refused session answers ≡ Some one →
         IsKnown start pass.seen pass.drawn session (Some one)
     refused_known [] one known is = cc
@@ -293,7 +293,7 @@ module _ (start : State) where
       | inl here ↦
           let is' : Some first ≡ Some one = rw here at is in
           let same : first ≡ one = cc in
-          subst (λ (one : DeskFault). IsKnown start pass.seen pass.drawn session (Some one)) same
+          subst (λ (one : NotMade). IsKnown start pass.seen pass.drawn session (Some one)) same
           (concerned_known what first known.0 here)
       | inr there ↦ refused_known answers one known.1 (rw there at is)
     ]
@@ -320,7 +320,7 @@ module _ (start : State) where
     full_known what number (inl sessions) (inr large) is = omega (arith, sessions.0)
     full_known what number (inr ticket) (inr large) is = omega (arith, ticket.1)
 
-    sent_known : (what : Deed) (one : DeskFault) → IsKnownAnswer start pass (what, Err one) →
+    sent_known : (what : Deed) (one : NotMade) → IsKnownAnswer start pass (what, Err one) →
         sends session what ≡ true → WasRefusedTo start pass session
     sent_known what fault.Memory known is = absurd (not_connect what is known)
     sent_known what (fault.Full number) known is = inl (full_known what number known.0 known.1 is)

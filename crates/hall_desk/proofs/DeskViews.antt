@@ -11,8 +11,8 @@ use Rattle.kom_types.specs.declared.calls.Call.{Call}
 use Rattle.kom_types.specs.declared.items.Item.{Item}
 use Rattle.kom_links.specs.declared.deeds.Deed.{Deed}
 use Rattle.kom_links.specs.declared.deeds.Deed.TheVariants as deed
-use Rattle.kom_links.specs.declared.desk.DeskFault.{DeskFault}
-use Rattle.kom_links.specs.declared.desk.DeskFault.TheVariants as fault
+use Rattle.kom_types.specs.declared.answers.NotMade.{NotMade}
+use Rattle.kom_types.specs.declared.answers.NotMade.TheVariants as fault
 use Rattle.kom_links.specs.Answers.{Answer, said, said_stopped, deed_of, is_nothing}
 use Rattle.kom_links.specs.DeskCalls.{DeskView, StaysForAll, record_of, is_lock_full, IsTold, Connects, Acts, Calls}
 use Rattle.kom_links.specs.DeskCalls.{Drains, AddsNoneOrShort, Flushes, Closes, AsksStopped, IsLookedAt}
@@ -39,7 +39,7 @@ abbrev pub begins : (kept : Kept) → Stands kept → IsStart kept.start
 begins kept stands = starts kept.start stands.opening
 
 -- an answer stands at the end of the log
-abbrev pub Logged : Kept → Deed → Result ⊤ DeskFault → Kept → Type 0
+abbrev pub Logged : Kept → Deed → Result ⊤ NotMade → Kept → Type 0
 Logged old what answer new = new.answers ≡ old.answers ++ (what, answer) ∷ []
 
 -- ---- a later state of the same desk
@@ -54,27 +54,27 @@ goes_by old new table same on = record {
   drawn = on.drawn;
 }
 
-pub goes_turn : (old new : Kept) (moment : ℕ) (what : Act) (items : List Item) (made : Result Made DeskFault) →
+pub goes_turn : (old new : Kept) (moment : ℕ) (what : Act) (items : List Item) (made : Result Made NotMade) →
     HadTurn old moment what items made new → GoesOn old new
 goes_turn old new moment what items made turn =
     goes_by old new turn.table turn.start
     (ended_grows old.start old.pass new.pass (entry_of old moment what) items made turn.stood.knows refl turn.ends)
 
 -- then an answer is logged
-pub turn_told : (old mid new : Kept) (moment : ℕ) (what : Act) (items : List Item) (made : Result Made DeskFault)
-    (done : Deed) (answer : Result ⊤ DeskFault) → HadTurn old moment what items made mid →
+pub turn_told : (old mid new : Kept) (moment : ℕ) (what : Act) (items : List Item) (made : Result Made NotMade)
+    (done : Deed) (answer : Result ⊤ NotMade) → HadTurn old moment what items made mid →
     new ≡ record mid { answers = mid.answers ++ (done, answer) ∷ [] } → HadTurn old moment what items made new
 turn_told old mid new moment what items made done answer turn is =
     subst (λ (new : Kept). HadTurn old moment what items made new) (sym is)
     (record { stood = turn.stood; ends = turn.ends; table = turn.table; start = turn.start })
 
-pub logged_after : (old mid new : Kept) (what : Deed) (answer : Result ⊤ DeskFault) → mid.answers ≡ old.answers →
+pub logged_after : (old mid new : Kept) (what : Deed) (answer : Result ⊤ NotMade) → mid.answers ≡ old.answers →
     new ≡ record mid { answers = mid.answers ++ (what, answer) ∷ [] } → Logged old what answer new
 logged_after old mid new what answer same is = ap (λ (kept : Kept). kept.answers) is
     ∙ ap (λ (answers : List Answer). answers ++ (what, answer) ∷ []) same
 
-pub acted_told : (old mid new : Kept) (moment : ℕ) (what : Act) (items : List Item) (made : Result Made DeskFault)
-    (done : Deed) (answer : Result ⊤ DeskFault) → HadTurn old moment what items made mid → done ≡ deed_of what →
+pub acted_told : (old mid new : Kept) (moment : ℕ) (what : Act) (items : List Item) (made : Result Made NotMade)
+    (done : Deed) (answer : Result ⊤ NotMade) → HadTurn old moment what items made mid → done ≡ deed_of what →
     answer ≡ said made → mid.answers ≡ old.answers →
     new ≡ record mid { answers = mid.answers ++ (done, answer) ∷ [] } → IsActed old moment what made new
 acted_told old mid new moment what items made done answer turn of_act is same told = record {
@@ -82,7 +82,7 @@ acted_told old mid new moment what items made done answer turn of_act is same to
   turn = turn_told old mid new moment what items made done answer turn told;
   tells = logged_after old mid new done answer same told
       ∙ ap (λ (done : Deed). old.answers ++ (done, answer) ∷ []) of_act
-      ∙ ap (λ (answer : Result ⊤ DeskFault). old.answers ++ (deed_of what, answer) ∷ []) is;
+      ∙ ap (λ (answer : Result ⊤ NotMade). old.answers ++ (deed_of what, answer) ∷ []) is;
 }
 
 -- ---- the causes of what is logged
@@ -91,7 +91,7 @@ none_is : (items : List Item) → (length items == 0) ≡ is_nothing items
 none_is [] = refl
 none_is (item ∷ items) = ne_eqb (suc (length items)) 0 (λ e. omega arith)
 
-known_turn : (old mid : Kept) (moment : ℕ) (what : Act) (items : List Item) (one : DeskFault) (done : Deed) →
+known_turn : (old mid : Kept) (moment : ℕ) (what : Act) (items : List Item) (one : NotMade) (done : Deed) →
     IsOfOpen old.pass.mine what → HadTurn old moment what items (Err one) mid → done ≡ deed_of what →
     IsKnownAnswer old.start mid.pass (done, Err one)
 known_turn old mid moment what items one done open' turn of_act =
@@ -100,14 +100,14 @@ known_turn old mid moment what items one done open' turn of_act =
     turn.ends)
 
 -- where the state in which the history begins is the same
-known_start : (old mid : Kept) (done : Deed) (answer told : Result ⊤ DeskFault) → mid.start ≡ old.start →
+known_start : (old mid : Kept) (done : Deed) (answer told : Result ⊤ NotMade) → mid.start ≡ old.start →
     told ≡ answer → IsKnownAnswer old.start mid.pass (done, answer) → IsKnownAnswer mid.start mid.pass (done, told)
 known_start old mid done answer told same is known =
     subst (λ (start : State). IsKnownAnswer start mid.pass (done, told)) (sym same)
-    (subst (λ (answer : Result ⊤ DeskFault). IsKnownAnswer old.start mid.pass (done, answer)) (sym is) known)
+    (subst (λ (answer : Result ⊤ NotMade). IsKnownAnswer old.start mid.pass (done, answer)) (sym is) known)
 
-pub act_known : (old mid : Kept) (moment : ℕ) (what : Act) (items : List Item) (made : Result Made DeskFault)
-    (done : Deed) (answer : Result ⊤ DeskFault) → IsOfOpen old.pass.mine what →
+pub act_known : (old mid : Kept) (moment : ℕ) (what : Act) (items : List Item) (made : Result Made NotMade)
+    (done : Deed) (answer : Result ⊤ NotMade) → IsOfOpen old.pass.mine what →
     HadTurn old moment what items made mid → done ≡ deed_of what → answer ≡ said made →
     IsKnownAnswer mid.start mid.pass (done, answer)
 act_known old mid moment what items (Ok made) done answer open' turn of_act is =
@@ -116,8 +116,8 @@ act_known old mid moment what items (Err one) done answer open' turn of_act is =
     known_start old mid done (Err one) answer turn.start is
     (known_turn old mid moment what items one done open' turn of_act)
 
-pub drain_known : (old mid : Kept) (moment session : ℕ) (items : List Item) (made : Result Made DeskFault)
-    (answer : Result ⊤ DeskFault) (is_empty : Bool) → IsOpen session old.pass.mine →
+pub drain_known : (old mid : Kept) (moment session : ℕ) (items : List Item) (made : Result Made NotMade)
+    (answer : Result ⊤ NotMade) (is_empty : Bool) → IsOpen session old.pass.mine →
     HadTurn old moment (act.Drain session) items made mid → OnErr made (items ≡ []) → answer ≡ said made →
     is_empty ≡ (length items == 0) → IsKnownAnswer mid.start mid.pass (deed.Drain session is_empty, answer)
 drain_known old mid moment session items (Ok made) answer is_empty is_open turn nothing is empty =
@@ -127,15 +127,15 @@ drain_known old mid moment session items (Err one) answer is_empty is_open turn 
     (known_turn old mid moment (act.Drain session) items one (deed.Drain session is_empty) is_open turn
     (ap (λ (nothing : Bool). deed.Drain session nothing) (empty ∙ none_is items ∙ ap is_nothing nothing)))
 
-pub flush_answer_known : (old mid : Kept) (moment : ℕ) (items : List Item) (made : Result Made DeskFault)
-    (answer : Result ⊤ DeskFault) → HadTurn old moment act.Flush items made mid → answer ≡ said_flush made →
+pub flush_answer_known : (old mid : Kept) (moment : ℕ) (items : List Item) (made : Result Made NotMade)
+    (answer : Result ⊤ NotMade) → HadTurn old moment act.Flush items made mid → answer ≡ said_flush made →
     IsKnownAnswer mid.start mid.pass (deed.Flush, answer)
 flush_answer_known old mid moment items made answer turn is =
     known_start old mid deed.Flush (said_flush made) answer turn.start is
     (flush_known old.start (begins old turn.stood) old.pass mid.pass old.pass.number moment items made turn.stood.knows
     refl turn.ends)
 
-pub question_answer_known : (old mid : Kept) (answer : Result Bool DeskFault) (told : Result ⊤ DeskFault) →
+pub question_answer_known : (old mid : Kept) (answer : Result Bool NotMade) (told : Result ⊤ NotMade) →
     AnswersStopped old.start old.pass mid.pass answer → mid.start ≡ old.start → told ≡ said_stopped answer →
     IsKnownAnswer mid.start mid.pass (deed.Ask, told)
 question_answer_known old mid answer told tells same is =
@@ -212,14 +212,14 @@ ok_told old new what value made adds tells = record {
 }
 
 -- What a refused act leaves.
-record IsLeft (P : DeskFault → Type 0) (old new : Kept) (one : DeskFault) : Type 0 where
+record IsLeft (P : NotMade → Type 0) (old new : Kept) (one : NotMade) : Type 0 where
   pub mine : new.pass.mine ≡ old.pass.mine
   pub given : StaysForAll (desk_view old).gave_to (desk_view new).gave_to
   pub why : P one
   pub lock : new.pass.waits ≡ (old.pass.waits || is_lock_full {X = ⊤} (Err one))
   pub number : new.pass.number ≡ old.pass.number
 
-left_by : (old new : Kept) (moment : ℕ) (what : Act) (items : List Item) (one : DeskFault) →
+left_by : (old new : Kept) (moment : ℕ) (what : Act) (items : List Item) (one : NotMade) →
     IsOfOpen old.pass.mine what → HadTurn old moment what items (Err one) new → IsLeft (MayRefuse what) old new one
 left_by old new moment what items one open' turn =
     let keeps : Keeps old.start old.pass new.pass =
@@ -234,7 +234,7 @@ left_by old new moment what items one open' turn =
       number = keeps.on.number;
     }
 
-err_told : {P : DeskFault → Type 0} (old new : Kept) (what : Deed) (one : DeskFault) → IsLeft P old new one →
+err_told : {P : NotMade → Type 0} (old new : Kept) (what : Deed) (one : NotMade) → IsLeft P old new one →
     Logged old what (Err one) new → IsTold {X = ⊤} (desk_view old) what (Err one) (desk_view new)
 err_told old new what one left tells = record {
   none_added = left.mine;
@@ -246,7 +246,7 @@ err_told old new what one left tells = record {
 -- ---- a call
 
 calls_turn : (old new : Kept) (moment session reference : ℕ) (call : Call) (items : List Item)
-    (made : Result Made DeskFault) → IsOpen session old.pass.mine →
+    (made : Result Made NotMade) → IsOpen session old.pass.mine →
     HadTurn old moment (act.Call session reference call) items made new →
     Logged old (deed.Call session) (said made) new →
     Calls {X = ⊤} (desk_view old) moment (act.Call session reference call) session (said made) (desk_view new)
@@ -269,12 +269,12 @@ calls_turn old new moment session reference call items (Err one) is_open turn te
       rest = err_told old new (deed.Call session) one left tells;
     }
 
-pub calls_acted : (old new : Kept) (moment session reference : ℕ) (call : Call) (made : Result Made DeskFault)
-    (answer : Result ⊤ DeskFault) → IsOpen session old.pass.mine →
+pub calls_acted : (old new : Kept) (moment session reference : ℕ) (call : Call) (made : Result Made NotMade)
+    (answer : Result ⊤ NotMade) → IsOpen session old.pass.mine →
     IsActed old moment (act.Call session reference call) made new → answer ≡ said made →
     Calls (desk_view old) moment (act.Call session reference call) session answer (desk_view new)
 calls_acted old new moment session reference call made answer is_open acted is =
-    subst (λ (answer : Result ⊤ DeskFault).
+    subst (λ (answer : Result ⊤ NotMade).
     Calls (desk_view old) moment (act.Call session reference call) session answer (desk_view new)) (sym is)
     (calls_turn old new moment session reference call acted.items made is_open acted.turn acted.tells)
 
@@ -285,7 +285,7 @@ broken_whole : (state : State) (pass moment number session : ℕ) (short : Bool)
 broken_whole state pass moment number session true may = absurd may.short
 broken_whole state pass moment number session false may = refl
 
-broken_turn : (old new : Kept) (moment session : ℕ) (items : List Item) (made : Result Made DeskFault) →
+broken_turn : (old new : Kept) (moment session : ℕ) (items : List Item) (made : Result Made NotMade) →
     IsOpen session old.pass.mine → HadTurn old moment (act.Broken session) items made new →
     Logged old (deed.Broken session) (said made) new →
     Acts {X = ⊤} (desk_view old) moment (act.Broken session) session (said made) (desk_view new)
@@ -309,11 +309,11 @@ broken_turn old new moment session items (Err one) is_open turn tells =
       rest = err_told old new (deed.Broken session) one left tells;
     }
 
-pub broken_acted : (old new : Kept) (moment session : ℕ) (made : Result Made DeskFault)
-    (answer : Result ⊤ DeskFault) → IsOpen session old.pass.mine → IsActed old moment (act.Broken session) made new →
+pub broken_acted : (old new : Kept) (moment session : ℕ) (made : Result Made NotMade)
+    (answer : Result ⊤ NotMade) → IsOpen session old.pass.mine → IsActed old moment (act.Broken session) made new →
     answer ≡ said made → Acts (desk_view old) moment (act.Broken session) session answer (desk_view new)
 broken_acted old new moment session made answer is_open acted is =
-    subst (λ (answer : Result ⊤ DeskFault).
+    subst (λ (answer : Result ⊤ NotMade).
     Acts (desk_view old) moment (act.Broken session) session answer (desk_view new)) (sym is)
     (broken_turn old new moment session acted.items made is_open acted.turn acted.tells)
 
@@ -331,7 +331,7 @@ drained_items state session made may is =
     subst (λ (what : Act). refusal_of state what ≡ None) is may.possible in
     rw (taken_by, possible) refl
 
-drains_turn : (old new : Kept) (moment session : ℕ) (items : List Item) (made : Result Made DeskFault) →
+drains_turn : (old new : Kept) (moment session : ℕ) (items : List Item) (made : Result Made NotMade) →
     IsOpen session old.pass.mine → HadTurn old moment (act.Drain session) items made new →
     OnErr made (items ≡ []) → Logged old (deed.Drain session (is_nothing items)) (said made) new →
     Drains {X = ⊤} (desk_view old) moment session items (said made) (desk_view new)
@@ -369,19 +369,19 @@ drains_turn old new moment session items (Err one) is_open turn nothing tells =
       rest = err_told old new (deed.Drain session (is_nothing items)) one left tells;
     }
 
-pub drains_told : (old mid new : Kept) (moment session : ℕ) (items : List Item) (made : Result Made DeskFault)
-    (answer : Result ⊤ DeskFault) (is_empty : Bool) → IsOpen session old.pass.mine →
+pub drains_told : (old mid new : Kept) (moment session : ℕ) (items : List Item) (made : Result Made NotMade)
+    (answer : Result ⊤ NotMade) (is_empty : Bool) → IsOpen session old.pass.mine →
     HadTurn old moment (act.Drain session) items made mid → OnErr made (items ≡ []) → answer ≡ said made →
     is_empty ≡ (length items == 0) → mid.answers ≡ old.answers →
     new ≡ record mid { answers = mid.answers ++ (deed.Drain session is_empty, answer) ∷ [] } →
     Drains (desk_view old) moment session items answer (desk_view new)
 drains_told old mid new moment session items made answer is_empty is_open turn nothing is empty same told =
-    subst (λ (answer : Result ⊤ DeskFault). Drains (desk_view old) moment session items answer (desk_view new)) (sym is)
+    subst (λ (answer : Result ⊤ NotMade). Drains (desk_view old) moment session items answer (desk_view new)) (sym is)
     (drains_turn old new moment session items made is_open
     (turn_told old mid new moment (act.Drain session) items made (deed.Drain session is_empty) answer turn told) nothing
     (logged_after old mid new (deed.Drain session is_empty) answer same told
     ∙ ap (λ (nothing : Bool). old.answers ++ (deed.Drain session nothing, answer) ∷ []) (empty ∙ none_is items)
-    ∙ ap (λ (answer : Result ⊤ DeskFault). old.answers ++ (deed.Drain session (is_nothing items), answer) ∷ []) is))
+    ∙ ap (λ (answer : Result ⊤ NotMade). old.answers ++ (deed.Drain session (is_nothing items), answer) ∷ []) is))
 
 -- ---- a close
 
@@ -390,7 +390,7 @@ close_whole : (state : State) (pass moment number session : ℕ) (short : Bool) 
 close_whole state pass moment number session true may = absurd may.short
 close_whole state pass moment number session false may = refl
 
-closes_turn : (old new : Kept) (moment session : ℕ) (items : List Item) (made : Result Made DeskFault) →
+closes_turn : (old new : Kept) (moment session : ℕ) (items : List Item) (made : Result Made NotMade) →
     IsOpen session old.pass.mine → HadTurn old moment (act.Close session) items made new →
     Logged old (deed.Close session) (said made) new →
     Closes {X = ⊤} (desk_view old) moment session (said made) (desk_view new)
@@ -414,16 +414,16 @@ closes_turn old new moment session items (Err one) is_open turn tells =
       rest = err_told old new (deed.Close session) one left tells;
     }
 
-pub closes_acted : (old new : Kept) (moment session : ℕ) (made : Result Made DeskFault)
-    (answer : Result ⊤ DeskFault) → IsOpen session old.pass.mine → IsActed old moment (act.Close session) made new →
+pub closes_acted : (old new : Kept) (moment session : ℕ) (made : Result Made NotMade)
+    (answer : Result ⊤ NotMade) → IsOpen session old.pass.mine → IsActed old moment (act.Close session) made new →
     answer ≡ said made → Closes (desk_view old) moment session answer (desk_view new)
 closes_acted old new moment session made answer is_open acted is =
-    subst (λ (answer : Result ⊤ DeskFault). Closes (desk_view old) moment session answer (desk_view new)) (sym is)
+    subst (λ (answer : Result ⊤ NotMade). Closes (desk_view old) moment session answer (desk_view new)) (sym is)
     (closes_turn old new moment session acted.items made is_open acted.turn acted.tells)
 
 -- ---- a flush
 
-adds_none : (old new : DeskView) (moment : ℕ) (one : DeskFault) → new.mine ≡ old.mine →
+adds_none : (old new : DeskView) (moment : ℕ) (one : NotMade) → new.mine ≡ old.mine →
     AddsNoneOrShort old moment one new
 adds_none old new moment (fault.Gone why.Stopped) same = inl same
 adds_none old new moment (fault.Gone why.Absent) same = same
@@ -462,7 +462,7 @@ flush_made old new moment items made true is turn tells =
       pass = adds.on.number;
     }
 
-flush_turn : (old new : Kept) (moment : ℕ) (items : List Item) (made : Result Made DeskFault) →
+flush_turn : (old new : Kept) (moment : ℕ) (items : List Item) (made : Result Made NotMade) →
     HadTurn old moment act.Flush items made new → Logged old deed.Flush (said_flush made) new →
     Flushes {X = ⊤} (desk_view old) moment (said_flush made) (desk_view new)
 flush_turn old new moment items (Ok made) turn tells =
@@ -479,20 +479,20 @@ flush_turn old new moment items (Err one) turn tells =
       pass = left.number;
     }
 
-pub flush_told : (old mid new : Kept) (moment : ℕ) (items : List Item) (made : Result Made DeskFault)
-    (answer : Result ⊤ DeskFault) → HadTurn old moment act.Flush items made mid → answer ≡ said_flush made →
+pub flush_told : (old mid new : Kept) (moment : ℕ) (items : List Item) (made : Result Made NotMade)
+    (answer : Result ⊤ NotMade) → HadTurn old moment act.Flush items made mid → answer ≡ said_flush made →
     mid.answers ≡ old.answers → new ≡ record mid { answers = mid.answers ++ (deed.Flush, answer) ∷ [] } →
     Flushes (desk_view old) moment answer (desk_view new)
 flush_told old mid new moment items made answer turn is same told =
-    subst (λ (answer : Result ⊤ DeskFault). Flushes (desk_view old) moment answer (desk_view new)) (sym is)
+    subst (λ (answer : Result ⊤ NotMade). Flushes (desk_view old) moment answer (desk_view new)) (sym is)
     (flush_turn old new moment items made
     (turn_told old mid new moment act.Flush items made deed.Flush answer turn told)
     (logged_after old mid new deed.Flush answer same told
-    ∙ ap (λ (answer : Result ⊤ DeskFault). old.answers ++ (deed.Flush, answer) ∷ []) is))
+    ∙ ap (λ (answer : Result ⊤ NotMade). old.answers ++ (deed.Flush, answer) ∷ []) is))
 
 -- ---- whether the server is stopped, and what is new
 
-asks_told : (old new : Kept) (answer : Result Bool DeskFault) → Stands old → new.start ≡ old.start →
+asks_told : (old new : Kept) (answer : Result Bool NotMade) → Stands old → new.start ≡ old.start →
     AnswersStopped old.start old.pass new.pass answer → Logged old deed.Ask (said_stopped answer) new →
     AsksStopped (desk_view old) answer (desk_view new)
 asks_told old new (Ok stopped) stands same tells logged =
@@ -518,14 +518,14 @@ asks_told old new (Err one) stands same tells logged =
     }
 
 -- What a question leaves, before its answer is logged.
-pub record HasAsked (old : Kept) (answer : Result Bool DeskFault) (mid : Kept) : Type 0 where
+pub record HasAsked (old : Kept) (answer : Result Bool NotMade) (mid : Kept) : Type 0 where
   pub tells : AnswersStopped old.start old.pass mid.pass answer
   pub table : mid.table ≡ old.table
   pub start : mid.start ≡ old.start
   pub answers : mid.answers ≡ old.answers
   pub stood : Stands old
 
-pub stopped_told : (old mid new : Kept) (answer : Result Bool DeskFault) (said' : Result ⊤ DeskFault) →
+pub stopped_told : (old mid new : Kept) (answer : Result Bool NotMade) (said' : Result ⊤ NotMade) →
     HasAsked old answer mid → said' ≡ said_stopped answer →
     new ≡ record mid { answers = mid.answers ++ (deed.Ask, said') ∷ [] } →
     AsksStopped (desk_view old) answer (desk_view new)
@@ -533,9 +533,9 @@ stopped_told old mid new answer said' asked is told =
     asks_told old new answer asked.stood (ap (λ (kept : Kept). kept.start) told ∙ asked.start)
     (subst (λ (kept : Kept). AnswersStopped old.start old.pass kept.pass answer) (sym told) asked.tells)
     (logged_after old mid new deed.Ask said' asked.answers told
-    ∙ ap (λ (answer : Result ⊤ DeskFault). old.answers ++ (deed.Ask, answer) ∷ []) is)
+    ∙ ap (λ (answer : Result ⊤ NotMade). old.answers ++ (deed.Ask, answer) ∷ []) is)
 
-pub stopped_on : (old mid new : Kept) (answer : Result Bool DeskFault) (said' : Result ⊤ DeskFault) →
+pub stopped_on : (old mid new : Kept) (answer : Result Bool NotMade) (said' : Result ⊤ NotMade) →
     HasAsked old answer mid → new ≡ record mid { answers = mid.answers ++ (deed.Ask, said') ∷ [] } → GoesOn old new
 stopped_on old mid new answer said' asked told =
     subst (λ (new : Kept). GoesOn old new) (sym told)
@@ -627,7 +627,7 @@ connects_turn old new moment user host items made turn tells =
     }
 
 -- the act of a greeting
-acted_as : (old new : Kept) (moment : ℕ) (what : Act) (user host : List ℕ) (made : Result Made DeskFault) →
+acted_as : (old new : Kept) (moment : ℕ) (what : Act) (user host : List ℕ) (made : Result Made NotMade) →
     what ≡ act.Connect user host → IsActed old moment what made new →
     IsActed old moment (act.Connect user host) made new
 acted_as old new moment what user host made is acted =
@@ -640,7 +640,7 @@ connects_made old new moment what user host made is acted =
     let same = acted_as old new moment what user host (Ok made) is acted in
     connects_turn old new moment user host same.items made same.turn same.tells
 
-pub connects_refused : (old new : Kept) (moment : ℕ) (what : Act) (user host : List ℕ) (one : DeskFault) →
+pub connects_refused : (old new : Kept) (moment : ℕ) (what : Act) (user host : List ℕ) (one : NotMade) →
     what ≡ act.Connect user host → IsActed old moment what (Err one) new →
     Connects (desk_view old) moment user host (Err one) (desk_view new)
 connects_refused old new moment what user host one is acted =
@@ -659,6 +659,6 @@ connects_refused old new moment what user host one is acted =
     }
 
 -- what was acted is a later state
-pub acted_on : (old new : Kept) (moment : ℕ) (what : Act) (made : Result Made DeskFault) →
+pub acted_on : (old new : Kept) (moment : ℕ) (what : Act) (made : Result Made NotMade) →
     IsActed old moment what made new → GoesOn old new
 acted_on old new moment what made acted = goes_turn old new moment what acted.items made acted.turn

@@ -9,8 +9,8 @@ use Rattle.kom_types.specs.declared.acts.Entry.{Entry}
 use Rattle.kom_types.specs.declared.acts.Record.{Record}
 use Rattle.kom_types.specs.declared.answers.Refusal.{Refusal}
 use Rattle.kom_types.specs.declared.items.Item.{Item}
-use Rattle.kom_links.specs.declared.desk.DeskFault.{DeskFault}
-use Rattle.kom_links.specs.declared.desk.DeskFault.TheVariants as fault
+use Rattle.kom_types.specs.declared.answers.NotMade.{NotMade}
+use Rattle.kom_types.specs.declared.answers.NotMade.TheVariants as fault
 use Rattle.kom_model.specs.State.{State}
 use Rattle.kom_model.specs.After.{MayFollow}
 use Rattle.kom_model.specs.Legal.{IsLegal, state_after}
@@ -125,7 +125,7 @@ refused_keeps : (start : State) (old new : PassView) (what : Act) (refusal : Opt
 refused_keeps start old new what refusal knows (history, sees, logs, why) =
     none_keeps start old new history knows sees logs
 
-pub fault_keeps : (start : State) (old new : PassView) (entry : Entry) (items : List Item) (one : DeskFault) →
+pub fault_keeps : (start : State) (old new : PassView) (entry : Entry) (items : List Item) (one : NotMade) →
     Knows start old → Ends start old new entry items (Err one) → Keeps start old new
 fault_keeps start old new entry items fault.Memory knows ends = refused_keeps start old new entry.act _ knows ends.0
 fault_keeps start old new entry items (fault.Gone told) knows ends = refused_keeps start old new entry.act _ knows ends
@@ -134,7 +134,7 @@ fault_keeps start old new entry items (fault.Full number) knows (inl none) =
 fault_keeps start old new entry items (fault.Full number) knows (inr was) =
     refused_keeps start old new entry.act _ knows was
 
-pub tells_keeps : (start : State) (old new : PassView) (result : Result Bool DeskFault) → Knows start old →
+pub tells_keeps : (start : State) (old new : PassView) (result : Result Bool NotMade) → Knows start old →
     AnswersStopped start old new result → Keeps start old new
 tells_keeps start old new (Ok stopped) knows (history, sees, logs, is) = none_keeps start old new history knows sees
     logs
@@ -148,7 +148,7 @@ looks_keeps start old new knows (inr (ticket, none)) = no_turn_keeps start old n
 
 -- after an act, made or not
 pub ended_grows : (start : State) (old new : PassView) (entry : Entry) (items : List Item)
-    (result : Result Made DeskFault) → Knows start old → entry.pass ≡ old.number →
+    (result : Result Made NotMade) → Knows start old → entry.pass ≡ old.number →
     Ends start old new entry items result → Grows start old new
 ended_grows start old new entry items (Ok made) knows own ends =
     (made_adds start old new entry items made knows own ends).0.on

@@ -11,7 +11,7 @@ use Rattle.kom_types.specs.declared.acts.Record.{Record}
 use Rattle.kom_types.specs.declared.answers.Refusal.{Refusal}
 use Rattle.kom_types.specs.declared.answers.Refusal.TheVariants.{Gone, Full}
 use Rattle.kom_types.specs.declared.items.Item.{Item}
-use Rattle.kom_links.specs.declared.desk.DeskFault.{DeskFault}
+use Rattle.kom_types.specs.declared.answers.NotMade.{NotMade}
 use Rattle.kom_model.specs.State.{State, session_of}
 use Rattle.kom_model.specs.Refusal.{refusal_of, TakesNoMemory}
 use Rattle.kom_model.specs.After.{MayFollow}
@@ -349,10 +349,10 @@ from_refusal start old new entry items (Gone told) was = was
 from_refusal start old new entry items (Full number) was = inr was
 
 pub ends_refused : (start : State) (old new : PassView) (entry : Entry) (items : List Item) (refusal : Refusal)
-    (one : DeskFault) → one ≡ fault_from refusal → WasRefused start old new entry.act (Some refusal) →
+    (one : NotMade) → one ≡ fault_from refusal → WasRefused start old new entry.act (Some refusal) →
     Ends start old new entry items (Err one)
 ends_refused start old new entry items refusal one is was =
-    subst (λ (one : DeskFault). Ends start old new entry items (Err one)) (sym is)
+    subst (λ (one : NotMade). Ends start old new entry items (Err one)) (sym is)
     (from_refusal start old new entry items refusal was)
 
 -- ---- where memory ran out

@@ -14,8 +14,8 @@ use Rattle.kom_types.specs.declared.answers.Why.TheVariants as why
 use Rattle.kom_types.specs.declared.calls.Call.{Call}
 use Rattle.kom_types.specs.declared.items.Item.{Item}
 use Rattle.kom_types.specs.Sessions.{Session}
-use Rattle.kom_links.specs.declared.desk.DeskFault.{DeskFault}
-use Rattle.kom_links.specs.declared.desk.DeskFault.TheVariants as fault
+use Rattle.kom_types.specs.declared.answers.NotMade.{NotMade}
+use Rattle.kom_types.specs.declared.answers.NotMade.TheVariants as fault
 use Rattle.kom_links.specs.DeskCalls.{IsConnectFault, IsActFault, IsFlushFault, IsLockFault, is_lock_full}
 use Rattle.kom_links.specs.Records.{IsOpen}
 use Rattle.kom_model.specs.State.{State, session_of}
@@ -30,21 +30,21 @@ use Rattle.hall_desk.proofs.Stepping.{Has}
 use Rattle.hall_desk.proofs.Histories.{and_both, or_second, open_has, connects-state_after, connects_within}
 
 -- A fault of an act of this kind that a history tells of, known at a session.
-record IsTold (start : State) (P : DeskFault → Type 0) (history : List Record) (drawn session : ℕ)
-    (one : DeskFault) : Type 0 where
+record IsTold (start : State) (P : NotMade → Type 0) (history : List Record) (drawn session : ℕ)
+    (one : NotMade) : Type 0 where
   pub may : P one
   pub known : IsKnown start history drawn session (Some one)
   pub no_lock : is_lock_full {X = ⊤} (Err one) ≡ false
 
 -- The same of a call of a desk, by what its pass knows then.
-pub record IsTurnTold (start : State) (P : DeskFault → Type 0) (old new : PassView) (session : ℕ)
-    (one : DeskFault) : Type 0 where
+pub record IsTurnTold (start : State) (P : NotMade → Type 0) (old new : PassView) (session : ℕ)
+    (one : NotMade) : Type 0 where
   pub may : P one
   pub known : IsKnown start new.seen new.drawn session (Some one)
   pub lock : new.waits ≡ (old.waits || is_lock_full {X = ⊤} (Err one))
 
 -- the lock is told by the fault alone
-pub lock_any : (X : Type 0) (one : DeskFault) → is_lock_full {X = X} (Err one) ≡ is_lock_full {X = ⊤} (Err one)
+pub lock_any : (X : Type 0) (one : NotMade) → is_lock_full {X = X} (Err one) ≡ is_lock_full {X = ⊤} (Err one)
 lock_any X fault.Memory = refl
 lock_any X (fault.Full number) = refl
 lock_any X (fault.Gone told) = refl
@@ -155,7 +155,7 @@ module _ (start : State) where
       subst (λ told. IsTold start IsActFault history drawn session (fault.Gone told)) (sym overrun.0)
       (record { may = tt; known = (history, [], row, sym (append-nil history), found, overrun.1); no_lock = refl })
 
-  stopped_told : (P : DeskFault → Type 0) (history : List Record) (drawn session : ℕ) (told : Why) →
+  stopped_told : (P : NotMade → Type 0) (history : List Record) (drawn session : ℕ) (told : Why) →
       P (fault.Gone why.Stopped) → told ≡ why.Stopped →
       ((state_after start history).stopped ≡ true) ⊎ ((state_after start history).store_refused ≡ true) →
       IsTold start P history drawn session (fault.Gone told)
@@ -165,7 +165,7 @@ module _ (start : State) where
 
   -- ---- by how an act ended
 
-  no_turn_told : (P : DeskFault → Type 0) (old new : PassView) (session ticket : ℕ) → HasNoTurn old new ticket →
+  no_turn_told : (P : NotMade → Type 0) (old new : PassView) (session ticket : ℕ) → HasNoTurn old new ticket →
       P (fault.Full ticket) → IsTurnTold start P old new session (fault.Full ticket)
   no_turn_told P old new session ticket none may = record {
     may = may;
@@ -174,8 +174,8 @@ module _ (start : State) where
         (le-leb (2 ^ 62) ticket none.large));
   }
 
-  refused_told : (P : DeskFault → Type 0) (old new : PassView) (history : List Record) (session : ℕ)
-      (one : DeskFault) → Sees start old new history → LogsNone old new history →
+  refused_told : (P : NotMade → Type 0) (old new : PassView) (history : List Record) (session : ℕ)
+      (one : NotMade) → Sees start old new history → LogsNone old new history →
       IsTold start P history new.drawn session one → IsTurnTold start P old new session one
   refused_told P old new history session one sees logs told = record {
     may = told.may;
@@ -184,8 +184,8 @@ module _ (start : State) where
         ∙ ap (λ b. b || is_lock_full {X = ⊤} (Err one)) (sym sees.rested);
   }
 
-  ended_told : (P : DeskFault → Type 0) (old new : PassView) (entry : Entry) (items : List Item) (session : ℕ)
-      (one : DeskFault) → ((ticket : ℕ) → 2 ^ 62 ≤ ticket → P (fault.Full ticket)) →
+  ended_told : (P : NotMade → Type 0) (old new : PassView) (entry : Entry) (items : List Item) (session : ℕ)
+      (one : NotMade) → ((ticket : ℕ) → 2 ^ 62 ≤ ticket → P (fault.Full ticket)) →
       (IsConnect entry.act → P fault.Memory) →
       ((history : List Record) (told : Why) → Sees start old new history →
       refusal_of (state_after start history) entry.act ≡ Some (Gone told) →
@@ -213,7 +213,7 @@ module _ (start : State) where
       (subst (λ (mine : List Record). IsOpen session mine) sees.own is_open)
 
   call_told : IsStart start → (old new : PassView) (pass moment session reference : ℕ) (call : Call)
-      (items : List Item) (one : DeskFault) → IsOpen session old.mine →
+      (items : List Item) (one : NotMade) → IsOpen session old.mine →
       Ends start old new (record { pass = pass; moment = moment; act = act.Call session reference call }) items
       (Err one) → IsTurnTold start IsActFault old new session one
   call_told begins old new pass moment session reference call items one is_open ends =
@@ -235,7 +235,7 @@ module _ (start : State) where
       ends
 
   broken_told : IsStart start → (old new : PassView) (pass moment session : ℕ) (items : List Item)
-      (one : DeskFault) → IsOpen session old.mine →
+      (one : NotMade) → IsOpen session old.mine →
       Ends start old new (record { pass = pass; moment = moment; act = act.Broken session }) items (Err one) →
       IsTurnTold start IsActFault old new session one
   broken_told begins old new pass moment session items one is_open ends =
@@ -257,7 +257,7 @@ module _ (start : State) where
       ends
 
   drain_told : IsStart start → (old new : PassView) (pass moment session : ℕ) (items : List Item)
-      (one : DeskFault) → IsOpen session old.mine →
+      (one : NotMade) → IsOpen session old.mine →
       Ends start old new (record { pass = pass; moment = moment; act = act.Drain session }) items (Err one) →
       IsTurnTold start IsActFault old new session one
   drain_told begins old new pass moment session items one is_open ends =
@@ -279,7 +279,7 @@ module _ (start : State) where
       ends
 
   close_told : IsStart start → (old new : PassView) (pass moment session : ℕ) (items : List Item)
-      (one : DeskFault) → IsOpen session old.mine →
+      (one : NotMade) → IsOpen session old.mine →
       Ends start old new (record { pass = pass; moment = moment; act = act.Close session }) items (Err one) →
       IsTurnTold start IsLockFault old new session one
   close_told begins old new pass moment session items one is_open ends =
@@ -298,7 +298,7 @@ module _ (start : State) where
 
   -- ---- of no session
 
-  flush_told : (old new : PassView) (pass moment : ℕ) (items : List Item) (session : ℕ) (one : DeskFault) →
+  flush_told : (old new : PassView) (pass moment : ℕ) (items : List Item) (session : ℕ) (one : NotMade) →
       Ends start old new (record { pass = pass; moment = moment; act = act.Flush }) items (Err one) →
       IsTurnTold start IsFlushFault old new session one
   flush_told old new pass moment items session one ends =
@@ -336,7 +336,7 @@ module _ (start : State) where
       }
 
   connect_told : IsStart start → (old new : PassView) (pass moment : ℕ) (user host : List ℕ) (items : List Item)
-      (one : DeskFault) →
+      (one : NotMade) →
       Ends start old new (record { pass = pass; moment = moment; act = act.Connect user host }) items (Err one) →
       IsTurnTold start IsConnectFault old new 0 one
   connect_told begins old new pass moment user host items one ends =
@@ -351,7 +351,7 @@ module _ (start : State) where
       ends
 
   -- whether the server is stopped
-  pub ask_told : (old new : PassView) (session : ℕ) (one : DeskFault) → AnswersStopped start old new (Err one) →
+  pub ask_told : (old new : PassView) (session : ℕ) (one : NotMade) → AnswersStopped start old new (Err one) →
       IsTurnTold start IsLockFault old new session one
   ask_told old new session fault.Memory tells = absurd tells
   ask_told old new session (fault.Gone told) tells = absurd tells
@@ -361,7 +361,7 @@ module _ (start : State) where
 -- ---- of any act
 
 -- why it may be refused
-abbrev pub MayRefuse : Act → DeskFault → Type 0
+abbrev pub MayRefuse : Act → NotMade → Type 0
 MayRefuse (act.Connect user host) = IsConnectFault
 MayRefuse (act.Call session reference call) = IsActFault
 MayRefuse (act.Broken session) = IsActFault
@@ -379,7 +379,7 @@ acting act.Flush = 0
 acting (act.Close session) = session
 
 pub act_told : (start : State) → IsStart start → (old new : PassView) (pass moment : ℕ) (what : Act)
-    (items : List Item) (one : DeskFault) → IsOfOpen old.mine what →
+    (items : List Item) (one : NotMade) → IsOfOpen old.mine what →
     Ends start old new (record { pass = pass; moment = moment; act = what }) items (Err one) →
     IsTurnTold start (MayRefuse what) old new (acting what) one
 act_told start begins old new pass moment (act.Connect user host) items one open' ends =

@@ -6,7 +6,7 @@ use Rattle.kom_types.specs.declared.acts.Act.{Act}
 use Rattle.kom_types.specs.declared.acts.Entry.{Entry}
 use Rattle.kom_types.specs.declared.acts.Record.{Record}
 use Rattle.kom_types.specs.declared.items.Item.{Item}
-use Rattle.kom_links.specs.declared.desk.DeskFault.{DeskFault}
+use Rattle.kom_types.specs.declared.answers.NotMade.{NotMade}
 use Rattle.kom_links.specs.Answers.{Answer}
 use Rattle.kom_links.specs.DeskCalls.{IsLookedAt}
 use Rattle.kom_links.proofs.Gates.{all_pushed}
@@ -49,7 +49,7 @@ module _ {B E : Type 0} (made : E → Record) (server : B → State) (hall : Hal
     stands_outside rests = subst (λ (kept : Kept). Stands kept) view rests.stands
 
     pub turn_outside : (new : PassModel B E) (moment : ℕ) (what : Act) (entry : Entry) (items : List Item)
-        (result : Result Made DeskFault) → entry ≡ entry_of kept moment what → Rests made server hall pass answers →
+        (result : Result Made NotMade) → entry ≡ entry_of kept moment what → Rests made server hall pass answers →
         Ends (server hall.opening) (pass_view made pass) (pass_view made new) entry items result →
         HadTurn kept moment what items result (kept_in made server hall new answers)
     turn_outside new moment what entry items result is rests ends = record {
@@ -60,7 +60,7 @@ module _ {B E : Type 0} (made : E → Record) (server : B → State) (hall : Hal
       start = ap (λ (kept : Kept). kept.start) view;
     }
 
-    pub tells_outside : (new : PassModel B E) (result : Result Bool DeskFault) →
+    pub tells_outside : (new : PassModel B E) (result : Result Bool NotMade) →
         AnswersStopped (server hall.opening) (pass_view made pass) (pass_view made new) result →
         AnswersStopped kept.start kept.pass (pass_view made new) result
     tells_outside new result tells =
@@ -128,7 +128,7 @@ module _ {B E : Type 0} (made : E → Record) (server : B → State) (hall : Hal
     };
   }
 
-  pub rests_ended : (new : PassModel B E) (entry : Entry) (items : List Item) (result : Result Made DeskFault) →
+  pub rests_ended : (new : PassModel B E) (entry : Entry) (items : List Item) (result : Result Made NotMade) →
       entry.pass ≡ pass.number → Rests made server hall pass answers → IsPassOf hall new → HoldsNoTurn new.turn →
       Knows (server hall.opening) (pass_view made new) →
       Ends (server hall.opening) (pass_view made pass) (pass_view made new) entry items result →
@@ -138,7 +138,7 @@ module _ {B E : Type 0} (made : E → Record) (server : B → State) (hall : Hal
       (ended_grows (server hall.opening) (pass_view made pass) (pass_view made new) entry items result
       rests.stands.knows own ends)
 
-  pub rests_asked : (new : PassModel B E) (result : Result Bool DeskFault) → Rests made server hall pass answers →
+  pub rests_asked : (new : PassModel B E) (result : Result Bool NotMade) → Rests made server hall pass answers →
       IsPassOf hall new → HoldsNoTurn new.turn → Knows (server hall.opening) (pass_view made new) →
       AnswersStopped (server hall.opening) (pass_view made pass) (pass_view made new) result →
       Rests made server hall new answers

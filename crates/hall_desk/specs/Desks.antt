@@ -9,8 +9,8 @@ use Rattle.kom_types.specs.declared.acts.Record.{Record}
 use Rattle.kom_types.specs.declared.answers.Refusal.TheVariants.{Gone}
 use Rattle.kom_types.specs.declared.answers.Why.TheVariants as why
 use Rattle.kom_types.specs.Sessions.{Session}
-use Rattle.kom_links.specs.declared.desk.DeskFault.{DeskFault}
-use Rattle.kom_links.specs.declared.desk.DeskFault.TheVariants as fault
+use Rattle.kom_types.specs.declared.answers.NotMade.{NotMade}
+use Rattle.kom_types.specs.declared.answers.NotMade.TheVariants as fault
 use Rattle.kom_links.specs.DeskCalls.{DeskView}
 use Rattle.kom_links.specs.declared.deeds.Deed.{Deed}
 use Rattle.kom_links.specs.declared.deeds.Deed.TheVariants as deed
@@ -52,7 +52,7 @@ WasFull number drawn history =
 
 -- The cause of a fault at a session, in the history that led to it and among the tickets that were
 -- drawn. Memory may always run out.
-abbrev pub IsKnown : State → List Record → ℕ → ℕ → Option DeskFault → Type 0
+abbrev pub IsKnown : State → List Record → ℕ → ℕ → Option NotMade → Type 0
 IsKnown start history drawn session None = Unit {0}
 IsKnown start history drawn session (Some fault.Memory) = Unit {0}
 IsKnown start history drawn session (Some (fault.Full number)) = WasFull number drawn history

@@ -6,8 +6,8 @@ use Rattle.kom_types.specs.declared.acts.Act.TheVariants as act
 use Rattle.kom_types.specs.declared.acts.Record.{Record}
 use Rattle.kom_types.specs.declared.answers.Refusal.TheVariants.{Gone, Full}
 use Rattle.kom_types.specs.declared.answers.Why.TheVariants as why
-use Rattle.kom_links.specs.declared.desk.DeskFault.{DeskFault}
-use Rattle.kom_links.specs.declared.desk.DeskFault.TheVariants as fault
+use Rattle.kom_types.specs.declared.answers.NotMade.{NotMade}
+use Rattle.kom_types.specs.declared.answers.NotMade.TheVariants as fault
 use Rattle.kom_model.specs.State.{State}
 use Rattle.kom_model.specs.Refusal.{refusal_of}
 use Rattle.kom_model.specs.Legal.{state_after}
@@ -28,7 +28,7 @@ IsLastTicket pass number = (2 ^ 62 ≤ number) × (number < pass.drawn) × (pass
 -- was refused where that says so after all that was seen; the server is stopped also where this
 -- very flush was refused by its store; and no turn is left where the ticket says so. Memory may run
 -- out at a Connect.
-abbrev pub IsAnswer : {X : Type 0} → State → PassView → Act → Result X DeskFault → Type 0
+abbrev pub IsAnswer : {X : Type 0} → State → PassView → Act → Result X NotMade → Type 0
 IsAnswer start pass what (Ok value) = WasPossible start pass what false
 IsAnswer start pass what (Err (fault.Gone told)) =
     (refusal_of (state_after start pass.seen) what ≡ Some (Gone told))
@@ -40,7 +40,7 @@ IsAnswer start pass what (Err fault.Memory) =
     (user host : List ℕ) × (what ≡ act.Connect user host)
 
 -- The server is stopped exactly where it was shut down or its store refused a flush.
-abbrev pub IsStopped : State → PassView → Result Bool DeskFault → Type 0
+abbrev pub IsStopped : State → PassView → Result Bool NotMade → Type 0
 IsStopped start pass (Ok stopped) =
     let state = state_after start pass.seen in stopped ≡ (state.stopped || state.store_refused)
 IsStopped start pass (Err (fault.Gone told)) = ⊥

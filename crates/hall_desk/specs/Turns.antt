@@ -9,8 +9,8 @@ use Rattle.kom_types.specs.declared.answers.Refusal.{Refusal}
 use Rattle.kom_types.specs.declared.answers.Refusal.TheVariants.{Gone, Full}
 use Rattle.kom_types.specs.declared.answers.Why.TheVariants as why
 use Rattle.kom_types.specs.declared.items.Item.{Item}
-use Rattle.kom_links.specs.declared.desk.DeskFault.{DeskFault}
-use Rattle.kom_links.specs.declared.desk.DeskFault.TheVariants as fault
+use Rattle.kom_types.specs.declared.answers.NotMade.{NotMade}
+use Rattle.kom_types.specs.declared.answers.NotMade.TheVariants as fault
 use Rattle.kom_links.specs.Answers.{said, deed_of}
 use Rattle.kom_links.specs.Records.{IsOpen}
 use Rattle.kom_model.specs.State.{State}
@@ -23,7 +23,7 @@ use Rattle.hall_desk.specs.Passes.{PassView, of_pass}
 use Rattle.hall_desk.specs.Desks.{Kept, Stands}
 
 -- the fault of a refusal
-abbrev pub fault_from : Refusal → DeskFault
+abbrev pub fault_from : Refusal → NotMade
 fault_from (Gone told) = fault.Gone told
 fault_from (Full number) = fault.Full number
 
@@ -97,7 +97,7 @@ IsConnect (act.Close session) = ⊥
 
 -- How an act that a pass asked for ended: it was made; it was refused; no turn was left; or at a
 -- Connect memory ran out.
-abbrev pub Ends : State → PassView → PassView → Entry → List Item → Result Made DeskFault → Type 0
+abbrev pub Ends : State → PassView → PassView → Entry → List Item → Result Made NotMade → Type 0
 Ends start old new entry items (Ok made) = WasMade start old new entry items made
 Ends start old new entry items (Err (fault.Gone told)) =
     WasRefused start old new entry.act (Some (Gone told))
@@ -112,26 +112,26 @@ entry_of old moment what = record { pass = old.pass.number; moment = moment; act
 
 -- A desk had a turn for an act, which ended so and took these items.
 pub record HadTurn (old : Kept) (moment : ℕ) (what : Act) (items : List Item)
-    (made : Result Made DeskFault) (new : Kept) : Type 0 where
+    (made : Result Made NotMade) (new : Kept) : Type 0 where
   pub stood : Stands old
   pub ends : Ends old.start old.pass new.pass (entry_of old moment what) items made
   pub table : new.table ≡ old.table
   pub start : new.start ≡ old.start
 
 -- It had one for an act that gives nothing, and logged how that was answered.
-pub record IsActed (old : Kept) (moment : ℕ) (what : Act) (made : Result Made DeskFault)
+pub record IsActed (old : Kept) (moment : ℕ) (what : Act) (made : Result Made NotMade)
     (new : Kept) : Type 0 where
   pub items : List Item
   pub turn : HadTurn old moment what items made new
   pub tells : new.answers ≡ old.answers ++ (deed_of what, said made) ∷ []
 
 -- what a flush is answered: the desk is stopped where the store refused it
-abbrev pub said_flush : Result Made DeskFault → Result ⊤ DeskFault
+abbrev pub said_flush : Result Made NotMade → Result ⊤ NotMade
 said_flush (Ok made) = if made.short then Err (fault.Gone why.Stopped) else Ok tt
 said_flush (Err one) = Err one
 
 -- How the question whether the server is stopped ended.
-abbrev pub AnswersStopped : State → PassView → PassView → Result Bool DeskFault → Type 0
+abbrev pub AnswersStopped : State → PassView → PassView → Result Bool NotMade → Type 0
 AnswersStopped start old new (Ok stopped) =
     (history : List Record) × Sees start old new history × LogsNone old new history
     × (let state = state_after start history in stopped ≡ (state.stopped || state.store_refused))

@@ -4,11 +4,10 @@ ghost use Rattle.kom_links.specs.Answers.{said, said_stopped};
 ghost use Rattle.hall_desk.specs.Turns.{said_flush};
 
 use crate::turning::Made;
-use kom_links::DeskFault;
-use kom_types::Why;
+use kom_types::{NotMade, Why};
 
 /// The answer to an act.
-pub(crate) fn answer_of(made: Result<Made, DeskFault>) -> Result<(), DeskFault>
+pub(crate) fn answer_of(made: Result<Made, NotMade>) -> Result<(), NotMade>
     ensures { result ≡ said made }
 {
     match made {
@@ -18,13 +17,13 @@ pub(crate) fn answer_of(made: Result<Made, DeskFault>) -> Result<(), DeskFault>
 }
 
 /// The answer to a flush: the desk is stopped where the store refused it.
-pub(crate) fn flush_answer(made: Result<Made, DeskFault>) -> Result<(), DeskFault>
+pub(crate) fn flush_answer(made: Result<Made, NotMade>) -> Result<(), NotMade>
     ensures { result ≡ said_flush made }
 {
     match made {
         Ok(made) => {
             if made.short {
-                Err(DeskFault::Gone(Why::Stopped))
+                Err(NotMade::Gone(Why::Stopped))
             } else {
                 Ok(())
             }
@@ -34,11 +33,11 @@ pub(crate) fn flush_answer(made: Result<Made, DeskFault>) -> Result<(), DeskFaul
 }
 
 /// What is logged of the question whether the server is stopped: that it is counts as a fault.
-pub(crate) fn stop_answer(stopped: Result<bool, DeskFault>) -> Result<(), DeskFault>
+pub(crate) fn stop_answer(stopped: Result<bool, NotMade>) -> Result<(), NotMade>
     ensures { result ≡ said_stopped stopped }
 {
     match stopped {
-        Ok(true) => Err(DeskFault::Gone(Why::Stopped)),
+        Ok(true) => Err(NotMade::Gone(Why::Stopped)),
         Ok(false) => Ok(()),
         Err(fault) => Err(fault),
     }

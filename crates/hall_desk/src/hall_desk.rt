@@ -21,9 +21,9 @@ use crate::answers::{answer_of, flush_answer, stop_answer};
 use crate::turning::{Made, ask, news, next_news, turn};
 use arrayvec::ArrayVec;
 use http_server::Log;
-use kom_links::{Deed, Desk, DeskFault, NewsDesk};
+use kom_links::{Deed, Desk, NewsDesk};
 use kom_state_lock::{Hall, Pass};
-use kom_types::{Act, Bytes, Call, Entry, Item, Memory, Moment};
+use kom_types::{Act, Bytes, Call, Entry, Item, Memory, Moment, NotMade};
 use std::alloc::Global;
 use std::marker::Model;
 use std::sync::Wait;
@@ -34,7 +34,7 @@ pub struct HallDesk<'a, R: Wait, B: Acts> {
     alloc: Global,
     hall: &'a Hall<B>,
     pass: Pass<B>,
-    answers: Log<Deed, Result<(), DeskFault>>,
+    answers: Log<Deed, Result<(), NotMade>>,
     // The array of the acts that take no items.
     none: ArrayVec<Item, 64>,
 }
@@ -97,7 +97,7 @@ impl<'a, R: Wait, B: Acts> HallDesk<'a, R, B> {
     }
 
     /// Logs a deed with what was answered, for clauses alone.
-    fn tell(&mut self, deed: Deed, answer: Result<(), DeskFault>)
+    fn tell(&mut self, deed: Deed, answer: Result<(), NotMade>)
         requires { IsKnownAnswer self.old.start self.old.pass (deed, answer) }
         ensures { self.new ≡ record self.old { answers = self.old.answers ++ (deed, answer) ∷ [] } }
     {
@@ -121,7 +121,7 @@ impl<'a, R: Wait, B: Acts> HallDesk<'a, R, B> {
         moment: Moment,
         act: Act,
         items: &mut ArrayVec<Item, 64>,
-    ) -> Result<Made, DeskFault>
+    ) -> Result<Made, NotMade>
         requires open { IsOfOpen self.old.pass.mine act }
         requires user { HasUser act }
         ensures turn { HadTurn self.old moment act items.new.items result self.new }
@@ -133,7 +133,7 @@ impl<'a, R: Wait, B: Acts> HallDesk<'a, R, B> {
     }
 
     /// Makes an act that takes no items, and logs its record.
-    fn make_alone(&mut self, moment: Moment, act: Act) -> Result<Made, DeskFault>
+    fn make_alone(&mut self, moment: Moment, act: Act) -> Result<Made, NotMade>
         requires open { IsOfOpen self.old.pass.mine act }
         requires user { HasUser act }
         ensures turn { (items : List TakenItem)
@@ -145,7 +145,7 @@ impl<'a, R: Wait, B: Acts> HallDesk<'a, R, B> {
     }
 
     /// Makes an act that takes no items, and logs its record, and for clauses how it was answered.
-    fn act(&mut self, moment: Moment, act: Act, deed: Deed) -> Result<Made, DeskFault>
+    fn act(&mut self, moment: Moment, act: Act, deed: Deed) -> Result<Made, NotMade>
         requires open { IsOfOpen self.old.pass.mine act }
         requires user { HasUser act }
         requires deed { deed ≡ deed_of act }
@@ -157,7 +157,7 @@ impl<'a, R: Wait, B: Acts> HallDesk<'a, R, B> {
     }
 
     /// Whether the server was shut down or its store refused a flush.
-    fn ask_stopped(&mut self) -> Result<bool, DeskFault>
+    fn ask_stopped(&mut self) -> Result<bool, NotMade>
         ensures tells { AnswersStopped self.old.start self.old.pass self.new.pass result }
         ensures table { self.new.table ≡ self.old.table }
         ensures start { self.new.start ≡ self.old.start }
@@ -200,7 +200,7 @@ impl<'a, R: Wait, B: Acts> Desk for HallDesk<'a, R, B> {
 
     ghost goes_on_further = { goes_on_further };
 
-    fn connect(&mut self, moment: Moment, user: &[u8], host: &[u8]) -> Result<u32, DeskFault>
+    fn connect(&mut self, moment: Moment, user: &[u8], host: &[u8]) -> Result<u32, NotMade>
         requires { length user.now ≤ 1024 }
         ensures connects { Connects (desk_view self.old) moment user.now host.now result
             (desk_view self.new) }
@@ -209,8 +209,8 @@ impl<'a, R: Wait, B: Acts> Desk for HallDesk<'a, R, B> {
             result }
     {
         let Ok(act) = greeting(self.alloc, user, host) else {
-            self.tell(Deed::Connect, Err(DeskFault::Memory));
-            return Err(DeskFault::Memory);
+            self.tell(Deed::Connect, Err(NotMade::Memory));
+            return Err(NotMade::Memory);
         };
         match self.act(moment, act, Deed::Connect) {
             Ok(made) => Ok(made.session),
@@ -224,7 +224,7 @@ impl<'a, R: Wait, B: Acts> Desk for HallDesk<'a, R, B> {
         session: u32,
         reference: u32,
         call: Call,
-    ) -> Result<(), DeskFault>
+    ) -> Result<(), NotMade>
         requires { IsOpen session (desk_view self.old).mine }
         ensures calls { Calls (desk_view self.old) moment (act.Call session reference call) session
             result (desk_view self.new) }
@@ -240,7 +240,7 @@ impl<'a, R: Wait, B: Acts> Desk for HallDesk<'a, R, B> {
         answer_of(self.act(moment, act, Deed::Call(session)))
     }
 
-    fn broken(&mut self, moment: Moment, session: u32) -> Result<(), DeskFault>
+    fn broken(&mut self, moment: Moment, session: u32) -> Result<(), NotMade>
         requires { IsOpen session (desk_view self.old).mine }
         ensures acts { MakesAct (desk_view self.old) moment (act.Broken session) session result
             (desk_view self.new) }
@@ -255,7 +255,7 @@ impl<'a, R: Wait, B: Acts> Desk for HallDesk<'a, R, B> {
         moment: Moment,
         session: u32,
         into: &mut ArrayVec<Item, 64>,
-    ) -> Result<(), DeskFault>
+    ) -> Result<(), NotMade>
         requires { IsOpen session (desk_view self.old).mine }
         ensures drains { Drains (desk_view self.old) moment session into.new.items result
             (desk_view self.new) }
@@ -267,7 +267,7 @@ impl<'a, R: Wait, B: Acts> Desk for HallDesk<'a, R, B> {
         answer
     }
 
-    fn flush(&mut self, moment: Moment) -> Result<(), DeskFault>
+    fn flush(&mut self, moment: Moment) -> Result<(), NotMade>
         ensures flushes { Flushes (desk_view self.old) moment result (desk_view self.new) }
         ensures on { GoesOn self.old self.new }
         ensures answer { IsAnswer self.old.start self.new.pass act.Flush result }
@@ -277,7 +277,7 @@ impl<'a, R: Wait, B: Acts> Desk for HallDesk<'a, R, B> {
         answer
     }
 
-    fn close(&mut self, moment: Moment, session: u32) -> Result<(), DeskFault>
+    fn close(&mut self, moment: Moment, session: u32) -> Result<(), NotMade>
         requires { IsOpen session (desk_view self.old).mine }
         ensures closes { Closes (desk_view self.old) moment session result (desk_view self.new) }
         ensures on { GoesOn self.old self.new }
@@ -286,7 +286,7 @@ impl<'a, R: Wait, B: Acts> Desk for HallDesk<'a, R, B> {
         answer_of(self.act(moment, Act::Close { session }, Deed::Close(session)))
     }
 
-    fn stopped(&mut self) -> Result<bool, DeskFault>
+    fn stopped(&mut self) -> Result<bool, NotMade>
         ensures asks { AsksStopped (desk_view self.old) result (desk_view self.new) }
         ensures on { GoesOn self.old self.new }
         ensures answer { IsStopped self.old.start self.new.pass result }

@@ -7,9 +7,8 @@ ghost use Rattle.hall_desk.specs.Turns.{IsOfOpen, Ends, AnswersStopped, Looks, f
 
 use crate::acts::Acts;
 use arrayvec::ArrayVec;
-use kom_links::DeskFault;
 use kom_state_lock::{Full, Hall, Pass};
-use kom_types::{Entry, Item, Memory, Refusal};
+use kom_types::{Entry, Item, Memory, NotMade, Refusal};
 use std::sync::Wait;
 
 /// An act that was made: its session, and whether its record is short.
@@ -27,7 +26,7 @@ pub(crate) fn turn<R: Wait, B: Acts>(
     pass: &mut Pass<B>,
     entry: Entry,
     items: &mut ArrayVec<Item, 64>,
-) -> Result<Made, DeskFault>
+) -> Result<Made, NotMade>
     requires pass { IsPassOf hall.now pass.old }
     requires free { HoldsNoTurn pass.old.turn }
     requires opening { IsOpening (B.server hall.now.opening) }
@@ -46,7 +45,7 @@ pub(crate) fn turn<R: Wait, B: Acts>(
         Ok(held) => held,
         Err(Full(ticket)) => {
             items.clear();
-            return Err(DeskFault::Full(ticket));
+            return Err(NotMade::Full(ticket));
         }
     };
     match held.value().make(entry, items) {
@@ -65,7 +64,7 @@ pub(crate) fn turn<R: Wait, B: Acts>(
         }
         Err(Memory) => {
             hall.put(pass, held);
-            Err(DeskFault::Memory)
+            Err(NotMade::Memory)
         }
     }
 }
@@ -76,7 +75,7 @@ pub(crate) fn ask<R: Wait, B: Acts>(
     rt: &R,
     hall: &Hall<B>,
     pass: &mut Pass<B>,
-) -> Result<bool, DeskFault>
+) -> Result<bool, NotMade>
     requires pass { IsPassOf hall.now pass.old }
     requires free { HoldsNoTurn pass.old.turn }
     requires knows { Knows (B.server hall.now.opening) (pass_view B.made pass.old) }
@@ -88,7 +87,7 @@ pub(crate) fn ask<R: Wait, B: Acts>(
 {
     let mut held = match hall.take(rt, pass) {
         Ok(held) => held,
-        Err(Full(ticket)) => return Err(DeskFault::Full(ticket)),
+        Err(Full(ticket)) => return Err(NotMade::Full(ticket)),
     };
     let stopped = held.value().stopped();
     hall.put(pass, held);
@@ -145,11 +144,11 @@ pub(crate) fn next_news<R: Wait, B: Acts>(
 }
 
 /// The fault of a refusal.
-fn fault_of(refusal: Refusal) -> DeskFault
+fn fault_of(refusal: Refusal) -> NotMade
     ensures { result ≡ fault_from refusal }
 {
     match refusal {
-        Refusal::Gone(why) => DeskFault::Gone(why),
-        Refusal::Full(number) => DeskFault::Full(number),
+        Refusal::Gone(why) => NotMade::Gone(why),
+        Refusal::Full(number) => NotMade::Full(number),
     }
 }

@@ -3,8 +3,8 @@ use Rattle.std.proofs.Common.{◌≡◌, ◌≢◌, ◌⊎◌, ℕ, Bool, true, 
 use Rattle.std.proofs.Common.{Result, Ok, Err, refl, sym, ◌∙◌, ap, subst, append-nil, append_assoc}
 use Rattle.std.specs.Prelude.{⊤}
 use Rattle.std.specs.List.{AllByRecursion}
-use Rattle.kom_links.specs.declared.desk.DeskFault.{DeskFault}
-use Rattle.kom_links.specs.declared.desk.DeskFault.TheVariants as fault
+use Rattle.kom_types.specs.declared.answers.NotMade.{NotMade}
+use Rattle.kom_types.specs.declared.answers.NotMade.TheVariants as fault
 use Rattle.kom_links.specs.declared.deeds.Deed.{Deed}
 use Rattle.kom_links.specs.declared.deeds.Deed.TheVariants as deed
 use Rattle.kom_links.specs.Answers.{Answer, said}
@@ -111,7 +111,7 @@ hears_told old new before after answer told grown = record {
 }
 
 -- an answer to a deed, without what it hands over
-pub said_is : (answers : List Answer) (what : Deed) (answer : Result ⊤ DeskFault)
+pub said_is : (answers : List Answer) (what : Deed) (answer : Result ⊤ NotMade)
     → answers ++ (what, said answer) ∷ [] ≡ answers ++ (what, answer) ∷ []
 said_is answers what (Ok done) = refl
 said_is answers what (Err reason) = refl

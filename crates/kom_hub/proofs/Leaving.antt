@@ -7,8 +7,8 @@ use Rattle.kom_types.specs.declared.acts.Act.TheVariants as act
 use Rattle.kom_types.specs.declared.acts.Record.{Record}
 use Rattle.kom_types.specs.declared.answers.Why.TheVariants as why
 use Rattle.kom_types.specs.declared.items.Item.{Item}
-use Rattle.kom_links.specs.declared.desk.DeskFault.{DeskFault}
-use Rattle.kom_links.specs.declared.desk.DeskFault.TheVariants as fault
+use Rattle.kom_types.specs.declared.answers.NotMade.{NotMade}
+use Rattle.kom_types.specs.declared.answers.NotMade.TheVariants as fault
 use Rattle.kom_links.specs.declared.deeds.Deed.{Deed}
 use Rattle.kom_links.specs.Answers.{deed_of, is_nothing, said_stopped}
 use Rattle.kom_links.specs.declared.deeds.Deed.TheVariants as deed
@@ -89,7 +89,7 @@ leaves_connected old new before moment user host session after none is fresh spe
   hears = hears_connected old new before after fresh spent items c.tells;
 }
 
-pub leaves_refused : (old new : Place) (before : DeskView) (moment : ℕ) (user host : List ℕ) (reason : DeskFault)
+pub leaves_refused : (old new : Place) (before : DeskView) (moment : ℕ) (user host : List ℕ) (reason : NotMade)
     (after : DeskView) → Told old new (deed.Connect, Err reason) → Connects before moment user host (Err reason) after
     → Leaves old before new after
 leaves_refused old new before moment user host reason after told c =
@@ -102,7 +102,7 @@ pub leaves_alone : (old new : Place) (view : DeskView) → new.session ≡ old.s
     → Leaves old view new view
 leaves_alone old new view same hears = still old new view view same refl (λ number. refl) refl (λ free. free) hears
 
-pub leaves_asked : (old new : Place) (before : DeskView) (answer : Result Bool DeskFault) (after : DeskView)
+pub leaves_asked : (old new : Place) (before : DeskView) (answer : Result Bool NotMade) (after : DeskView)
     → Told old new (deed.Ask, said_stopped answer) → AsksStopped before answer after → Leaves old before new after
 leaves_asked old new before answer after told a =
     still old new before after told.session a.mine a.given a.pass
@@ -115,7 +115,7 @@ pub data Adds (session : ℕ) (before after : DeskView) : Type 0 where
   One : (made : Record) → made.session ≡ session → is_flush made.entry.act ≡ false
       → after.mine ≡ before.mine ++ made ∷ [] → Adds session before after
 
-leaves_acted : (old new : Place) (before : DeskView) (number : ℕ) (what : Deed) (answer : Result ⊤ DeskFault)
+leaves_acted : (old new : Place) (before : DeskView) (number : ℕ) (what : Deed) (answer : Result ⊤ NotMade)
     (after : DeskView) → Told old new (what, answer) → IsOpen number (shown old.session before.mine)
     → Adds number before after
     → ((other : ℕ) → other ≢ number → after.gave_to other ≡ before.gave_to other)
@@ -180,7 +180,7 @@ flush_leaves old new before after made some same mine flush given pass lock hear
 }
 
 -- the records after a flush that was refused: the same, or one short flush more
-pub short_or : (before : DeskView) (moment : ℕ) (reason : DeskFault) (after : DeskView)
+pub short_or : (before : DeskView) (moment : ℕ) (reason : NotMade) (after : DeskView)
     → AddsNoneOrShort before moment reason after
     → (after.mine ≡ before.mine) ⊎ (after.mine ≡ before.mine ++ record_of before.pass moment act.Flush 0 true ∷ [])
 short_or before moment (fault.Gone why.Stopped) after adds = adds
@@ -190,7 +190,7 @@ short_or before moment (fault.Gone why.Overrun) after same = inl same
 short_or before moment (fault.Full number) after same = inl same
 short_or before moment fault.Memory after same = inl same
 
-pub leaves_flushed : (old new : Place) (before : DeskView) (moment : ℕ) (answer : Result ⊤ DeskFault)
+pub leaves_flushed : (old new : Place) (before : DeskView) (moment : ℕ) (answer : Result ⊤ NotMade)
     (after : DeskView) → old.session ≢ 0 → Told old new (deed.Flush, answer) → Flushes before moment answer after
     → Leaves old before new after
 leaves_flushed old new before moment (Ok done) after some told f =
@@ -209,7 +209,7 @@ leaves_flushed old new before moment (Err reason) after some told f =
 
 -- ---- the acts of a session, by what each says
 
-ok_adds : (number : ℕ) (before after : DeskView) (answer : Result ⊤ DeskFault) (made : Record)
+ok_adds : (number : ℕ) (before after : DeskView) (answer : Result ⊤ NotMade) (made : Record)
     → made.session ≡ number → is_flush made.entry.act ≡ false → OnOk answer (after.mine ≡ before.mine ++ made ∷ [])
     → OnErr answer (after.mine ≡ before.mine)
     → Adds number before after
@@ -217,7 +217,7 @@ ok_adds number before after (Ok done) made own kind one none = One made own kind
 ok_adds number before after (Err reason) made own kind one none = Nothing none
 
 pub leaves_act : (old new : Place) (before : DeskView) (moment : ℕ) (what : Act) (number : ℕ)
-    (answer : Result ⊤ DeskFault) (after : DeskView) → Told old new (deed_of what, answer)
+    (answer : Result ⊤ NotMade) (after : DeskView) → Told old new (deed_of what, answer)
     → IsOpen number (shown old.session before.mine) → is_flush what ≡ false
     → Acts before moment what number answer after → Leaves old before new after
 leaves_act old new before moment what number answer after same opened kind a =
@@ -226,7 +226,7 @@ leaves_act old new before moment what number answer after same opened kind a =
     (record_of before.pass moment what number false) refl kind a.added a.rest.none_added)
     (λ other differs. a.given other) a.rest
 
-pub leaves_closed : (old new : Place) (before : DeskView) (moment : ℕ) (number : ℕ) (answer : Result ⊤ DeskFault)
+pub leaves_closed : (old new : Place) (before : DeskView) (moment : ℕ) (number : ℕ) (answer : Result ⊤ NotMade)
     (after : DeskView) → Told old new (deed.Close number, answer) → IsOpen number (shown old.session before.mine)
     → Closes before moment number answer after → Leaves old before new after
 leaves_closed old new before moment number answer after same opened a =
@@ -235,7 +235,7 @@ leaves_closed old new before moment number answer after same opened a =
     a.rest.none_added)
     (λ other differs. a.given other) a.rest
 
-called_adds : (number : ℕ) (before after : DeskView) (moment : ℕ) (what : Act) (answer : Result ⊤ DeskFault)
+called_adds : (number : ℕ) (before after : DeskView) (moment : ℕ) (what : Act) (answer : Result ⊤ NotMade)
     → is_flush what ≡ false
     → OnOk answer ((short : Bool) × (after.mine ≡ before.mine ++ record_of before.pass moment what number short ∷ []))
     → OnErr answer (after.mine ≡ before.mine) → Adds number before after
@@ -244,7 +244,7 @@ called_adds number before after moment what (Ok done) kind one none =
 called_adds number before after moment what (Err reason) kind one none = Nothing none
 
 pub leaves_called : (old new : Place) (before : DeskView) (moment : ℕ) (what : Act) (number : ℕ)
-    (answer : Result ⊤ DeskFault) (after : DeskView) → Told old new (deed_of what, answer)
+    (answer : Result ⊤ NotMade) (after : DeskView) → Told old new (deed_of what, answer)
     → IsOpen number (shown old.session before.mine) → is_flush what ≡ false
     → Calls before moment what number answer after → Leaves old before new after
 leaves_called old new before moment what number answer after same opened kind a =
@@ -252,7 +252,7 @@ leaves_called old new before moment what number answer after same opened kind a 
     (called_adds number before after moment what answer kind a.added a.rest.none_added)
     (λ other differs. a.given other) a.rest
 
-drained_given : (number : ℕ) (before after : DeskView) (items : List Item) (answer : Result ⊤ DeskFault)
+drained_given : (number : ℕ) (before after : DeskView) (items : List Item) (answer : Result ⊤ NotMade)
     → OnOk answer (ChangesAt number (before.gave_to number ++ items ∷ []) before.gave_to after.gave_to)
     → OnErr answer (StaysForAll before.gave_to after.gave_to × (items ≡ []))
     → (other : ℕ) → other ≢ number → after.gave_to other ≡ before.gave_to other
@@ -260,7 +260,7 @@ drained_given number before after items (Ok done) one none other differs = one.1
 drained_given number before after items (Err reason) one none other differs = none.0 other
 
 pub leaves_drained : (old new : Place) (before : DeskView) (moment : ℕ) (number : ℕ) (items : List Item)
-    (answer : Result ⊤ DeskFault) (after : DeskView) → Told old new (deed.Drain number (is_nothing items), answer)
+    (answer : Result ⊤ NotMade) (after : DeskView) → Told old new (deed.Drain number (is_nothing items), answer)
     → IsOpen number (shown old.session before.mine) → Drains before moment number items answer after
     → Leaves old before new after
 leaves_drained old new before moment number items answer after same opened a =

@@ -12,8 +12,8 @@ use Rattle.kom_types.specs.declared.answers.Why.TheVariants as why
 use Rattle.kom_types.specs.declared.items.Item.{Item}
 use Rattle.kom_links.specs.declared.deeds.Deed.{Deed}
 use Rattle.kom_links.specs.declared.deeds.Deed.TheVariants as deed
-use Rattle.kom_links.specs.declared.desk.DeskFault.{DeskFault}
-use Rattle.kom_links.specs.declared.desk.DeskFault.TheVariants as fault
+use Rattle.kom_types.specs.declared.answers.NotMade.{NotMade}
+use Rattle.kom_types.specs.declared.answers.NotMade.TheVariants as fault
 use Rattle.kom_links.specs.Records.{has_session, IsOpen}
 use Rattle.kom_links.specs.Answers.{Answer, said, said_stopped, deed_of, is_nothing}
 use Rattle.kom_links.specs.DeskCalls.{DeskView, ChangesAt, StaysForAll, record_of, IsTold}
@@ -155,11 +155,11 @@ on_ok (Ok done) to was = to was
 on_ok (Err why) to was = tt
 
 -- an answer that hands over nothing is what it says
-said_same : (answer : Result ⊤ DeskFault) → said answer ≡ answer
+said_same : (answer : Result ⊤ NotMade) → said answer ≡ answer
 said_same (Ok done) = refl
 said_same (Err why) = refl
 
-told : (answers : List Answer) (what : Deed) (answer : Result ⊤ DeskFault)
+told : (answers : List Answer) (what : Deed) (answer : Result ⊤ NotMade)
     → answers ++ (what, answer) ∷ [] ≡ answers ++ (what, said answer) ∷ []
 told answers what answer = ap (λ one. answers ++ (what, one) ∷ []) (sym (said_same answer))
 
@@ -191,7 +191,7 @@ connected before zero answers old moment user host session new c =
     })
 
 pub refused : (session : ℕ) (answers : List Answer) (old : DeskView) (moment : ℕ) (user host : List ℕ)
-    (reason : DeskFault) (new : DeskView) → Connects old moment user host (Err reason) new →
+    (reason : NotMade) (new : DeskView) → Connects old moment user host (Err reason) new →
     Connects (seat_of session answers old) moment user host (Err reason)
     (seat_of session (answers ++ (deed.Connect, Err reason) ∷ []) new)
 refused session answers old moment user host reason new c = record {
@@ -224,7 +224,7 @@ no_connect session answers old moment user host = record {
 
 -- ---- an act of the session
 
-left : (session : ℕ) (answers : List Answer) (what : Deed) (old : DeskView) (answer : Result ⊤ DeskFault)
+left : (session : ℕ) (answers : List Answer) (what : Deed) (old : DeskView) (answer : Result ⊤ NotMade)
     (new : DeskView) → IsTold old what answer new
     → IsTold (seat_of session answers old) what answer (seat_of session (answers ++ (what, answer) ∷ []) new)
 left session answers what old answer new t = record {
@@ -256,7 +256,7 @@ grows session old number opened made of new added =
     one_more session old new made own.1 own.2 (of ∙ own.0) added
 
 pub acted : (session : ℕ) (answers : List Answer) (old : DeskView) (moment : ℕ) (what : Act) (number : ℕ)
-    (answer : Result ⊤ DeskFault) (new : DeskView) → IsOpen number (shown session old.mine)
+    (answer : Result ⊤ NotMade) (new : DeskView) → IsOpen number (shown session old.mine)
     → Acts old moment what number answer new
     → Acts (seat_of session answers old) moment what number answer
     (seat_of session (answers ++ (deed_of what, answer) ∷ []) new)
@@ -268,7 +268,7 @@ acted session answers old moment what number answer new opened a = record {
 }
 
 pub called : (session : ℕ) (answers : List Answer) (old : DeskView) (moment : ℕ) (what : Act) (number : ℕ)
-    (answer : Result ⊤ DeskFault) (new : DeskView) → IsOpen number (shown session old.mine)
+    (answer : Result ⊤ NotMade) (new : DeskView) → IsOpen number (shown session old.mine)
     → Calls old moment what number answer new
     → Calls (seat_of session answers old) moment what number answer
     (seat_of session (answers ++ (deed_of what, answer) ∷ []) new)
@@ -283,7 +283,7 @@ called session answers old moment what number answer new opened a = record {
 }
 
 pub closed : (session : ℕ) (answers : List Answer) (old : DeskView) (moment : ℕ) (number : ℕ)
-    (answer : Result ⊤ DeskFault) (new : DeskView) → IsOpen number (shown session old.mine)
+    (answer : Result ⊤ NotMade) (new : DeskView) → IsOpen number (shown session old.mine)
     → Closes old moment number answer new
     → Closes (seat_of session answers old) moment number answer
     (seat_of session (answers ++ (deed.Close number, answer) ∷ []) new)
@@ -296,7 +296,7 @@ closed session answers old moment number answer new opened a = record {
 }
 
 pub drained : (session : ℕ) (answers : List Answer) (old : DeskView) (moment : ℕ) (number : ℕ) (items : List Item)
-    (answer : Result ⊤ DeskFault) (new : DeskView) → IsOpen number (shown session old.mine)
+    (answer : Result ⊤ NotMade) (new : DeskView) → IsOpen number (shown session old.mine)
     → Drains old moment number items answer new
     → Drains (seat_of session answers old) moment number items answer
     (seat_of session (answers ++ (deed.Drain number (is_nothing items), answer) ∷ []) new)
@@ -333,7 +333,7 @@ nothing_is [] = refl
 nothing_is (item ∷ items) = ne_eqb (length (item ∷ items)) 0 (λ e. omega (arith, e))
 
 pub drained_by : (session : ℕ) (answers : List Answer) (old : DeskView) (moment : ℕ) (number : ℕ) (items : List Item)
-    (answer : Result ⊤ DeskFault) (new : DeskView) (nothing : Bool) → nothing ≡ (length items == 0)
+    (answer : Result ⊤ NotMade) (new : DeskView) (nothing : Bool) → nothing ≡ (length items == 0)
     → IsOpen number (shown session old.mine) → Drains old moment number items answer new
     → Drains (seat_of session answers old) moment number items answer
     (seat_of session (answers ++ (deed.Drain number nothing, answer) ∷ []) new)
@@ -344,7 +344,7 @@ drained_by session answers old moment number items answer new nothing e opened a
     (drained session answers old moment number items answer new opened a)
 
 -- a drain is told with whether it gave nothing
-pub drained_told : (answers : List Answer) (number : ℕ) (items : List Item) (answer : Result ⊤ DeskFault)
+pub drained_told : (answers : List Answer) (number : ℕ) (items : List Item) (answer : Result ⊤ NotMade)
     (nothing : Bool) → nothing ≡ (length items == 0)
     → answers ++ (deed.Drain number nothing, answer) ∷ []
     ≡ answers ++ (deed.Drain number (is_nothing items), answer) ∷ []
@@ -353,7 +353,7 @@ drained_told answers number items answer nothing e =
 
 -- ---- what is of no session
 
-short_more : (session : ℕ) (answers answers' : List Answer) (old : DeskView) (moment : ℕ) (reason : DeskFault)
+short_more : (session : ℕ) (answers answers' : List Answer) (old : DeskView) (moment : ℕ) (reason : NotMade)
     (new : DeskView) → session ≢ 0 → AddsNoneOrShort old moment reason new
     → AddsNoneOrShort (seat_of session answers old) moment reason (seat_of session answers' new)
 short_more session answers answers' old moment (fault.Gone why.Stopped) new some (inl same) =
@@ -367,7 +367,7 @@ short_more session answers answers' old moment (fault.Gone why.Overrun) new some
 short_more session answers answers' old moment (fault.Full number) new some same = ap (shown session) same
 short_more session answers answers' old moment fault.Memory new some same = ap (shown session) same
 
-pub flushed : (session : ℕ) (answers : List Answer) (old : DeskView) (moment : ℕ) (answer : Result ⊤ DeskFault)
+pub flushed : (session : ℕ) (answers : List Answer) (old : DeskView) (moment : ℕ) (answer : Result ⊤ NotMade)
     (new : DeskView) → session ≢ 0 → Flushes old moment answer new
     → Flushes (seat_of session answers old) moment answer (seat_of session (answers ++ (deed.Flush, answer) ∷ []) new)
 flushed session answers old moment (Ok done) new some f = record {
@@ -406,7 +406,7 @@ no_flush session answers old moment = record {
   pass = refl;
 }
 
-pub asked : (session : ℕ) (answers : List Answer) (old : DeskView) (answer : Result Bool DeskFault)
+pub asked : (session : ℕ) (answers : List Answer) (old : DeskView) (answer : Result Bool NotMade)
     (new : DeskView) → AsksStopped old answer new
     → AsksStopped (seat_of session answers old) answer
     (seat_of session (answers ++ (deed.Ask, said_stopped answer) ∷ []) new)

@@ -12,7 +12,7 @@ use Rattle.slab.proofs.SlabLemmas.{Updates-with_value}
 use Rattle.kom_types.specs.declared.acts.Act.TheVariants as act
 use Rattle.kom_types.specs.declared.acts.Record.{Record}
 use Rattle.kom_links.specs.declared.served.Served.{Served}
-use Rattle.kom_links.specs.declared.desk.DeskFault.{DeskFault}
+use Rattle.kom_types.specs.declared.answers.NotMade.{NotMade}
 use Rattle.kom_links.specs.declared.deeds.Deed.TheVariants as deed
 use Rattle.kom_links.specs.Answers.{Answer, said_stopped}
 use Rattle.kom_links.specs.DeskCalls.{DeskView, StaysForAll, Flushes, AsksStopped, IsLookedAt, record_of}
@@ -156,7 +156,7 @@ one_flush before after gave gave' moment short gains mine given pass lock answer
   grown = grown;
 }
 
-pub flush_quiets : (before after : DeskView) (gave gave' : Option (List ℕ)) (moment : ℕ) (answer : Result ⊤ DeskFault)
+pub flush_quiets : (before after : DeskView) (gave gave' : Option (List ℕ)) (moment : ℕ) (answer : Result ⊤ NotMade)
     → Flushes before moment answer after → Gains gave moment gave' → Quiets before gave after gave'
 flush_quiets before after gave gave' moment (Ok done) f gains =
     one_flush before after gave gave' moment false gains f.added f.given f.pass
@@ -178,7 +178,7 @@ flush_quiets before after gave gave' moment (Err reason) f gains = elim
           (lock_before before.lock_full after.lock_full _ f.lock_full) ((deed.Flush, Err reason) ∷ []) f.tells
     ]
 
-pub ask_quiets : (before after : DeskView) (gave : Option (List ℕ)) (answer : Result Bool DeskFault)
+pub ask_quiets : (before after : DeskView) (gave : Option (List ℕ)) (answer : Result Bool NotMade)
     → AsksStopped before answer after → Quiets before gave after gave
 ask_quiets before after gave answer a = record {
   flushes = [];

@@ -10,7 +10,8 @@ ghost use Rattle.kom_hub.specs.Crowds.{HalfStands, Heard};
 
 use crate::guest::{Converse, Guest, Turn};
 use crate::news::News;
-use kom_links::{Clock, Desk, DeskFault, Gate, Link};
+use kom_links::{Clock, Desk, Gate, Link};
+use kom_types::NotMade;
 use slab::Slab;
 
 /// How many guests a worker has at most.
@@ -162,7 +163,7 @@ pub fn ask_for<T: Converse, K: Desk, L: Link>(
     keys: usize,
     number: u64,
     desk: &mut K,
-) -> Result<bool, DeskFault>
+) -> Result<bool, NotMade>
     ensures stands { (gave : Option (List ℕ)) → Carries T.kept T.talks L.view
         (K.view desk.old) gave crowd.old (K.view desk.new) gave crowd.new }
     ensures asks { AsksStopped (K.view desk.old) result (K.view desk.new) }

@@ -9,7 +9,8 @@ ghost use Rattle.kom_hub.specs.Crowds.{IsKept, IsGuest, IsClosed, IsTold, Heard}
 use crate::news::News;
 use crate::place::Place;
 use crate::seat::Seat;
-use kom_links::{Clock, Deed, Desk, DeskFault, Link, Served, SessionEnd};
+use kom_links::{Clock, Deed, Desk, Link, Served, SessionEnd};
+use kom_types::NotMade;
 use std::alloc::Global;
 
 /// A conversation with a client, over any desk, link and clock. No step waits.
@@ -94,14 +95,14 @@ pub trait Converse: Drop {
         ensures { result ≡ true → heeds self.now };
 
     /// A flush was made, or refused.
-    fn flushed(&mut self, answer: Result<(), DeskFault>)
+    fn flushed(&mut self, answer: Result<(), NotMade>)
         requires { hears self.old }
         ensures { (old new : DeskView) (link : LinkView) (moment : ℕ)
             → Flushes {X = ⊤} old moment answer new → kept self.old old link
             → kept self.new new link };
 
     /// The desk was asked whether it is stopped.
-    fn asked(&mut self, answer: Result<bool, DeskFault>)
+    fn asked(&mut self, answer: Result<bool, NotMade>)
         requires { heeds self.old }
         ensures { (old new : DeskView) (link : LinkView) → AsksStopped old answer new
             → kept self.old old link → kept self.new new link };
@@ -239,7 +240,7 @@ impl<T: Converse, L: Link> Guest<T, L> {
     }
 
     /// It is told what a flush of all was answered.
-    fn tell_flushed(&mut self, number: u64, answer: Result<(), DeskFault>)
+    fn tell_flushed(&mut self, number: u64, answer: Result<(), NotMade>)
         requires { self.old.told ≢ number }
         ensures { (before after : DeskView) (moment : ℕ)
             → Flushes {X = ⊤} before moment answer after
@@ -254,7 +255,7 @@ impl<T: Converse, L: Link> Guest<T, L> {
     }
 
     /// It is told whether the server is stopped.
-    fn tell_stopped(&mut self, number: u64, answer: Result<bool, DeskFault>)
+    fn tell_stopped(&mut self, number: u64, answer: Result<bool, NotMade>)
         requires { self.old.told ≢ number }
         ensures { (before after : DeskView) → AsksStopped before answer after
             → IsTold T.kept T.talks L.view number before after self.old self.new }

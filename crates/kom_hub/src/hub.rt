@@ -12,8 +12,8 @@ use crate::rounds::{
     turn_some,
 };
 use indexmap::IndexMap;
-use kom_links::{Clock, DeskFault, Link, NewsDesk, Next, PolledGate, has_risen};
-use kom_types::Memory;
+use kom_links::{Clock, Link, NewsDesk, Next, PolledGate, has_risen};
+use kom_types::{Memory, NotMade};
 use slab::Slab;
 use std::alloc::Global;
 use std::sync::Wait;
@@ -174,7 +174,7 @@ impl<T: Converse, L: Link> Hub<T, L> {
     fn end<G: PolledGate<Link = L>>(
         &self,
         gate: &G,
-        answer: Result<bool, DeskFault>,
+        answer: Result<bool, NotMade>,
     ) -> Option<HubEnd>
         requires ended { self.now.has_ended ≡ true → (G.view gate.now).ended ≡ true }
         ensures { (desk : DeskView) → (answer ≡ Ok true → SaidStopped desk)
@@ -202,7 +202,7 @@ impl<T: Converse, L: Link> Hub<T, L> {
 
     /// All were told that the server is stopped, or cannot be asked: those that have something to
     /// do for it have a turn. A stop is told to the other workers, once.
-    fn heed<G: PolledGate<Link = L>>(&mut self, gate: &mut G, answer: Result<bool, DeskFault>)
+    fn heed<G: PolledGate<Link = L>>(&mut self, gate: &mut G, answer: Result<bool, NotMade>)
         ensures { GoesAlone T.kept T.talks L.view self.old (G.view gate.old)
             self.new (G.view gate.new) }
     {

@@ -1,10 +1,10 @@
-use kom_links::DeskFault;
+use kom_types::NotMade;
 
 /// What a desk answered to what it was asked for all guests.
 #[derive(Clone, Copy)]
 pub enum News {
     /// A flush was made, or refused.
-    Flushed(Result<(), DeskFault>),
+    Flushed(Result<(), NotMade>),
     /// It was asked whether the server is stopped.
-    Asked(Result<bool, DeskFault>),
+    Asked(Result<bool, NotMade>),
 }

@@ -5,8 +5,8 @@ ghost use Rattle.kom_hub.specs.Going.{leaves_itself, leaves_further};
 
 use crate::place::Place;
 use arrayvec::ArrayVec;
-use kom_links::{Deed, Desk, DeskFault};
-use kom_types::{Call, Item, Moment};
+use kom_links::{Deed, Desk};
+use kom_types::{Call, Item, Moment, NotMade};
 
 /// A desk as one guest of many sees it: its own session alone.
 #[derive(Drop)]
@@ -37,14 +37,14 @@ impl<'k, 'p, K: Desk> Desk for Seat<'k, 'p, K> {
       leaves_further _ _ _ _ _ _ one.3 two.3,
     ) };
 
-    fn connect(&mut self, moment: Moment, user: &[u8], host: &[u8]) -> Result<u32, DeskFault> {
+    fn connect(&mut self, moment: Moment, user: &[u8], host: &[u8]) -> Result<u32, NotMade> {
         if self.place.session != 0 {
-            self.place.tell(Deed::Connect, Err(DeskFault::Memory));
-            return Err(DeskFault::Memory);
+            self.place.tell(Deed::Connect, Err(NotMade::Memory));
+            return Err(NotMade::Memory);
         }
         if self.place.is_spent {
-            self.place.tell(Deed::Connect, Err(DeskFault::Memory));
-            return Err(DeskFault::Memory);
+            self.place.tell(Deed::Connect, Err(NotMade::Memory));
+            return Err(NotMade::Memory);
         }
         match self.desk.connect(moment, user, host) {
             Ok(number) => {
@@ -65,13 +65,13 @@ impl<'k, 'p, K: Desk> Desk for Seat<'k, 'p, K> {
         session: u32,
         reference: u32,
         call: Call,
-    ) -> Result<(), DeskFault> {
+    ) -> Result<(), NotMade> {
         let answer = self.desk.call(moment, session, reference, call);
         self.place.tell(Deed::Call(session), answer);
         answer
     }
 
-    fn broken(&mut self, moment: Moment, session: u32) -> Result<(), DeskFault> {
+    fn broken(&mut self, moment: Moment, session: u32) -> Result<(), NotMade> {
         let answer = self.desk.broken(moment, session);
         self.place.tell(Deed::Broken(session), answer);
         answer
@@ -82,31 +82,31 @@ impl<'k, 'p, K: Desk> Desk for Seat<'k, 'p, K> {
         moment: Moment,
         session: u32,
         into: &mut ArrayVec<Item, 64>,
-    ) -> Result<(), DeskFault> {
+    ) -> Result<(), NotMade> {
         let answer = self.desk.drain_into(moment, session, into);
         self.place
             .tell(Deed::Drain(session, into.is_empty()), answer);
         answer
     }
 
-    fn flush(&mut self, moment: Moment) -> Result<(), DeskFault> {
+    fn flush(&mut self, moment: Moment) -> Result<(), NotMade> {
         if self.place.session == 0 {
             self.place.is_spent = true;
-            self.place.tell(Deed::Flush, Err(DeskFault::Memory));
-            return Err(DeskFault::Memory);
+            self.place.tell(Deed::Flush, Err(NotMade::Memory));
+            return Err(NotMade::Memory);
         }
         let answer = self.desk.flush(moment);
         self.place.tell(Deed::Flush, answer);
         answer
     }
 
-    fn close(&mut self, moment: Moment, session: u32) -> Result<(), DeskFault> {
+    fn close(&mut self, moment: Moment, session: u32) -> Result<(), NotMade> {
         let answer = self.desk.close(moment, session);
         self.place.tell(Deed::Close(session), answer);
         answer
     }
 
-    fn stopped(&mut self) -> Result<bool, DeskFault> {
+    fn stopped(&mut self) -> Result<bool, NotMade> {
         let answer = self.desk.stopped();
         self.place.asked(answer);
         answer

@@ -8,20 +8,20 @@ use Rattle.kom_types.specs.declared.answers.Why.TheVariants as why
 use Rattle.kom_types.specs.declared.items.Item.{Item}
 use Rattle.kom_links.specs.declared.deeds.Deed.{Deed}
 use Rattle.kom_links.specs.declared.deeds.Deed.TheVariants as deed
-use Rattle.kom_links.specs.declared.desk.DeskFault.{DeskFault}
-use Rattle.kom_links.specs.declared.desk.DeskFault.TheVariants as fault
+use Rattle.kom_types.specs.declared.answers.NotMade.{NotMade}
+use Rattle.kom_types.specs.declared.answers.NotMade.TheVariants as fault
 
 -- an answer: that a deed was done, or why not
 abbrev pub Answer : Type 0
-Answer = Deed × Result ⊤ DeskFault
+Answer = Deed × Result ⊤ NotMade
 
 -- an answer without what it hands over
-abbrev pub said : {X : Type 0} → Result X DeskFault → Result ⊤ DeskFault
+abbrev pub said : {X : Type 0} → Result X NotMade → Result ⊤ NotMade
 said (Ok value) = Ok tt
 said (Err fault) = Err fault
 
 -- that the desk is stopped counts as a fault
-abbrev pub said_stopped : Result Bool DeskFault → Result ⊤ DeskFault
+abbrev pub said_stopped : Result Bool NotMade → Result ⊤ NotMade
 said_stopped (Ok false) = Ok tt
 said_stopped (Ok true) = Err (fault.Gone why.Stopped)
 said_stopped (Err fault) = Err fault
@@ -52,22 +52,22 @@ concerns session (deed.Close caller) = caller == session
 concerns session deed.Ask = true
 
 -- the fault that an answer tells, as a list of one or none
-abbrev pub fault_in : Result ⊤ DeskFault → List DeskFault
+abbrev pub fault_in : Result ⊤ NotMade → List NotMade
 fault_in (Ok done) = []
 fault_in (Err fault) = fault ∷ []
 
 -- the faults that concern a session, in order
-abbrev pub faults_of : ℕ → List Answer → List DeskFault
+abbrev pub faults_of : ℕ → List Answer → List NotMade
 faults_of session answers =
     flat_map (λ one. if concerns session one.0 then fault_in one.1 else []) answers
 
 -- the first of some faults
-abbrev pub first_of : List DeskFault → Option DeskFault
+abbrev pub first_of : List NotMade → Option NotMade
 first_of [] = None
 first_of (fault ∷ faults) = Some fault
 
 -- the first fault that concerns a session
-abbrev pub refused : ℕ → List Answer → Option DeskFault
+abbrev pub refused : ℕ → List Answer → Option NotMade
 refused session answers = first_of (faults_of session answers)
 
 abbrev pub is_ask : Deed → Bool
@@ -115,5 +115,5 @@ sends session deed.Ask = false
 
 -- A flush, or a drain of a session, was refused.
 abbrev pub HasRefused : ℕ → List Answer → Type 0
-HasRefused session answers = (before rest : List Answer) × (what : Deed) × (why : DeskFault)
+HasRefused session answers = (before rest : List Answer) × (what : Deed) × (why : NotMade)
     × (answers ≡ before ++ (what, Err why) ∷ rest) × (sends session what ≡ true)

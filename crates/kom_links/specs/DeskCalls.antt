@@ -8,8 +8,8 @@ use Rattle.kom_types.specs.declared.acts.Act.TheVariants as act
 use Rattle.kom_types.specs.declared.acts.Record.{Record}
 use Rattle.kom_types.specs.declared.answers.Why.TheVariants as why
 use Rattle.kom_types.specs.declared.items.Item.{Item}
-use Rattle.kom_links.specs.declared.desk.DeskFault.{DeskFault}
-use Rattle.kom_links.specs.declared.desk.DeskFault.TheVariants as fault
+use Rattle.kom_types.specs.declared.answers.NotMade.{NotMade}
+use Rattle.kom_types.specs.declared.answers.NotMade.TheVariants as fault
 use Rattle.kom_links.specs.declared.deeds.Deed.{Deed}
 use Rattle.kom_links.specs.declared.deeds.Deed.TheVariants as deed
 use Rattle.kom_links.specs.Answers.{Answer, said, said_stopped, deed_of, is_nothing}
@@ -46,7 +46,7 @@ record_of pass moment act session short = record {
 }
 
 -- an answer says that no turn of the server's lock is left
-abbrev pub is_lock_full : {X : Type 0} → Result X DeskFault → Bool
+abbrev pub is_lock_full : {X : Type 0} → Result X NotMade → Bool
 is_lock_full (Ok value) = false
 is_lock_full (Err (fault.Gone why)) = false
 is_lock_full (Err (fault.Full number)) = nat_le (2 ^ 62) number
@@ -54,7 +54,7 @@ is_lock_full (Err fault.Memory) = false
 
 -- Why a connect may be refused: the server was shut down or its store refused a flush; the numbers
 -- of sessions are used up, or the turns of the lock; or memory ran out.
-abbrev pub IsConnectFault : DeskFault → Type 0
+abbrev pub IsConnectFault : NotMade → Type 0
 IsConnectFault (fault.Gone why.Absent) = ⊥
 IsConnectFault (fault.Gone why.Dropped) = ⊥
 IsConnectFault (fault.Gone why.Overrun) = ⊥
@@ -63,7 +63,7 @@ IsConnectFault (fault.Full number) = (number ≡ MOST_SESSIONS) ⊎ (2 ^ 62 ≤ 
 IsConnectFault fault.Memory = Unit {0}
 
 -- Why an act of an open session may be refused. That the session is not there is no reason.
-abbrev pub IsActFault : DeskFault → Type 0
+abbrev pub IsActFault : NotMade → Type 0
 IsActFault (fault.Gone why.Absent) = ⊥
 IsActFault (fault.Gone why.Dropped) = Unit {0}
 IsActFault (fault.Gone why.Overrun) = Unit {0}
@@ -72,7 +72,7 @@ IsActFault (fault.Full number) = 2 ^ 62 ≤ number
 IsActFault fault.Memory = Unit {0}
 
 -- why a flush may be refused
-abbrev pub IsFlushFault : DeskFault → Type 0
+abbrev pub IsFlushFault : NotMade → Type 0
 IsFlushFault (fault.Gone why.Absent) = ⊥
 IsFlushFault (fault.Gone why.Dropped) = ⊥
 IsFlushFault (fault.Gone why.Overrun) = ⊥
@@ -81,19 +81,19 @@ IsFlushFault (fault.Full number) = 2 ^ 62 ≤ number
 IsFlushFault fault.Memory = Unit {0}
 
 -- no turn of the lock is left, which alone keeps a session from being closed
-abbrev pub IsLockFault : DeskFault → Type 0
+abbrev pub IsLockFault : NotMade → Type 0
 IsLockFault (fault.Gone why) = ⊥
 IsLockFault (fault.Full number) = 2 ^ 62 ≤ number
 IsLockFault fault.Memory = ⊥
 
 -- A deed and what was answered to it stand at the end of the desk's answers.
-abbrev pub IsAnswered : {X : Type 0} → DeskView → Deed → Result X DeskFault → DeskView → Type 0
+abbrev pub IsAnswered : {X : Type 0} → DeskView → Deed → Result X NotMade → DeskView → Type 0
 IsAnswered old deed answer new = new.answers ≡ old.answers ++ (deed, said answer) ∷ []
 
 -- A session was connected, by a number that no record of the desk has, and nothing was given to it;
 -- or the desk refused.
 pub record Connects (old : DeskView) (moment : ℕ) (user host : List ℕ)
-    (answer : Result ℕ DeskFault) (new : DeskView) : Type 0 where
+    (answer : Result ℕ NotMade) (new : DeskView) : Type 0 where
   pub added : IfOk answer (λ session. new.mine
       ≡ old.mine ++ record_of old.pass moment (act.Connect user host) session false ∷ [])
   pub new_number : IfOk answer (λ session. (session ≢ 0) × (has_session session old.mine ≡ false))
@@ -106,7 +106,7 @@ pub record Connects (old : DeskView) (moment : ℕ) (user host : List ℕ)
   pub pass : new.pass ≡ old.pass
 
 -- What an answer to a deed leaves: a deed that is refused adds no record.
-pub record IsTold {X : Type 0} (old : DeskView) (deed : Deed) (answer : Result X DeskFault)
+pub record IsTold {X : Type 0} (old : DeskView) (deed : Deed) (answer : Result X NotMade)
     (new : DeskView) : Type 0 where
   pub none_added : OnErr answer (new.mine ≡ old.mine)
   pub tells : IsAnswered old deed answer new
@@ -115,7 +115,7 @@ pub record IsTold {X : Type 0} (old : DeskView) (deed : Deed) (answer : Result X
 
 -- An act of a session was made, and its record was added; or the desk refused.
 pub record Acts {X : Type 0} (old : DeskView) (moment : ℕ) (act : Act) (session : ℕ)
-    (answer : Result X DeskFault) (new : DeskView) : Type 0 where
+    (answer : Result X NotMade) (new : DeskView) : Type 0 where
   pub added : OnOk answer (new.mine ≡ old.mine ++ record_of old.pass moment act session false ∷ [])
   pub given : StaysForAll old.gave_to new.gave_to
   pub why : IfErr answer IsActFault
@@ -123,7 +123,7 @@ pub record Acts {X : Type 0} (old : DeskView) (moment : ℕ) (act : Act) (sessio
 
 -- The same of a call, which may have been answered that memory ran out.
 pub record Calls {X : Type 0} (old : DeskView) (moment : ℕ) (act : Act) (session : ℕ)
-    (answer : Result X DeskFault) (new : DeskView) : Type 0 where
+    (answer : Result X NotMade) (new : DeskView) : Type 0 where
   pub added : OnOk answer ((short : Bool)
       × (new.mine ≡ old.mine ++ record_of old.pass moment act session short ∷ []))
   pub given : StaysForAll old.gave_to new.gave_to
@@ -133,7 +133,7 @@ pub record Calls {X : Type 0} (old : DeskView) (moment : ℕ) (act : Act) (sessi
 -- A session was drained of these items, which were given to it; or the desk refused, and there are
 -- none.
 pub record Drains {X : Type 0} (old : DeskView) (moment session : ℕ) (items : List Item)
-    (answer : Result X DeskFault) (new : DeskView) : Type 0 where
+    (answer : Result X NotMade) (new : DeskView) : Type 0 where
   pub added : OnOk answer (new.mine
       ≡ old.mine ++ record_of old.pass moment (act.Drain session) session false ∷ [])
   pub given : OnOk answer
@@ -144,7 +144,7 @@ pub record Drains {X : Type 0} (old : DeskView) (moment session : ℕ) (items : 
 
 -- A flush that is refused adds nothing; one that the store refuses, for which the desk is stopped,
 -- may add its short record.
-abbrev pub AddsNoneOrShort : DeskView → ℕ → DeskFault → DeskView → Type 0
+abbrev pub AddsNoneOrShort : DeskView → ℕ → NotMade → DeskView → Type 0
 AddsNoneOrShort old moment (fault.Gone why.Stopped) new = (new.mine ≡ old.mine)
     ⊎ (new.mine ≡ old.mine ++ record_of old.pass moment act.Flush 0 true ∷ [])
 AddsNoneOrShort old moment (fault.Gone why.Absent) new = new.mine ≡ old.mine
@@ -154,7 +154,7 @@ AddsNoneOrShort old moment (fault.Full number) new = new.mine ≡ old.mine
 AddsNoneOrShort old moment fault.Memory new = new.mine ≡ old.mine
 
 -- What was done so far was made stable; or the desk refused.
-pub record Flushes {X : Type 0} (old : DeskView) (moment : ℕ) (answer : Result X DeskFault)
+pub record Flushes {X : Type 0} (old : DeskView) (moment : ℕ) (answer : Result X NotMade)
     (new : DeskView) : Type 0 where
   pub added : OnOk answer (new.mine ≡ old.mine ++ record_of old.pass moment act.Flush 0 false ∷ [])
   pub none_added : IfErr answer (λ fault. AddsNoneOrShort old moment fault new)
@@ -166,7 +166,7 @@ pub record Flushes {X : Type 0} (old : DeskView) (moment : ℕ) (answer : Result
 
 -- A session was closed, unless no turn of the lock is left.
 pub record Closes {X : Type 0} (old : DeskView) (moment session : ℕ)
-    (answer : Result X DeskFault) (new : DeskView) : Type 0 where
+    (answer : Result X NotMade) (new : DeskView) : Type 0 where
   pub added : OnOk answer (new.mine
       ≡ old.mine ++ record_of old.pass moment (act.Close session) session false ∷ [])
   pub given : StaysForAll old.gave_to new.gave_to
@@ -174,7 +174,7 @@ pub record Closes {X : Type 0} (old : DeskView) (moment session : ℕ)
   pub rest : IsTold old (deed.Close session) answer new
 
 -- The desk was asked whether it is stopped, which makes no act.
-pub record AsksStopped (old : DeskView) (answer : Result Bool DeskFault)
+pub record AsksStopped (old : DeskView) (answer : Result Bool NotMade)
     (new : DeskView) : Type 0 where
   pub mine : new.mine ≡ old.mine
   pub given : StaysForAll old.gave_to new.gave_to

@@ -6,18 +6,7 @@ ghost use Rattle.kom_links.specs.DeskCalls.{DeskView, Connects, Acts, Calls, Dra
 ghost use Rattle.kom_links.specs.DeskCalls.{Closes, AsksStopped, IsLookedAt};
 
 use arrayvec::ArrayVec;
-use kom_types::{Call, Item, Moment, Why};
-
-/// Why a desk did not make an act.
-#[derive(Clone, Copy, Debug, PartialEq, Eq)]
-pub enum DeskFault {
-    /// The session is served no longer, or the server is not.
-    Gone(Why),
-    /// This many were made already: sessions, or turns of the server's lock.
-    Full(u64),
-    /// Memory ran out.
-    Memory,
-}
+use kom_types::{Call, Item, Moment, NotMade};
 
 /// Where one pass hands in the acts of the sessions that it serves. Each call but `stopped` makes
 /// one act, at the moment that it is handed. What it answers is logged, for clauses alone.
@@ -29,7 +18,7 @@ pub trait Desk {
     ghost goes_on: { Self → Self → Type 0 };
 
     /// Begins a session for the user of a greeting, and returns its number.
-    fn connect(&mut self, moment: Moment, user: &[u8], host: &[u8]) -> Result<u32, DeskFault>
+    fn connect(&mut self, moment: Moment, user: &[u8], host: &[u8]) -> Result<u32, NotMade>
         requires { length user.now ≤ 1024 }
         ensures connects { Connects (view self.old) moment user.now host.now result
             (view self.new) }
@@ -42,14 +31,14 @@ pub trait Desk {
         session: u32,
         reference: u32,
         call: Call,
-    ) -> Result<(), DeskFault>
+    ) -> Result<(), NotMade>
         requires { IsOpen session (view self.old).mine }
         ensures calls { Calls (view self.old) moment (act.Call session reference call) session
             result (view self.new) }
         ensures on { goes_on self.old self.new };
 
     /// Says that a session's stream is at fault.
-    fn broken(&mut self, moment: Moment, session: u32) -> Result<(), DeskFault>
+    fn broken(&mut self, moment: Moment, session: u32) -> Result<(), NotMade>
         requires { IsOpen session (view self.old).mine }
         ensures acts { Acts (view self.old) moment (act.Broken session) session result
             (view self.new) }
@@ -61,25 +50,25 @@ pub trait Desk {
         moment: Moment,
         session: u32,
         into: &mut ArrayVec<Item, 64>,
-    ) -> Result<(), DeskFault>
+    ) -> Result<(), NotMade>
         requires { IsOpen session (view self.old).mine }
         ensures drains { Drains (view self.old) moment session into.new.items result
             (view self.new) }
         ensures on { goes_on self.old self.new };
 
     /// Makes stable what was done so far.
-    fn flush(&mut self, moment: Moment) -> Result<(), DeskFault>
+    fn flush(&mut self, moment: Moment) -> Result<(), NotMade>
         ensures flushes { Flushes (view self.old) moment result (view self.new) }
         ensures on { goes_on self.old self.new };
 
     /// Ends a session.
-    fn close(&mut self, moment: Moment, session: u32) -> Result<(), DeskFault>
+    fn close(&mut self, moment: Moment, session: u32) -> Result<(), NotMade>
         requires { IsOpen session (view self.old).mine }
         ensures closes { Closes (view self.old) moment session result (view self.new) }
         ensures on { goes_on self.old self.new };
 
     /// Whether the server was shut down or its store refused a flush.
-    fn stopped(&mut self) -> Result<bool, DeskFault>
+    fn stopped(&mut self) -> Result<bool, NotMade>
         ensures asks { AsksStopped (view self.old) result (view self.new) }
         ensures on { goes_on self.old self.new };
 

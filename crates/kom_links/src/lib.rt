@@ -30,7 +30,7 @@ mod world_counts;
 pub use client_links::{KeysLink, SocketLink};
 pub use clock::Clock;
 pub use deeds::Deed;
-pub use desk::{Desk, DeskFault, NewsDesk};
+pub use desk::{Desk, NewsDesk};
 pub use gate::{Gate, Next};
 pub use link::{Got, Link, Took};
 pub use polled_gate::PolledGate;

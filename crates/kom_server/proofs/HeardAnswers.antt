@@ -6,8 +6,8 @@ use Rattle.std.proofs.lemmas.Bool.{cases_Bool}
 use Rattle.kom_types.specs.declared.answers.Why.TheVariants as why
 use Rattle.kom_links.specs.declared.deeds.Deed.{Deed}
 use Rattle.kom_links.specs.declared.deeds.Deed.TheVariants as deed
-use Rattle.kom_links.specs.declared.desk.DeskFault.{DeskFault}
-use Rattle.kom_links.specs.declared.desk.DeskFault.TheVariants as fault
+use Rattle.kom_types.specs.declared.answers.NotMade.{NotMade}
+use Rattle.kom_types.specs.declared.answers.NotMade.TheVariants as fault
 use Rattle.kom_links.specs.Answers.{Answer, concerns, refused, sends, HasRefused}
 use Rattle.hall_desk.specs.Desks.{Kept, desk_view, IsKnown, IsKnownAnswer, WasRefusedTo, WasStopped}
 use Rattle.hall_desk.proofs.Causes.{refused_known, sent_refused}
@@ -31,7 +31,7 @@ module _ (kept : Kept) (known : AllByRecursion (IsKnownAnswer kept.start kept.pa
   stopped_known said = answered_known (deed.Ask, Err (fault.Gone why.Stopped)) said
 
   module _ (session : ℕ) where
-    here_known : (what : Deed) (one : DeskFault) → IsSeatAnswer session (desk_view kept) (what, Err one) →
+    here_known : (what : Deed) (one : NotMade) → IsSeatAnswer session (desk_view kept) (what, Err one) →
         concerns session what ≡ true → IsKnown kept.start kept.pass.seen kept.pass.drawn session (Some one)
     here_known what one (inl answered) here =
         refused_known kept.start kept.pass session ((what, Err one) ∷ []) one
@@ -39,7 +39,7 @@ module _ (kept : Kept) (known : AllByRecursion (IsKnownAnswer kept.start kept.pa
     here_known what one (inr memory) here =
         let gone = memory.0 in
         let same : one ≡ fault.Memory = cc in
-        subst (λ (one : DeskFault). IsKnown kept.start kept.pass.seen kept.pass.drawn session (Some one)) (sym same) tt
+        subst (λ (one : NotMade). IsKnown kept.start kept.pass.seen kept.pass.drawn session (Some one)) (sym same) tt
 
     -- the first fault that concerns the session of a seat has its cause
     pub seat_known : (answers : List Answer) → AllByRecursion (IsSeatAnswer session (desk_view kept)) answers →

@@ -15,8 +15,8 @@ use Rattle.kom_types.specs.declared.answers.Refusal.TheVariants.{Gone}
 use Rattle.kom_types.specs.declared.answers.Why.TheVariants as why
 use Rattle.kom_types.specs.declared.items.Item.{Item}
 use Rattle.kom_types.specs.Sessions.{Session, is_session}
-use Rattle.kom_links.specs.declared.desk.DeskFault.{DeskFault}
-use Rattle.kom_links.specs.declared.desk.DeskFault.TheVariants as fault
+use Rattle.kom_types.specs.declared.answers.NotMade.{NotMade}
+use Rattle.kom_types.specs.declared.answers.NotMade.TheVariants as fault
 use Rattle.kom_links.specs.declared.served.Served.{Served}
 use Rattle.kom_links.specs.declared.served.SessionEnd.{SessionEnd}
 use Rattle.kom_links.specs.declared.served.SessionEnd.TheVariants as end
@@ -214,12 +214,12 @@ rose_some : (faults : ℕ) → Rose 0 faults → faults ≡ 0 → ⊥
 rose_some faults rose zero = none_rose faults zero rose
 
 -- no fault of the link at another end
-no_fault : (faults : ℕ) (fault : Option DeskFault) (ended : Bool) (ending : SessionEnd) →
+no_fault : (faults : ℕ) (fault : Option NotMade) (ended : Bool) (ending : SessionEnd) →
     HasCause 0 faults fault ended ending → (ending ≡ end.LinkFault → ⊥) → faults ≡ 0
 no_fault faults fault ended ending cause other =
     elim (cases_eq faults 0) [ inl zero ↦ zero | inr some ↦ absurd (other (cause.rose (some_rose faults some))) ]
 
-desk_end : (faults : ℕ) (fault : Option DeskFault) (ended : Bool) (ending : SessionEnd) →
+desk_end : (faults : ℕ) (fault : Option NotMade) (ended : Bool) (ending : SessionEnd) →
     HasCause 0 faults fault ended ending → (ending ≡ end.LinkFault → ⊥) → IsEndOf fault ending
 desk_end faults fault ended ending cause other =
     cause.desk (none_rose faults (no_fault faults fault ended ending cause other))
@@ -240,7 +240,7 @@ is_end : (start : State) (history : List Record) (drawn session : ℕ) (one othe
 is_end start history drawn session one other same known =
     subst (Known_end start history drawn session) (sym same) known
 
-end_known : (start : State) (noted : Option DeskFault) (history : List Record) (drawn session : ℕ)
+end_known : (start : State) (noted : Option NotMade) (history : List Record) (drawn session : ℕ)
     (ending : SessionEnd) → IsKnown start history drawn session noted → IsEndOf noted ending →
     Known_end start history drawn session ending
 end_known start None history drawn session end.End known is = tt
@@ -271,7 +271,7 @@ end_known start (Some (fault.Full number)) history drawn session ending known (i
 end_known start (Some (fault.Full number)) history drawn session ending known (inr is) =
     is_end start history drawn session ending end.Memory is tt
 
-cause_new : (start : State) (link : LinkView) (noted : Option DeskFault) (history : List Record) (drawn session : ℕ)
+cause_new : (start : State) (link : LinkView) (noted : Option NotMade) (history : List Record) (drawn session : ℕ)
     (ending : SessionEnd) →
     HasCause 0 link.faults noted link.ended ending → IsKnown start history drawn session noted →
     (ending ≡ end.Dropped → WasDropped start session history → Left start session history drawn) →
@@ -308,7 +308,7 @@ cause_new start link noted history drawn session end.Memory cause known left =
 is_told : (place : ℕ) (one other : SessionEnd) → one ≡ other → TellsOf place other → TellsOf place one
 is_told place one other same told = subst (TellsOf place) (sym same) told
 
-told_by : (place : ℕ) (noted : Option DeskFault) (ending : SessionEnd) → IsEndOf noted ending →
+told_by : (place : ℕ) (noted : Option NotMade) (ending : SessionEnd) → IsEndOf noted ending →
     (noted ≡ None → (ending ≡ end.Broken place) ⊎ (ending ≡ end.Memory)) → TellsOf place ending
 told_by place None ending is tells = elim (tells refl) [
   | inl broken ↦ is_told place ending (end.Broken place) broken refl
@@ -396,7 +396,7 @@ IsDenied start pass session seen drawn =
 -- What the service of a link left: by how much the history goes on, the records that the pass added to its own,
 -- and why it ended.
 pub record Service (start : State) (pass : ℕ) (history more mine added : List Record) (drawn : ℕ) (waits : Bool)
-    (noted : Option DeskFault) (link : LinkView) (served : Served) : Type 0 where
+    (noted : Option NotMade) (link : LinkView) (served : Served) : Type 0 where
   pub legal : IsLegal start (history ++ more)
   pub by_owners : AreByOwners start (history ++ more)
   pub mine_is : mine ≡ of_pass pass history
@@ -422,7 +422,7 @@ waits_before drawn false refused none = refl
 waits_before drawn true refused none = absurd (not_both _ (lt-ltb (2 ^ 62) drawn (refused refl)) none)
 
 module _ (start : State) (begins : IsStart start) (pass : ℕ) (history more mine added : List Record) (drawn : ℕ)
-    (waits : Bool) (noted : Option DeskFault) (link : LinkView) (served : Served)
+    (waits : Bool) (noted : Option NotMade) (link : LinkView) (served : Served)
     (service : Service start pass history more mine added drawn waits noted link served)
     (closed : is_lock_full drawn ≡ false → (session : ℕ) → is_open session mine ≡ false) where
   -- the session is in none of the records before
@@ -702,7 +702,7 @@ both_told P Q (Some x) first second = (first, second)
 
 -- What the pass leaves grew by the service of a link that was then given back.
 pub serves_more : {L : Type 0} (view : L → LinkView) (start : State) → IsStart start → (pass : PassView)
-    (more added : List Record) (drawn : ℕ) (waits : Bool) (noted : Option DeskFault) (link : L) (served : Served)
+    (more added : List Record) (drawn : ℕ) (waits : Bool) (noted : Option NotMade) (link : L) (served : Served)
     (returned returned' : Option (List (L × Served))) (gave gave' : Option (List ℕ)) → pass.drawn ≤ drawn →
     AreTimed gave gave' added → AllByRecursion (IsOwn served.session) added →
     Gains returned (link, served) returned' →

@@ -7,7 +7,7 @@ use Rattle.std.proofs.lemmas.Bool.{ne_eqb}
 use Rattle.std.proofs.lemmas.List.{append_cancel_left, length_push}
 use Rattle.kom_types.specs.declared.acts.Record.{Record}
 use Rattle.kom_types.specs.declared.items.Item.{Item}
-use Rattle.kom_links.specs.declared.desk.DeskFault.{DeskFault}
+use Rattle.kom_types.specs.declared.answers.NotMade.{NotMade}
 use Rattle.kom_links.specs.declared.served.Served.{Served}
 use Rattle.kom_links.specs.Doors.{GateView, Gains}
 use Rattle.kom_links.specs.Outside.{LinkView}
@@ -61,7 +61,7 @@ first_known : (start : State) (pass : PassView) (session : ℕ) (answers : List 
     IsKnown start pass.seen pass.drawn session (refused session answers)
 first_known start pass session answers known = go (refused session answers) refl
   where
-    go : (noted : Option DeskFault) → refused session answers ≡ noted →
+    go : (noted : Option NotMade) → refused session answers ≡ noted →
         IsKnown start pass.seen pass.drawn session noted
     go None is = tt
     go (Some one) is = refused_known start pass session answers one known is
@@ -106,7 +106,7 @@ serves_one {L} view old new gave gave' before link served returned returned' non
     let known : AllByRecursion (IsKnownAnswer start new.pass) answers =
     later_known start new.pass old.answers answers
     (subst (λ (answers : List Answer). AllByRecursion (IsKnownAnswer start new.pass) answers) talk.3 stands.known) in
-    let noted : Option DeskFault = refused served.session answers in
+    let noted : Option NotMade = refused served.session answers in
     let denied : HasRefused served.session answers →
     IsDenied start new.pass.number served.session new.pass.seen new.pass.drawn =
     λ refused. sent_refused start new.pass served.session answers known refused in

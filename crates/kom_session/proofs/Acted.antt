@@ -19,8 +19,8 @@ use Rattle.kom_framing.specs.declared.units.Unit.TheVariants as unit
 use Rattle.kom_framing.specs.Splitting.{Splitting, IsAt}
 use Rattle.kom_links.specs.declared.deeds.Deed.{Deed}
 use Rattle.kom_links.specs.declared.deeds.Deed.TheVariants as deed
-use Rattle.kom_links.specs.declared.desk.DeskFault.{DeskFault}
-use Rattle.kom_links.specs.declared.desk.DeskFault.TheVariants as fault
+use Rattle.kom_types.specs.declared.answers.NotMade.{NotMade}
+use Rattle.kom_types.specs.declared.answers.NotMade.TheVariants as fault
 use Rattle.kom_links.specs.declared.served.SessionEnd.TheVariants as end
 use Rattle.kom_links.specs.Answers.{said, concerns}
 use Rattle.kom_links.specs.Records.{is_open, IsOpen}
@@ -49,7 +49,7 @@ use Rattle.kom_session.proofs.Units.{no_greeting, fault_tail_all, silent_fault}
 
 act_pushes : {X : Type 0} {start : Seen} {past : Past} {known : Known} {now : Seen}
     (s : IsServed start past known now) (desk : DeskView) (gave : Option (List ℕ)) (made : Record)
-    (step : Step) (deed : Deed) (answer : Result X DeskFault) (reached : Phase)
+    (step : Step) (deed : Deed) (answer : Result X NotMade) (reached : Phase)
     → made.session ≡ known.session → steps_of known.session (made ∷ []) [] ≡ step ∷ [] →
     desk.mine ≡ now.desk.mine ++ made ∷ [] → StaysForAll now.desk.gave_to desk.gave_to
     → IsTold now.desk deed answer desk → concerns known.session deed ≡ true →
@@ -75,7 +75,7 @@ act_pushes {known = known} {now = now} s desk gave made step deed answer reached
 -- an act of the session that was refused
 act_refused : {X : Type 0} {start : Seen} {past : Past} {known : Known} {now : Seen}
     (s : IsServed start past known now) (desk : DeskView) (gave : Option (List ℕ))
-    (deed : Deed) (reason : DeskFault) (reached : Phase) → known.session ≢ 0 →
+    (deed : Deed) (reason : NotMade) (reached : Phase) → known.session ≢ 0 →
     StaysForAll now.desk.gave_to desk.gave_to → IsTold {X = X} now.desk deed (Err reason) desk
     → concerns known.session deed ≡ true → IsPhase reached s.waited s.place s.recent →
     (IsSending (noted known.cause reason)
@@ -98,7 +98,7 @@ act_refused {known = known} {now = now} s desk gave deed reason reached some giv
     (λ number other. ap (is_open number) told.none_added))
 
 -- without a fault nothing is sent after one
-sound_since : (cause : Option DeskFault) (P : Type 0) → cause ≡ None → IsSending cause → P
+sound_since : (cause : Option NotMade) (P : Type 0) → cause ≡ None → IsSending cause → P
 sound_since None P none sending = absurd sending
 sound_since (Some reason) P none sending = absurd (cc none)
 
@@ -259,13 +259,13 @@ call_made {X} {start} {known} {now} line reference call t reading moment done de
 -- ---- the end after a fault of the desk
 
 ended_plan : (fed user : List ℕ) (requests : List Request) (broken : Bool) (known : Known)
-    (cause : Option DeskFault) → cause ≢ None → known.pending ≡ [] →
+    (cause : Option NotMade) → cause ≢ None → known.pending ≡ [] →
     Plans end.End cause (record { fed = fed; party = Somebody user requests broken }) known
 ended_plan fed user requests broken known None some nothing = absurd (some refl)
 ended_plan fed user requests broken known (Some reason) some nothing = (nothing, tt)
 
 broken_plan : (place : ℕ) (fed user : List ℕ) (requests : List Request) (broken : Bool)
-    (known : Known) (cause : Option DeskFault) → known.pending ≡ [] →
+    (known : Known) (cause : Option NotMade) → known.pending ≡ [] →
     (cause ≡ None → (broken ≡ true) × IsFaultAfter fed place requests × (known.phase ≡ phase.Calm))
     → Plans (end.Broken place) cause
     (record { fed = fed; party = Somebody user requests broken }) known
@@ -274,7 +274,7 @@ broken_plan place fed user requests broken known (Some reason) nothing told = (n
 
 -- ---- a call that was refused
 
-after_phase : (reason : DeskFault) (waited : Bool) (place recent : List Step)
+after_phase : (reason : NotMade) (waited : Bool) (place recent : List Step)
     → IsPhase (phase_after reason) waited place recent
 after_phase (fault.Gone why.Absent) waited place recent = tt
 after_phase (fault.Gone why.Dropped) waited place recent = tt
@@ -283,8 +283,8 @@ after_phase (fault.Gone why.Stopped) waited place recent = tt
 after_phase (fault.Full number) waited place recent = tt
 after_phase fault.Memory waited place recent = tt
 
-after_since : (cause : Option DeskFault) (reason : DeskFault) (session : ℕ)
-    (answers : List (Deed × Result ⊤ DeskFault)) → cause ≡ None
+after_since : (cause : Option NotMade) (reason : NotMade) (session : ℕ)
+    (answers : List (Deed × Result ⊤ NotMade)) → cause ≡ None
     → IsSending (noted cause reason) → IsSince (phase_after reason) session answers
 after_since (Some first) reason session answers none sending = absurd (cc none)
 after_since None (fault.Gone why.Absent) session answers none sending = absurd sending
@@ -297,7 +297,7 @@ after_since None fault.Memory session answers none sending = absurd sending
 -- what waits is sent, if it is still sent after such a fault
 pub call_last : {X : Type 0} {start : Seen} {known : Known} {now : Seen} (line : Line)
     (reference : ℕ) (call : Call) → IsTaking (unit.Line line) start (state known now) →
-    (moment : ℕ) (reason : DeskFault) (desk : DeskView) (gave : Option (List ℕ))
+    (moment : ℕ) (reason : NotMade) (desk : DeskView) (gave : Option (List ℕ))
     → Calls {X = X} now.desk moment (act.Call known.session reference call) known.session
     (Err reason) desk →
     IsKept start
@@ -376,7 +376,7 @@ told_broken {X} {place} {start} {known} {now} f moment done desk gave acts =
 -- the desk refused
 pub untold_broken : {X : Type 0} {place : ℕ} {start : Seen} {known : Known} {now : Seen}
     → IsFaulty place start (state known now)
-    → (moment : ℕ) (reason : DeskFault) (desk : DeskView) (gave : Option (List ℕ)) →
+    → (moment : ℕ) (reason : NotMade) (desk : DeskView) (gave : Option (List ℕ)) →
     Acts {X = X} now.desk moment (act.Broken known.session) known.session (Err reason) desk →
     IsKept start
     (record known {
@@ -450,7 +450,7 @@ is_some : (found : Option ℕ) (place : ℕ) → found ≡ Some place → IsSome
 is_some None place e = absurd (cc e)
 is_some (Some at) place e = refl
 
-silent_plan : (place : ℕ) (fed : List ℕ) (known : Known) (cause : Option DeskFault) → cause ≡ None
+silent_plan : (place : ℕ) (fed : List ℕ) (known : Known) (cause : Option NotMade) → cause ≡ None
     → known.pending ≡ [] → (stream_of fed).greeting ≡ None → fault_of fed ≡ Some place →
     Plans (end.Broken place) cause
     (record { fed = fed; party = Nobody (print_of item.Fault) }) known
@@ -691,15 +691,15 @@ greeting_connected {start} {known} {now} user t session moment desk gave connect
           });
     }
 
-refused_plan : (cause : Option DeskFault) (reason : DeskFault) (fed : List ℕ) (known : Known)
+refused_plan : (cause : Option NotMade) (reason : NotMade) (fed : List ℕ) (known : Known)
     → cause ≡ Some reason → known.pending ≡ [] →
     Plans end.End (Some reason) (record { fed = fed; party = Nobody [] }) known
     → Plans end.End cause (record { fed = fed; party = Nobody [] }) known
 refused_plan cause reason fed known e nothing plan =
-    subst (λ (cause : Option DeskFault). Plans end.End cause
+    subst (λ (cause : Option NotMade). Plans end.End cause
     (record { fed = fed; party = Nobody [] }) known) (sym e) plan
 
-heard_some : (cause : Option DeskFault) (reason : DeskFault) (start : Seen) (now : Seen)
+heard_some : (cause : Option NotMade) (reason : NotMade) (start : Seen) (now : Seen)
     → cause ≡ Some reason → IsHeard end.End cause start.link now.link
 heard_some None reason start now e = absurd (cc e)
 heard_some (Some first) reason start now e = tt
@@ -707,7 +707,7 @@ heard_some (Some first) reason start now e = tt
 -- no session was connected
 pub greeting_refused : {start : Seen} {known : Known} {now : Seen} (user : List ℕ)
     → IsTaking (unit.Hello user) start (state known now) →
-    (moment : ℕ) (reason : DeskFault) (desk : DeskView) (gave : Option (List ℕ))
+    (moment : ℕ) (reason : NotMade) (desk : DeskView) (gave : Option (List ℕ))
     → ConnectsOf now.desk moment user now.link.host (Err reason) desk →
     IsKept start
     (record known { cause = noted known.cause reason; stage = stage.Over end.End })
@@ -717,7 +717,7 @@ greeting_refused {start} {known} {now} user t moment reason desk gave connects =
     let s = f.served in
     let none = s.party.none in
     let fault : noted known.cause reason ≡ Some reason =
-    ap (λ (first : Option DeskFault). noted first reason) t.sound in
+    ap (λ (first : Option NotMade). noted first reason) t.sound in
     let nothing : known.pending ≡ [] = second_nil s.bytes known.pending s.owed in
     record {
       past = record { fed = f.fed; party = Nobody [] };

@@ -6,7 +6,7 @@ use Rattle.std.specs.Prelude.{⊤, filter, if◌then◌else◌}
 use Rattle.std.proofs.lemmas.Grind.{flat_map-append}
 use Rattle.std.proofs.lemmas.List.Elements.{filter-append}
 use Rattle.kom_links.specs.declared.deeds.Deed.{Deed}
-use Rattle.kom_links.specs.declared.desk.DeskFault.{DeskFault}
+use Rattle.kom_types.specs.declared.answers.NotMade.{NotMade}
 use Rattle.kom_links.specs.Answers.{Answer, concerns, fault_in, faults_of, first_of, refused, is_ask, asks_in}
 use Rattle.kom_links.specs.Answers.{flush_made, drained_empty, IsFlushedAfter, IsSettledAfter, sends, HasRefused}
 use Rattle.kom_session.specs.declared.phase.Phase.{Phase}
@@ -16,13 +16,13 @@ use Rattle.kom_session.specs.Left.{IsSending}
 use Rattle.kom_session.specs.Serving.{IsSince}
 
 -- the first fault, after one answer more that concerns the session
-abbrev pub with_answer : Option DeskFault → Result ⊤ DeskFault → Option DeskFault
+abbrev pub with_answer : Option NotMade → Result ⊤ NotMade → Option NotMade
 with_answer cause (Ok done) = cause
 with_answer cause (Err fault) = noted cause fault
 
 -- ---- the first fault
 
-faults_push : (session : ℕ) (answers : List Answer) (deed : Deed) (answer : Result ⊤ DeskFault)
+faults_push : (session : ℕ) (answers : List Answer) (deed : Deed) (answer : Result ⊤ NotMade)
     → faults_of session (answers ++ (deed, answer) ∷ [])
     ≡ faults_of session answers ++ (if concerns session deed then fault_in answer else [])
 faults_push session answers deed answer =
@@ -35,7 +35,7 @@ if_same : {X : Type 0} (test : Bool) (x : X) → (if test then x else x) ≡ x
 if_same true x = refl
 if_same false x = refl
 
-first_push : (faults : List DeskFault) (fault : DeskFault)
+first_push : (faults : List NotMade) (fault : NotMade)
     → first_of (faults ++ fault ∷ []) ≡ noted (first_of faults) fault
 first_push [] fault = refl
 first_push (first ∷ faults) fault = refl
@@ -48,7 +48,7 @@ refused_ok session answers deed =
     ∙ ap (λ rest. faults_of session answers ++ rest) (if_same (concerns session deed) [])
     ∙ append-nil (faults_of session answers))
 
-pub refused_err : (session : ℕ) (answers : List Answer) (deed : Deed) (fault : DeskFault)
+pub refused_err : (session : ℕ) (answers : List Answer) (deed : Deed) (fault : NotMade)
     → concerns session deed ≡ true →
     refused session (answers ++ (deed, Err fault) ∷ []) ≡ noted (refused session answers) fault
 refused_err session answers deed fault here =
@@ -57,14 +57,14 @@ refused_err session answers deed fault here =
     ∙ first_push (faults_of session answers) fault
 
 pub refused_push : (session : ℕ) (answers : List Answer) (deed : Deed)
-    (answer : Result ⊤ DeskFault) → concerns session deed ≡ true →
+    (answer : Result ⊤ NotMade) → concerns session deed ≡ true →
     refused session (answers ++ (deed, answer) ∷ []) ≡ with_answer (refused session answers) answer
 refused_push session answers deed (Ok done) here = refused_ok session answers deed
 refused_push session answers deed (Err fault) here = refused_err session answers deed fault here
 
 -- where no fault was answered before, and none is noted now, none was answered
-pub unrefused_push : (answers : List Answer) (deed : Deed) (answer : Result ⊤ DeskFault)
-    (cause : Option DeskFault) → (cause ≡ None → (number : ℕ) → refused number answers ≡ None)
+pub unrefused_push : (answers : List Answer) (deed : Deed) (answer : Result ⊤ NotMade)
+    (cause : Option NotMade) → (cause ≡ None → (number : ℕ) → refused number answers ≡ None)
     → with_answer cause answer ≡ None →
     (number : ℕ) → refused number (answers ++ (deed, answer) ∷ []) ≡ None
 unrefused_push answers deed (Ok done) cause none e number =
@@ -121,7 +121,7 @@ drained_after session answers (before, between, e, some) = (
   some,
 )
 
-pub refused_after : (session : ℕ) (answers : List Answer) (what : Deed) (why : DeskFault)
+pub refused_after : (session : ℕ) (answers : List Answer) (what : Deed) (why : NotMade)
     → sends session what ≡ true → HasRefused session (answers ++ (what, Err why) ∷ [])
 refused_after session answers what why is = (answers, [], what, why, refl, is)
 
@@ -134,7 +134,7 @@ since_kept phase.Draining session answers more is = flushed_kept session answers
 since_kept phase.Denied session answers more is = refusal_kept session answers more is
 
 -- a fault after which it is still sent is one
-pub sending_some : (cause : Option DeskFault) → IsSending cause → cause ≢ None
+pub sending_some : (cause : Option NotMade) → IsSending cause → cause ≢ None
 sending_some None sending = absurd sending
 sending_some (Some fault) sending = λ e. cc e
 

@@ -3,8 +3,8 @@ use Rattle.std.proofs.Common.{◌≡◌, ◌≢◌, ℕ, ◌⊎◌, Bool, true, 
 use Rattle.std.proofs.Common.{ap, subst}
 use Rattle.kom_types.specs.declared.answers.Why.TheVariants as why
 use Rattle.kom_types.specs.Reading.{fault_of}
-use Rattle.kom_links.specs.declared.desk.DeskFault.{DeskFault}
-use Rattle.kom_links.specs.declared.desk.DeskFault.TheVariants as fault
+use Rattle.kom_types.specs.declared.answers.NotMade.{NotMade}
+use Rattle.kom_types.specs.declared.answers.NotMade.TheVariants as fault
 use Rattle.kom_links.specs.declared.served.SessionEnd.{SessionEnd}
 use Rattle.kom_links.specs.declared.served.SessionEnd.TheVariants as end
 use Rattle.kom_links.specs.Outside.{Rose}
@@ -26,7 +26,7 @@ IsPlanned end.Dropped = ⊥
 IsPlanned end.Stopped = ⊥
 IsPlanned (end.Full number) = ⊥
 
-plans_planned : (planned : SessionEnd) (cause : Option DeskFault) (past : Past) (known : Known)
+plans_planned : (planned : SessionEnd) (cause : Option NotMade) (past : Past) (known : Known)
     → Plans planned cause past known → IsPlanned planned
 plans_planned end.End cause past known plan = tt
 plans_planned (end.Broken place) cause past known plan = tt
@@ -42,7 +42,7 @@ pub over_planned : {start : Seen} {past : Past} {known : Known} {now : Seen} {pl
 over_planned {past = past} {known = known} {planned = planned} over =
     plans_planned planned known.cause past known over.plan
 
-fault_ends : (why : DeskFault) → IsEndOf (Some why) (end_at why)
+fault_ends : (why : NotMade) → IsEndOf (Some why) (end_at why)
 fault_ends (fault.Gone why.Absent) = refl
 fault_ends (fault.Gone why.Dropped) = inl refl
 fault_ends (fault.Gone why.Overrun) = inl refl
@@ -50,7 +50,7 @@ fault_ends (fault.Gone why.Stopped) = inl refl
 fault_ends (fault.Full number) = inl refl
 fault_ends fault.Memory = refl
 
-memory_ends : (why : DeskFault) → IsEndOf (Some why) end.Memory
+memory_ends : (why : NotMade) → IsEndOf (Some why) end.Memory
 memory_ends (fault.Gone why.Absent) = refl
 memory_ends (fault.Gone why.Dropped) = inr refl
 memory_ends (fault.Gone why.Overrun) = inr refl
@@ -59,7 +59,7 @@ memory_ends (fault.Full number) = inr refl
 memory_ends fault.Memory = refl
 
 -- a fault gives neither of these ends
-not_from_fault : (why : DeskFault) (final : SessionEnd) → (final ≡ end.LinkFault)
+not_from_fault : (why : NotMade) (final : SessionEnd) → (final ≡ end.LinkFault)
     ⊎ (final ≡ end.End) → end_at why ≡ final → ⊥
 not_from_fault (fault.Gone why.Absent) final (inl p) e = cc
 not_from_fault (fault.Gone why.Absent) final (inr p) e = cc
@@ -74,12 +74,12 @@ not_from_fault (fault.Full number) final (inr p) e = cc
 not_from_fault fault.Memory final (inl p) e = cc
 not_from_fault fault.Memory final (inr p) e = cc
 
-record Ends (planned : SessionEnd) (cause : Option DeskFault) (ended : Bool) : Type 0 where
+record Ends (planned : SessionEnd) (cause : Option NotMade) (ended : Bool) : Type 0 where
   link : ending_of planned cause ≡ end.LinkFault → ⊥
   desk : IsEndOf cause (ending_of planned cause)
   has_ended : ending_of planned cause ≡ end.End → ended ≡ true
 
-ends_so : (planned : SessionEnd) (cause : Option DeskFault) (ended : Bool) → IsPlanned planned
+ends_so : (planned : SessionEnd) (cause : Option NotMade) (ended : Bool) → IsPlanned planned
     → planned ≢ end.LinkFault → (planned ≡ end.End → cause ≡ None → ended ≡ true)
     → Ends planned cause ended
 ends_so end.End None ended is_planned some told =
@@ -108,7 +108,7 @@ ends_so end.Dropped cause ended is_planned some told = absurd is_planned
 ends_so end.Stopped cause ended is_planned some told = absurd is_planned
 ends_so (end.Full number) cause ended is_planned some told = absurd is_planned
 
-pub has_cause : (risen : Bool) (planned : SessionEnd) (cause : Option DeskFault) (before after : ℕ)
+pub has_cause : (risen : Bool) (planned : SessionEnd) (cause : Option NotMade) (before after : ℕ)
     (ended : Bool) → IsPlanned planned → (risen ≡ true → Rose before after)
     → (risen ≡ false → Rose before after → ⊥) →
     (planned ≡ end.LinkFault → risen ≡ true) → (planned ≡ end.End → cause ≡ None → ended ≡ true)
@@ -144,7 +144,7 @@ planned_tells end.Dropped found place e link none at is_planned = absurd is_plan
 planned_tells end.Stopped found place e link none at is_planned = absurd is_planned
 planned_tells (end.Full number) found place e link none at is_planned = absurd is_planned
 
-none_plan : (planned : SessionEnd) (cause : Option DeskFault) (party : Party) (fed : List ℕ)
+none_plan : (planned : SessionEnd) (cause : Option NotMade) (party : Party) (fed : List ℕ)
     (known : Known) → Plans planned cause (record { fed = fed; party = party }) known → cause ≡ None
     → planned ≡ end.End → fault_of fed ≡ None
 none_plan end.End None (Nobody told) fed known plan none e = plan.1.1
@@ -158,7 +158,7 @@ none_plan end.Dropped cause party fed known plan none e = absurd plan
 none_plan end.Stopped cause party fed known plan none e = absurd plan
 none_plan (end.Full number) cause party fed known plan none e = absurd plan
 
-place_plan : (at : ℕ) (cause : Option DeskFault) (party : Party) (fed : List ℕ) (known : Known)
+place_plan : (at : ℕ) (cause : Option NotMade) (party : Party) (fed : List ℕ) (known : Known)
     → Plans (end.Broken at) cause (record { fed = fed; party = party }) known → cause ≡ None
     → fault_of fed ≡ Some at
 place_plan at None (Nobody told) fed known plan none = plan.1.1
@@ -167,7 +167,7 @@ place_plan at (Some reason) party fed known plan none = absurd (cc)
 
 pub tells_fault : {start : Seen} {past : Past} {known : Known} {now : Seen} {planned : SessionEnd}
     → IsOver start past known now planned →
-    (risen : Bool) (before after : ℕ) (cause : Option DeskFault)
+    (risen : Bool) (before after : ℕ) (cause : Option NotMade)
     → (risen ≡ true → Rose before after) → (planned ≡ end.LinkFault → risen ≡ true)
     → (cause ≡ None → known.cause ≡ None) →
     TellsFault before after cause past.fed (ending risen planned cause)
@@ -195,6 +195,6 @@ pub heard_ended : {start : Seen} {past : Past} {known : Known} {now : Seen} {pla
     → IsOver start past known now planned → planned ≡ end.End → known.cause ≡ None
     → now.link.ended ≡ true
 heard_ended {start} {past} {known} {now} over e none =
-    subst (λ (cause : Option DeskFault). IsHeard end.End cause start.link now.link) none
+    subst (λ (cause : Option NotMade). IsHeard end.End cause start.link now.link) none
     (subst (λ (planned : SessionEnd). IsHeard planned known.cause start.link now.link) e
     over.heard)

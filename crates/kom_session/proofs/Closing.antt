@@ -5,7 +5,7 @@ use Rattle.std.specs.Prelude.{⊤, IfSome, IsTrue}
 use Rattle.std.proofs.lemmas.List.{append_cancel_left}
 use Rattle.kom_types.specs.declared.acts.Act.TheVariants as act
 use Rattle.kom_types.specs.declared.acts.Record.{Record}
-use Rattle.kom_links.specs.declared.desk.DeskFault.{DeskFault}
+use Rattle.kom_types.specs.declared.answers.NotMade.{NotMade}
 use Rattle.kom_links.specs.declared.served.SessionEnd.{SessionEnd}
 use Rattle.kom_links.specs.declared.served.SessionEnd.TheVariants as end
 use Rattle.kom_links.specs.Doors.{Gains}
@@ -38,7 +38,7 @@ told_so bytes (Some first) after nothing e =
 served_link : {start : Seen} {past : Past} {known : Known} {now : Seen} {planned : SessionEnd}
     → IsOver start past known now planned → (risen : Bool)
     → (IsTrue risen ↔ Rose start.link.faults now.link.faults) →
-    (desk : DeskView) (gave : Option (List ℕ)) (cause : Option DeskFault)
+    (desk : DeskView) (gave : Option (List ℕ)) (cause : Option NotMade)
     → (cause ≡ None → known.cause ≡ None) →
     Told start past.fed known.session cause known.phase (seen desk now.link gave)
     (ending risen planned cause) →
@@ -62,7 +62,7 @@ served_link {start} {past} {known} {now} {planned} over risen rises desk gave ca
             told_so told.bytes start.link.put now.link.put told.untouched.nothing_put told.put,
           ),
           subst
-              (λ (first : Option DeskFault). TellsFault start.link.faults now.link.faults first
+              (λ (first : Option NotMade). TellsFault start.link.faults now.link.faults first
               past.fed (ending risen planned cause)) (sym told.cause_is)
               (tells_fault over risen start.link.faults now.link.faults cause rises.0 lost first),
           told.talk,
@@ -76,7 +76,7 @@ served_link {start} {past} {known} {now} {planned} over risen rises desk gave ca
         told.mine,
         told.answers,
         subst
-            (λ (first : Option DeskFault). HasCause start.link.faults now.link.faults first
+            (λ (first : Option NotMade). HasCause start.link.faults now.link.faults first
             now.link.ended (ending risen planned cause)) (sym told.cause_is)
             (has_cause risen planned cause start.link.faults now.link.faults now.link.ended
             (over_planned over) rises.0 (λ e rose. let so = rises.1 rose in cc) lost
@@ -107,7 +107,7 @@ times_so {start} {now = now} s added mine timed =
     subst (λ added. AreTimed start.gave now.gave added)
     (append_cancel_left start.desk.mine added s.added (sym mine ∙ s.mine)) timed
 
-first_kept : (cause : Option DeskFault) (answer : Result ⊤ DeskFault)
+first_kept : (cause : Option NotMade) (answer : Result ⊤ NotMade)
     → with_answer cause answer ≡ None → cause ≡ None
 first_kept None answer e = refl
 first_kept (Some first) (Ok done) e = absurd (cc e)
@@ -127,7 +127,7 @@ closed_none risen planned known desk gave over none start link rises (added, min
 -- the session was closed, or no turn of the lock is left
 pub closed_some : (risen : Bool) (planned : SessionEnd) (known : Known) (desk desk' : DeskView)
     (gave gave' : Option (List ℕ)) → known.stage ≡ stage.Over planned → known.session ≢ 0 →
-    (moment : ℕ) (answer : Result ⊤ DeskFault)
+    (moment : ℕ) (answer : Result ⊤ NotMade)
     → ClosesOf desk moment known.session answer desk' → Gains gave moment gave' →
     IfClosed risen known desk gave
     (record {
@@ -145,7 +145,7 @@ closed_some risen planned known desk desk' gave gave' over some moment answer cl
 
 -- what the close of a session adds
 pub adds_close : (desk desk' : DeskView) (gave gave' : Option (List ℕ)) (moment session : ℕ)
-    (answer : Result ⊤ DeskFault) → session ≢ 0 → ClosesOf desk moment session answer desk'
+    (answer : Result ⊤ NotMade) → session ≢ 0 → ClosesOf desk moment session answer desk'
     → Gains gave moment gave' → AddsClose session desk gave desk' gave'
 adds_close desk desk' gave gave' moment session (Ok done) some closes gains = record {
   added = record_of desk.pass moment (act.Close session) session false ∷ [];

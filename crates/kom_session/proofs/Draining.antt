@@ -5,7 +5,7 @@ use Rattle.kom_types.specs.declared.acts.Act.TheVariants as act
 use Rattle.kom_types.specs.declared.items.Item.{Item}
 use Rattle.kom_types.specs.Printing.{print_of}
 use Rattle.kom_links.specs.declared.deeds.Deed.TheVariants as deed
-use Rattle.kom_links.specs.declared.desk.DeskFault.{DeskFault}
+use Rattle.kom_types.specs.declared.answers.NotMade.{NotMade}
 use Rattle.kom_links.specs.Answers.{is_nothing}
 use Rattle.kom_links.specs.DeskCalls.{DeskView, record_of}
 use Rattle.kom_links.specs.DeskCalls.{Drains as DrainsOf}
@@ -65,7 +65,7 @@ drain_nothing known on draining now moment desk gave drains gains =
     })
 
 pub drain_denied : (known : Known) → IsOn known.stage → known.phase ≡ phase.Draining →
-    (now : Seen) (moment : ℕ) (reason : DeskFault) (items : List Item) (desk : DeskView)
+    (now : Seen) (moment : ℕ) (reason : NotMade) (items : List Item) (desk : DeskView)
     (gave : Option (List ℕ))
     → DrainsOf {X = ⊤} now.desk moment known.session items (Err reason) desk
     → Gains now.gave moment gave →

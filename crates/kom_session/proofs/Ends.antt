@@ -14,8 +14,8 @@ use Rattle.kom_types.specs.Printing.{print_of}
 use Rattle.kom_types.specs.Stream.{stream_of}
 use Rattle.kom_types.specs.Reading.{Request, fault_of}
 use Rattle.kom_links.specs.declared.deeds.Deed.TheVariants as deed
-use Rattle.kom_links.specs.declared.desk.DeskFault.{DeskFault}
-use Rattle.kom_links.specs.declared.desk.DeskFault.TheVariants as fault
+use Rattle.kom_types.specs.declared.answers.NotMade.{NotMade}
+use Rattle.kom_types.specs.declared.answers.NotMade.TheVariants as fault
 use Rattle.kom_links.specs.declared.served.SessionEnd.{SessionEnd}
 use Rattle.kom_links.specs.declared.served.SessionEnd.TheVariants as end
 use Rattle.kom_links.specs.Answers.{Answer, refused}
@@ -46,7 +46,7 @@ use Rattle.kom_session.proofs.Steps.{steps_push, steps_connected}
 
 -- ---- the facts of the end
 
-silent_at_fault : (why : DeskFault) (fed bytes : List ℕ) (ended : Bool) → bytes ≡ []
+silent_at_fault : (why : NotMade) (fed bytes : List ℕ) (ended : Bool) → bytes ≡ []
     → ((stream_of fed).greeting ≡ None) ⊎ IsConnectFault why
     → SilentFacts (end_at why) fed bytes ended
 silent_at_fault (fault.Gone why.Absent) fed bytes ended nil known = inl nil
@@ -74,7 +74,7 @@ all_put : (told bytes pending : List ℕ) → bytes ++ pending ≡ told → pend
 all_put told bytes pending e none =
     sym (append-nil bytes) ∙ ap (λ rest. bytes ++ rest) (sym none) ∙ e
 
-silent_facts : (risen : Bool) (planned : SessionEnd) (cause : Option DeskFault)
+silent_facts : (risen : Bool) (planned : SessionEnd) (cause : Option NotMade)
     (fed told bytes : List ℕ) (ended : Bool) (known : Known) → bytes ++ known.pending ≡ told
     → MayPut fed bytes →
     Plans planned cause (record { fed = fed; party = Nobody told }) known →
@@ -113,7 +113,7 @@ silent_facts false end.Stopped cause fed told bytes ended known e may plan lost 
 silent_facts false (end.Full number) cause fed told bytes ended known e may plan lost has_ended =
     absurd plan
 
-session_at_fault : (why : DeskFault) (fed bytes : List ℕ) (ended : Bool) (requests : List Request)
+session_at_fault : (why : NotMade) (fed bytes : List ℕ) (ended : Bool) (requests : List Request)
     (broken : Bool) (steps : List Step) (given : List (List Item)) → bytes ≡ printed given
     → EndFacts (end_at why) fed bytes ended requests broken steps given
 session_at_fault (fault.Gone why.Absent) fed bytes ended requests broken steps given all = tt
@@ -123,7 +123,7 @@ session_at_fault (fault.Gone why.Stopped) fed bytes ended requests broken steps 
 session_at_fault (fault.Full number) fed bytes ended requests broken steps given all = all
 session_at_fault fault.Memory fed bytes ended requests broken steps given all = tt
 
-session_facts : (risen : Bool) (planned : SessionEnd) (cause : Option DeskFault)
+session_facts : (risen : Bool) (planned : SessionEnd) (cause : Option NotMade)
     (fed user bytes : List ℕ) (ended : Bool) (requests : List Request) (broken : Bool)
     (known : Known) (steps : List Step) (given : List (List Item)) →
     bytes ++ known.pending ≡ printed given → (known.phase ≡ phase.Calm → IsSettled steps)
@@ -168,7 +168,7 @@ session_facts false (end.Full number) cause fed user bytes ended requests broken
     settled plan lost has_ended = absurd plan
 
 -- a fault that the Close met counts too
-plan_later : (planned : SessionEnd) (cause : Option DeskFault) (reason : DeskFault)
+plan_later : (planned : SessionEnd) (cause : Option NotMade) (reason : NotMade)
     (fed user : List ℕ) (requests : List Request) (broken : Bool) (known : Known) →
     Plans planned cause (record { fed = fed; party = Somebody user requests broken }) known
     → Plans planned (noted cause reason)
@@ -206,7 +206,7 @@ flat : (fed : List ℕ) (requests : List Request) (fault : Bool)
 flat fed requests fault at_fault e = let found = at_fault e in (found.0, found.1.0, found.1.1)
 
 -- what is told of a service at its end
-pub record Told (start : Seen) (fed : List ℕ) (session : ℕ) (cause : Option DeskFault)
+pub record Told (start : Seen) (fed : List ℕ) (session : ℕ) (cause : Option NotMade)
     (reached : Phase) (after : Seen) (final : SessionEnd) : Type 0 where
   pub added : List Record
   pub more : List Answer
@@ -295,7 +295,7 @@ settled_of s some calm =
     subst (λ reached. IsPhase reached s.waited s.place s.recent) calm s.phase in
     elim is.0 [ inl none ↦ absurd (some none) | inr settled ↦ settled ]
 
-full_now : (old : Bool) (reason : DeskFault) → IsLockFault reason
+full_now : (old : Bool) (reason : NotMade) → IsLockFault reason
     → (old || is_lock_full {X = ⊤} (Err reason)) ≡ true
 full_now true reason is = refl
 full_now false (fault.Gone reason) is = absurd is
@@ -308,7 +308,7 @@ own_push [] own made of = (inl of, tt)
 own_push (first ∷ added) own made of = (own.0, own_push added own.1 made of)
 
 -- the Close meets no fault after which what waits is still sent
-closed_sending : (cause : Option DeskFault) (answer : Result ⊤ DeskFault)
+closed_sending : (cause : Option NotMade) (answer : Result ⊤ NotMade)
     → IfErr answer IsLockFault → IsSending (with_answer cause answer) → IsSending cause
 closed_sending (Some first) (Ok done) may sending = sending
 closed_sending (Some first) (Err reason) may sending = sending
@@ -321,7 +321,7 @@ closed_sending None (Err fault.Memory) may sending = absurd may
 pub session_told : {start : Seen} {past : Past} {known : Known} {now : Seen} {planned : SessionEnd}
     (s : IsServed start past known now) → IsOver start past known now planned
     → known.session ≢ 0 → (risen : Bool) → AreTimed start.gave now.gave s.added →
-    (moment : ℕ) (answer : Result ⊤ DeskFault) (desk : DeskView) (gave : Option (List ℕ))
+    (moment : ℕ) (answer : Result ⊤ NotMade) (desk : DeskView) (gave : Option (List ℕ))
     → ClosesOf now.desk moment known.session answer desk → Gains now.gave moment gave →
     (planned ≡ end.LinkFault → risen ≡ true)
     → (planned ≡ end.End → with_answer known.cause answer ≡ None → now.link.ended ≡ true) →
@@ -333,7 +333,7 @@ session_told {start} {past} {known} {now} {planned} s over some risen timed mome
     given : List (List Item)
     given = now.desk.gave_to known.session
 
-    leaves : (answer : Result ⊤ DeskFault) → ClosesOf now.desk moment known.session answer desk
+    leaves : (answer : Result ⊤ NotMade) → ClosesOf now.desk moment known.session answer desk
         → ((number : ℕ) → number ≢ known.session
         → is_open number desk.mine ≡ is_open number now.desk.mine)
         → LeavesOthers known.session start (seen desk now.link gave)
@@ -355,14 +355,14 @@ session_told {start} {past} {known} {now} {planned} s over some risen timed mome
               (now.desk.gave_to known.session) first.3 first.4,
         )
 
-    tells : (answer : Result ⊤ DeskFault) → desk.answers
+    tells : (answer : Result ⊤ NotMade) → desk.answers
         ≡ now.desk.answers ++ (deed.Close known.session, answer) ∷ []
         → desk.answers ≡ start.desk.answers ++ (s.more ++ (deed.Close known.session, answer) ∷ [])
     tells answer told =
         told ∙ ap (λ first. first ++ (deed.Close known.session, answer) ∷ []) s.answers
         ∙ append_assoc start.desk.answers s.more ((deed.Close known.session, answer) ∷ [])
 
-    cause : (answer : Result ⊤ DeskFault)
+    cause : (answer : Result ⊤ NotMade)
         → refused known.session (s.more ++ (deed.Close known.session, answer) ∷ [])
         ≡ with_answer known.cause answer
     cause answer =
@@ -370,7 +370,7 @@ session_told {start} {past} {known} {now} {planned} s over some risen timed mome
         (eq-eqb known.session known.session refl)
         ∙ ap (λ cause. with_answer cause answer) s.cause
 
-    since : (answer : Result ⊤ DeskFault) → IfErr answer IsLockFault
+    since : (answer : Result ⊤ NotMade) → IfErr answer IsLockFault
         → IsSending (with_answer known.cause answer) → IsSince known.phase known.session
         (s.more ++ (deed.Close known.session, answer) ∷ [])
     since answer may sending =
@@ -380,7 +380,7 @@ session_told {start} {past} {known} {now} {planned} s over some risen timed mome
     go : (party : Party) → IsParty past.fed party start known now s.added
         → s.bytes ++ known.pending ≡ owed_to party given →
         Plans planned known.cause (record { fed = past.fed; party = party }) known
-        → (answer : Result ⊤ DeskFault) → ClosesOf now.desk moment known.session answer desk →
+        → (answer : Result ⊤ NotMade) → ClosesOf now.desk moment known.session answer desk →
         (planned ≡ end.End → with_answer known.cause answer ≡ None → now.link.ended ≡ true)
         → Told start past.fed known.session (with_answer known.cause answer) known.phase
         (seen desk now.link gave) (ending risen planned (with_answer known.cause answer))

@@ -7,8 +7,8 @@ use Rattle.kom_types.specs.declared.answers.Why.TheVariants as why
 use Rattle.kom_types.specs.declared.items.Item.{Item}
 use Rattle.kom_framing.specs.declared.units.Unit.{Unit as StreamUnit}
 use Rattle.kom_links.specs.declared.deeds.Deed.TheVariants as deed
-use Rattle.kom_links.specs.declared.desk.DeskFault.{DeskFault}
-use Rattle.kom_links.specs.declared.desk.DeskFault.TheVariants as fault
+use Rattle.kom_types.specs.declared.answers.NotMade.{NotMade}
+use Rattle.kom_types.specs.declared.answers.NotMade.TheVariants as fault
 use Rattle.kom_links.specs.declared.served.SessionEnd.TheVariants as end
 use Rattle.kom_links.specs.Answers.{said_stopped}
 use Rattle.kom_links.specs.DeskCalls.{record_of, AddsNoneOrShort, IsLockFault}
@@ -64,7 +64,7 @@ flushed_ok known on may now moment desk gave flushes gains =
           (flush_denied known.phase) known.stage on kept.stage;
     })
 
-pub flushed_err : (known : Known) → IsOn known.stage → MayFlush known → (reason : DeskFault)
+pub flushed_err : (known : Known) → IsOn known.stage → MayFlush known → (reason : NotMade)
     → IfFlushed known (Err reason)
     (record known {
       cause = noted known.cause reason;
@@ -74,14 +74,14 @@ pub flushed_err : (known : Known) → IsOn known.stage → MayFlush known → (r
 flushed_err known on may reason now moment desk gave flushes gains =
     go reason flushes flushes.none_added
   where
-    after : DeskFault → Known
+    after : NotMade → Known
     after reason = record known {
       cause = noted known.cause reason;
       phase = phase.Denied;
       stage = after_fault known.stage;
     }
 
-    kept : (reason : DeskFault) → FlushesOf {X = ⊤} now.desk moment (Err reason) desk →
+    kept : (reason : NotMade) → FlushesOf {X = ⊤} now.desk moment (Err reason) desk →
         (start : Seen) → IsKept start known now → IsKept start (after reason) (seen desk now.link gave)
     kept reason flushes start k =
         let some : known.session ≢ 0 = flushes_some k.served may in
@@ -94,14 +94,14 @@ flushed_err known on may reason now moment desk gave flushes gains =
               (seen desk now.link gave);
         }
 
-    still : (reason : DeskFault) → FlushesOf {X = ⊤} now.desk moment (Err reason) desk
+    still : (reason : NotMade) → FlushesOf {X = ⊤} now.desk moment (Err reason) desk
         → desk.mine ≡ now.desk.mine →
         Goes (state known now) (state (after reason) (seen desk now.link gave))
     still reason flushes same =
         goes_refused deed.Flush (Err reason) moment gains (λ some. refl) same flushes.tells
         (kept reason flushes)
 
-    go : (reason : DeskFault) → FlushesOf {X = ⊤} now.desk moment (Err reason) desk
+    go : (reason : NotMade) → FlushesOf {X = ⊤} now.desk moment (Err reason) desk
         → AddsNoneOrShort now.desk moment reason desk →
         Goes (state known now) (state (after reason) (seen desk now.link gave))
     go (fault.Gone why.Stopped) flushes (inl same) = still (fault.Gone why.Stopped) flushes same
@@ -117,13 +117,13 @@ flushed_err known on may reason now moment desk gave flushes gains =
 
 -- ---- the question whether the desk is stopped
 
-noted_again : (cause : Option DeskFault) (reason : DeskFault) → is_some cause ≡ true
+noted_again : (cause : Option NotMade) (reason : NotMade) → is_some cause ≡ true
     → noted cause reason ≡ cause
 noted_again None reason some = absurd (cc some)
 noted_again (Some first) reason some = refl
 
 -- it was answered with no fault, or with one that is not noted
-pub asked_same : (known : Known) → IsOn known.stage → (answer : Result Bool DeskFault)
+pub asked_same : (known : Known) → IsOn known.stage → (answer : Result Bool NotMade)
     → with_answer known.cause (said_stopped answer) ≡ known.cause → IfAsked known answer known
 asked_same known on answer same now desk asks =
     goes_answer deed.Ask (said_stopped answer) (λ some. refl) asks.mine asks.answers
@@ -136,7 +136,7 @@ asked_same known on answer same now desk asks =
 
 -- with a fault after the first
 pub asked_again : (known : Known) → IsOn known.stage → is_some known.cause ≡ true
-    → (answer : Result Bool DeskFault) (reason : DeskFault) → said_stopped answer ≡ Err reason →
+    → (answer : Result Bool NotMade) (reason : NotMade) → said_stopped answer ≡ Err reason →
     IfAsked known answer known
 asked_again known on some answer reason said =
     asked_same known on answer
@@ -144,7 +144,7 @@ asked_again known on some answer reason said =
 
 -- with the first fault of a session
 pub asked_some : (known : Known) → IsOn known.stage → known.session ≢ 0
-    → (answer : Result Bool DeskFault) (reason : DeskFault) → said_stopped answer ≡ Err reason →
+    → (answer : Result Bool NotMade) (reason : NotMade) → said_stopped answer ≡ Err reason →
     IfAsked known answer
     (record known {
       cause = noted known.cause reason;
@@ -164,12 +164,12 @@ asked_some known on some answer reason said now desk asks =
     })
 
 -- why a question is answered with a fault, a connect may be refused
-connect_lock : (reason : DeskFault) → IsLockFault reason → IsConnectFault reason
+connect_lock : (reason : NotMade) → IsLockFault reason → IsConnectFault reason
 connect_lock (fault.Gone why) is = absurd is
 connect_lock (fault.Full number) is = inr is
 connect_lock fault.Memory is = absurd is
 
-asked_connect : (answer : Result Bool DeskFault) (reason : DeskFault)
+asked_connect : (answer : Result Bool NotMade) (reason : NotMade)
     → said_stopped answer ≡ Err reason → IfErr answer IsLockFault → IsConnectFault reason
 asked_connect (Ok false) reason e is = absurd (cc e)
 asked_connect (Ok true) reason e is =
@@ -177,14 +177,14 @@ asked_connect (Ok true) reason e is =
 asked_connect (Err first) reason e is =
     let same : first ≡ reason = cc e in subst IsConnectFault same (connect_lock first is)
 
-heard_some : (cause : Option DeskFault) (before after : LinkView) → cause ≢ None
+heard_some : (cause : Option NotMade) (before after : LinkView) → cause ≢ None
     → IsHeard end.End cause before after
 heard_some None before after some = absurd (some refl)
 heard_some (Some reason) before after some = tt
 
 -- with a fault where there is no session
 pub asked_none : (known : Known) → known.stage ≡ stage.Serving → known.session ≡ 0
-    → (answer : Result Bool DeskFault) (reason : DeskFault) → said_stopped answer ≡ Err reason →
+    → (answer : Result Bool NotMade) (reason : NotMade) → said_stopped answer ≡ Err reason →
     IfAsked known answer
     (record known { cause = noted known.cause reason; stage = stage.Over end.End })
 asked_none known serving none answer reason said now desk asks =
@@ -199,7 +199,7 @@ asked_none known serving none answer reason said now desk asks =
           known.splitting (stage.Over end.End) known.bad;
       stage = record {
         plan =
-            subst (λ (cause : Option DeskFault). Plans end.End (noted cause reason) kept.past
+            subst (λ (cause : Option NotMade). Plans end.End (noted cause reason) kept.past
             (record known { cause = noted known.cause reason; stage = stage.Over end.End }))
             (sym at.sound)
             (plan kept.past.fed kept.past.party (now.desk.gave_to known.session) kept.served.bytes

@@ -4,7 +4,7 @@ use Rattle.std.proofs.Common.{subst, append-nil, append_assoc}
 use Rattle.std.specs.Prelude.{⊤}
 use Rattle.kom_types.specs.declared.acts.Record.{Record}
 use Rattle.kom_links.specs.declared.deeds.Deed.{Deed}
-use Rattle.kom_links.specs.declared.desk.DeskFault.{DeskFault}
+use Rattle.kom_types.specs.declared.answers.NotMade.{NotMade}
 use Rattle.kom_links.specs.declared.link.Took.{Took}
 use Rattle.kom_links.specs.DeskCalls.{DeskView}
 use Rattle.kom_links.specs.Doors.{Gains}
@@ -43,7 +43,7 @@ pub written_then : {old mid new : Known} {from : List ℕ} {answer : Took}
     → IfWritten old from answer mid → IfStill mid new → IfWritten old from answer new
 written_then p q = λ now link writes. goes_trans (p now link writes) (q (record now { link = link }))
 
-pub flushed_then : {old mid new : Known} {answer : Result ⊤ DeskFault}
+pub flushed_then : {old mid new : Known} {answer : Result ⊤ NotMade}
     → IfFlushed old answer mid → IfStill mid new → IfFlushed old answer new
 flushed_then p q = λ now moment desk gave flushes gains.
     goes_trans (p now moment desk gave flushes gains) (q (seen desk now.link gave))
@@ -65,7 +65,7 @@ goes_link {known} {known'} {now} {link} same kept = record {
 
 -- the desk answered one deed more, with no record, or with one at a reading of the clock
 pub goes_answer : {known known' : Known} {now : Seen} {desk : DeskView}
-    (deed : Deed) (answer : Result ⊤ DeskFault)
+    (deed : Deed) (answer : Result ⊤ NotMade)
     → (known.session ≢ 0 → known'.session ≡ known.session) →
     desk.mine ≡ now.desk.mine → desk.answers ≡ now.desk.answers ++ (deed, answer) ∷ [] →
     ((start : Seen) → IsKept start known now → IsKept start known' (seen desk now.link now.gave))
@@ -82,7 +82,7 @@ goes_answer {known} {known'} {now} {desk} deed answer same mine tells kept = rec
 
 -- the same where the clock was read
 pub goes_refused : {known known' : Known} {now : Seen} {desk : DeskView} {gave : Option (List ℕ)}
-    (deed : Deed) (answer : Result ⊤ DeskFault) (moment : ℕ) → Gains now.gave moment gave
+    (deed : Deed) (answer : Result ⊤ NotMade) (moment : ℕ) → Gains now.gave moment gave
     → (known.session ≢ 0 → known'.session ≡ known.session) →
     desk.mine ≡ now.desk.mine → desk.answers ≡ now.desk.answers ++ (deed, answer) ∷ [] →
     ((start : Seen) → IsKept start known now → IsKept start known' (seen desk now.link gave))
@@ -100,7 +100,7 @@ goes_refused {known} {known'} {now} {desk} {gave} deed answer moment gains same 
 
 -- one record more, at that reading
 pub goes_record : {known known' : Known} {now : Seen} {desk : DeskView} {gave : Option (List ℕ)}
-    (deed : Deed) (answer : Result ⊤ DeskFault) (made : Record)
+    (deed : Deed) (answer : Result ⊤ NotMade) (made : Record)
     → Gains now.gave made.entry.moment gave
     → (known.session ≢ 0 → known'.session ≡ known.session) →
     desk.mine ≡ now.desk.mine ++ made ∷ []

@@ -3,7 +3,7 @@ use Rattle.std.proofs.Common.{◌≡◌, ◌≢◌, ℕ, List, [], ◌∷◌, �
 use Rattle.std.specs.Prelude.{⊤}
 use Rattle.kom_types.specs.declared.acts.Record.{Record}
 use Rattle.kom_links.specs.declared.deeds.Deed.{Deed}
-use Rattle.kom_links.specs.declared.desk.DeskFault.{DeskFault}
+use Rattle.kom_types.specs.declared.answers.NotMade.{NotMade}
 use Rattle.kom_links.specs.DeskCalls.{DeskView}
 use Rattle.kom_links.specs.Doors.{Gains}
 use Rattle.kom_session.specs.Kept.{IsKept, Goes, Leads}
@@ -27,7 +27,7 @@ leads_same {Held} {known} {known'} {now} same kept = record {
 
 -- the desk answered one deed more, with no record, as the clock was read
 pub leads_refused : {Held : Seen → Type 0} {known known' : Known} {now : Seen} {desk : DeskView}
-    {gave : Option (List ℕ)} (deed : Deed) (answer : Result ⊤ DeskFault) (moment : ℕ)
+    {gave : Option (List ℕ)} (deed : Deed) (answer : Result ⊤ NotMade) (moment : ℕ)
     → Gains now.gave moment gave → (known.session ≢ 0 → known'.session ≡ known.session) →
     desk.mine ≡ now.desk.mine → desk.answers ≡ now.desk.answers ++ (deed, answer) ∷ [] →
     ((start : Seen) → Held start → IsKept start known' (seen desk now.link gave))
@@ -45,7 +45,7 @@ leads_refused {Held} {known} {known'} {now} {desk} {gave} deed answer moment gai
 
 -- the same with one record more, at that reading
 pub leads_record : {Held : Seen → Type 0} {known known' : Known} {now : Seen} {desk : DeskView}
-    {gave : Option (List ℕ)} (deed : Deed) (answer : Result ⊤ DeskFault) (made : Record)
+    {gave : Option (List ℕ)} (deed : Deed) (answer : Result ⊤ NotMade) (made : Record)
     → Gains now.gave made.entry.moment gave
     → (known.session ≢ 0 → known'.session ≡ known.session) →
     desk.mine ≡ now.desk.mine ++ made ∷ []

@@ -1,8 +1,8 @@
 -- What a service left at its end.
 use Rattle.std.proofs.Common.{◌≡◌, ◌≢◌, ℕ, Bool, true, false, inl, inr, List, Option, Some, None, refl}
 use Rattle.kom_types.specs.declared.answers.Why.TheVariants as why
-use Rattle.kom_links.specs.declared.desk.DeskFault.{DeskFault}
-use Rattle.kom_links.specs.declared.desk.DeskFault.TheVariants as fault
+use Rattle.kom_types.specs.declared.answers.NotMade.{NotMade}
+use Rattle.kom_types.specs.declared.answers.NotMade.TheVariants as fault
 use Rattle.kom_links.specs.declared.served.SessionEnd.{SessionEnd}
 use Rattle.kom_links.specs.declared.served.SessionEnd.TheVariants as end
 use Rattle.kom_links.specs.Answers.{Answer}
@@ -19,7 +19,7 @@ use Rattle.kom_session.proofs.Ends.{Told}
 
 -- ---- the ends at which what waits was sent
 
-at_fault : (reason : DeskFault) (P : Type 0) → (IsSending (Some reason) → P)
+at_fault : (reason : NotMade) (P : Type 0) → (IsSending (Some reason) → P)
     → IfSending (end_at reason) P
 at_fault (fault.Gone why.Absent) P sends = tt
 at_fault (fault.Gone why.Dropped) P sends = sends tt
@@ -39,7 +39,7 @@ IfPlanned end.LinkFault P = Unit {0}
 IfPlanned (end.Full number) P = Unit {0}
 IfPlanned end.Memory P = Unit {0}
 
-sending_so : (risen : Bool) (planned : SessionEnd) (cause : Option DeskFault) (P : Type 0)
+sending_so : (risen : Bool) (planned : SessionEnd) (cause : Option NotMade) (P : Type 0)
     → IsPlanned planned → (planned ≡ end.LinkFault → risen ≡ true)
     → IfPlanned planned (IsSending cause → P) → IfSending (ending risen planned cause) P
 sending_so true planned cause P is_planned lost sends = tt
@@ -79,7 +79,7 @@ planned_so (end.Full number) reached P Q sent so = tt
 planned_so end.Memory reached P Q sent so = tt
 
 -- what was left, once the session was closed
-pub left_link : {start : Seen} {fed : List ℕ} {session : ℕ} {cause : Option DeskFault}
+pub left_link : {start : Seen} {fed : List ℕ} {session : ℕ} {cause : Option NotMade}
     {reached : Phase} {after : Seen} (risen : Bool) (planned : SessionEnd)
     (told : Told start fed session cause reached after (ending risen planned cause)) →
     IsPlanned planned → (planned ≡ end.LinkFault → risen ≡ true) → IsSent planned reached

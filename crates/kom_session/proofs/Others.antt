@@ -5,8 +5,8 @@ use Rattle.std.proofs.lemmas.List.Folds.{list_any-append}
 use Rattle.kom_types.specs.declared.acts.Act.TheVariants as act
 use Rattle.kom_types.specs.declared.acts.Record.{Record}
 use Rattle.kom_types.specs.declared.answers.Why.TheVariants as why
-use Rattle.kom_links.specs.declared.desk.DeskFault.{DeskFault}
-use Rattle.kom_links.specs.declared.desk.DeskFault.TheVariants as fault
+use Rattle.kom_types.specs.declared.answers.NotMade.{NotMade}
+use Rattle.kom_types.specs.declared.answers.NotMade.TheVariants as fault
 use Rattle.kom_links.specs.Outside.{LinkView}
 use Rattle.kom_links.specs.Records.{is_connect, is_close, has_connect, has_close, is_open}
 use Rattle.kom_links.specs.DeskCalls.{DeskView, record_of, AddsNoneOrShort, Flushes, AsksStopped}
@@ -67,7 +67,7 @@ puts_leaves session now bytes link puts = record {
   opened = λ number some other. refl;
 }
 
-pub stop_leaves : (session : ℕ) (now : Seen) (answer : Result Bool DeskFault) (desk : DeskView)
+pub stop_leaves : (session : ℕ) (now : Seen) (answer : Result Bool NotMade) (desk : DeskView)
     → AsksStopped now.desk answer desk → LeavesOthers session now (record now { desk = desk })
 stop_leaves session now answer desk asks = record {
   pass = asks.pass;
@@ -77,7 +77,7 @@ stop_leaves session now answer desk asks = record {
   opened = λ number some other. ap (is_open number) asks.mine;
 }
 
-flush_open : (old : DeskView) (moment : ℕ) (why : DeskFault) (new : DeskView)
+flush_open : (old : DeskView) (moment : ℕ) (why : NotMade) (new : DeskView)
     → AddsNoneOrShort old moment why new → (number : ℕ) → number ≢ 0
     → is_open number new.mine ≡ is_open number old.mine
 flush_open old moment (fault.Gone why.Stopped) new (inl same) number some = ap (is_open number) same
@@ -91,7 +91,7 @@ flush_open old moment (fault.Gone why.Overrun) new same number some = ap (is_ope
 flush_open old moment (fault.Full count) new same number some = ap (is_open number) same
 flush_open old moment fault.Memory new same number some = ap (is_open number) same
 
-flushed_open : {X : Type 0} (old : DeskView) (moment : ℕ) (answer : Result X DeskFault)
+flushed_open : {X : Type 0} (old : DeskView) (moment : ℕ) (answer : Result X NotMade)
     (new : DeskView) → Flushes old moment answer new → (number : ℕ) → number ≢ 0
     → is_open number new.mine ≡ is_open number old.mine
 flushed_open old moment (Ok done) new flushes number some =
@@ -102,7 +102,7 @@ flushed_open old moment (Err why) new flushes number some =
     flush_open old moment why new flushes.none_added number some
 
 pub flush_leaves : {X : Type 0} (session : ℕ) (now : Seen) (moment : ℕ)
-    (answer : Result X DeskFault) (desk : DeskView) (gave : Option (List ℕ))
+    (answer : Result X NotMade) (desk : DeskView) (gave : Option (List ℕ))
     → Flushes now.desk moment answer desk →
     LeavesOthers session now (seen desk now.link gave)
 flush_leaves session now moment answer desk gave flushes = record {

@@ -7,7 +7,7 @@ use Rattle.kom_types.specs.Stream.{Fault, stream_of}
 use Rattle.kom_types.specs.Reading.{place_of}
 use Rattle.kom_framing.specs.declared.units.Unit.{Unit as StreamUnit}
 use Rattle.kom_framing.specs.Splitting.{Splitting, IsAt, units_of}
-use Rattle.kom_links.specs.declared.desk.DeskFault.{DeskFault}
+use Rattle.kom_types.specs.declared.answers.NotMade.{NotMade}
 use Rattle.kom_links.specs.declared.link.Got.{Got}
 use Rattle.kom_links.specs.declared.link.Got.TheVariants as got
 use Rattle.kom_links.specs.declared.served.SessionEnd.{SessionEnd}
@@ -182,7 +182,7 @@ module _ {start : Seen} {past : Past} {known : Known} {now : Seen}
         cause = s.cause;
         unrefused = s.unrefused;
         since = λ some sending. absurd
-            (subst (λ (cause : Option DeskFault). IsSending cause) at.sound sending);
+            (subst (λ (cause : Option NotMade). IsSending cause) at.sound sending);
         others = others_trans s.others (record {
           pass = refl;
           host = reads.host;
@@ -350,7 +350,7 @@ ended_over known may buffer =
     let fed : List ℕ = past.fed ++ [] in
     record {
       plan =
-          subst (λ (cause : Option DeskFault). Plans end.End cause
+          subst (λ (cause : Option NotMade). Plans end.End cause
           (record { fed = fed; party = past.party })
           (record known { stage = stage.Over end.End })) (sym at.sound) (
             may.all_put,
@@ -358,7 +358,7 @@ ended_over known may buffer =
                 (sym (append-nil past.fed)) (sym may.calm) (whole s at may),
           );
       heard =
-          subst (λ (cause : Option DeskFault). IsHeard end.End cause start.link link)
+          subst (λ (cause : Option NotMade). IsHeard end.End cause start.link link)
           (sym at.sound) (reads.ended ∙ or_true now.link.ended);
       sent = subst (λ reached. IsAtRest reached) (sym may.calm) tt;
     })

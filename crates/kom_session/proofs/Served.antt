@@ -14,8 +14,8 @@ use Rattle.kom_types.specs.Reading.{Request}
 use Rattle.kom_framing.specs.Splitting.{Splitting}
 use Rattle.kom_links.specs.declared.deeds.Deed.{Deed}
 use Rattle.kom_links.specs.declared.deeds.Deed.TheVariants as deed
-use Rattle.kom_links.specs.declared.desk.DeskFault.{DeskFault}
-use Rattle.kom_links.specs.declared.desk.DeskFault.TheVariants as fault
+use Rattle.kom_types.specs.declared.answers.NotMade.{NotMade}
+use Rattle.kom_types.specs.declared.answers.NotMade.TheVariants as fault
 use Rattle.kom_links.specs.Answers.{Answer, said, said_stopped, is_nothing, concerns, refused}
 use Rattle.kom_links.specs.Outside.{Look, LinkView, grown}
 use Rattle.kom_links.specs.Records.{is_open, IsOpen}
@@ -181,7 +181,7 @@ served_known {start} {past} {known} {now} s splitting stage bad = record {
 -- A deed that concerns the session was answered, and added no record; and this phase was reached.
 pub record Answers {start : Seen} {past : Past} {known : Known} {now : Seen}
     (s : IsServed start past known now) (desk : DeskView) (deed : Deed)
-    (answer : Result ⊤ DeskFault) (reached : Phase) : Type 0 where
+    (answer : Result ⊤ NotMade) (reached : Phase) : Type 0 where
   pub mine : desk.mine ≡ now.desk.mine
   pub given : desk.gave_to known.session ≡ now.desk.gave_to known.session
   pub tells : desk.answers ≡ now.desk.answers ++ (deed, answer) ∷ []
@@ -193,7 +193,7 @@ pub record Answers {start : Seen} {past : Past} {known : Known} {now : Seen}
 
 pub served_still : {start : Seen} {past : Past} {known : Known} {now : Seen}
     (s : IsServed start past known now) (desk : DeskView) (gave : Option (List ℕ)) (deed : Deed)
-    (answer : Result ⊤ DeskFault) (reached : Phase) → Answers s desk deed answer reached
+    (answer : Result ⊤ NotMade) (reached : Phase) → Answers s desk deed answer reached
     → LeavesOthers known.session now (seen desk now.link gave)
     → IsServed start past
     (record known { cause = with_answer known.cause answer; phase = reached })
@@ -231,11 +231,11 @@ served_still {start} {past} {known} {now} s desk gave deed answer reached a leav
 -- The desk was asked whether it is stopped: the phase is kept, or, where a fault of a session is
 -- new, what waits is sent once more.
 pub served_asked : {start : Seen} {past : Past} {known : Known} {now : Seen}
-    → IsServed start past known now → (answer : Result Bool DeskFault) (desk : DeskView)
+    → IsServed start past known now → (answer : Result Bool NotMade) (desk : DeskView)
     → AsksStopped now.desk answer desk → with_answer known.cause (said_stopped answer) ≡ known.cause
     → IsServed start past known (seen desk now.link now.gave)
 served_asked {start} {past} {known} {now} s answer desk asks same =
-    subst (λ (cause : Option DeskFault). IsServed start past (record known { cause = cause })
+    subst (λ (cause : Option NotMade). IsServed start past (record known { cause = cause })
     (seen desk now.link now.gave)) same
     (served_still s desk now.gave deed.Ask (said_stopped answer) known.phase
     (record {
@@ -253,7 +253,7 @@ served_asked {start} {past} {known} {now} s answer desk asks same =
 
 -- the desk answered a question with a fault
 pub asked_fault : {start : Seen} {past : Past} {known : Known} {now : Seen}
-    → IsServed start past known now → (answer : Result Bool DeskFault) (fault : DeskFault)
+    → IsServed start past known now → (answer : Result Bool NotMade) (fault : NotMade)
     (desk : DeskView) → AsksStopped now.desk answer desk → said_stopped answer ≡ Err fault →
     (reached : Phase) → ((known.session ≢ 0) × (reached ≡ phase.Owing))
     ⊎ ((known.session ≡ 0) × (reached ≡ known.phase)) →
@@ -265,7 +265,7 @@ asked_fault {start} {past} {known} {now} s answer fault desk asks said reached w
       mine = asks.mine;
       given = asks.given known.session;
       tells = asks.answers
-          ∙ ap (λ (said : Result ⊤ DeskFault). now.desk.answers ++ (deed.Ask, said) ∷ []) said;
+          ∙ ap (λ (said : Result ⊤ NotMade). now.desk.answers ++ (deed.Ask, said) ∷ []) said;
       concerns = refl;
       calm = calm which;
       is_phase = is_phase which;
@@ -302,7 +302,7 @@ asked_fault {start} {past} {known} {now} s answer fault desk asks said reached w
 pub record Pushes {start : Seen} {past : Past} {known : Known} {now : Seen}
     (s : IsServed start past known now) (desk : DeskView) (gave : Option (List ℕ))
     (made : Record) (lists : List (List Item)) (step : Step) (deed : Deed)
-    (answer : Result ⊤ DeskFault) (reached : Phase) : Type 0 where
+    (answer : Result ⊤ NotMade) (reached : Phase) : Type 0 where
   pub mine : desk.mine ≡ now.desk.mine ++ made ∷ []
   pub given : desk.gave_to known.session ≡ now.desk.gave_to known.session ++ lists
   pub tells : desk.answers ≡ now.desk.answers ++ (deed, answer) ∷ []
@@ -318,7 +318,7 @@ pub push : {start : Seen} {known : Known} {now : Seen} (fed user : List ℕ)
     (requests requests' : List Request) (broken broken' : Bool) →
     (s : IsServed start (record { fed = fed; party = Somebody user requests broken }) known now)
     → (desk : DeskView) (gave : Option (List ℕ)) (made : Record) (lists : List (List Item))
-    (step : Step) (deed : Deed) (answer : Result ⊤ DeskFault) (reached : Phase) →
+    (step : Step) (deed : Deed) (answer : Result ⊤ NotMade) (reached : Phase) →
     Pushes s desk gave made lists step deed answer reached → (pending : List ℕ) →
     s.bytes ++ pending ≡ printed (desk.gave_to known.session) →
     IsSomebody start.link.host fed user requests' broken' known.session desk.mine
@@ -375,7 +375,7 @@ push {start} {known} {now} fed user requests requests' broken broken' s desk gav
 flush_more : {X : Type 0} {start : Seen} {known : Known} {now : Seen} (fed user : List ℕ)
     (requests : List Request) (broken : Bool)
     (s : IsServed start (record { fed = fed; party = Somebody user requests broken }) known now) →
-    (moment : ℕ) (answer : Result X DeskFault) (short : Bool) (desk : DeskView)
+    (moment : ℕ) (answer : Result X NotMade) (short : Bool) (desk : DeskView)
     (gave : Option (List ℕ)) → FlushesOf now.desk moment answer desk →
     desk.mine ≡ now.desk.mine ++ record_of now.desk.pass moment act.Flush 0 short ∷ []
     → (reached : Phase) → IsPhase reached s.waited s.place (s.recent ++ Flushes ∷ []) →
@@ -457,14 +457,14 @@ flush_made {X} {start} {past} {known} {now} s some moment done desk gave flushes
 -- a flush was refused: the session is only to be closed
 pub flush_refused : {X : Type 0} {start : Seen} {past : Past} {known : Known} {now : Seen}
     → IsServed start past known now → known.session ≢ 0 →
-    (moment : ℕ) (reason : DeskFault) (desk : DeskView) (gave : Option (List ℕ))
+    (moment : ℕ) (reason : NotMade) (desk : DeskView) (gave : Option (List ℕ))
     → FlushesOf {X = X} now.desk moment (Err reason) desk →
     IsServed start past (record known { cause = noted known.cause reason; phase = phase.Denied })
     (seen desk now.link gave)
 flush_refused {X} {start} {past} {known} {now} s some moment reason desk gave flushes =
     go past.party s reason flushes flushes.none_added
   where
-    still : (reason : DeskFault) → FlushesOf {X = X} now.desk moment (Err reason) desk
+    still : (reason : NotMade) → FlushesOf {X = X} now.desk moment (Err reason) desk
         → desk.mine ≡ now.desk.mine →
         IsServed start past
         (record known { cause = noted known.cause reason; phase = phase.Denied })
@@ -482,7 +482,7 @@ flush_refused {X} {start} {past} {known} {now} s some moment reason desk gave fl
         })
         (flush_leaves {X = X} known.session now moment (Err reason) desk gave flushes)
 
-    short : (reason : DeskFault) → FlushesOf {X = X} now.desk moment (Err reason) desk
+    short : (reason : NotMade) → FlushesOf {X = X} now.desk moment (Err reason) desk
         → desk.mine ≡ now.desk.mine ++ record_of now.desk.pass moment act.Flush 0 true ∷ [] →
         (party : Party)
         → (s : IsServed start (record { fed = past.fed; party = party }) known now) →
@@ -495,7 +495,7 @@ flush_refused {X} {start} {past} {known} {now} s some moment reason desk gave fl
         flushes mine phase.Denied tt
         (λ sending. refused_after known.session s.more deed.Flush reason refl)
 
-    go : (party : Party) → IsServed start past known now → (reason : DeskFault)
+    go : (party : Party) → IsServed start past known now → (reason : NotMade)
         → FlushesOf {X = X} now.desk moment (Err reason) desk
         → AddsNoneOrShort now.desk moment reason desk →
         IsServed start past
@@ -610,7 +610,7 @@ drained_none {X} {start} {past} {known} {now} s some draining moment done desk g
 -- a drain that was refused: the session is only to be closed
 pub drain_refused : {X : Type 0} {start : Seen} {past : Past} {known : Known} {now : Seen}
     (s : IsServed start past known now) → known.session ≢ 0 →
-    (moment : ℕ) (fault : DeskFault) (items : List Item) (desk : DeskView) (gave : Option (List ℕ))
+    (moment : ℕ) (fault : NotMade) (items : List Item) (desk : DeskView) (gave : Option (List ℕ))
     → DrainsOf {X = X} now.desk moment known.session items (Err fault) desk →
     IsServed start past (record known { cause = noted known.cause fault; phase = phase.Denied })
     (seen desk now.link gave)

@@ -2,7 +2,7 @@
 use Rattle.std.proofs.Common.{◌≡◌, ◌≢◌, ℕ, Bool, List, [], Option, Some, None, refl, sym, ◌∙◌, subst}
 use Rattle.kom_types.specs.Reading.{Request}
 use Rattle.kom_framing.specs.Splitting.{Splitting, IsAt}
-use Rattle.kom_links.specs.declared.desk.DeskFault.{DeskFault}
+use Rattle.kom_types.specs.declared.answers.NotMade.{NotMade}
 use Rattle.kom_links.specs.declared.served.SessionEnd.{SessionEnd}
 use Rattle.kom_links.specs.declared.served.SessionEnd.TheVariants as end
 use Rattle.kom_session.specs.declared.phase.Phase.{Phase}
@@ -31,12 +31,12 @@ keeps_trans p q = record {
 }
 
 -- a fault that was noted is one
-pub noted_some : (cause : Option DeskFault) (fault : DeskFault) → noted cause fault ≢ None
+pub noted_some : (cause : Option NotMade) (fault : NotMade) → noted cause fault ≢ None
 noted_some None fault = λ e. cc e
 noted_some (Some first) fault = λ e. cc e
 
 pub keeps_noted : (known : Known) → known.session ≢ 0
-    → (fault : DeskFault) (reached : Phase) (stage : Stage) →
+    → (fault : NotMade) (reached : Phase) (stage : Stage) →
     Keeps known (record known { cause = noted known.cause fault; phase = reached; stage = stage })
 keeps_noted known some fault reached stage =
     record {
@@ -46,7 +46,7 @@ keeps_noted known some fault reached stage =
       silent = λ none. absurd (some none);
     }
 
-final_later : (ending : SessionEnd) (cause cause' : Option DeskFault)
+final_later : (ending : SessionEnd) (cause cause' : Option NotMade)
     → (cause' ≡ None → cause ≡ None) → IsFinal ending cause → IsFinal ending cause'
 final_later end.End cause cause' first some = λ none. some (first none)
 final_later (end.Broken place) cause cause' first final = tt
@@ -69,7 +69,7 @@ last_later {past} {known} {ending} last known' keeps denied = record {
 }
 
 -- a session that the desk answered a fault
-plan_some : (cause : Option DeskFault) (past : Past) (known : Known) (user : List ℕ)
+plan_some : (cause : Option NotMade) (past : Past) (known : Known) (user : List ℕ)
     (requests : List Request) (broken : Bool) → past.party ≡ Somebody user requests broken
     → cause ≢ None → known.pending ≡ [] → Plans end.End cause past known
 plan_some None past known user requests broken party some nothing = absurd (some refl)
@@ -79,7 +79,7 @@ plan_some (Some why) past known user requests broken party some nothing =
 -- The desk answered a session that is not over a fault.
 pub fault_stage : {start : Seen} {past : Past} {known : Known} {now : Seen}
     → IsServed start past known now → known.session ≢ 0 → IsOn known.stage
-    → IsStage known.stage start past known now → (fault : DeskFault) (reached : Phase) (now' : Seen)
+    → IsStage known.stage start past known now → (fault : NotMade) (reached : Phase) (now' : Seen)
     → IsStage (after_fault known.stage) start past
     (record known {
       cause = noted known.cause fault;

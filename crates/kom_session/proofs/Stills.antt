@@ -1,6 +1,6 @@
 -- What a machine does where nothing happens outside.
 use Rattle.std.proofs.Common.{◌≡◌, ◌≢◌, [], Option, Some, None, refl, subst}
-use Rattle.kom_links.specs.declared.desk.DeskFault.{DeskFault}
+use Rattle.kom_types.specs.declared.answers.NotMade.{NotMade}
 use Rattle.kom_links.specs.declared.served.SessionEnd.{SessionEnd}
 use Rattle.kom_links.specs.declared.served.SessionEnd.TheVariants as end
 use Rattle.kom_links.specs.Outside.{LinkView}
@@ -24,7 +24,7 @@ memory_over known now = goes_link (λ some. refl) (λ start kept. record {
   stage = record { plan = tt; heard = tt; sent = tt };
 })
 
-final_heard : (ending : SessionEnd) (cause : Option DeskFault) (before after : LinkView)
+final_heard : (ending : SessionEnd) (cause : Option NotMade) (before after : LinkView)
     → IsFinal ending cause → IsHeard ending cause before after
 final_heard end.End None before after some = absurd (some refl)
 final_heard end.End (Some why) before after some = tt
@@ -36,7 +36,7 @@ final_heard end.LinkFault cause before after final = absurd final
 final_heard (end.Full number) cause before after final = absurd final
 final_heard end.Memory cause before after final = absurd final
 
-final_sent : (ending : SessionEnd) (cause : Option DeskFault) (reached : Phase)
+final_sent : (ending : SessionEnd) (cause : Option NotMade) (reached : Phase)
     → IsFinal ending cause → IsAtRest reached → IsSent ending reached
 final_sent end.End cause reached final rest = rest
 final_sent (end.Broken place) cause reached final rest = rest
@@ -47,7 +47,7 @@ final_sent end.LinkFault cause reached final rest = absurd final
 final_sent (end.Full number) cause reached final rest = absurd final
 final_sent end.Memory cause reached final rest = absurd final
 
-rest_calm : (reached : Phase) (cause : Option DeskFault) → IsAtRest reached
+rest_calm : (reached : Phase) (cause : Option NotMade) → IsAtRest reached
     → (reached ≡ phase.Denied → cause ≢ None) → cause ≡ None → reached ≡ phase.Calm
 rest_calm phase.Calm cause rest denied none = refl
 rest_calm (phase.Due lines) cause rest denied none = absurd rest

@@ -7,13 +7,13 @@ use Rattle.kom_types.specs.declared.answers.Why.TheVariants as why
 use Rattle.kom_types.specs.declared.items.Item.{Item}
 use Rattle.kom_types.specs.Reading.{fault_of}
 use Rattle.kom_links.specs.Outside.{Rose, LinkView, IsNothing}
-use Rattle.kom_links.specs.declared.desk.DeskFault.{DeskFault}
-use Rattle.kom_links.specs.declared.desk.DeskFault.TheVariants as fault
+use Rattle.kom_types.specs.declared.answers.NotMade.{NotMade}
+use Rattle.kom_types.specs.declared.answers.NotMade.TheVariants as fault
 use Rattle.kom_links.specs.declared.served.SessionEnd.{SessionEnd}
 use Rattle.kom_links.specs.declared.served.SessionEnd.TheVariants as end
 
 -- The desk's first fault gives the end; without one the link has ended, or its stream is at fault.
-abbrev pub IsEndOf : Option DeskFault → SessionEnd → Type 0
+abbrev pub IsEndOf : Option NotMade → SessionEnd → Type 0
 IsEndOf None end.End = Unit {0}
 IsEndOf None (end.Broken place) = Unit {0}
 IsEndOf None end.Overrun = ⊥
@@ -31,7 +31,7 @@ IsEndOf (Some fault.Memory) ending = ending ≡ end.Memory
 
 -- The cause of an end: a fault of the link goes before all; then the desk's first fault; that
 -- memory ran out is free.
-pub record HasCause (before after : ℕ) (fault : Option DeskFault) (ended : Bool)
+pub record HasCause (before after : ℕ) (fault : Option NotMade) (ended : Bool)
     (ending : SessionEnd) : Type 0 where
   pub link_fault : ending ≡ end.LinkFault → Rose before after
   pub rose : Rose before after → ending ≡ end.LinkFault
@@ -40,7 +40,7 @@ pub record HasCause (before after : ℕ) (fault : Option DeskFault) (ended : Boo
 
 -- A stream at fault is answered so, unless the link failed, the desk answered a fault, or memory
 -- ran out.
-abbrev pub TellsFault : ℕ → ℕ → Option DeskFault → List ℕ → SessionEnd → Type 0
+abbrev pub TellsFault : ℕ → ℕ → Option NotMade → List ℕ → SessionEnd → Type 0
 TellsFault before after fault input ending =
     (place : ℕ) → fault_of input ≡ Some place → (Rose before after → ⊥) → fault ≡ None
     → (ending ≡ end.Broken place) ⊎ (ending ≡ end.Memory)
@@ -66,7 +66,7 @@ abbrev pub given_to : ℕ → List (List Item) → List (List Item)
 given_to session given = elim (session == 0) [ true ↦ [] | false ↦ given ]
 
 -- the end of a service in which the desk answered this fault first
-abbrev pub end_at : DeskFault → SessionEnd
+abbrev pub end_at : NotMade → SessionEnd
 end_at (fault.Gone why.Absent) = end.Memory
 end_at (fault.Gone why.Dropped) = end.Dropped
 end_at (fault.Gone why.Overrun) = end.Overrun
@@ -76,7 +76,7 @@ end_at fault.Memory = end.Memory
 
 -- the end of a service that was to end so: the desk's first fault goes before all but that
 -- memory ran out
-abbrev pub ending_of : SessionEnd → Option DeskFault → SessionEnd
+abbrev pub ending_of : SessionEnd → Option NotMade → SessionEnd
 ending_of planned None = planned
 ending_of end.Memory (Some fault) = end.Memory
 ending_of end.End (Some fault) = end_at fault
@@ -88,6 +88,6 @@ ending_of end.LinkFault (Some fault) = end_at fault
 ending_of (end.Full number) (Some fault) = end_at fault
 
 -- the same, with whether the link failed
-abbrev pub ending : Bool → SessionEnd → Option DeskFault → SessionEnd
+abbrev pub ending : Bool → SessionEnd → Option NotMade → SessionEnd
 ending true planned cause = end.LinkFault
 ending false planned cause = ending_of planned cause

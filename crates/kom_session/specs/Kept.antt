@@ -10,7 +10,7 @@ use Rattle.kom_types.specs.Reading.{Request, place_of}
 use Rattle.kom_framing.specs.declared.units.Unit.{Unit as StreamUnit}
 use Rattle.kom_framing.specs.declared.units.Unit.TheVariants as unit
 use Rattle.kom_framing.specs.Splitting.{IsAt}
-use Rattle.kom_links.specs.declared.desk.DeskFault.{DeskFault}
+use Rattle.kom_types.specs.declared.answers.NotMade.{NotMade}
 use Rattle.kom_links.specs.declared.served.SessionEnd.{SessionEnd}
 use Rattle.kom_links.specs.declared.served.SessionEnd.TheVariants as end
 use Rattle.kom_links.specs.Answers.{Answer, asks_in}
@@ -202,13 +202,13 @@ IfWritten old from answer new = (now : Seen) (link : LinkView) → Writes now.li
     → Goes (state old now) (state new (record now { link = link }))
 
 -- Whatever was seen before, the desk was asked for a flush alone, at a reading of the clock.
-abbrev pub IfFlushed : Known → Result ⊤ DeskFault → Known → Type 0
+abbrev pub IfFlushed : Known → Result ⊤ NotMade → Known → Type 0
 IfFlushed old answer new = (now : Seen) (moment : ℕ) (desk : DeskView) (gave : Option (List ℕ))
     → Flushes now.desk moment answer desk → Gains now.gave moment gave
     → Goes (state old now) (state new (seen desk now.link gave))
 
 -- the desk was asked whether it is stopped alone
-abbrev pub IfAsked : Known → Result Bool DeskFault → Known → Type 0
+abbrev pub IfAsked : Known → Result Bool NotMade → Known → Type 0
 IfAsked old answer new = (now : Seen) (desk : DeskView) → AsksStopped now.desk answer desk
     → Goes (state old now) (state new (seen desk now.link now.gave))
 

@@ -5,8 +5,8 @@ use Rattle.kom_types.specs.declared.items.Item.{Item}
 use Rattle.kom_types.specs.Printing.{print_of}
 use Rattle.kom_framing.specs.Splitting.{Splitting}
 use Rattle.kom_types.specs.declared.answers.Why.TheVariants as why
-use Rattle.kom_links.specs.declared.desk.DeskFault.{DeskFault}
-use Rattle.kom_links.specs.declared.desk.DeskFault.TheVariants as fault
+use Rattle.kom_types.specs.declared.answers.NotMade.{NotMade}
+use Rattle.kom_types.specs.declared.answers.NotMade.TheVariants as fault
 use Rattle.kom_links.specs.declared.served.SessionEnd.TheVariants as end
 use Rattle.kom_links.specs.DeskCalls.{DeskView}
 use Rattle.kom_links.specs.Outside.{LinkView, grown}
@@ -25,7 +25,7 @@ pub record Known : Type 0 where
   pub splitting : Splitting
   pub pending : List ℕ
   pub session : ℕ
-  pub cause : Option DeskFault
+  pub cause : Option NotMade
   pub phase : Phase
   pub stage : Stage
   pub bad : Option ℕ
@@ -68,7 +68,7 @@ abbrev pub state : Known → Seen → State
 state known seen = record { known = known; seen = seen }
 
 -- the first fault that was answered, after this one
-abbrev pub noted : Option DeskFault → DeskFault → Option DeskFault
+abbrev pub noted : Option NotMade → NotMade → Option NotMade
 noted (Some first) fault = Some first
 noted None fault = Some fault
 
@@ -98,7 +98,7 @@ with_flush phase.Denied = phase.Denied
 
 -- The phase after a call was refused so: what waits is sent where it ended the session or found the
 -- server stopped.
-abbrev pub phase_after : DeskFault → Phase
+abbrev pub phase_after : NotMade → Phase
 phase_after (fault.Gone why.Absent) = phase.Denied
 phase_after (fault.Gone why.Dropped) = phase.Owing
 phase_after (fault.Gone why.Overrun) = phase.Denied

@@ -2,8 +2,8 @@
 use Rattle.std.specs.Prelude.{ℕ, ◌⊎◌, List, Option, Some, None, length, filter}
 use Rattle.kom_types.specs.declared.answers.Why.TheVariants as why
 use Rattle.kom_links.specs.Answers.{Answer, IsSettledAfter, HasRefused}
-use Rattle.kom_links.specs.declared.desk.DeskFault.{DeskFault}
-use Rattle.kom_links.specs.declared.desk.DeskFault.TheVariants as fault
+use Rattle.kom_types.specs.declared.answers.NotMade.{NotMade}
+use Rattle.kom_types.specs.declared.answers.NotMade.TheVariants as fault
 use Rattle.kom_links.specs.declared.served.SessionEnd.{SessionEnd}
 use Rattle.kom_links.specs.declared.served.SessionEnd.TheVariants as end
 use Rattle.kom_links.specs.Outside.{Look}
@@ -31,7 +31,7 @@ IfSending (end.Full number) P = Unit {0}
 IfSending end.Memory P = Unit {0}
 
 -- a fault after which what waits for the session is still sent
-abbrev pub IsSending : Option DeskFault → Type 0
+abbrev pub IsSending : Option NotMade → Type 0
 IsSending None = ⊥
 IsSending (Some (fault.Gone why.Absent)) = ⊥
 IsSending (Some (fault.Gone why.Dropped)) = Unit {0}

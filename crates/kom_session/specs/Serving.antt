@@ -10,7 +10,7 @@ use Rattle.kom_types.specs.Reading.{Request, reading_of, fault_of}
 use Rattle.kom_types.specs.Printing.{print_of}
 use Rattle.kom_framing.specs.declared.units.Unit.{Unit as StreamUnit}
 use Rattle.kom_framing.specs.declared.units.Unit.TheVariants as unit
-use Rattle.kom_links.specs.declared.desk.DeskFault.{DeskFault}
+use Rattle.kom_types.specs.declared.answers.NotMade.{NotMade}
 use Rattle.kom_links.specs.declared.served.Served.{Served}
 use Rattle.kom_links.specs.declared.served.SessionEnd.{SessionEnd}
 use Rattle.kom_links.specs.declared.served.SessionEnd.TheVariants as end
@@ -149,13 +149,13 @@ IsBroken place fed (Somebody user requests broken) reached =
 
 -- the desk answered this fault, without a session only where it may refuse a connect, or no
 -- greeting came
-abbrev pub IsRefused : DeskFault → List ℕ → Party → Type 0
+abbrev pub IsRefused : NotMade → List ℕ → Party → Type 0
 IsRefused why fed (Nobody told) =
     (told ≡ []) × (((stream_of fed).greeting ≡ None) ⊎ IsConnectFault why)
 IsRefused why fed (Somebody user requests broken) = Unit {0}
 
 -- The end that the loop gives, by the desk's first fault.
-abbrev pub Plans : SessionEnd → Option DeskFault → Past → Known → Type 0
+abbrev pub Plans : SessionEnd → Option NotMade → Past → Known → Type 0
 Plans end.End None past known = (known.pending ≡ []) × IsWhole past.fed past.party known.phase
 Plans end.End (Some why) past known = (known.pending ≡ []) × IsRefused why past.fed past.party
 Plans (end.Broken place) None past known =
@@ -170,7 +170,7 @@ Plans end.Stopped cause past known = ⊥
 Plans (end.Full number) cause past known = ⊥
 
 -- what an end says of the link: it failed, or it has ended, where the desk answered no fault
-abbrev pub IsHeard : SessionEnd → Option DeskFault → LinkView → LinkView → Type 0
+abbrev pub IsHeard : SessionEnd → Option NotMade → LinkView → LinkView → Type 0
 IsHeard end.End None before after = after.ended ≡ true
 IsHeard end.End (Some why) before after = Unit {0}
 IsHeard (end.Broken place) cause before after = Unit {0}
@@ -182,7 +182,7 @@ IsHeard end.Stopped cause before after = Unit {0}
 IsHeard (end.Full number) cause before after = Unit {0}
 
 -- an end before which what waits is sent: the desk answered a fault, or the stream is at fault
-abbrev pub IsFinal : SessionEnd → Option DeskFault → Type 0
+abbrev pub IsFinal : SessionEnd → Option NotMade → Type 0
 IsFinal end.End cause = cause ≢ None
 IsFinal (end.Broken place) cause = Unit {0}
 IsFinal end.LinkFault cause = ⊥

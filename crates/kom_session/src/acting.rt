@@ -18,8 +18,8 @@ use crate::machine::Machine;
 use crate::phase::{Phase, Stage, with_line};
 use kom_calls::{CallFault, read_call};
 use kom_framing::{Line, Unit};
-use kom_links::{Clock, Desk, DeskFault, Served, SessionEnd};
-use kom_types::{Bytes, Call, Item, Why, errors};
+use kom_links::{Clock, Desk, Served, SessionEnd};
+use kom_types::{Bytes, Call, Item, NotMade, Why, errors};
 
 impl Machine {
     /// Calls the next unit that is complete, for a peer at this host; or, where none is, tells that
@@ -240,11 +240,11 @@ impl Machine {
 
 /// The phase after a call was refused: what waits is sent where it ended the session or found the
 /// server stopped.
-fn phase_after(fault: DeskFault) -> Phase
+fn phase_after(fault: NotMade) -> Phase
     ensures { result ≡ phase_after fault }
 {
     match fault {
-        DeskFault::Gone(Why::Dropped | Why::Stopped) => Phase::Owing,
+        NotMade::Gone(Why::Dropped | Why::Stopped) => Phase::Owing,
         _ => Phase::Denied,
     }
 }

@@ -1,12 +1,12 @@
 ghost use Rattle.std.specs.Prelude.{◌≡◌};
 ghost use Rattle.kom_session.specs.Ends.{end_at, ending};
 
-use kom_links::{DeskFault, SessionEnd};
-use kom_types::Why;
+use kom_links::SessionEnd;
+use kom_types::{NotMade, Why};
 
 /// The end of a service that was to end so: a fault of the link goes before all, and the desk's
 /// first fault before all but out of memory.
-pub(crate) fn end_of(risen: bool, planned: SessionEnd, cause: Option<DeskFault>) -> SessionEnd
+pub(crate) fn end_of(risen: bool, planned: SessionEnd, cause: Option<NotMade>) -> SessionEnd
     ensures { result ≡ ending risen planned cause }
 {
     if risen {
@@ -22,15 +22,15 @@ pub(crate) fn end_of(risen: bool, planned: SessionEnd, cause: Option<DeskFault>)
 }
 
 /// The end of a service in which the desk answered this fault first.
-fn end_at(fault: DeskFault) -> SessionEnd
+fn end_at(fault: NotMade) -> SessionEnd
     ensures { result ≡ end_at fault }
 {
     match fault {
-        DeskFault::Gone(Why::Dropped) => SessionEnd::Dropped,
-        DeskFault::Gone(Why::Overrun) => SessionEnd::Overrun,
-        DeskFault::Gone(Why::Stopped) => SessionEnd::Stopped,
-        DeskFault::Gone(Why::Absent) => SessionEnd::Memory,
-        DeskFault::Full(number) => SessionEnd::Full(number),
-        DeskFault::Memory => SessionEnd::Memory,
+        NotMade::Gone(Why::Dropped) => SessionEnd::Dropped,
+        NotMade::Gone(Why::Overrun) => SessionEnd::Overrun,
+        NotMade::Gone(Why::Stopped) => SessionEnd::Stopped,
+        NotMade::Gone(Why::Absent) => SessionEnd::Memory,
+        NotMade::Full(number) => SessionEnd::Full(number),
+        NotMade::Memory => SessionEnd::Memory,
     }
 }

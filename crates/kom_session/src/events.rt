@@ -1,7 +1,7 @@
 //! What happened outside of a machine, told to it.
 ghost use Rattle.std.specs.Prelude.{◌≡◌, ◌≤◌, ℕ, List, length, take, drop, Bool, Result, Err};
 ghost use Rattle.std.specs.Prelude.{Option, ◌≢◌};
-ghost use Rattle.kom_links.specs.declared.desk.DeskFault.{DeskFault};
+ghost use Rattle.kom_types.specs.declared.answers.NotMade.{NotMade};
 ghost use Rattle.kom_links.specs.Answers.{said_stopped};
 ghost use Rattle.kom_links.specs.declared.link.Got.TheVariants as got;
 ghost use Rattle.kom_links.specs.declared.link.Took.{Took};
@@ -17,8 +17,8 @@ ghost use Rattle.kom_session.specs.Kept.{IfWritten, IfFlushed, IfAsked, IfStill,
 use crate::machine::Machine;
 use crate::phase::{Phase, Stage, after_fault, with_flush};
 use kom_framing::FeedRefusal;
-use kom_links::{DeskFault, SessionEnd};
-use kom_types::Why;
+use kom_links::SessionEnd;
+use kom_types::{NotMade, Why};
 
 impl Machine {
     /// A read gave this piece, the first bytes of its buffer.
@@ -94,7 +94,7 @@ impl Machine {
     }
 
     /// The desk was asked for a flush, and answered so.
-    pub fn flushed(&mut self, answer: Result<(), DeskFault>)
+    pub fn flushed(&mut self, answer: Result<(), NotMade>)
         requires on { IsOn (known self.old).stage }
         requires may { MayFlush (known self.old) }
         ensures { IfFlushed (known self.old) answer (known self.new) }
@@ -112,14 +112,14 @@ impl Machine {
     }
 
     /// The desk was asked whether it is stopped, and answered so.
-    pub fn asked(&mut self, answer: Result<bool, DeskFault>)
+    pub fn asked(&mut self, answer: Result<bool, NotMade>)
         requires on { IsOn (known self.old).stage }
         requires may { MayAsk (known self.old) }
         ensures { IfAsked (known self.old) answer (known self.new) }
     {
         match answer {
             Ok(false) => {}
-            Ok(true) => self.stop(DeskFault::Gone(Why::Stopped)),
+            Ok(true) => self.stop(NotMade::Gone(Why::Stopped)),
             Err(fault) => self.stop(fault),
         }
     }
@@ -133,7 +133,7 @@ impl Machine {
     {}
 
     /// Keeps the first fault that the desk answered.
-    pub(crate) fn note(&mut self, fault: DeskFault)
+    pub(crate) fn note(&mut self, fault: NotMade)
         ensures { known self.new ≡ record (known self.old) {
           cause = noted (known self.old).cause fault;
         } }
@@ -144,7 +144,7 @@ impl Machine {
     }
 
     /// The desk refused a flush or a drain.
-    pub(crate) fn deny(&mut self, fault: DeskFault)
+    pub(crate) fn deny(&mut self, fault: NotMade)
         ensures { known self.new ≡ record (known self.old) {
           cause = noted (known self.old).cause fault;
           phase = phase.Denied;
@@ -158,10 +158,10 @@ impl Machine {
 
     /// The server is stopped, or the desk answered a fault that is of no session: what waits is
     /// sent, once more where it is being sent already. Only the first fault counts.
-    fn stop(&mut self, fault: DeskFault)
+    fn stop(&mut self, fault: NotMade)
         requires on { IsOn (known self.old).stage }
         requires may { MayAsk (known self.old) }
-        ensures { (answer : Result Bool DeskFault) → said_stopped answer ≡ Err fault
+        ensures { (answer : Result Bool NotMade) → said_stopped answer ≡ Err fault
             → IfAsked (known self.old) answer (known self.new) }
     {
         if self.cause.is_some() {

@@ -10,8 +10,7 @@ ghost use Rattle.kom_session.specs.declared.phase.Stage.TheVariants as stage;
 use crate::phase::{Phase, Stage};
 use arrayvec::ArrayVec;
 use kom_framing::{Splitter, Writer};
-use kom_links::DeskFault;
-use kom_types::Item;
+use kom_types::{Item, NotMade};
 use std::alloc::Global;
 
 /// What a machine wants next.
@@ -45,7 +44,7 @@ pub struct Machine {
     // How many of the items were printed.
     pub(crate) printed: usize,
     pub(crate) session: u32,
-    pub(crate) cause: Option<DeskFault>,
+    pub(crate) cause: Option<NotMade>,
     pub(crate) phase: Phase,
     pub(crate) stage: Stage,
     // Where the stream is at fault, behind the units that are complete.

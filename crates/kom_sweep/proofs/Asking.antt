@@ -13,8 +13,8 @@ use Rattle.kom_types.specs.declared.items.Item.{Item}
 use Rattle.kom_types.specs.declared.replies.Reply.{Reply}
 use Rattle.kom_links.specs.declared.deeds.Deed.{Deed}
 use Rattle.kom_links.specs.declared.deeds.Deed.TheVariants as deed
-use Rattle.kom_links.specs.declared.desk.DeskFault.{DeskFault}
-use Rattle.kom_links.specs.declared.desk.DeskFault.TheVariants as fault
+use Rattle.kom_types.specs.declared.answers.NotMade.{NotMade}
+use Rattle.kom_types.specs.declared.answers.NotMade.TheVariants as fault
 use Rattle.kom_links.specs.Answers.{Answer, said, fault_in, is_nothing}
 use Rattle.kom_links.specs.DeskCalls.{DeskView, record_of, Calls, Drains, Flushes, Closes, AddsNoneOrShort, StaysForAll}
 use Rattle.kom_links.specs.DeskCalls.{ChangesAt}
@@ -52,7 +52,7 @@ one_act session moment x y made lists what mine own given tells gains at pass = 
 }
 
 -- one that was refused, and so is not there
-pub no_act : (session moment : ℕ) (x y : Seen) (what : Deed) (reason : DeskFault) → y.desk.mine ≡ x.desk.mine →
+pub no_act : (session moment : ℕ) (x y : Seen) (what : Deed) (reason : NotMade) → y.desk.mine ≡ x.desk.mine →
     StaysForAll x.desk.gave_to y.desk.gave_to → y.desk.answers ≡ x.desk.answers ++ (what, Err reason) ∷ [] →
     Gains x.gave moment y.gave → y.desk.pass ≡ x.desk.pass → Acted session [] [] (reason ∷ []) x y
 no_act session moment x y what reason mine given tells gains pass = record {
@@ -79,7 +79,7 @@ called session reference call moment x y value gains calls =
     calls.added.1 (record { by_pass = refl; of_session = inl refl })
     (stays session x.desk.gave_to y.desk.gave_to calls.given) calls.rest.tells gains refl calls.rest.pass
 
-pub not_called : {X : Type 0} (session reference : ℕ) (call : Call) (moment : ℕ) (x y : Seen) (reason : DeskFault) →
+pub not_called : {X : Type 0} (session reference : ℕ) (call : Call) (moment : ℕ) (x y : Seen) (reason : NotMade) →
     Gains x.gave moment y.gave → Calls {X = X} x.desk moment (act.Call session reference call) session (Err reason) y.desk →
     Acted session [] [] (reason ∷ []) x y
 not_called session reference call moment x y reason gains calls =
@@ -94,7 +94,7 @@ flushed session moment x y value gains flushes =
     (stays session x.desk.gave_to y.desk.gave_to flushes.given) flushes.tells gains refl flushes.pass
 
 -- a flush that is refused may be there
-short_act : (session moment : ℕ) (x y : Seen) (reason : DeskFault) →
+short_act : (session moment : ℕ) (x y : Seen) (reason : NotMade) →
     y.desk.mine ≡ x.desk.mine ++ record_of x.desk.pass moment act.Flush 0 true ∷ [] →
     StaysForAll x.desk.gave_to y.desk.gave_to → y.desk.answers ≡ x.desk.answers ++ (deed.Flush, Err reason) ∷ [] →
     Gains x.gave moment y.gave → y.desk.pass ≡ x.desk.pass → Acted session (act.Flush ∷ []) [] (reason ∷ []) x y
@@ -111,18 +111,18 @@ short_act session moment x y reason mine given tells gains pass = record {
   pass = pass;
 }
 
-pub not_flushed : {X : Type 0} (session moment : ℕ) (x y : Seen) (reason : DeskFault) → Gains x.gave moment y.gave →
+pub not_flushed : {X : Type 0} (session moment : ℕ) (x y : Seen) (reason : NotMade) → Gains x.gave moment y.gave →
     Flushes {X = X} x.desk moment (Err reason) y.desk →
     Acted session [] [] (reason ∷ []) x y ⊎ Acted session (act.Flush ∷ []) [] (reason ∷ []) x y
 not_flushed session moment x y reason gains flushes = by reason flushes.none_added flushes.tells
   where
-    none : (reason : DeskFault) → y.desk.mine ≡ x.desk.mine →
+    none : (reason : NotMade) → y.desk.mine ≡ x.desk.mine →
         y.desk.answers ≡ x.desk.answers ++ (deed.Flush, Err reason) ∷ [] →
         Acted session [] [] (reason ∷ []) x y ⊎ Acted session (act.Flush ∷ []) [] (reason ∷ []) x y
     none reason mine tells =
         inl (no_act session moment x y deed.Flush reason mine flushes.given tells gains flushes.pass)
 
-    by : (reason : DeskFault) → AddsNoneOrShort x.desk moment reason y.desk →
+    by : (reason : NotMade) → AddsNoneOrShort x.desk moment reason y.desk →
         y.desk.answers ≡ x.desk.answers ++ (deed.Flush, Err reason) ∷ [] →
         Acted session [] [] (reason ∷ []) x y ⊎ Acted session (act.Flush ∷ []) [] (reason ∷ []) x y
     by (fault.Gone why.Stopped) (inl mine) tells = none (fault.Gone why.Stopped) mine tells
@@ -142,7 +142,7 @@ drained session moment x y items value gains drains =
     (deed.Drain session (is_nothing items)) drains.added (record { by_pass = refl; of_session = inl refl })
     drains.given drains.rest.tells gains refl drains.rest.pass
 
-pub not_drained : {X : Type 0} (session moment : ℕ) (x y : Seen) (items : List Item) (reason : DeskFault) →
+pub not_drained : {X : Type 0} (session moment : ℕ) (x y : Seen) (items : List Item) (reason : NotMade) →
     Gains x.gave moment y.gave → Drains {X = X} x.desk moment session items (Err reason) y.desk →
     Acted session [] [] (reason ∷ []) x y
 not_drained session moment x y items reason gains drains =
@@ -152,7 +152,7 @@ not_drained session moment x y items reason gains drains =
 -- ---- all of it
 
 -- the call was refused
-pub stops_uncalled : (session : ℕ) (x y : Seen) (reason : DeskFault) → Acted session [] [] (reason ∷ []) x y →
+pub stops_uncalled : (session : ℕ) (x y : Seen) (reason : NotMade) → Acted session [] [] (reason ∷ []) x y →
     Stops session x y [] (reason ∷ [])
 stops_uncalled session x y reason refused = record {
   exchanges = [];
@@ -166,7 +166,7 @@ stops_uncalled session x y reason refused = record {
 }
 
 -- the flush was
-pub stops_unflushed : (session : ℕ) (call : Call) (x m y : Seen) (reason : DeskFault) →
+pub stops_unflushed : (session : ℕ) (call : Call) (x m y : Seen) (reason : NotMade) →
     Acted session (act.Call session x.next call ∷ []) [] [] x m →
     Acted session [] [] (reason ∷ []) m y ⊎ Acted session (act.Flush ∷ []) [] (reason ∷ []) m y →
     Stops session x y (told call None ∷ []) (reason ∷ [])
@@ -192,7 +192,7 @@ stops_unflushed session call x m y reason made (inr refused) = record {
 }
 
 -- the drain was
-pub stops_undrained : (session : ℕ) (call : Call) (x m n y : Seen) (reason : DeskFault) →
+pub stops_undrained : (session : ℕ) (call : Call) (x m n y : Seen) (reason : NotMade) →
     Acted session (act.Call session x.next call ∷ []) [] [] x m → Acted session (act.Flush ∷ []) [] [] m n →
     Acted session [] [] (reason ∷ []) n y → Stops session x y (told call None ∷ []) (reason ∷ [])
 stops_undrained session call x m n y reason made flushed refused = record {

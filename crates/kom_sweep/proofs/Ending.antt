@@ -15,8 +15,8 @@ use Rattle.kom_types.specs.declared.items.Item.{Item}
 use Rattle.kom_types.specs.declared.replies.Reply.{Reply}
 use Rattle.kom_types.specs.declared.replies.Reply.TheVariants as reply
 use Rattle.kom_links.specs.declared.deeds.Deed.TheVariants as deed
-use Rattle.kom_links.specs.declared.desk.DeskFault.{DeskFault}
-use Rattle.kom_links.specs.declared.desk.DeskFault.TheVariants as fault
+use Rattle.kom_types.specs.declared.answers.NotMade.{NotMade}
+use Rattle.kom_types.specs.declared.answers.NotMade.TheVariants as fault
 use Rattle.kom_links.specs.Answers.{Answer, first_of, fault_in}
 use Rattle.kom_links.specs.DeskCalls.{DeskView, record_of, Connects, Closes}
 use Rattle.kom_links.specs.Doors.{Gains}
@@ -39,15 +39,15 @@ use Rattle.kom_sweep.proofs.Asking.{one_act, no_act, stays}
 
 -- ---- the close
 
-abbrev closed_acts : {X : Type 0} → ℕ → Result X DeskFault → List Act
+abbrev closed_acts : {X : Type 0} → ℕ → Result X NotMade → List Act
 closed_acts session (Ok value) = act.Close session ∷ []
 closed_acts session (Err reason) = []
 
-abbrev pub closed_faults : {X : Type 0} → Result X DeskFault → List DeskFault
+abbrev pub closed_faults : {X : Type 0} → Result X NotMade → List NotMade
 closed_faults (Ok value) = []
 closed_faults (Err reason) = reason ∷ []
 
-closing : {X : Type 0} (session moment : ℕ) (x y : Seen) (closed : Result X DeskFault) → Gains x.gave moment y.gave →
+closing : {X : Type 0} (session moment : ℕ) (x y : Seen) (closed : Result X NotMade) → Gains x.gave moment y.gave →
     Closes x.desk moment session closed y.desk →
     Acted session (closed_acts session closed) [] (closed_faults closed) x y
 closing session moment x y (Ok value) gains closes =
@@ -66,7 +66,7 @@ full_number : (number : ℕ) → 2 ^ 62 ≤ number → nat_le (2 ^ 62) number �
 full_number number more = grind (arith, nat_tests)
 
 -- a close is refused only where no turn of the lock is left
-is_closing : {X : Type 0} (session moment : ℕ) (x y : DeskView) (closed : Result X DeskFault) →
+is_closing : {X : Type 0} (session moment : ℕ) (x y : DeskView) (closed : Result X NotMade) →
     Closes x moment session closed y → IsClosing session y (closed_acts session closed)
 is_closing session moment x y (Ok value) closes = inl refl
 is_closing session moment x y (Err (fault.Gone why)) closes = absurd closes.why
@@ -76,13 +76,13 @@ is_closing session moment x y (Err fault.Memory) closes = absurd closes.why
 
 -- ---- the whole session
 
-may_leave : (faults more : List DeskFault) (last : Last) → MayLeave faults last → MayLeave (faults ++ more) last
+may_leave : (faults more : List NotMade) (last : Last) → MayLeave faults last → MayLeave (faults ++ more) last
 may_leave (one ∷ faults) more last left = tt
 may_leave [] [] last left = left
 may_leave [] (one ∷ more) last left = tt
 
-pub session_of : {X : Type 0} {calls : List Told} {faults : List DeskFault} (moment session person : ℕ) (password : List ℕ)
-    (old : Seen) (v1 v2 v3 : DeskView) (g1 g2 g3 : Option (List ℕ)) (next later : ℕ) (closed : Result X DeskFault)
+pub session_of : {X : Type 0} {calls : List Told} {faults : List NotMade} (moment session person : ℕ) (password : List ℕ)
+    (old : Seen) (v1 v2 v3 : DeskView) (g1 g2 g3 : Option (List ℕ)) (next later : ℕ) (closed : Result X NotMade)
     (ending : SweepEnd) → Gains old.gave moment g1 → Connects old.desk moment user host (Ok session) v1 →
     Stops session (seen v1 g1 1) (seen v2 g2 next) calls faults → Gains g2 later g3 → Closes v2 later session closed v3 →
     AtEnd moment person password calls (first_of (faults ++ closed_faults closed)) ending →
@@ -124,18 +124,18 @@ session_of {X} {calls} {faults} moment session person password old v1 v2 v3 g1 g
       pass = all.pass ∙ connects.pass;
       numbered = stops.numbered;
       last_numbered = stops.last_numbered;
-      left = subst (λ (faults : List DeskFault). MayLeave faults stops.last) (sym all.faults)
+      left = subst (λ (faults : List NotMade). MayLeave faults stops.last) (sym all.faults)
           (may_leave faults (closed_faults closed) stops.last stops.left);
       closed = is_closing session later v2 v3 closed closes;
       ends = subst (λ (calls : List Told). AtEnd moment person password calls (first_of (faults_in all.answers)) ending)
           (sym stops.told)
-          (subst (λ (faults : List DeskFault). AtEnd moment person password calls (first_of faults) ending)
+          (subst (λ (faults : List NotMade). AtEnd moment person password calls (first_of faults) ending)
           (sym all.faults) ends);
     }
 
 -- ---- the ends
 
-at_fault : (moment person : ℕ) (password : List ℕ) (calls : List Told) (reason : DeskFault) →
+at_fault : (moment person : ℕ) (password : List ℕ) (calls : List Told) (reason : NotMade) →
     IsBrokenOff moment person password calls → AtEnd moment person password calls (Some reason) (end_at reason)
 at_fault moment person password calls (fault.Gone why) broken = (refl, broken)
 at_fault moment person password calls (fault.Full number) broken = (refl, broken)
@@ -171,7 +171,7 @@ works_broken moment person password calls (end.Full number) works = absurd works
 works_broken moment person password calls end.Memory works = absurd works
 
 pub ends_ok : {X : Type 0} (moment person : ℕ) (password : List ℕ) (calls : List Told) (ending : SweepEnd)
-    (closed : Result X DeskFault) → Works moment person password calls ending →
+    (closed : Result X NotMade) → Works moment person password calls ending →
     AtEnd moment person password calls (first_of (closed_faults closed)) (end_with (Ok ending) closed)
 ends_ok moment person password calls (end.Done swept kept) (Ok value) works = (refl, works)
 ends_ok moment person password calls (end.Refused code status) (Ok value) works = (refl, works)
@@ -182,7 +182,7 @@ ends_ok moment person password calls ending (Err reason) works =
     at_fault moment person password calls reason (works_broken moment person password calls ending works)
 
 pub ends_err : {X : Type 0} (moment person : ℕ) (password : List ℕ) (calls : List Told) (why : Cut)
-    (closed : Result X DeskFault) → IsBrokenOff moment person password calls →
+    (closed : Result X NotMade) → IsBrokenOff moment person password calls →
     AtEnd moment person password calls (first_of (faults_of why ++ closed_faults closed)) (end_with (Err why) closed)
 ends_err moment person password calls (cut.Desk reason) closed broken =
     at_fault moment person password calls reason broken
@@ -192,7 +192,7 @@ ends_err moment person password calls cut.Memory (Err reason) broken =
 
 -- ---- the sweep
 
-pub not_connected : (moment : ℕ) (old : Seen) (desk : DeskView) (gave : Option (List ℕ)) (reason : DeskFault)
+pub not_connected : (moment : ℕ) (old : Seen) (desk : DeskView) (gave : Option (List ℕ)) (reason : NotMade)
     (ending : SweepEnd) → Gains old.gave moment gave →
     Connects old.desk moment user host (Err reason) desk → ending ≡ end_at reason → IsNotConnected old desk gave ending
 not_connected moment old desk gave reason ending gains connects is = record {
@@ -206,7 +206,7 @@ not_connected moment old desk gave reason ending gains connects is = record {
 }
 
 pub swept : {X : Type 0} (moment session person : ℕ) (password : List ℕ) (old : Seen) (v1 v2 v3 : DeskView)
-    (g1 g2 g3 : Option (List ℕ)) (later : ℕ) (outcome : Result SweepEnd Cut) (closed : Result X DeskFault)
+    (g1 g2 g3 : Option (List ℕ)) (later : ℕ) (outcome : Result SweepEnd Cut) (closed : Result X NotMade)
     (ending : SweepEnd) → Gains old.gave moment g1 → Connects old.desk moment user host (Ok session) v1 →
     IfOk outcome (λ ending. (calls : List Told) × (next : ℕ) × Goes session (seen v1 g1 1) (seen v2 g2 next) calls
     × Works moment person password calls ending) →

@@ -8,7 +8,7 @@ use Rattle.std.proofs.lemmas.Grind.{flat_map-append}
 use Rattle.kom_types.specs.declared.acts.Act.{Act}
 use Rattle.kom_types.specs.declared.acts.Record.{Record}
 use Rattle.kom_types.specs.declared.items.Item.{Item}
-use Rattle.kom_links.specs.declared.desk.DeskFault.{DeskFault}
+use Rattle.kom_types.specs.declared.answers.NotMade.{NotMade}
 use Rattle.kom_links.specs.Answers.{Answer, fault_in}
 use Rattle.kom_sweep.specs.Told.{Told, Exchange, NoCall, Last, told_of, acts_of, told_last, acts_last, AreNumbered}
 use Rattle.kom_sweep.specs.Told.{next_reference}
@@ -17,7 +17,7 @@ use Rattle.kom_sweep.specs.Acting.{Seen, Acted, Goes, Stops, IsOwn, acts_in, fau
 use Rattle.kom_sweep.proofs.Lists.{all_on}
 use Rattle.kom_sweep.proofs.Times.{timed_on, timed_same}
 
-pub acted_on : {session : ℕ} {acts acts' : List Act} {given given' : List (List Item)} {faults faults' : List DeskFault}
+pub acted_on : {session : ℕ} {acts acts' : List Act} {given given' : List (List Item)} {faults faults' : List NotMade}
     (x y z : Seen) → Acted session acts given faults x y → Acted session acts' given' faults' y z →
     Acted session (acts ++ acts') (given ++ given') (faults ++ faults') x z
 acted_on {session} {given = given} {given' = given'} x y z one two = record {
@@ -85,7 +85,7 @@ goes_none session x = record {
   sound = tt;
 }
 
-pub stops_on : {session : ℕ} {calls calls' : List Told} {faults : List DeskFault} (x y z : Seen) → Goes session x y calls →
+pub stops_on : {session : ℕ} {calls calls' : List Told} {faults : List NotMade} (x y z : Seen) → Goes session x y calls →
     Stops session y z calls' faults → Stops session x z (calls ++ calls') faults
 stops_on {session} {calls} {calls'} {faults} x y z one two = record {
   exchanges = one.exchanges ++ two.exchanges;

@@ -8,8 +8,8 @@ use Rattle.kom_types.specs.declared.answers.Why.TheVariants as why
 use Rattle.kom_types.specs.declared.acts.Record.{Record}
 use Rattle.kom_types.specs.declared.calls.Call.{Call}
 use Rattle.kom_types.specs.declared.items.Item.{Item}
-use Rattle.kom_links.specs.declared.desk.DeskFault.{DeskFault}
-use Rattle.kom_links.specs.declared.desk.DeskFault.TheVariants as fault
+use Rattle.kom_types.specs.declared.answers.NotMade.{NotMade}
+use Rattle.kom_types.specs.declared.answers.NotMade.TheVariants as fault
 use Rattle.kom_links.specs.Records.{is_connect, is_close, has_connect, has_close, has_session, IsOpen}
 use Rattle.kom_links.specs.DeskCalls.{DeskView, Calls, Connects, Drains, Flushes, AddsNoneOrShort}
 
@@ -38,17 +38,17 @@ keeps : (session : ℕ) (mine new : List Record) → new ≡ mine → IsOpen ses
 keeps session mine new is h = subst (IsOpen session) (sym is) h
 
 pub open_called : {X : Type 0} (session reference : ℕ) (call : Call) (x y : DeskView) (moment : ℕ)
-    (answer : Result X DeskFault) → Calls x moment (act.Call session reference call) session answer y →
+    (answer : Result X NotMade) → Calls x moment (act.Call session reference call) session answer y →
     IsOpen session x.mine → IsOpen session y.mine
 open_called session reference call x y moment (Ok value) calls h = opens session x.mine y.mine _ refl calls.added.1 h
 open_called session reference call x y moment (Err fault) calls h = keeps session x.mine y.mine calls.rest.none_added h
 
 pub open_drained : {X : Type 0} (session : ℕ) (items : List Item) (x y : DeskView) (moment : ℕ)
-    (answer : Result X DeskFault) → Drains x moment session items answer y → IsOpen session x.mine → IsOpen session y.mine
+    (answer : Result X NotMade) → Drains x moment session items answer y → IsOpen session x.mine → IsOpen session y.mine
 open_drained session items x y moment (Ok value) drains h = opens session x.mine y.mine _ refl drains.added h
 open_drained session items x y moment (Err fault) drains h = keeps session x.mine y.mine drains.rest.none_added h
 
-short_or_none : (session : ℕ) (x y : DeskView) (moment : ℕ) (reason : DeskFault) → AddsNoneOrShort x moment reason y →
+short_or_none : (session : ℕ) (x y : DeskView) (moment : ℕ) (reason : NotMade) → AddsNoneOrShort x moment reason y →
     IsOpen session x.mine → IsOpen session y.mine
 short_or_none session x y moment (fault.Gone why.Stopped) (inl none) h = keeps session x.mine y.mine none h
 short_or_none session x y moment (fault.Gone why.Stopped) (inr short) h = opens session x.mine y.mine _ refl short h
@@ -58,7 +58,7 @@ short_or_none session x y moment (fault.Gone why.Overrun) none h = keeps session
 short_or_none session x y moment (fault.Full number) none h = keeps session x.mine y.mine none h
 short_or_none session x y moment fault.Memory none h = keeps session x.mine y.mine none h
 
-pub open_flushed : {X : Type 0} (session : ℕ) (x y : DeskView) (moment : ℕ) (answer : Result X DeskFault) →
+pub open_flushed : {X : Type 0} (session : ℕ) (x y : DeskView) (moment : ℕ) (answer : Result X NotMade) →
     Flushes x moment answer y → IsOpen session x.mine → IsOpen session y.mine
 open_flushed session x y moment (Ok value) flushes h = opens session x.mine y.mine _ refl flushes.added h
 open_flushed session x y moment (Err reason) flushes h = short_or_none session x y moment reason flushes.none_added h

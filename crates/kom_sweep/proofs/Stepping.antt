@@ -10,7 +10,7 @@ use Rattle.kom_types.specs.declared.conferences.Conference.{Conference}
 use Rattle.kom_types.specs.declared.calls.Call.TheVariants as call
 use Rattle.kom_types.specs.declared.replies.Reply.{Reply}
 use Rattle.kom_types.specs.declared.replies.Reply.TheVariants as reply
-use Rattle.kom_links.specs.declared.desk.DeskFault.{DeskFault}
+use Rattle.kom_types.specs.declared.answers.NotMade.{NotMade}
 use Rattle.kom_sweep.specs.declared.names.Names.{Names}
 use Rattle.kom_sweep.specs.Told.{Told, told, only_asks, IsAbout}
 use Rattle.kom_sweep.specs.Replies.{number_in, stat_in, conference_in, is_last_conference, is_refused}
@@ -140,7 +140,7 @@ deletes_step session i d swept later due answer refused x m y less (gone, names,
 )
 
 -- the next deletion is not made, or not answered
-pub deletes_end : {faults : List DeskFault} (session i d : ℕ) (due : List ℕ) (swept : ℕ) (x m y : Seen) → i < length due →
+pub deletes_end : {faults : List NotMade} (session i d : ℕ) (due : List ℕ) (swept : ℕ) (x m y : Seen) → i < length due →
     Deleted session x m (take i due) swept →
     ((calls : List Told) × IsAbout (call.DeleteText (get_or due i d)) calls × Stops session m y calls faults) →
     ((gone : List (ℕ × Option Reply)) × (rest : List ℕ) × (map (λ one. one.0) gone ++ rest ≡ due)

@@ -13,7 +13,7 @@ use Rattle.kom_types.specs.declared.calls.Call.{Call}
 use Rattle.kom_types.specs.declared.calls.Call.TheVariants as call
 use Rattle.kom_types.specs.declared.replies.Reply.{Reply}
 use Rattle.kom_types.specs.declared.replies.Reply.TheVariants as reply
-use Rattle.kom_links.specs.declared.desk.DeskFault.{DeskFault}
+use Rattle.kom_types.specs.declared.answers.NotMade.{NotMade}
 use Rattle.kom_sweep.specs.Told.{Told, told, asks, only_asks, IsAbout}
 use Rattle.kom_sweep.specs.Replies.{number_in, conference_in}
 use Rattle.kom_sweep.specs.Acting.{Seen, Goes, Stops}
@@ -58,14 +58,14 @@ none_texts (step ∷ steps) =
 -- ---- what is broken off
 
 -- calls that only ask, after which it is broken off
-pub breaks_on : {session : ℕ} {calls : List Told} {faults : List DeskFault} (x y z : Seen) → Goes session x y calls →
+pub breaks_on : {session : ℕ} {calls : List Told} {faults : List NotMade} (x y z : Seen) → Goes session x y calls →
     only_asks calls ≡ true → ((more : List Told) × (only_asks more ≡ true) × Stops session y z more faults) →
     ((more : List Told) × (only_asks more ≡ true) × Stops session x z more faults)
 breaks_on {session} {calls} {faults} x y z goes none (more, then_none, stops) =
     (calls ++ more, none_on calls more none then_none, stops_on x y z goes stops)
 
 -- the same of one call
-pub breaks_about : {session : ℕ} {faults : List DeskFault} (one : Call) (x y : Seen) → asks one ≡ true →
+pub breaks_about : {session : ℕ} {faults : List NotMade} (one : Call) (x y : Seen) → asks one ≡ true →
     ((calls : List Told) × IsAbout one calls × Stops session x y calls faults) →
     ((calls : List Told) × (only_asks calls ≡ true) × Stops session x y calls faults)
 breaks_about one x y e (calls, about, stops) = (calls, about_none one calls e about, stops)

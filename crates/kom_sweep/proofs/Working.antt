@@ -7,7 +7,7 @@ use Rattle.kom_types.specs.declared.calls.Call.TheVariants as call
 use Rattle.kom_types.specs.declared.errors.TheConstants.{OUT_OF_MEMORY}
 use Rattle.kom_types.specs.declared.replies.Reply.{Reply}
 use Rattle.kom_types.specs.declared.replies.Reply.TheVariants as reply
-use Rattle.kom_links.specs.declared.desk.DeskFault.{DeskFault}
+use Rattle.kom_types.specs.declared.answers.NotMade.{NotMade}
 use Rattle.kom_sweep.specs.declared.ends.SweepEnd.TheVariants as end
 use Rattle.kom_sweep.specs.Told.{Told, told, only_asks, IsAbout}
 use Rattle.kom_sweep.specs.Replies.{refusal_in, is_refused, is_short, has_code}
@@ -137,13 +137,13 @@ work_done session moment person password count swept kept next texts_due gone lo
 -- ---- what breaks off
 
 -- before anything is deleted
-pub broken_first : {faults : List DeskFault} (moment person session : ℕ) (password : List ℕ) (x y : Seen) →
+pub broken_first : {faults : List NotMade} (moment person session : ℕ) (password : List ℕ) (x y : Seen) →
     ((more : List Told) × HasAsked person password more × Stops session x y more faults) →
     ((all : List Told) × IsBrokenOff moment person password all × Stops session x y all faults)
 broken_first moment person session password x y (more, asked, stops) = (more, inl asked, stops)
 
 -- while texts are deleted
-pub broken_then : {faults : List DeskFault} (session moment person : ℕ) (password : List ℕ) (count : ℕ) (texts_due : List ℕ)
+pub broken_then : {faults : List NotMade} (session moment person : ℕ) (password : List ℕ) (count : ℕ) (texts_due : List ℕ)
     (x m y : Seen) → FindsDue session moment person password x m count texts_due →
     ((gone : List (ℕ × Option Reply)) × (rest : List ℕ) × (map (λ one. one.0) gone ++ rest ≡ texts_due)
     × Stops session m y (told_deletions gone) faults) →
@@ -156,7 +156,7 @@ broken_then session moment person password count texts_due x m y (found, is_foun
     )
 
 -- when all are
-pub broken_last : {faults : List DeskFault} (session moment person : ℕ) (password : List ℕ) (count : ℕ) (texts_due : List ℕ)
+pub broken_last : {faults : List NotMade} (session moment person : ℕ) (password : List ℕ) (count : ℕ) (texts_due : List ℕ)
     (gone : List (ℕ × Option Reply)) (x m n y : Seen) → FindsDue session moment person password x m count texts_due →
     map (λ one. one.0) gone ≡ texts_due → Goes session m n (told_deletions gone) →
     ((calls : List Told) × IsAbout call.Logout calls × Stops session n y calls faults) →
@@ -195,7 +195,7 @@ log_all session person password made login rights stable refusal x m n y is goes
 )
 
 -- it breaks off after the first call
-pub log_breaks : {faults : List DeskFault} (session person : ℕ) (password : List ℕ) (made : Call) (login : Option Reply)
+pub log_breaks : {faults : List NotMade} (session person : ℕ) (password : List ℕ) (made : Call) (login : Option Reply)
     (x m y : Seen) → made ≡ call.Login person password false → Goes session x m (told made login ∷ []) →
     ((calls : List Told) × (only_asks calls ≡ true) × Stops session m y calls faults) →
     ((calls : List Told) × HasAsked person password calls × Stops session x y calls faults)
@@ -206,7 +206,7 @@ log_breaks session person password made login x m y is goes (more, asks_more, st
 )
 
 -- or in it
-pub log_cut : {faults : List DeskFault} (session person : ℕ) (password : List ℕ) (made : Call) (x y : Seen) →
+pub log_cut : {faults : List NotMade} (session person : ℕ) (password : List ℕ) (made : Call) (x y : Seen) →
     made ≡ call.Login person password false →
     ((calls : List Told) × IsAbout made calls × Stops session x y calls faults) →
     ((calls : List Told) × HasAsked person password calls × Stops session x y calls faults)
@@ -231,14 +231,14 @@ login_asked person password calls more (entry, is, login, stable) asks_more = in
 )
 
 -- after the login, and after the conferences
-pub broken_names : {faults : List DeskFault} (session moment person : ℕ) (password : List ℕ) (x m y : Seen) →
+pub broken_names : {faults : List NotMade} (session moment person : ℕ) (password : List ℕ) (x m y : Seen) →
     ((calls : List Told) × Goes session x m calls × LogsIn person password calls None) →
     ((more : List Told) × (only_asks more ≡ true) × Stops session m y more faults) →
     ((all : List Told) × IsBrokenOff moment person password all × Stops session x y all faults)
 broken_names session moment person password x m y (calls, goes, login) (more, asks_more, stops) =
     (calls ++ more, inl (login_asked person password calls more login asks_more), stops_on x m y goes stops)
 
-pub broken_texts : {faults : List DeskFault} (session moment person : ℕ) (password : List ℕ) (x m n y : Seen) →
+pub broken_texts : {faults : List NotMade} (session moment person : ℕ) (password : List ℕ) (x m n y : Seen) →
     ((calls : List Told) × Goes session x m calls × LogsIn person password calls None) → (rooms : Walk Room) →
     Goes session m n (told_rooms rooms) →
     ((more : List Told) × (only_asks more ≡ true) × Stops session n y more faults) →

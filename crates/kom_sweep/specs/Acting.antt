@@ -5,7 +5,7 @@ use Rattle.kom_types.specs.declared.acts.Act.{Act}
 use Rattle.kom_types.specs.declared.acts.Act.TheVariants as act
 use Rattle.kom_types.specs.declared.acts.Record.{Record}
 use Rattle.kom_types.specs.declared.items.Item.{Item}
-use Rattle.kom_links.specs.declared.desk.DeskFault.{DeskFault}
+use Rattle.kom_types.specs.declared.answers.NotMade.{NotMade}
 use Rattle.kom_links.specs.Answers.{Answer, fault_in}
 use Rattle.kom_links.specs.DeskCalls.{DeskView, ChangesAt}
 use Rattle.kom_links.specs.Talk.{AreTimed}
@@ -29,7 +29,7 @@ abbrev pub acts_in : List Record → List Act
 acts_in records = map (λ made. made.entry.act) records
 
 -- the faults among answers, in order
-abbrev pub faults_in : List Answer → List DeskFault
+abbrev pub faults_in : List Answer → List NotMade
 faults_in answers = flat_map (λ one. fault_in one.1) answers
 
 -- a record of a pass: of this session, or a flush
@@ -40,7 +40,7 @@ pub record IsOwn (pass session : ℕ) (made : Record) : Type 0 where
 -- These acts of a session were made, and flushes, each at a moment that the clock gave for it; its
 -- drains gave these lists of items, and the desk refused with these faults.
 pub record Acted (session : ℕ) (done : List Act) (lists : List (List Item))
-    (refusals : List DeskFault) (old new : Seen) : Type 0 where
+    (refusals : List NotMade) (old new : Seen) : Type 0 where
   pub added : List Record
   pub answers : List Answer
   pub mine : new.desk.mine ≡ old.desk.mine ++ added
@@ -64,14 +64,14 @@ pub record Goes (session : ℕ) (old new : Seen) (calls : List Told) : Type 0 wh
   pub sound : AllByRecursion (λ one. is_short one.reply ≡ false) calls
 
 -- a call that was not drained is left by a fault alone
-abbrev pub MayLeave : List DeskFault → Last → Type 0
+abbrev pub MayLeave : List NotMade → Last → Type 0
 MayLeave [] last = last ≡ NoCall
 MayLeave (fault ∷ faults) last = Unit {0}
 
 -- A session made these calls, each flushed and drained before the next but for the last, and does
 -- not go on: the desk refused with these faults, one or none.
 pub record Stops (session : ℕ) (old new : Seen) (calls : List Told)
-    (faults : List DeskFault) : Type 0 where
+    (faults : List NotMade) : Type 0 where
   pub exchanges : List Exchange
   pub last : Last
   pub next : ℕ
@@ -83,7 +83,7 @@ pub record Stops (session : ℕ) (old new : Seen) (calls : List Told)
   pub left : MayLeave faults last
 
 -- why it does not go on
-abbrev pub faults_of : Cut → List DeskFault
+abbrev pub faults_of : Cut → List NotMade
 faults_of (cut.Desk fault) = fault ∷ []
 faults_of cut.Memory = []
 

@@ -11,8 +11,8 @@ use Rattle.kom_types.specs.declared.items.Item.{Item}
 use Rattle.kom_types.specs.declared.replies.Reply.{Reply}
 use Rattle.kom_types.specs.declared.replies.Reply.TheVariants as reply
 use Rattle.kom_links.specs.declared.deeds.Deed.TheVariants as deed
-use Rattle.kom_links.specs.declared.desk.DeskFault.{DeskFault}
-use Rattle.kom_links.specs.declared.desk.DeskFault.TheVariants as fault
+use Rattle.kom_types.specs.declared.answers.NotMade.{NotMade}
+use Rattle.kom_types.specs.declared.answers.NotMade.TheVariants as fault
 use Rattle.kom_links.specs.Answers.{Answer, first_of}
 use Rattle.kom_links.specs.DeskCalls.{DeskView, StaysForAll, ChangesAt}
 use Rattle.kom_links.specs.Doors.{GivesFirst}
@@ -117,7 +117,7 @@ IsBrokenOff moment person password calls =
 -- ---- the ends
 
 -- What an end says of the calls, and of the first fault with which the desk refused, if it did.
-abbrev pub AtEnd : ℕ → ℕ → List ℕ → List Told → Option DeskFault → SweepEnd → Type 0
+abbrev pub AtEnd : ℕ → ℕ → List ℕ → List Told → Option NotMade → SweepEnd → Type 0
 AtEnd moment person password calls cause (end.Done swept kept) =
     (cause ≡ None) × IsSwept moment person password calls swept kept
 AtEnd moment person password calls cause (end.Refused code status) =
@@ -137,7 +137,7 @@ IsClosing session desk closing =
 -- no session was connected, and that is the end
 pub record IsNotConnected (old : Seen) (desk : DeskView) (gave : Option (List ℕ))
     (ending : SweepEnd) : Type 0 where
-  pub why : DeskFault
+  pub why : NotMade
   pub mine : desk.mine ≡ old.desk.mine
   pub given : StaysForAll old.desk.gave_to desk.gave_to
   pub tells : desk.answers ≡ old.desk.answers ++ (deed.Connect, Err why) ∷ []

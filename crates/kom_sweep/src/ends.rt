@@ -1,5 +1,4 @@
-use kom_links::DeskFault;
-use kom_types::{Memory, Why};
+use kom_types::{Memory, NotMade, Why};
 
 /// What a sweep came to.
 #[derive(Clone, Copy, Debug, PartialEq, Eq)]
@@ -25,7 +24,7 @@ pub enum SweepEnd {
 #[derive(Clone, Copy, Debug)]
 pub(crate) enum Cut {
     /// The desk did not make an act.
-    Desk(DeskFault),
+    Desk(NotMade),
     /// Memory ran out, here or for a call.
     Memory,
 }
@@ -46,18 +45,18 @@ impl SweepEnd {
     ghost use Rattle.kom_sweep.specs.Ends.{end_at, end_with};
 
     /// What a sweep comes to for which the desk did not make an act.
-    pub(crate) fn at(fault: DeskFault) -> SweepEnd
+    pub(crate) fn at(fault: NotMade) -> SweepEnd
         ensures { result ≡ end_at fault }
     {
         match fault {
-            DeskFault::Gone(why) => SweepEnd::Gone(why),
-            DeskFault::Full(number) => SweepEnd::Full(number),
-            DeskFault::Memory => SweepEnd::Memory,
+            NotMade::Gone(why) => SweepEnd::Gone(why),
+            NotMade::Full(number) => SweepEnd::Full(number),
+            NotMade::Memory => SweepEnd::Memory,
         }
     }
 
     /// The same, if it came so far without a fault; else what it came to before.
-    pub(crate) fn then(outcome: Result<SweepEnd, Cut>, closed: Result<(), DeskFault>) -> SweepEnd
+    pub(crate) fn then(outcome: Result<SweepEnd, Cut>, closed: Result<(), NotMade>) -> SweepEnd
         ensures { result ≡ end_with outcome closed }
     {
         match outcome {
@@ -68,7 +67,7 @@ impl SweepEnd {
     }
 
     /// The same, unless its session was not closed.
-    fn unless(self, closed: Result<(), DeskFault>) -> SweepEnd
+    fn unless(self, closed: Result<(), NotMade>) -> SweepEnd
         ensures { result ≡ end_with (Ok self) closed }
     {
         match closed {

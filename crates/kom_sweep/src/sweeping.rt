@@ -13,8 +13,8 @@ use crate::looking::{Judge, find_due};
 use crate::replies::{forget, is_refused, refusal_of};
 use crate::talk::Talk;
 use crate::visiting::ask_names;
-use kom_links::{Clock, Desk, DeskFault};
-use kom_types::{Boxed, Bytes, Call, LoginPassword, Memory, Moment};
+use kom_links::{Clock, Desk};
+use kom_types::{Boxed, Bytes, Call, LoginPassword, Memory, Moment, NotMade};
 use std::alloc::Global;
 
 /// Deletes the texts of a desk that nobody keeps any more, by one session of a person who may use

@@ -4,8 +4,9 @@ ghost use Rattle.kom_talk.specs.Conversations.{IsKeptUp, IsServedLink};
 ghost use Rattle.kom_talk.specs.Going.{kept_on, talks_on};
 
 use kom_hub::Converse;
-use kom_links::{Clock, Desk, DeskFault, Link, SessionEnd, has_risen};
+use kom_links::{Clock, Desk, Link, SessionEnd, has_risen};
 use kom_session::{Machine, Wants};
+use kom_types::NotMade;
 use std::alloc::Global;
 
 /// A conversation with a client, served by a machine. A turn in which nothing is to be done calls
@@ -87,11 +88,11 @@ impl Converse for Conversation {
         self.machine.may_ask()
     }
 
-    fn flushed(&mut self, answer: Result<(), DeskFault>) {
+    fn flushed(&mut self, answer: Result<(), NotMade>) {
         self.machine.flushed(answer);
     }
 
-    fn asked(&mut self, answer: Result<bool, DeskFault>) {
+    fn asked(&mut self, answer: Result<bool, NotMade>) {
         self.machine.asked(answer);
     }
 

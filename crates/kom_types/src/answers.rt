@@ -14,13 +14,24 @@ pub enum Why {
     Absent,
 }
 
-/// Why an act is not made.
+/// What refuses an act.
 #[derive(Clone, Copy, Debug, PartialEq, Eq)]
 pub enum Refusal {
     /// Its session is served no longer, or the server is not.
     Gone(Why),
     /// This many were made already.
     Full(u64),
+}
+
+/// Why an act is not made.
+#[derive(Clone, Copy, Debug, PartialEq, Eq)]
+pub enum NotMade {
+    /// Its session is served no longer, or the server is not.
+    Gone(Why),
+    /// This many were made already: sessions, or turns of the server's lock.
+    Full(u64),
+    /// Memory ran out.
+    Memory,
 }
 
 /// What an act is answered.

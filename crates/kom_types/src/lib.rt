@@ -34,7 +34,7 @@ mod texts;
 mod times;
 
 pub use acts::{Act, Entry, Record};
-pub use answers::{Answer, Refusal, Why};
+pub use answers::{Answer, NotMade, Refusal, Why};
 pub use aux_items::{Adder, AuxChange, AuxInput, AuxInputs, AuxRow, AuxRows, ItemRow, Object};
 pub use boxed::Boxed;
 pub use byte_kind::{ByteKind, kind_of_byte};

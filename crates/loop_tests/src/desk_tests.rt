@@ -3,18 +3,18 @@ ghost use Rattle.std.specs.Prelude.{ℕ, IfOk};
 ghost use Rattle.kom_links.specs.Records.{IsOpen};
 
 use arrayvec::ArrayVec;
-use kom_links::{Desk, DeskFault};
-use kom_types::{Call, Item, Moment, Reply, Why};
+use kom_links::Desk;
+use kom_types::{Call, Item, Moment, NotMade, Reply, Why};
 use memory_links::{DeskPlan, MemoryDesk};
 use std::alloc::{AllocError, Global};
 use std::process::Abort;
 use std::test::Fail;
 
-const DROPPED: DeskFault = DeskFault::Gone(Why::Dropped);
+const DROPPED: NotMade = NotMade::Gone(Why::Dropped);
 
-const STOPPED: DeskFault = DeskFault::Gone(Why::Stopped);
+const STOPPED: NotMade = NotMade::Gone(Why::Stopped);
 
-const LOCK_FULL: DeskFault = DeskFault::Full(1 << 62);
+const LOCK_FULL: NotMade = NotMade::Full(1 << 62);
 
 /// What a desk is asked for at a session.
 #[derive(Clone, Copy)]
@@ -28,13 +28,13 @@ enum Asked {
 
 /// Whether the second of two sessions asks, what it asks for, and a letter for each item that it is
 /// given, or the fault.
-type Row = (bool, Asked, Result<&'static [u8], DeskFault>);
+type Row = (bool, Asked, Result<&'static [u8], NotMade>);
 
 static ROWS: [Row; 10] = [
     (false, Asked::Call(5), Ok(b"")),
     (false, Asked::Call(6), Err(DROPPED)),
     (true, Asked::Broken, Ok(b"")),
-    (false, Asked::Flush, Err(DeskFault::Memory)),
+    (false, Asked::Flush, Err(NotMade::Memory)),
     (false, Asked::Flush, Ok(b"")),
     (false, Asked::Drain, Ok(b"")),
     (false, Asked::Drain, Ok(b"H\x05")),
@@ -53,7 +53,7 @@ fn desk_of(alloc: Global) -> Result<MemoryDesk, Fail> {
             (1, STOPPED),
             (2, DROPPED),
             (5, DROPPED),
-            (7, DeskFault::Memory),
+            (7, NotMade::Memory),
             (14, LOCK_FULL),
         ],
     )?;
@@ -78,7 +78,7 @@ fn letter_of(item: &Item, session: u32) -> u8 {
 }
 
 /// Connects a session.
-fn connect(desk: &mut MemoryDesk) -> Result<u32, DeskFault>
+fn connect(desk: &mut MemoryDesk) -> Result<u32, NotMade>
     ensures opened { IfOk result (λ session.
         IsOpen session (⟦<MemoryDesk as Desk>⟧.view desk.new).mine) }
     ensures kept { (session : ℕ) → IsOpen session (⟦<MemoryDesk as Desk>⟧.view desk.old).mine →
@@ -93,7 +93,7 @@ fn ask(
     desk: &mut MemoryDesk,
     session: u32,
     asked: Asked,
-) -> Result<Result<Vec<u8>, DeskFault>, AllocError>
+) -> Result<Result<Vec<u8>, NotMade>, AllocError>
     requires { IsOpen session (⟦<MemoryDesk as Desk>⟧.view desk.old).mine }
     ensures { (session : ℕ) → IsOpen session (⟦<MemoryDesk as Desk>⟧.view desk.old).mine →
         IsOpen session (⟦<MemoryDesk as Desk>⟧.view desk.new).mine }
@@ -121,7 +121,7 @@ fn ask(
 }
 
 /// What an act is answered that gives no item.
-fn no_letters(alloc: Global, answer: Result<(), DeskFault>) -> Result<Vec<u8>, DeskFault> {
+fn no_letters(alloc: Global, answer: Result<(), NotMade>) -> Result<Vec<u8>, NotMade> {
     match answer {
         Ok(()) => Ok(Vec::new(alloc)),
         Err(fault) => Err(fault),
@@ -131,10 +131,10 @@ fn no_letters(alloc: Global, answer: Result<(), DeskFault>) -> Result<Vec<u8>, D
 /// What a drain is answered, with the letters of the items.
 fn letters_of(
     alloc: Global,
-    answer: Result<(), DeskFault>,
+    answer: Result<(), NotMade>,
     items: &[Item],
     session: u32,
-) -> Result<Result<Vec<u8>, DeskFault>, AllocError> {
+) -> Result<Result<Vec<u8>, NotMade>, AllocError> {
     match answer {
         Ok(()) => {
             let mut letters = Vec::new(alloc);

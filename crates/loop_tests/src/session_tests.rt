@@ -2,9 +2,9 @@
 ghost use Rattle.std.specs.Prelude.{◌≡◌, [], None, IfOk};
 ghost use Rattle.kom_session.specs.Ends.{IsUntouched};
 
-use kom_links::{Desk, DeskFault, Got, Link, Served, SessionEnd, Took};
+use kom_links::{Desk, Got, Link, Served, SessionEnd, Took};
 use kom_session::serve_link;
-use kom_types::{Act, Moment, Record, Why};
+use kom_types::{Act, Moment, NotMade, Record, Why};
 use memory_links::{DeskPlan, LinkPlan, MemoryClock, MemoryDesk, MemoryLink, Script};
 use std::alloc::Global;
 use std::process::Abort;
@@ -23,11 +23,11 @@ const FAULTY: &[u8] = b"A5Hceder\n1 +5\n";
 
 const TOLD: &[u8] = b"LysKOM\n%%Protocol error.\n";
 
-const OVERRUN: DeskFault = DeskFault::Gone(Why::Overrun);
+const OVERRUN: NotMade = NotMade::Gone(Why::Overrun);
 
-const DROPPED: DeskFault = DeskFault::Gone(Why::Dropped);
+const DROPPED: NotMade = NotMade::Gone(Why::Dropped);
 
-const STOPPED: DeskFault = DeskFault::Gone(Why::Stopped);
+const STOPPED: NotMade = NotMade::Gone(Why::Stopped);
 
 const MOST_SESSIONS: u64 = 4_294_967_295;
 
@@ -54,7 +54,7 @@ struct Row {
     stops: u64,
     lock_ends: u64,
     // The numbers of the acts that are refused, each with its fault.
-    refusals: &'static [(u64, DeskFault)],
+    refusals: &'static [(u64, NotMade)],
     session: u32,
     // The letters of the acts that are made, where they are looked at.
     made: Option<&'static [u8]>,
@@ -273,13 +273,13 @@ static DESK_FAULTS: [Row; 21] = [
         ..UNANSWERED
     },
     Row {
-        refusals: &[(1, DeskFault::Full(MOST_SESSIONS))],
+        refusals: &[(1, NotMade::Full(MOST_SESSIONS))],
         session: 0,
         end: SessionEnd::Full(MOST_SESSIONS),
         ..UNANSWERED
     },
     Row {
-        refusals: &[(1, DeskFault::Memory)],
+        refusals: &[(1, NotMade::Memory)],
         session: 0,
         end: SessionEnd::Memory,
         ..UNANSWERED
@@ -307,12 +307,12 @@ static DESK_FAULTS: [Row; 21] = [
         ..UNANSWERED
     },
     Row {
-        refusals: &[(2, DeskFault::Full(LOCK_FULL))],
+        refusals: &[(2, NotMade::Full(LOCK_FULL))],
         end: SessionEnd::Full(LOCK_FULL),
         ..UNANSWERED
     },
     Row {
-        refusals: &[(2, DeskFault::Memory)],
+        refusals: &[(2, NotMade::Memory)],
         end: SessionEnd::Memory,
         ..UNANSWERED
     },
@@ -322,7 +322,7 @@ static DESK_FAULTS: [Row; 21] = [
         ..UNANSWERED
     },
     Row {
-        refusals: &[(3, DeskFault::Memory)],
+        refusals: &[(3, NotMade::Memory)],
         end: SessionEnd::Memory,
         ..UNANSWERED
     },
@@ -338,7 +338,7 @@ static DESK_FAULTS: [Row; 21] = [
         ..UNANSWERED
     },
     Row {
-        refusals: &[(6, DeskFault::Full(LOCK_FULL))],
+        refusals: &[(6, NotMade::Full(LOCK_FULL))],
         put: ANSWERS,
         end: SessionEnd::Full(LOCK_FULL),
         ..UNANSWERED
@@ -359,7 +359,7 @@ static DESK_FAULTS: [Row; 21] = [
         ..LINE_AT_FAULT
     },
     Row {
-        refusals: &[(3, DeskFault::Memory)],
+        refusals: &[(3, NotMade::Memory)],
         put: b"",
         end: SessionEnd::Memory,
         ..LINE_AT_FAULT
@@ -373,7 +373,7 @@ static DESK_FAULTS: [Row; 21] = [
     },
     // A fault of the link goes before one of the desk.
     Row {
-        refusals: &[(5, DeskFault::Full(LOCK_FULL))],
+        refusals: &[(5, NotMade::Full(LOCK_FULL))],
         write_fails: 1,
         made: Some(b"Ccfd"),
         end: SessionEnd::LinkFault,

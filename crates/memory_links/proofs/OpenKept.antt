@@ -6,8 +6,8 @@ use Rattle.kom_types.specs.declared.acts.Act.TheVariants as act
 use Rattle.kom_types.specs.declared.acts.Record.{Record}
 use Rattle.kom_types.specs.declared.answers.Why.TheVariants as why
 use Rattle.kom_types.specs.declared.items.Item.{Item}
-use Rattle.kom_links.specs.declared.desk.DeskFault.{DeskFault}
-use Rattle.kom_links.specs.declared.desk.DeskFault.TheVariants as fault
+use Rattle.kom_types.specs.declared.answers.NotMade.{NotMade}
+use Rattle.kom_types.specs.declared.answers.NotMade.TheVariants as fault
 use Rattle.kom_links.specs.DeskCalls.{DeskView, Connects, Acts, Calls, Drains, Flushes, AddsNoneOrShort, record_of}
 use Rattle.kom_links.specs.Records.{IsOpen, is_open, has_session}
 use Rattle.memory_links.specs.Standing.{IsBetween}
@@ -22,7 +22,7 @@ kept_more : (old new : List Record) (made : Record) (n : ℕ) → IsBetween made
 kept_more old new made n between added here = ap (is_open n) added ∙ open_between n old made between ∙ here
 
 pub kept_acts : {X : Type 0} {old new : DeskView} {moment : ℕ} {what : Act} {session : ℕ}
-    (answer : Result X DeskFault) →
+    (answer : Result X NotMade) →
     Acts old moment what session answer new → IsBetween what → (n : ℕ) → IsOpen n old.mine → IsOpen n new.mine
 kept_acts {old = old} {new = new} {moment = moment} {what = what} {session = session} (Ok value) acts between n here =
     kept_more old.mine new.mine (record_of old.pass moment what session false) n between acts.added here
@@ -30,7 +30,7 @@ kept_acts {old = old} {new = new} (Err fault) acts between n here =
     kept_same old.mine new.mine n acts.rest.none_added here
 
 pub kept_calls : {X : Type 0} {old new : DeskView} {moment : ℕ} {what : Act} {session : ℕ}
-    (answer : Result X DeskFault) →
+    (answer : Result X NotMade) →
     Calls old moment what session answer new → IsBetween what → (n : ℕ) → IsOpen n old.mine → IsOpen n new.mine
 kept_calls {old = old} {new = new} {moment = moment} {what = what} {session = session} (Ok value) calls between n here =
     kept_more old.mine new.mine (record_of old.pass moment what session calls.added.0) n between calls.added.1 here
@@ -38,14 +38,14 @@ kept_calls {old = old} {new = new} (Err fault) calls between n here =
     kept_same old.mine new.mine n calls.rest.none_added here
 
 pub kept_drains : {X : Type 0} {old new : DeskView} {moment session : ℕ} {items : List Item}
-    (answer : Result X DeskFault) → Drains old moment session items answer new → (n : ℕ) → IsOpen n old.mine →
+    (answer : Result X NotMade) → Drains old moment session items answer new → (n : ℕ) → IsOpen n old.mine →
     IsOpen n new.mine
 kept_drains {old = old} {new = new} {moment = moment} {session = session} (Ok value) drains n here =
     kept_more old.mine new.mine (record_of old.pass moment (act.Drain session) session false) n tt drains.added here
 kept_drains {old = old} {new = new} (Err fault) drains n here =
     kept_same old.mine new.mine n drains.rest.none_added here
 
-kept_unless_short : (old new : DeskView) (moment : ℕ) (fault : DeskFault) → AddsNoneOrShort old moment fault new →
+kept_unless_short : (old new : DeskView) (moment : ℕ) (fault : NotMade) → AddsNoneOrShort old moment fault new →
     (n : ℕ) → IsOpen n old.mine → IsOpen n new.mine
 kept_unless_short old new moment (fault.Gone why.Stopped) (inl same) n here = kept_same old.mine new.mine n same here
 kept_unless_short old new moment (fault.Gone why.Stopped) (inr more) n here =
@@ -56,7 +56,7 @@ kept_unless_short old new moment (fault.Gone why.Overrun) same n here = kept_sam
 kept_unless_short old new moment (fault.Full number) same n here = kept_same old.mine new.mine n same here
 kept_unless_short old new moment fault.Memory same n here = kept_same old.mine new.mine n same here
 
-pub kept_flushes : {X : Type 0} {old new : DeskView} {moment : ℕ} (answer : Result X DeskFault) →
+pub kept_flushes : {X : Type 0} {old new : DeskView} {moment : ℕ} (answer : Result X NotMade) →
     Flushes old moment answer new → (n : ℕ) → IsOpen n old.mine → IsOpen n new.mine
 kept_flushes {old = old} {new = new} {moment = moment} (Ok value) flushes n here =
     kept_more old.mine new.mine (record_of old.pass moment act.Flush 0 false) n tt flushes.added here
@@ -70,7 +70,7 @@ not_absent n session records absent here same =
     let open' : is_open session records ≡ true = subst (λ n. is_open n records ≡ true) (sym same) here in
     absurd cc
 
-pub kept_connects : {old new : DeskView} {moment : ℕ} {user host : List ℕ} (answer : Result ℕ DeskFault) →
+pub kept_connects : {old new : DeskView} {moment : ℕ} {user host : List ℕ} (answer : Result ℕ NotMade) →
     Connects old moment user host answer new → (n : ℕ) → IsOpen n old.mine → IsOpen n new.mine
 kept_connects {old} {new} {moment} {user} {host} (Ok session) connects n here =
     ap (is_open n) connects.added

@@ -8,7 +8,7 @@ use Rattle.std.specs.Prelude.{option_map, codes}
 use Rattle.std.specs.List.{AllByRecursion}
 use Rattle.std.specs.VecDeque.{deque_len}
 use Rattle.kom_links.specs.declared.deeds.Deed.{Deed}
-use Rattle.kom_links.specs.declared.desk.DeskFault.{DeskFault}
+use Rattle.kom_types.specs.declared.answers.NotMade.{NotMade}
 use Rattle.kom_links.specs.declared.gate.Next.{Next}
 use Rattle.kom_links.specs.declared.gate.Next.TheVariants as next
 use Rattle.kom_links.specs.declared.link.Got.{Got}
@@ -230,7 +230,7 @@ pub record IsSameDesk (old new : DeskView) : Type 0 where
   pub lock_full : new.lock_full ≡ old.lock_full
 
 -- a deed was refused, and nothing else changed
-pub record Refuses (old : DeskView) (deed : Deed) (fault : DeskFault)
+pub record Refuses (old : DeskView) (deed : Deed) (fault : NotMade)
     (new : DeskView) : Type 0 where
   pub pass : new.pass ≡ old.pass
   pub mine : new.mine ≡ old.mine

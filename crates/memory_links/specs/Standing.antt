@@ -4,14 +4,14 @@ use Rattle.std.specs.List.{range_with_len}
 use Rattle.kom_types.specs.declared.acts.Act.{Act}
 use Rattle.kom_types.specs.declared.acts.Act.TheVariants as act
 use Rattle.kom_types.specs.declared.acts.Record.{Record}
-use Rattle.kom_links.specs.declared.desk.DeskFault.{DeskFault}
-use Rattle.kom_links.specs.declared.desk.DeskFault.TheVariants as fault
+use Rattle.kom_types.specs.declared.answers.NotMade.{NotMade}
+use Rattle.kom_types.specs.declared.answers.NotMade.TheVariants as fault
 use Rattle.kom_links.specs.Records.{has_session, is_open}
 use Rattle.memory_links.specs.declared.planned_items.Drained.{Drained}
 use Rattle.memory_links.specs.PlannedItems.{given_in}
 
 -- a fault says that no turn of the lock is left
-abbrev pub says_lock_full : DeskFault → Bool
+abbrev pub says_lock_full : NotMade → Bool
 says_lock_full (fault.Gone why) = false
 says_lock_full (fault.Full number) = nat_le (2 ^ 62) number
 says_lock_full fault.Memory = false

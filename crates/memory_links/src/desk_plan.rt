@@ -2,9 +2,8 @@ ghost use Rattle.std.specs.Prelude.{◌≡◌, ◌≤◌, ◌^◌, [], IfSome, I
 ghost use Rattle.kom_links.specs.DeskCalls.{IsConnectFault, IsActFault, IsFlushFault, IsLockFault};
 ghost use Rattle.memory_links.specs.Standing.{says_lock_full};
 
-use kom_links::DeskFault;
-use kom_types::Why;
 use kom_types::limits::MOST_SESSIONS;
+use kom_types::{NotMade, Why};
 use std::alloc::Global;
 
 /// The number that says that no turn of the server's lock is left.
@@ -19,7 +18,7 @@ const MOST_DRAINED: usize = 64;
 pub struct DeskPlan {
     /// The numbers of the acts that are refused, each with its fault. A fault that may not be
     /// returned at its act refuses nothing.
-    pub refusals: Vec<(u64, DeskFault)>,
+    pub refusals: Vec<(u64, NotMade)>,
     /// The numbers, among all acts, of the drains that give nothing, whatever waits.
     pub idle_drains: Vec<u64>,
     /// The number of the question from which on the desk is stopped; 0 is none.
@@ -68,7 +67,7 @@ impl Course {
     }
 
     /// The fault that the plan has for the next act.
-    fn next_fault(&mut self) -> Option<DeskFault> {
+    fn next_fault(&mut self) -> Option<NotMade> {
         self.acts = self.acts.saturating_add(1);
         for (number, fault) in &self.plan.refusals {
             if *number == self.acts {
@@ -79,7 +78,7 @@ impl Course {
     }
 
     /// The fault of the next act, which is a connect, if it is refused.
-    pub(crate) fn refuse_connect(&mut self) -> Option<DeskFault>
+    pub(crate) fn refuse_connect(&mut self) -> Option<NotMade>
         ensures { IfSome result IsConnectFault }
     {
         match self.next_fault() {
@@ -89,7 +88,7 @@ impl Course {
     }
 
     /// The fault of the next act, which is one of an open session, if it is refused.
-    pub(crate) fn refuse_act(&mut self) -> Option<DeskFault>
+    pub(crate) fn refuse_act(&mut self) -> Option<NotMade>
         ensures { IfSome result IsActFault }
     {
         match self.next_fault() {
@@ -99,7 +98,7 @@ impl Course {
     }
 
     /// The fault of the next act, which is a flush, if it is refused.
-    pub(crate) fn refuse_flush(&mut self) -> Option<DeskFault>
+    pub(crate) fn refuse_flush(&mut self) -> Option<NotMade>
         ensures { IfSome result IsFlushFault }
     {
         match self.next_fault() {
@@ -109,7 +108,7 @@ impl Course {
     }
 
     /// The fault of the next act, which closes a session, if it is refused.
-    pub(crate) fn refuse_close(&mut self) -> Option<DeskFault>
+    pub(crate) fn refuse_close(&mut self) -> Option<NotMade>
         ensures { IfSome result IsLockFault }
     {
         match self.next_fault() {
@@ -119,12 +118,12 @@ impl Course {
     }
 
     /// What the next question whether the desk is stopped is answered.
-    pub(crate) fn next_question(&mut self) -> Result<bool, DeskFault>
+    pub(crate) fn next_question(&mut self) -> Result<bool, NotMade>
         ensures { IfErr result IsLockFault }
     {
         self.questions = self.questions.saturating_add(1);
         if has_come(self.plan.lock_ends, self.questions) {
-            return Err(DeskFault::Full(LOCK_FULL));
+            return Err(NotMade::Full(LOCK_FULL));
         }
         Ok(has_come(self.plan.stops, self.questions))
     }
@@ -144,13 +143,13 @@ impl Course {
 }
 
 /// Whether a fault says that no turn of the server's lock is left.
-pub(crate) fn says_lock_full(fault: DeskFault) -> bool
+pub(crate) fn says_lock_full(fault: NotMade) -> bool
     ensures { result ≡ says_lock_full fault }
 {
     match fault {
-        DeskFault::Gone(_) => false,
-        DeskFault::Full(number) => LOCK_FULL <= number,
-        DeskFault::Memory => false,
+        NotMade::Gone(_) => false,
+        NotMade::Full(number) => LOCK_FULL <= number,
+        NotMade::Memory => false,
     }
 }
 
@@ -160,45 +159,45 @@ fn has_come(planned: u64, number: u64) -> bool {
 }
 
 /// Whether a connect may be refused so.
-fn may_refuse_connect(fault: DeskFault) -> bool
+fn may_refuse_connect(fault: NotMade) -> bool
     ensures { IsTrue result → IsConnectFault fault }
 {
     match fault {
-        DeskFault::Gone(why) => why == Why::Stopped,
-        DeskFault::Full(number) => number == u64::from(MOST_SESSIONS) || LOCK_FULL <= number,
-        DeskFault::Memory => true,
+        NotMade::Gone(why) => why == Why::Stopped,
+        NotMade::Full(number) => number == u64::from(MOST_SESSIONS) || LOCK_FULL <= number,
+        NotMade::Memory => true,
     }
 }
 
 /// Whether an act of an open session may be refused so.
-fn may_refuse_act(fault: DeskFault) -> bool
+fn may_refuse_act(fault: NotMade) -> bool
     ensures { IsTrue result → IsActFault fault }
 {
     match fault {
-        DeskFault::Gone(why) => why != Why::Absent,
-        DeskFault::Full(number) => LOCK_FULL <= number,
-        DeskFault::Memory => true,
+        NotMade::Gone(why) => why != Why::Absent,
+        NotMade::Full(number) => LOCK_FULL <= number,
+        NotMade::Memory => true,
     }
 }
 
 /// Whether a flush may be refused so.
-fn may_refuse_flush(fault: DeskFault) -> bool
+fn may_refuse_flush(fault: NotMade) -> bool
     ensures { IsTrue result → IsFlushFault fault }
 {
     match fault {
-        DeskFault::Gone(why) => why == Why::Stopped,
-        DeskFault::Full(number) => LOCK_FULL <= number,
-        DeskFault::Memory => true,
+        NotMade::Gone(why) => why == Why::Stopped,
+        NotMade::Full(number) => LOCK_FULL <= number,
+        NotMade::Memory => true,
     }
 }
 
 /// Whether it may be refused so that a session is closed.
-fn may_refuse_close(fault: DeskFault) -> bool
+fn may_refuse_close(fault: NotMade) -> bool
     ensures { IsTrue result → IsLockFault fault }
 {
     match fault {
-        DeskFault::Gone(_) => false,
-        DeskFault::Full(number) => LOCK_FULL <= number,
-        DeskFault::Memory => false,
+        NotMade::Gone(_) => false,
+        NotMade::Full(number) => LOCK_FULL <= number,
+        NotMade::Memory => false,
     }
 }

@@ -10,9 +10,9 @@ use crate::desk_plan::{Course, DeskPlan, says_lock_full};
 use crate::planned_items::{Drained, PlannedItem, Waiting, put_items, take_waiting};
 use arrayvec::ArrayVec;
 use http_server::Log;
-use kom_links::{Deed, Desk, DeskFault};
+use kom_links::{Deed, Desk};
 use kom_types::limits::MOST_SESSIONS;
-use kom_types::{Act, Bytes, Call, Entry, Item, Memory, Moment, Record, Why};
+use kom_types::{Act, Bytes, Call, Entry, Item, Memory, Moment, NotMade, Record, Why};
 use std::alloc::Global;
 
 /// A desk that makes acts by a plan, and keeps what it tells. It numbers its sessions from 1. For a
@@ -29,7 +29,7 @@ pub struct MemoryDesk {
     drains: Vec<Drained>,
     waiting: Vec<Waiting>,
     is_lock_full: bool,
-    answers: Log<Deed, Result<(), DeskFault>>,
+    answers: Log<Deed, Result<(), NotMade>>,
     ghost stands: { Stands sessions records.items drains.items
         (vec_capacity records - vec_len records) },
 }
@@ -98,7 +98,7 @@ impl MemoryDesk {
     }
 
     /// Logs that a deed was refused.
-    fn refuse(&mut self, deed: Deed, fault: DeskFault) -> DeskFault
+    fn refuse(&mut self, deed: Deed, fault: NotMade) -> NotMade
         ensures result { result ≡ fault }
         ensures refused { Refuses (desk_view self.old) deed fault (desk_view self.new) }
     {
@@ -115,7 +115,7 @@ impl MemoryDesk {
         act: Act,
         deed: Deed,
         item: PlannedItem,
-    ) -> Result<(), DeskFault>
+    ) -> Result<(), NotMade>
         requires open { IsOpen session self.old.records.items }
         requires deed { deed ≡ deed_of act }
         ensures { Acts (desk_view self.old) moment act session result (desk_view self.new) }
@@ -125,7 +125,7 @@ impl MemoryDesk {
             return Err(self.refuse(deed, fault));
         }
         if self.reserve().is_err() {
-            return Err(self.refuse(deed, DeskFault::Memory));
+            return Err(self.refuse(deed, NotMade::Memory));
         }
         self.records
             .push_reserved(record_of(self.pass, moment, act, session));
@@ -136,8 +136,8 @@ impl MemoryDesk {
 }
 
 /// Puts an item where it waits, if its act was refused with Gone and memory suffices.
-fn wait_if_gone(waiting: &mut Vec<Waiting>, one: Waiting, fault: DeskFault) {
-    if let DeskFault::Gone(_) = fault {
+fn wait_if_gone(waiting: &mut Vec<Waiting>, one: Waiting, fault: NotMade) {
+    if let NotMade::Gone(_) = fault {
         let _ = waiting.push(one);
     }
 }
@@ -176,18 +176,18 @@ impl Desk for MemoryDesk {
 
     ghost goes_on_further = { λ first second third one two. tt };
 
-    fn connect(&mut self, moment: Moment, user: &[u8], host: &[u8]) -> Result<u32, DeskFault> {
+    fn connect(&mut self, moment: Moment, user: &[u8], host: &[u8]) -> Result<u32, NotMade> {
         if let Some(fault) = self.course.refuse_connect() {
             return Err(self.refuse(Deed::Connect, fault));
         }
         let Ok(act) = greeting(self.alloc, user, host) else {
-            return Err(self.refuse(Deed::Connect, DeskFault::Memory));
+            return Err(self.refuse(Deed::Connect, NotMade::Memory));
         };
         if self.reserve().is_err() {
-            return Err(self.refuse(Deed::Connect, DeskFault::Memory));
+            return Err(self.refuse(Deed::Connect, NotMade::Memory));
         }
         let Some(session) = self.sessions.checked_add(1) else {
-            return Err(self.refuse(Deed::Connect, DeskFault::Full(u64::from(MOST_SESSIONS))));
+            return Err(self.refuse(Deed::Connect, NotMade::Full(u64::from(MOST_SESSIONS))));
         };
         self.records
             .push_reserved(record_of(self.pass, moment, act, session));
@@ -206,7 +206,7 @@ impl Desk for MemoryDesk {
         session: u32,
         reference: u32,
         call: Call,
-    ) -> Result<(), DeskFault> {
+    ) -> Result<(), NotMade> {
         let act = Act::Call {
             session,
             reference,
@@ -216,7 +216,7 @@ impl Desk for MemoryDesk {
         self.act(moment, session, act, Deed::Call(session), item)
     }
 
-    fn broken(&mut self, moment: Moment, session: u32) -> Result<(), DeskFault> {
+    fn broken(&mut self, moment: Moment, session: u32) -> Result<(), NotMade> {
         let act = Act::Broken { session };
         self.act(
             moment,
@@ -232,17 +232,17 @@ impl Desk for MemoryDesk {
         moment: Moment,
         session: u32,
         into: &mut ArrayVec<Item, 64>,
-    ) -> Result<(), DeskFault> {
+    ) -> Result<(), NotMade> {
         into.clear();
         let refused = Deed::Drain(session, true);
         if let Some(fault) = self.course.refuse_act() {
             return Err(self.refuse(refused, fault));
         }
         let Ok(mut items) = Vec::with_capacity(self.alloc, self.course.most_drained()) else {
-            return Err(self.refuse(refused, DeskFault::Memory));
+            return Err(self.refuse(refused, NotMade::Memory));
         };
         if self.reserve().is_err() {
-            return Err(self.refuse(refused, DeskFault::Memory));
+            return Err(self.refuse(refused, NotMade::Memory));
         }
         take_waiting(&mut self.waiting, session, &mut items);
         put_items(items.as_slice(), into);
@@ -254,12 +254,12 @@ impl Desk for MemoryDesk {
         Ok(())
     }
 
-    fn flush(&mut self, moment: Moment) -> Result<(), DeskFault> {
+    fn flush(&mut self, moment: Moment) -> Result<(), NotMade> {
         if let Some(fault) = self.course.refuse_flush() {
             return Err(self.refuse(Deed::Flush, fault));
         }
         if self.reserve().is_err() {
-            return Err(self.refuse(Deed::Flush, DeskFault::Memory));
+            return Err(self.refuse(Deed::Flush, NotMade::Memory));
         }
         self.records
             .push_reserved(record_of(self.pass, moment, Act::Flush, 0));
@@ -267,7 +267,7 @@ impl Desk for MemoryDesk {
         Ok(())
     }
 
-    fn close(&mut self, moment: Moment, session: u32) -> Result<(), DeskFault> {
+    fn close(&mut self, moment: Moment, session: u32) -> Result<(), NotMade> {
         if let Some(fault) = self.course.refuse_close() {
             return Err(self.refuse(Deed::Close(session), fault));
         }
@@ -276,14 +276,14 @@ impl Desk for MemoryDesk {
         Ok(())
     }
 
-    fn stopped(&mut self) -> Result<bool, DeskFault> {
+    fn stopped(&mut self) -> Result<bool, NotMade> {
         match self.course.next_question() {
             Ok(false) => {
                 self.answers = self.answers.and(&Deed::Ask, &Ok(()));
                 Ok(false)
             }
             Ok(true) => {
-                self.refuse(Deed::Ask, DeskFault::Gone(Why::Stopped));
+                self.refuse(Deed::Ask, NotMade::Gone(Why::Stopped));
                 Ok(true)
             }
             Err(fault) => Err(self.refuse(Deed::Ask, fault)),

@@ -1,16 +1,15 @@
 //! A sweep of a desk that answers each call with the number of the session, and refuses by a plan.
-use kom_links::DeskFault;
 use kom_sweep::{SweepEnd, sweep};
-use kom_types::{Act, Moment, Record, Why};
+use kom_types::{Act, Moment, NotMade, Record, Why};
 use memory_links::{DeskPlan, MemoryClock, MemoryDesk};
 use std::alloc::Global;
 use std::process::Abort;
 use std::test::Fail;
 
 /// The number of the act that is refused, 0 for none; its fault; and the end.
-type Row = (u64, DeskFault, SweepEnd);
+type Row = (u64, NotMade, SweepEnd);
 
-const STOPPED: DeskFault = DeskFault::Gone(Why::Stopped);
+const STOPPED: NotMade = NotMade::Gone(Why::Stopped);
 
 const LOCK_FULL: u64 = 1 << 62;
 
@@ -21,24 +20,20 @@ static ROWS: [Row; 8] = [
     (0, STOPPED, DONE),
     (
         1,
-        DeskFault::Full(4_294_967_295),
+        NotMade::Full(4_294_967_295),
         SweepEnd::Full(4_294_967_295),
     ),
-    (
-        2,
-        DeskFault::Gone(Why::Dropped),
-        SweepEnd::Gone(Why::Dropped),
-    ),
+    (2, NotMade::Gone(Why::Dropped), SweepEnd::Gone(Why::Dropped)),
     (3, STOPPED, SweepEnd::Gone(Why::Stopped)),
-    (4, DeskFault::Memory, SweepEnd::Memory),
+    (4, NotMade::Memory, SweepEnd::Memory),
     // the question for the next text, and the logout
     (
         20,
-        DeskFault::Gone(Why::Overrun),
+        NotMade::Gone(Why::Overrun),
         SweepEnd::Gone(Why::Overrun),
     ),
-    (31, DeskFault::Memory, SweepEnd::Memory),
-    (32, DeskFault::Full(LOCK_FULL), SweepEnd::Full(LOCK_FULL)),
+    (31, NotMade::Memory, SweepEnd::Memory),
+    (32, NotMade::Full(LOCK_FULL), SweepEnd::Full(LOCK_FULL)),
 ];
 
 #[test]

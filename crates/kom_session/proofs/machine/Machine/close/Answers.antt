@@ -1,6 +1,6 @@
 use Rattle.std.proofs.Common.{Result, Ok, Err, None, refl, ap, subst}
 use Rattle.std.specs.Prelude.{⊤}
-use Rattle.kom_links.specs.declared.desk.DeskFault.{DeskFault}
+use Rattle.kom_types.specs.declared.answers.NotMade.{NotMade}
 use Rattle.kom_links.specs.DeskCalls.{Closes as ClosesOf}
 use Rattle.kom_session.specs.Known.{Known, known}
 use Rattle.kom_session.proofs.Closing.{closed_none, closed_some, adds_close, adds_none}
@@ -23,7 +23,7 @@ returns-clause-closed g c = elim c.if-self-ne0.branch [
       (g.K.Desk.view c.args.desk.now) (g.K.Desk.view w.close.new.self)
       (g.C.Clock.gave c.args.clock.now) (g.C.Clock.gave w.now.new.self) c.in-Over.is
       w.if-self-ne0.true w.now.result (Err w.in-Err.fault)
-      (subst (λ (answer : Result ⊤ DeskFault). ClosesOf (g.K.Desk.view c.args.desk.now) w.now.result
+      (subst (λ (answer : Result ⊤ NotMade). ClosesOf (g.K.Desk.view c.args.desk.now) w.now.result
       c.args.self.now.session answer (g.K.Desk.view w.close.new.self)) w.in-Err.is
       w.close.ensures.closes) w.now.ensures.gains)
   | then-self-ne0+in_default-close w ↦
@@ -32,7 +32,7 @@ returns-clause-closed g c = elim c.if-self-ne0.branch [
       (g.K.Desk.view c.args.desk.now) (g.K.Desk.view w.close.new.self)
       (g.C.Clock.gave c.args.clock.now) (g.C.Clock.gave w.now.new.self) c.in-Over.is
       w.if-self-ne0.true w.now.result (Ok w.in_default-close.field-0)
-      (subst (λ (answer : Result ⊤ DeskFault). ClosesOf (g.K.Desk.view c.args.desk.now) w.now.result
+      (subst (λ (answer : Result ⊤ NotMade). ClosesOf (g.K.Desk.view c.args.desk.now) w.now.result
       c.args.self.now.session answer (g.K.Desk.view w.close.new.self)) w.in_default-close.is
       w.close.ensures.closes) w.now.ensures.gains)
   | else-self-ne0 w ↦
@@ -56,7 +56,7 @@ returns-clause-untimed g c = elim c.if-self-ne0.branch [
       (g.K.Desk.view c.args.desk.now) (g.K.Desk.view w.close.new.self)
       None None c.in-Over.is
       w.if-self-ne0.true w.now.result (Err w.in-Err.fault)
-      (subst (λ (answer : Result ⊤ DeskFault). ClosesOf (g.K.Desk.view c.args.desk.now) w.now.result
+      (subst (λ (answer : Result ⊤ NotMade). ClosesOf (g.K.Desk.view c.args.desk.now) w.now.result
       c.args.self.now.session answer (g.K.Desk.view w.close.new.self)) w.in-Err.is
       w.close.ensures.closes) tt)
   | then-self-ne0+in_default-close w ↦
@@ -65,7 +65,7 @@ returns-clause-untimed g c = elim c.if-self-ne0.branch [
       (g.K.Desk.view c.args.desk.now) (g.K.Desk.view w.close.new.self)
       None None c.in-Over.is
       w.if-self-ne0.true w.now.result (Ok w.in_default-close.field-0)
-      (subst (λ (answer : Result ⊤ DeskFault). ClosesOf (g.K.Desk.view c.args.desk.now) w.now.result
+      (subst (λ (answer : Result ⊤ NotMade). ClosesOf (g.K.Desk.view c.args.desk.now) w.now.result
       c.args.self.now.session answer (g.K.Desk.view w.close.new.self)) w.in_default-close.is
       w.close.ensures.closes) tt)
   | else-self-ne0 w ↦
