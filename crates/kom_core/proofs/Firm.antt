@@ -1,12 +1,9 @@
 -- A firm call has no effects, changes no session and sends nothing.
-use Rattle.std.proofs.Common.{◌≡◌, ◌==◌, ◌||◌, ◌&&◌, not, ℕ, Bool, true, false, [], Option, Some, None, refl, ap, subst}
+use Rattle.std.proofs.Common.{◌≡◌, ◌==◌, ◌||◌, ◌&&◌, not, ℕ, Bool, true, false, [], Option, Some, None, refl, ap}
 use Rattle.std.proofs.Common.{◌∙◌}
 use Rattle.std.proofs.Common.{inl, inr}
 use Rattle.std.specs.Option.{is_some}
 use Rattle.std.proofs.lemmas.Bool.{or_cases, and_parts}
-use Rattle.kom_types.specs.declared.acts.Act.{Act}
-use Rattle.kom_types.specs.declared.acts.Act.TheVariants as act
-use Rattle.kom_types.specs.declared.acts.Entry.{Entry}
 use Rattle.kom_types.specs.declared.calls.Call.{Call}
 use Rattle.kom_types.specs.declared.calls.Call.TheVariants as call
 use Rattle.kom_types.specs.declared.conferences.ConferenceRow.{ConferenceRow}
@@ -20,10 +17,10 @@ use Rattle.kom_model.specs.Kinds.{accept_async, is_among}
 use Rattle.kom_model.specs.calls.Call.{Asked}
 use Rattle.kom_model.specs.calls.Conferences.{nearest}
 use Rattle.kom_model.specs.calls.Texts.{nearest_text}
-use Rattle.kom_model.specs.Decide.{asked_in, definition_of, decision_of, was_refused, is_firm}
-use Rattle.kom_model.specs.After.{moment_of}
+use Rattle.kom_model.specs.Decide.{definition_of, decision_of, was_refused, is_firm}
 use Rattle.kom_model.specs.ToWhom.{is_refused}
-use Rattle.kom_core.specs.Deciding.{Decides, DecidesFirm}
+use Rattle.kom_core.specs.declared.asking.Asking.{Asking}
+use Rattle.kom_core.specs.Deciding.{asked_by, Decides, IsFirm}
 use Rattle.async_fanout.specs.Silent.{may_send, is_silent}
 use Rattle.kom_model.proofs.Deciding.{decision-holds, decision-meets}
 
@@ -87,23 +84,11 @@ decision-none : (asked : Asked) (what : Call) → is_firm asked what ≡ true �
 decision-none asked what firm = decision-holds (λ effects. effects ≡ []) refl asked what
     (λ early. (firm-idle asked what (firm-among asked what firm early)).0)
 
-decides-none : (state : State) (pass moment : ℕ) (what : Act) (decision : Decision) →
-    Decides state (record { pass = pass; moment = moment; act = what }) decision →
-    DecidesFirm state (record { pass = pass; moment = moment; act = what }) → decision.effects ≡ []
-decides-none state pass moment (act.Call session reference what) decision decides firm =
-    ap (λ one. one.effects) decides
-    ∙ decision-none (asked_in state (moment_of state moment) session reference) what firm
-decides-none state pass moment (act.Connect user host) decision decides firm = absurd firm
-decides-none state pass moment (act.Broken session) decision decides firm = absurd firm
-decides-none state pass moment (act.Drain session) decision decides firm = absurd firm
-decides-none state pass moment act.Flush decision decides firm = absurd firm
-decides-none state pass moment (act.Close session) decision decides firm = absurd firm
-
--- of the call of an entry
-pub no_effects-firm : (state : State) (entry : Entry) (decision : Decision) → Decides state entry decision →
-    DecidesFirm state entry → decision.effects ≡ []
-no_effects-firm state entry decision decides firm =
-    decides-none state entry.pass entry.moment entry.act decision decides firm
+-- of a call that came to this decision
+pub no_effects-firm : (state : State) (asking : Asking) (decision : Decision) → Decides state asking decision →
+    IsFirm state asking → decision.effects ≡ []
+no_effects-firm state asking decision decides firm =
+    ap (λ one. one.effects) decides ∙ decision-none (asked_by state asking) asking.call.now firm
 
 or-true : (b : Bool) → (b || true) ≡ true
 or-true true = refl
@@ -118,19 +103,8 @@ decision-silent asked what firm = decision-meets (λ decision. is_silent what de
     (λ early. idle-silent what (definition_of asked what).rest
     (firm-idle asked what (firm-among asked what firm early)))
 
-silent-decided : (state : State) (pass moment session reference : ℕ) (what : Call) (decision : Decision) →
-    Decides state (record { pass = pass; moment = moment; act = act.Call session reference what }) decision →
-    DecidesFirm state (record { pass = pass; moment = moment; act = act.Call session reference what }) →
-    is_silent what decision ≡ true
-silent-decided state pass moment session reference what decision decides firm =
-    ap (is_silent what) decides
-    ∙ decision-silent (asked_in state (moment_of state moment) session reference) what firm
-
--- of the call of an entry
-pub silent_firm : (state : State) (entry : Entry) (decision : Decision) (session reference : ℕ) (what : Call) →
-    entry.act ≡ act.Call session reference what → Decides state entry decision → DecidesFirm state entry →
-    is_silent what decision ≡ true
-silent_firm state entry decision session reference what is decides firm =
-    silent-decided state entry.pass entry.moment session reference what decision
-    (subst (λ one. Decides state (record entry { act = one }) decision) is decides)
-    (subst (λ one. DecidesFirm state (record entry { act = one })) is firm)
+-- of a call that came to this decision
+pub silent_firm : (state : State) (asking : Asking) (decision : Decision) → Decides state asking decision →
+    IsFirm state asking → is_silent asking.call.now decision ≡ true
+silent_firm state asking decision decides firm =
+    ap (is_silent asking.call.now) decides ∙ decision-silent (asked_by state asking) asking.call.now firm

@@ -5,4 +5,3 @@ pub mod Firm
 pub mod Sending
 pub mod Making
 pub mod Worlds
-pub mod Lengths

@@ -3,9 +3,6 @@ use Rattle.std.proofs.Common.{◌≡◌, ◌==◌, ℕ, ◌-◌, Bool, true, fal
 use Rattle.std.proofs.Common.{Option, Some, None, refl, sym, subst}
 use Rattle.std.specs.List.{filter_map, flat_map}
 use Rattle.std.proofs.lemmas.List.Elements.{filter_map-append}
-use Rattle.kom_types.specs.declared.acts.Act.{Act}
-use Rattle.kom_types.specs.declared.acts.Act.TheVariants as act
-use Rattle.kom_types.specs.declared.acts.Entry.{Entry}
 use Rattle.kom_types.specs.AuxItems.{items_from}
 use Rattle.kom_types.specs.declared.aux_items.Adder.{Adder}
 use Rattle.kom_types.specs.declared.aux_items.AuxChange.{AuxChange}
@@ -52,9 +49,9 @@ use Rattle.kom_model.specs.calls.Persons.{person_effects, maker}
 use Rattle.kom_model.specs.calls.Sessions.{counts, seat_left, all_left, leaving_effects, session_meant, ended}
 use Rattle.kom_model.specs.calls.Sessions.{static_of}
 use Rattle.kom_model.specs.calls.Texts.{gone_text, new_recipient, nearest_text}
-use Rattle.kom_model.specs.Decide.{asked_in, definition_of, decision_of}
-use Rattle.kom_model.specs.After.{moment_of}
-use Rattle.kom_core.specs.Deciding.{IsCall, Decides}
+use Rattle.kom_model.specs.Decide.{definition_of, decision_of}
+use Rattle.kom_core.specs.declared.asking.Asking.{Asking}
+use Rattle.kom_core.specs.Deciding.{asked_by, Decides}
 use Rattle.kom_model.proofs.Deciding.{decision-holds}
 
 -- effects that give no name
@@ -343,19 +340,8 @@ rest-orderly asked other = tt
 pub decision-orderly : (asked : Asked) (what : Call) → IsOrderly (decision_of asked what).effects
 decision-orderly asked what = decision-holds IsOrderly tt asked what (λ unrefused. rest-orderly asked what)
 
-decides-orderly : (state : State) (pass moment : ℕ) (what : Act) (decision : Decision) → IsCall what →
-    Decides state (record { pass = pass; moment = moment; act = what }) decision → IsOrderly decision.effects
-decides-orderly state pass moment (act.Call session reference what) decision is decides =
-    subst (λ one. IsOrderly one.effects) (sym decides)
-    (decision-orderly (asked_in state (moment_of state moment) session reference) what)
-decides-orderly state pass moment (act.Connect user host) decision is decides = absurd is
-decides-orderly state pass moment (act.Broken session) decision is decides = absurd is
-decides-orderly state pass moment (act.Drain session) decision is decides = absurd is
-decides-orderly state pass moment act.Flush decision is decides = absurd is
-decides-orderly state pass moment (act.Close session) decision is decides = absurd is
-
--- of the call of an entry
-pub IsOrderly-decided : (state : State) (entry : Entry) (decision : Decision) → IsCall entry.act →
-    Decides state entry decision → IsOrderly decision.effects
-IsOrderly-decided state entry decision is decides =
-    decides-orderly state entry.pass entry.moment entry.act decision is decides
+-- of a call that came to this decision
+pub IsOrderly-decided : (state : State) (asking : Asking) (decision : Decision) → Decides state asking decision →
+    IsOrderly decision.effects
+IsOrderly-decided state asking decision decides =
+    subst (λ one. IsOrderly one.effects) (sym decides) (decision-orderly (asked_by state asking) asking.call.now)

@@ -21,7 +21,8 @@ use Rattle.kom_model.specs.After.{session_in, moment_of, queue_all, reply_to, ca
 use Rattle.kom_model.specs.After.{after}
 use Rattle.kom_core.specs.declared.server_state.Made.{Made}
 use Rattle.kom_core.specs.Acts.{kind_of}
-use Rattle.kom_core.specs.Deciding.{Decides, DecidesFirm, SendsMessages}
+use Rattle.kom_core.specs.declared.asking.Asking.{Asking}
+use Rattle.kom_core.specs.Deciding.{IsFirm, ComesTo}
 
 -- the record of an entry that was made
 abbrev pub made_of : State → Entry → Bool → Record
@@ -66,27 +67,23 @@ Steps old entry new (Ok made) =
     × (new ≡ after old (made_of old entry made.short))
 Steps old entry new (Err refusal) = (refusal_of old entry.act ≡ Some refusal) × (new ≡ old)
 
--- what an entry's call comes to, and the messages that it sends
-abbrev pub ComesTo : State → Entry → Decision → List Delivery → Type 0
-ComesTo state entry decision messages =
-    Decides state entry decision × SendsMessages state entry decision messages
-
 -- A call was carried out, but for what it sends: these messages, and this reply.
-abbrev pub CarriesOut : State → Entry → Reply → List Delivery → State → Type 0
-CarriesOut old entry reply messages new =
-    (decision : Decision) × ComesTo old entry decision messages × (reply ≡ decision.reply)
-    × (new ≡ carry_out (moment_of old entry.moment) decision old)
+abbrev pub CarriesOut : State → Asking → Reply → List Delivery → State → Type 0
+CarriesOut old asking reply messages new =
+    (decision : Decision) × ComesTo old asking decision messages × (reply ≡ decision.reply)
+    × (new ≡ carry_out (moment_of old asking.moment) decision old)
 
 -- A call was carried out and answered; or memory ran out, of which its reply tells, and it is not
 -- firm.
-abbrev pub Answers : State → Entry → ℕ → ℕ → Bool → State → Type 0
-Answers old entry session reference true new = (DecidesFirm old entry → ⊥)
-    × (new ≡ queue_all waiting_limits (reply_to session reference (reply.Refused
+abbrev pub Answers : State → Asking → Bool → State → Type 0
+Answers old asking true new = (IsFirm old asking → ⊥)
+    × (new ≡ queue_all waiting_limits (reply_to asking.session asking.reference (reply.Refused
     error.OUT_OF_MEMORY 0) ∷ []) old)
-Answers old entry session reference false new =
-    (decision : Decision) × (messages : List Delivery) × ComesTo old entry decision messages
-    × (new ≡ queue_all waiting_limits (messages ++ reply_to session reference decision.reply ∷ [])
-    (carry_out (moment_of old entry.moment) decision old))
+Answers old asking false new =
+    (decision : Decision) × (messages : List Delivery) × ComesTo old asking decision messages
+    × (new ≡ queue_all waiting_limits
+    (messages ++ reply_to asking.session asking.reference decision.reply ∷ [])
+    (carry_out (moment_of old asking.moment) decision old))
 
 -- whose change it is
 abbrev pub IsOf : Option ℕ → SessionChange → Type 0

@@ -1,18 +1,15 @@
-ghost use Rattle.std.specs.Prelude.{◌≡◌, ◌^◌, ◌-◌, true, length, min, IfOk, IsOk};
-ghost use Rattle.kom_types.specs.declared.items.Item.TheVariants as item;
-ghost use Rattle.kom_types.specs.Printing.{print_of};
+ghost use Rattle.std.specs.Prelude.{◌≡◌, true, IfOk, IsOk};
 ghost use Rattle.kom_model.specs.calls.Call.{refuse};
-ghost use Rattle.kom_model.specs.Decide.{definition_of, is_firm, limited as limited_decision};
-ghost use Rattle.kom_core.specs.Deciding.{IsCall, Defines, Decides, DecidesFirm, IsReply, HasBody};
-ghost use Rattle.kom_core.specs.Deciding.{IsLong};
+ghost use Rattle.kom_model.specs.Decide.{definition_of, decision_of, is_firm};
+ghost use Rattle.kom_model.specs.Decide.{limited as limited_decision};
+ghost use Rattle.kom_core.specs.Deciding.{Defines, IsLong, IsReply, HasBody};
 
 use crate::calls;
-use crate::server_state::ServerState;
 use kom_model::{CallError, Refused};
 use kom_replies::printed_len;
 use kom_state::Asked;
 use kom_types::limits::LONGEST_REPLY;
-use kom_types::{Act, Call, Decision, Entry, Item, Memory, Reply, Sequence, errors};
+use kom_types::{Call, Decision, Item, Memory, Reply, Sequence, errors};
 use std::alloc::Global;
 
 /// What a call comes to, and how many bytes its reply prints to, as many as a `u64` holds at most.
@@ -22,26 +19,16 @@ pub(crate) struct Measured {
     pub(crate) len: u64,
 }
 
-/// What the call of an entry comes to. A firm call takes no memory.
+/// What a session's call of this reference comes to. A firm call takes no memory.
 #[tactic(auto, unfolding(kom_model::specs::Decide::decision_of))]
-pub(crate) fn decide(state: &ServerState, entry: &Entry) -> Result<Measured, Memory>
-    requires { IsCall entry.now.act }
-    ensures decided { IfOk result (λ came. Decides state.now entry.now came.decision) }
-    ensures len { IfOk result (λ came. IsLong entry.now.act came.decision.reply came.len) }
-    ensures firm { DecidesFirm state.now entry.now → IsOk result }
+pub(crate) fn decide(asked: &Asked<'_>, reference: u32, call: &Call) -> Result<Measured, Memory>
+    requires { asked.now.reference ≡ reference }
+    ensures decided { IfOk result (λ came. came.decision ≡ decision_of asked.now call.now) }
+    ensures len { IfOk result (λ came. IsLong reference came.decision.reply came.len) }
+    ensures firm { is_firm asked.now call.now ≡ true → IsOk result }
 {
-    match &entry.act {
-        Act::Call {
-            session,
-            reference,
-            call,
-        } => {
-            let moment = state.moment_of(entry.moment);
-            let decision = define(&state.asked(moment, *session, *reference), call)?;
-            Ok(limited(state.allocator(), *reference, decision))
-        }
-        _ => unreachable!(),
-    }
+    let decision = define(asked, call)?;
+    Ok(limited(asked.allocator(), reference, decision))
 }
 
 /// What a session's call comes to by its definition, but for the last guard.
@@ -59,8 +46,7 @@ fn define(asked: &Asked<'_>, call: &Call) -> Result<Decision, Memory>
 /// The last guard of every call: a reply whose line is too long is refused, and nothing changes.
 fn limited(alloc: Global, reference: u32, decision: Decision) -> Measured
     ensures decision { result.decision ≡ limited_decision reference decision }
-    ensures len { result.len
-        ≡ min (length (print_of (item.Reply reference result.decision.reply))) (2 ^ 64 - 1) }
+    ensures len { IsLong reference result.decision.reply result.len }
 {
     let came = with_len(reference, decision);
     if came.len <= LONGEST_REPLY as u64 {
@@ -78,8 +64,7 @@ fn limited(alloc: Global, reference: u32, decision: Decision) -> Measured
 /// A decision, and how many bytes its reply prints to.
 fn with_len(reference: u32, decision: Decision) -> Measured
     ensures decision { result.decision ≡ decision }
-    ensures len { result.len
-        ≡ min (length (print_of (item.Reply reference result.decision.reply))) (2 ^ 64 - 1) }
+    ensures len { IsLong reference result.decision.reply result.len }
 {
     let (len, reply) = measured(reference, decision.reply);
     Measured {
@@ -94,7 +79,7 @@ fn with_len(reference: u32, decision: Decision) -> Measured
 
 /// How many bytes the line of a reply has, as many as a `u64` holds at most, and the reply.
 fn measured(reference: u32, body: Reply) -> (u64, Reply)
-    ensures length { result.0 ≡ min (length (print_of (item.Reply reference body))) (2 ^ 64 - 1) }
+    ensures length { IsLong reference body result.0 }
     ensures reply { result.1 ≡ body }
 {
     let item = Item::Reply { reference, body };

@@ -2,9 +2,9 @@
 #![tactic(auto)]
 
 mod answer_kind;
+mod asking;
 mod calls;
 mod decide;
-mod fan_out;
 mod server_core;
 mod server_state;
 

@@ -1,12 +1,11 @@
 ghost use Rattle.std.specs.Prelude.{◌≡◌, ◌+◌, ◌^◌, ◌<◌, ◌||◌, [], max, IfOk, OnErr, IsOk};
 ghost use Rattle.kom_model.specs.State.{IsSound, opening as opening_state};
-ghost use Rattle.kom_model.specs.Decide.{asked_in};
-ghost use Rattle.kom_model.specs.After.{moment_of as moment_of_entry};
 ghost use Rattle.kom_model.specs.Out.{taken_by};
 ghost use Rattle.kom_model.specs.Refusal.{TakesNoMemory, refusal_of};
 ghost use Rattle.kom_model.specs.After.{after};
 ghost use Rattle.kom_state.specs.Keepers.{appended};
 ghost use Rattle.kom_core.specs.Acts.{refused_flush};
+ghost use Rattle.kom_core.specs.Deciding.{asked_by};
 ghost use Rattle.kom_core.specs.Keeping.{kept_in};
 ghost use Rattle.kom_core.specs.Steps.{Steps, counted};
 
@@ -18,6 +17,7 @@ mod reading;
 mod refusing;
 
 use crate::answer_kind::AnswerKind;
+use crate::asking::Asking;
 use arrayvec::ArrayVec;
 use kom_state::{Asked, Keeper};
 use kom_types::{Entry, Item, Memory, Moment, Refusal};
@@ -102,22 +102,18 @@ impl ServerState {
         }
     }
 
-    pub(crate) fn allocator(&self) -> Global {
-        self.alloc
-    }
-
-    /// All that a call of this session may read, at this moment.
-    pub(crate) fn asked(&self, moment: Moment, session: u32, reference: u32) -> Asked<'_>
-        ensures { result ≡ asked_in self.now moment session reference }
+    /// All that a call may read.
+    fn asked(&self, asking: &Asking<'_>) -> Asked<'_>
+        ensures { result ≡ asked_by self.now asking.now }
     {
-        Asked::new(&self.rows, &self.sessions, moment, session, reference)
-    }
-
-    /// The moment of an entry for which the pass's clock gave this one.
-    pub(crate) fn moment_of(&self, given: Moment) -> Moment
-        ensures { result ≡ moment_of_entry self.now given }
-    {
-        later(self.moment, given)
+        let moment = later(self.moment, asking.moment);
+        Asked::new(
+            &self.rows,
+            &self.sessions,
+            moment,
+            asking.session,
+            asking.reference,
+        )
     }
 
     /// Whether it was shut down or its store refused a flush.

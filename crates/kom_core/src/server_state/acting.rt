@@ -11,6 +11,7 @@ ghost use Rattle.kom_core.specs.Steps.{Changes, ChangesBy, greeting, made_of};
 
 use super::{Made, ServerState, later};
 use crate::answer_kind::AnswerKind;
+use crate::asking::Asking;
 use arrayvec::ArrayVec;
 use kom_state::Keeper;
 use kom_types::{Act, Bytes, Entry, Item, Memory, Moment};
@@ -44,9 +45,15 @@ impl ServerState {
             Act::Call {
                 session,
                 reference,
-                ..
+                call,
             } => {
-                let short = self.call(entry, *session, *reference, keeper);
+                let asking = Asking {
+                    session: *session,
+                    reference: *reference,
+                    moment: entry.moment,
+                    call,
+                };
+                let short = self.call(&asking, keeper);
                 Ok(taken(*session, short))
             }
             Act::Broken { session } => {

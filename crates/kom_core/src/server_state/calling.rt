@@ -1,100 +1,101 @@
-ghost use Rattle.std.specs.Prelude.{◌≡◌, ℕ, [], Some, None, IfOk, IsOk, OnOk, OnErr};
+ghost use Rattle.std.specs.Prelude.{◌≡◌, ℕ, [], ◌∷◌, Some, None, IfOk, IsOk, OnOk, OnErr};
 ghost use Rattle.std.specs.Prelude.{if◌then◌else◌, IsTrue};
 ghost use Rattle.kom_state.specs.Room.{IsOrderly};
 ghost use Rattle.kom_model.specs.Effects.{apply_all, all_fit};
 ghost use Rattle.kom_model.specs.State.{IsSound};
-ghost use Rattle.kom_model.specs.After.{make_change, make_changes};
-ghost use Rattle.kom_core.specs.Deciding.{IsCall, IsCallBy, IsLong, DecidesFirm};
-ghost use Rattle.kom_model.specs.Kept.{effects_of};
+ghost use Rattle.kom_types.specs.Sessions.{waiting_limits};
+ghost use Rattle.kom_model.specs.After.{make_change, make_changes, queue_all, reply_to};
+ghost use Rattle.kom_core.specs.Deciding.{IsFirm, IsLong, ComesTo, effects_by};
 ghost use Rattle.kom_state.specs.Keepers.{appended};
-ghost use Rattle.kom_core.specs.Steps.{ComesTo, CarriesOut, Answers, IsOf};
+ghost use Rattle.kom_core.specs.Steps.{CarriesOut, Answers, IsOf};
 
 use super::{ServerState, later};
+use crate::asking::Asking;
 use crate::decide::{Measured, decide};
-use crate::fan_out::fan_out;
-use async_fanout::Delivery;
+use async_fanout::{Delivery, fan_out};
 use kom_state::Keeper;
 use kom_types::{
-    ChangeList, Decision, EffectList, Entry, Item, Memory, Moment, Reply, SessionChange, errors,
+    ChangeList, Decision, EffectList, Item, Memory, Moment, Reply, SessionChange, errors,
 };
 
 impl ServerState {
-    /// Carries out the call of an entry, sends its messages, and queues its reply; where memory ran
-    /// out before, only the reply that says so. Whether it did is returned. A keeper gets the
-    /// effects.
+    /// Carries out a call, sends its messages, and queues its reply; where memory ran out before,
+    /// only the reply that says so. Whether it did is returned. A keeper gets the effects.
     #[tactic(auto, using(crate::proofs::Keeping::none_appended))]
-    pub(super) fn call<K: Keeper>(
-        &mut self,
-        entry: &Entry,
-        session: u32,
-        reference: u32,
-        keeper: &mut K,
-    ) -> bool
+    pub(super) fn call<K: Keeper>(&mut self, asking: &Asking<'_>, keeper: &mut K) -> bool
         requires sound { IsSound self.old }
-        requires call { IsCall entry.now.act }
-        requires named { IsCallBy reference entry.now.act }
-        ensures answers { Answers self.old entry.now session reference result self.new }
+        ensures answers { Answers self.old asking.now result self.new }
         ensures kept { K.pending keeper.new
-            ≡ appended (if result then [] else effects_of self.old entry.now)
+            ≡ appended (if result then [] else effects_by self.old asking.now)
             (K.pending keeper.old) }
         ensures rest { K.stays keeper.old keeper.new }
     {
-        match self.carry_out(entry, keeper) {
+        match self.carry_out(asking, keeper) {
             Ok((body, len, messages)) => {
                 self.queue_all(messages);
-                self.queue_measured(session, Item::Reply { reference, body }, len);
+                self.answer(asking, body, len);
                 false
             }
             Err(Memory) => {
+                let reference = asking.reference;
                 let body = Reply::Refused(errors::OUT_OF_MEMORY, 0);
-                self.queue(session, Item::Reply { reference, body });
+                self.queue(asking.session, Item::Reply { reference, body });
                 true
             }
         }
     }
 
-    /// Makes what the call of an entry changes, and returns its reply, how many bytes that prints
-    /// to, and the messages that it sends. A keeper gets its effects. Where memory runs out, nothing
-    /// is changed or kept.
+    /// Queues the reply to a call, which prints to this many bytes.
+    fn answer(&mut self, asking: &Asking<'_>, body: Reply, len: u64)
+        requires { IsLong asking.now.reference body len }
+        ensures { self.new ≡ queue_all waiting_limits
+            (reply_to asking.now.session asking.now.reference body ∷ []) self.old }
+    {
+        let reference = asking.reference;
+        self.queue_measured(asking.session, Item::Reply { reference, body }, len);
+    }
+
+    /// Makes what a call changes, and returns its reply, how many bytes that prints to, and the
+    /// messages that it sends. A keeper gets its effects. Where memory runs out, nothing is changed
+    /// or kept.
     #[tactic(auto, using(crate::proofs::Keeping::decided_effects))]
     fn carry_out<K: Keeper>(
         &mut self,
-        entry: &Entry,
+        asking: &Asking<'_>,
         keeper: &mut K,
     ) -> Result<(Reply, u64, Vec<Delivery>), Memory>
         requires sound { IsSound self.old }
-        requires call { IsCall entry.now.act }
         ensures ok { IfOk result (λ all.
-            CarriesOut self.old entry.now all.0 all.2.items self.new) }
-        ensures len { IfOk result (λ all. IsLong entry.now.act all.0 all.1) }
+            CarriesOut self.old asking.now all.0 all.2.items self.new) }
+        ensures len { IfOk result (λ all. IsLong asking.now.reference all.0 all.1) }
         ensures kept { OnOk result (K.pending keeper.new
-            ≡ appended (effects_of self.old entry.now) (K.pending keeper.old)) }
+            ≡ appended (effects_by self.old asking.now) (K.pending keeper.old)) }
         ensures err { OnErr result (self.new ≡ self.old) }
         ensures unkept { OnErr result (K.pending keeper.new ≡ K.pending keeper.old) }
         ensures rest { K.stays keeper.old keeper.new }
-        ensures firm { DecidesFirm self.old entry.now → IsOk result }
+        ensures firm { IsFirm self.old asking.now → IsOk result }
     {
-        let (decision, len, messages) = self.comes_to(entry)?;
+        let (decision, len, messages) = self.comes_to(asking)?;
         let Decision {
             reply,
             effects,
             changes,
         } = decision;
         self.apply(effects, keeper)?;
-        self.make_changes(changes, later(self.moment, entry.moment));
+        self.make_changes(changes, later(self.moment, asking.moment));
         Ok((reply, len, messages))
     }
 
-    /// What the call of an entry comes to, how many bytes its reply prints to, and the messages
-    /// that it sends. Nothing is changed yet.
-    fn comes_to(&self, entry: &Entry) -> Result<(Decision, u64, Vec<Delivery>), Memory>
-        requires { IsCall entry.now.act }
-        ensures comes_to { IfOk result (λ all. ComesTo self.now entry.now all.0 all.2.items) }
-        ensures len { IfOk result (λ all. IsLong entry.now.act all.0.reply all.1) }
-        ensures firm { DecidesFirm self.now entry.now → IsOk result }
+    /// What a call comes to, how many bytes its reply prints to, and the messages that it sends.
+    /// Nothing is changed yet.
+    fn comes_to(&self, asking: &Asking<'_>) -> Result<(Decision, u64, Vec<Delivery>), Memory>
+        ensures comes_to { IfOk result (λ all. ComesTo self.now asking.now all.0 all.2.items) }
+        ensures len { IfOk result (λ all. IsLong asking.now.reference all.0.reply all.1) }
+        ensures firm { IsFirm self.now asking.now → IsOk result }
     {
-        let Measured { decision, len } = decide(self, entry)?;
-        let messages = fan_out(self, entry, &decision)?;
+        let asked = self.asked(asking);
+        let Measured { decision, len } = decide(&asked, asking.reference, asking.call)?;
+        let messages = fan_out(&asked, asking.call, &decision)?;
         Ok((decision, len, messages))
     }
 

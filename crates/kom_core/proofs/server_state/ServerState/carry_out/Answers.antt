@@ -7,10 +7,10 @@ use Rattle.kom_core.proofs.server_state.ServerState.carry_out.Goals as goal
 pub apply-requires : goal.apply-requires
 apply-requires g c = record {
   orderly =
-      IsOrderly-decided c.args.self.now c.args.entry.now c.in_ok-decision.decision c.requires.call
+      IsOrderly-decided c.args.self.now c.args.asking.now c.in_ok-decision.decision
       c.in_ok-decision.ensures.comes_to.0;
   fit =
-      decided-fit c.args.self.now c.args.entry.now c.in_ok-decision.decision c.requires.sound c.requires.call
+      decided-fit c.args.self.now c.args.asking.now c.in_ok-decision.decision c.requires
       c.in_ok-decision.ensures.comes_to.0;
 }
 
@@ -19,6 +19,6 @@ pub returns-in_err-apply-clause-firm : goal.returns-in_err-apply-clause-firm
 returns-in_err-apply-clause-firm g c = λ firm.
     let decision = c.in_ok-decision.decision in
     let none : decision.effects ≡ [] =
-    no_effects-firm c.args.self.now c.args.entry.now decision c.in_ok-decision.ensures.comes_to.0 firm in
+    no_effects-firm c.args.self.now c.args.asking.now decision c.in_ok-decision.ensures.comes_to.0 firm in
     let applied = c.in_err-apply.ensures.none none in
     cc

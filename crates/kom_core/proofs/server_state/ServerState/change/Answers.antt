@@ -1,4 +1,8 @@
+use Rattle.std.proofs.Common.{List, sym, ap, ◌∙◌}
 use Rattle.kom_types.specs.declared.acts.Act.TheVariants as act
+use Rattle.kom_types.specs.declared.effects.Effect.{Effect}
+use Rattle.kom_state.specs.Keepers.{appended}
+use Rattle.kom_core.proofs.Keeping.{call_kept}
 use Rattle.kom_core.proofs.Making.{Changes-by}
 use Rattle.kom_core.proofs.server_state.ServerState.change.Goals as goal
 
@@ -15,3 +19,11 @@ pub returns-in-Close-clause-step : goal.returns-in-Close-clause-step
 returns-in-Close-clause-step g c =
     Changes-by c.args.self.now c.close.new.self c.args.entry.now (act.Close c.in-Close.session) c.close.result
     c.in-Close.is c.close.ensures
+
+-- what is kept of the effects of a call
+pub returns-in-Call-clause-kept : goal.returns-in-Call-clause-kept
+returns-in-Call-clause-kept g c =
+    c.call.ensures.kept
+    ∙ ap (λ (effects : List Effect). appended effects (g.K.Keeper.pending c.args.keeper.now))
+    (sym (call_kept c.args.self.now c.args.entry.now c.call.result c.in-Call.session c.in-Call.reference
+    c.in-Call.call c.requires.sound c.in-Call.is))
