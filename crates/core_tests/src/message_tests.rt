@@ -1,7 +1,6 @@
 //! What sessions are sent for the calls of others, and how they end by them.
-use crate::tried::{Step, Tried, call_of, check_made, check_steps, gone};
+use crate::tried::{Came, Step, Tried, call_of, check_made, check_steps, gone};
 use arrayvec::ArrayVec;
-use kom_core::AnswerKind;
 use kom_types::{Act, Why};
 use std::alloc::Global;
 use std::process::Abort;
@@ -11,7 +10,7 @@ use std::test::Fail;
 /// members of conference 6.
 fn gather(rt: &impl Abort, alloc: Global, tried: &mut Tried) -> Result<(), Fail> {
     for number in 1..4 {
-        assert_eq!(rt; tried.connect(alloc)?, AnswerKind::Connected(number));
+        assert_eq!(rt; tried.connect(alloc)?, Ok(number));
     }
     let steps: [Step; 8] = [
         (1, b"1 62 5 0H 0\n", b"LysKOM\n=1\n"),
@@ -74,15 +73,15 @@ fn say_something(rt: &impl Abort, alloc: Global, tried: &mut Tried) -> Result<()
     Ok(())
 }
 
-/// The session's call for its number, under reference 2, is answered so.
+/// The session's call for its number, under reference 2, comes to this.
 fn check_asked(
     rt: &impl Abort,
     alloc: Global,
     tried: &mut Tried,
     session: u32,
-    answer: AnswerKind,
+    came: Came,
 ) -> Result<(), Fail> {
-    check_made(rt, tried, call_of(alloc, session, b"2 56\n")?, answer)
+    check_made(rt, tried, call_of(alloc, session, b"2 56\n")?, came)
 }
 
 #[test]
@@ -93,7 +92,7 @@ fn a_session_that_is_ended_makes_no_call(rt: HostRuntime) -> Result<(), Fail> {
 /// Session 2 is ended. What waits for it is drained, and then it is only closed.
 fn end_a_session(rt: &impl Abort, alloc: Global, tried: &mut Tried) -> Result<(), Fail> {
     gather(rt, alloc, tried)?;
-    check_asked(rt, alloc, tried, 2, AnswerKind::Taken)?;
+    check_asked(rt, alloc, tried, 2, Ok(2))?;
     let steps: [Step; 5] = [
         (3, b"2 80 1 { 13 }\n", b"=2\n"),
         (1, b"7 55 2\n", b"%7 12 2\n"),
@@ -105,7 +104,7 @@ fn end_a_session(rt: &impl Abort, alloc: Global, tried: &mut Tried) -> Result<()
     check_asked(rt, alloc, tried, 2, gone(Why::Dropped))?;
     check_steps(rt, alloc, tried, &[(2, b"", b"=2 2\n")])?;
     check_made(rt, tried, Act::Drain { session: 2 }, gone(Why::Dropped))?;
-    check_made(rt, tried, Act::Close { session: 2 }, AnswerKind::Taken)
+    check_made(rt, tried, Act::Close { session: 2 }, Ok(2))
 }
 
 #[test]
@@ -117,15 +116,15 @@ fn a_stopped_server_takes_no_calls(rt: HostRuntime) -> Result<(), Fail> {
 /// and closed.
 fn stop_the_server(rt: &impl Abort, alloc: Global, tried: &mut Tried) -> Result<(), Fail> {
     gather(rt, alloc, tried)?;
-    check_asked(rt, alloc, tried, 2, AnswerKind::Taken)?;
+    check_asked(rt, alloc, tried, 2, Ok(2))?;
     let steps: [Step; 2] = [(1, b"7 42 255\n", b"=7\n"), (1, b"7 44 0\n", b"=7\n")];
     check_steps(rt, alloc, tried, &steps)?;
     assert!(rt; tried.is_stopped());
     check_asked(rt, alloc, tried, 2, gone(Why::Stopped))?;
     assert_eq!(rt; tried.connect(alloc)?, gone(Why::Stopped));
-    check_made(rt, tried, Act::Flush, AnswerKind::Taken)?;
+    check_made(rt, tried, Act::Flush, Ok(0))?;
     check_steps(rt, alloc, tried, &[(2, b"", b"=2 2\n")])?;
-    check_made(rt, tried, Act::Close { session: 2 }, AnswerKind::Taken)
+    check_made(rt, tried, Act::Close { session: 2 }, Ok(2))
 }
 
 #[test]
@@ -140,7 +139,7 @@ fn overrun_a_reader(rt: &impl Abort, alloc: Global, tried: &mut Tried) -> Result
     check_steps(rt, alloc, tried, &[(2, b"2 80 1 { 15 }\n", b"=2\n")])?;
     for _ in 0..4_096 {
         let text = call_of(alloc, 1, b"7 86 1Ha 1 { 0 6 } 0 { }\n")?;
-        check_made(rt, tried, text, AnswerKind::Taken)?;
+        check_made(rt, tried, text, Ok(1))?;
     }
     // Nothing is stable that waits, so a drain takes nothing.
     let steps: [Step; 2] = [
@@ -164,7 +163,7 @@ fn check_taken(
     for count in counts {
         assert_eq!(rt;
             tried.make(Act::Drain { session }, &mut items)?,
-            AnswerKind::Items
+            Ok(session)
         );
         assert_eq!(rt; items.len(), *count);
     }
@@ -180,8 +179,8 @@ fn a_drain_takes_64_items_at_most(rt: HostRuntime) -> Result<(), Fail> {
 fn drain_in_turn(rt: &impl Abort, alloc: Global, tried: &mut Tried) -> Result<(), Fail> {
     tried.connect(alloc)?;
     for _ in 0..66 {
-        check_asked(rt, alloc, tried, 1, AnswerKind::Taken)?;
+        check_asked(rt, alloc, tried, 1, Ok(1))?;
     }
-    check_made(rt, tried, Act::Flush, AnswerKind::Taken)?;
+    check_made(rt, tried, Act::Flush, Ok(0))?;
     check_taken(rt, tried, 1, &[64, 3, 0])
 }

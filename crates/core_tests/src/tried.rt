@@ -5,13 +5,17 @@ ghost use Rattle.kom_model.specs.Legal.{HasUser};
 
 use arrayvec::ArrayVec;
 use kom_calls::read_call;
-use kom_core::{AnswerKind, Core};
+use kom_core::Core;
 use kom_framing::{Line, Splitter, Unit, Writer};
 use kom_replies::print_item;
-use kom_types::{Act, Answer, Bytes, Call, Entry, Item, Memory, Moment, Refusal, Why};
+use kom_state::Unkept;
+use kom_types::{Act, Answer, Bytes, Call, Entry, Item, Memory, Moment, NotMade, Why};
 use std::alloc::Global;
 use std::process::Abort;
 use std::test::Fail;
+
+/// What an act came to: it was made, with this session in its record, or it was not, for this.
+pub(crate) type Came = Result<u32, NotMade>;
 
 /// A new core whose administrator has the empty password, and how many acts were handed to it.
 #[derive(Drop)]
@@ -43,24 +47,31 @@ impl Tried {
     }
 
     /// Connects a session.
-    pub(crate) fn connect(&mut self, alloc: Global) -> Result<AnswerKind, Memory> {
+    pub(crate) fn connect(&mut self, alloc: Global) -> Result<Came, Memory> {
         self.count()?;
         let user = Bytes::copy_of(alloc, b"ceder")?;
         let host = Bytes::copy_of(alloc, b"h")?;
-        let answer = self.core.act(entry_of(Act::Connect { user, host }))?;
-        Ok(kind_of(answer))
+        match self.core.act(entry_of(Act::Connect { user, host }))? {
+            Answer::Connected(number) => Ok(Ok(number)),
+            Answer::Gone(why) => Ok(gone(why)),
+            Answer::Full(number) => Ok(Err(NotMade::Full(number))),
+            Answer::Taken => Err(Memory),
+            Answer::Items(items) => {
+                drop(items);
+                Err(Memory)
+            }
+        }
     }
 
     /// Makes an act, and leaves the items that a drain takes in an array.
-    pub(crate) fn make(
-        &mut self,
-        act: Act,
-        items: &mut ArrayVec<Item, 64>,
-    ) -> Result<AnswerKind, Memory>
+    pub(crate) fn make(&mut self, act: Act, items: &mut ArrayVec<Item, 64>) -> Result<Came, Memory>
         requires { HasUser act }
     {
         self.count()?;
-        self.core.make(entry_of(act), items)
+        match self.core.make_kept(&entry_of(act), items, &mut Unkept) {
+            Ok(made) => Ok(Ok(made.session())),
+            Err(why) => Ok(Err(why)),
+        }
     }
 }
 
@@ -75,22 +86,9 @@ pub(crate) fn entry_of(act: Act) -> Entry
     }
 }
 
-fn kind_of(answer: Answer) -> AnswerKind {
-    match answer {
-        Answer::Connected(number) => AnswerKind::Connected(number),
-        Answer::Taken => AnswerKind::Taken,
-        Answer::Items(items) => {
-            drop(items);
-            AnswerKind::Items
-        }
-        Answer::Gone(why) => AnswerKind::Refused(Refusal::Gone(why)),
-        Answer::Full(number) => AnswerKind::Refused(Refusal::Full(number)),
-    }
-}
-
-/// The answer that the session, or the server, is gone.
-pub(crate) fn gone(why: Why) -> AnswerKind {
-    AnswerKind::Refused(Refusal::Gone(why))
+/// The session, or the server, is gone.
+pub(crate) fn gone(why: Why) -> Came {
+    Err(NotMade::Gone(why))
 }
 
 /// The act of a session that makes the call of a line.
@@ -132,25 +130,25 @@ pub(crate) fn check_steps(
     for (session, line, sent) in steps {
         if !line.is_empty() {
             let call = call_of(alloc, *session, *line)?;
-            check_made(rt, tried, call, AnswerKind::Taken)?;
-            check_made(rt, tried, Act::Flush, AnswerKind::Taken)?;
+            check_made(rt, tried, call, Ok(*session))?;
+            check_made(rt, tried, Act::Flush, Ok(0))?;
         }
         check_drained(rt, alloc, tried, *session, *sent)?;
     }
     Ok(())
 }
 
-/// The act is answered so.
+/// The act comes to this.
 pub(crate) fn check_made(
     rt: &impl Abort,
     tried: &mut Tried,
     act: Act,
-    answer: AnswerKind,
+    came: Came,
 ) -> Result<(), Fail>
     requires { HasUser act }
 {
     let mut items = ArrayVec::new();
-    assert_eq!(rt; tried.make(act, &mut items)?, answer);
+    assert_eq!(rt; tried.make(act, &mut items)?, came);
     Ok(())
 }
 
@@ -165,7 +163,7 @@ fn check_drained(
     let mut items = ArrayVec::new();
     assert_eq!(rt;
         tried.make(Act::Drain { session }, &mut items)?,
-        AnswerKind::Items
+        Ok(session)
     );
     check_printed(rt, alloc, items.as_slice(), lines)
 }

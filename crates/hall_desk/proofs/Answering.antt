@@ -7,24 +7,23 @@ use Rattle.kom_types.specs.declared.acts.Act.{Act}
 use Rattle.kom_types.specs.declared.acts.Act.TheVariants as act
 use Rattle.kom_types.specs.declared.acts.Entry.{Entry}
 use Rattle.kom_types.specs.declared.acts.Record.{Record}
-use Rattle.kom_types.specs.declared.answers.Refusal.{Refusal}
+use Rattle.kom_types.specs.declared.answers.NotMade.{NotMade}
 use Rattle.kom_types.specs.declared.answers.Why.TheVariants as why
 use Rattle.kom_types.specs.declared.items.Item.{Item}
 use Rattle.kom_links.specs.declared.deeds.Deed.TheVariants as deed
-use Rattle.kom_types.specs.declared.answers.NotMade.{NotMade}
 use Rattle.kom_types.specs.declared.answers.NotMade.TheVariants as fault
 use Rattle.kom_links.specs.Answers.{said}
 use Rattle.kom_model.specs.State.{State}
 use Rattle.kom_model.specs.Refusal.{refusal_of}
 use Rattle.kom_model.specs.Legal.{state_after}
-use Rattle.hall_desk.specs.declared.turning.Made.{Made}
 use Rattle.hall_desk.specs.Passes.{PassView}
 use Rattle.hall_desk.specs.Desks.{Kept}
-use Rattle.hall_desk.specs.Turns.{WasMade, WasRefused, HasNoTurn, IsConnect, Ends, entry_of, HadTurn, IsActed}
+use Rattle.hall_desk.specs.Turns.{WasMade, WasRefused, HasNoTurn, Ends, entry_of, HadTurn, IsActed}
+use Rattle.kom_model.specs.Making.{IsConnect}
 use Rattle.hall_desk.specs.Turns.{said_flush, AnswersStopped}
 use Rattle.hall_desk.specs.Rows.{WasPossible, IsLastTicket, IsAnswer, IsStopped}
 
-possible_made : (start : State) (old new : PassView) (entry : Entry) (items : List Item) (made : Made)
+possible_made : (start : State) (old new : PassView) (entry : Entry) (items : List Item) (made : Record)
     (short : Bool) → WasMade start old new entry items made → (entry.act ≡ act.Flush → made.short ≡ short) →
     WasPossible start new entry.act short
 possible_made start old new entry items made short (history, sees, logs, taken) whole = (
@@ -36,7 +35,7 @@ possible_made start old new entry items made short (history, sees, logs, taken) 
   whole,
 )
 
-refused_now : (start : State) (old new : PassView) (what : Act) (refusal : Option Refusal) →
+refused_now : (start : State) (old new : PassView) (what : Act) (refusal : Option NotMade) →
     WasRefused start old new what refusal → refusal_of (state_after start new.seen) what ≡ refusal
 refused_now start old new what refusal (history, sees, logs, is) =
     ap (λ (seen : List Record). refusal_of (state_after start seen) what) logs.seen ∙ is
@@ -63,7 +62,7 @@ refused_is X start old new what entry items (fault.Full number) is (inr was) =
 
 -- any act but a flush
 answers_turn : (start : State) (old new : PassView) (pass moment : ℕ) (what : Act) (items : List Item)
-    (made : Result Made NotMade) →
+    (made : Result Record NotMade) →
     Ends start old new (record { pass = pass; moment = moment; act = what }) items made → (what ≡ act.Flush → ⊥) →
     IsAnswer {X = ⊤} start new what (said made)
 answers_turn start old new pass moment what items (Ok made) ends other =
@@ -71,7 +70,7 @@ answers_turn start old new pass moment what items (Ok made) ends other =
 answers_turn start old new pass moment what items (Err one) ends other =
     refused_is ⊤ start old new what (record { pass = pass; moment = moment; act = what }) items one refl ends
 
-pub answers_told : (old new : Kept) (moment : ℕ) (what : Act) (items : List Item) (made : Result Made NotMade)
+pub answers_told : (old new : Kept) (moment : ℕ) (what : Act) (items : List Item) (made : Result Record NotMade)
     (answer : Result ⊤ NotMade) → HadTurn old moment what items made new → (what ≡ act.Flush → ⊥) →
     answer ≡ said made → IsAnswer old.start new.pass what answer
 answers_told old new moment what items made answer turn other is =
@@ -79,7 +78,7 @@ answers_told old new moment what items made answer turn other is =
     (answers_turn old.start old.pass new.pass old.pass.number moment what items made turn.ends other)
 
 -- a Connect
-pub answers_connected : (old new : Kept) (moment : ℕ) (what : Act) (user host : List ℕ) (made : Made) →
+pub answers_connected : (old new : Kept) (moment : ℕ) (what : Act) (user host : List ℕ) (made : Record) →
     what ≡ act.Connect user host → IsActed old moment what (Ok made) new →
     IsAnswer old.start new.pass (act.Connect user host) (Ok made.session)
 answers_connected old new moment what user host made is acted =
@@ -95,7 +94,7 @@ answers_unconnected old new moment what user host one is acted =
     (refused_is ℕ old.start old.pass new.pass what (entry_of old moment what) acted.items one refl acted.turn.ends)
 
 -- a flush, which the store may have refused
-flush_short : (start : State) (old new : PassView) (entry : Entry) (items : List Item) (made : Made) (short : Bool) →
+flush_short : (start : State) (old new : PassView) (entry : Entry) (items : List Item) (made : Record) (short : Bool) →
     entry.act ≡ act.Flush → WasMade start old new entry items made → made.short ≡ short →
     IsAnswer {X = ⊤} start new entry.act (if short then Err (fault.Gone why.Stopped) else Ok tt)
 flush_short start old new entry items made true flush was is =
@@ -104,7 +103,7 @@ flush_short start old new entry items made false flush was is =
     possible_made start old new entry items made false was (λ e. is)
 
 flush_turn : (start : State) (old new : PassView) (pass moment : ℕ) (items : List Item)
-    (made : Result Made NotMade) →
+    (made : Result Record NotMade) →
     Ends start old new (record { pass = pass; moment = moment; act = act.Flush }) items made →
     IsAnswer {X = ⊤} start new act.Flush (said_flush made)
 flush_turn start old new pass moment items (Ok made) ends =
@@ -113,7 +112,7 @@ flush_turn start old new pass moment items (Ok made) ends =
 flush_turn start old new pass moment items (Err one) ends =
     refused_is ⊤ start old new act.Flush (record { pass = pass; moment = moment; act = act.Flush }) items one refl ends
 
-pub answers_flush : (old new : Kept) (moment : ℕ) (items : List Item) (made : Result Made NotMade)
+pub answers_flush : (old new : Kept) (moment : ℕ) (items : List Item) (made : Result Record NotMade)
     (answer : Result ⊤ NotMade) → HadTurn old moment act.Flush items made new → answer ≡ said_flush made →
     IsAnswer old.start new.pass act.Flush answer
 answers_flush old new moment items made answer turn is =

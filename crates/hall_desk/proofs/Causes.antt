@@ -9,7 +9,7 @@ use Rattle.kom_types.specs.declared.limits.TheConstants.{MOST_SESSIONS}
 use Rattle.kom_types.specs.declared.acts.Act.{Act}
 use Rattle.kom_types.specs.declared.acts.Act.TheVariants as act
 use Rattle.kom_types.specs.declared.acts.Record.{Record}
-use Rattle.kom_types.specs.declared.answers.Refusal.TheVariants.{Gone}
+use Rattle.kom_types.specs.declared.answers.NotMade.TheVariants.{Gone}
 use Rattle.kom_types.specs.declared.answers.Why.TheVariants as why
 use Rattle.kom_types.specs.declared.items.Item.{Item}
 use Rattle.kom_types.specs.Sessions.{Session}
@@ -24,11 +24,11 @@ use Rattle.kom_model.specs.State.{State}
 use Rattle.kom_model.specs.Refusal.{refusal_of}
 use Rattle.kom_model.specs.After.{after}
 use Rattle.kom_model.specs.Legal.{IsLegal, state_after}
-use Rattle.hall_desk.specs.declared.turning.Made.{Made}
 use Rattle.hall_desk.specs.Passes.{PassView, of_pass, connects_in, Knows}
 use Rattle.hall_desk.specs.Desks.{WasOnce, WasOverrun, WasStopped, WasFull, IsKnown, IsUndrained, WasUndrained}
 use Rattle.hall_desk.specs.Desks.{WasOnceAt, IfDrain, IsKnownAnswer, WasRefusedTo}
-use Rattle.hall_desk.specs.Turns.{IsOfOpen, Sees, LogsNone, Ends, AnswersStopped, IsConnect, said_flush}
+use Rattle.hall_desk.specs.Turns.{IsOfOpen, Sees, LogsNone, Ends, AnswersStopped, said_flush}
+use Rattle.kom_model.specs.Making.{IsConnect}
 use Rattle.hall_desk.proofs.Starting.{IsStart}
 use Rattle.hall_desk.proofs.Stepping.{connects_in-append}
 use Rattle.hall_desk.proofs.Histories.{or_cases, connects-state_after, connects_within, state_after-append}
@@ -213,7 +213,7 @@ module _ (start : State) where
       (after state (record_of pass moment act.Flush session short)).store_refused ≡ true
   short_stops state pass moment session short is = rw is refl
 
-  short_known : (old new : PassView) (pass moment : ℕ) (items : List Item) (made : Made) → Knows start old →
+  short_known : (old new : PassView) (pass moment : ℕ) (items : List Item) (made : Record) → Knows start old →
       pass ≡ old.number →
       Ends start old new (record { pass = pass; moment = moment; act = act.Flush }) items (Ok made) →
       made.short ≡ true → WasStopped start new.seen
@@ -231,7 +231,7 @@ module _ (start : State) where
       )
 
   pub flush_known : IsStart start → (old new : PassView) (pass moment : ℕ) (items : List Item)
-      (made : Result Made NotMade) → Knows start old → pass ≡ old.number →
+      (made : Result Record NotMade) → Knows start old → pass ≡ old.number →
       Ends start old new (record { pass = pass; moment = moment; act = act.Flush }) items made →
       IsKnownAnswer start new (deed.Flush, said_flush made)
   flush_known begins old new pass moment items (Ok made) knows own ends = elim (cases_Bool made.short) [

@@ -22,7 +22,6 @@ use Rattle.kom_model.specs.Refusal.{refusal_of}
 use Rattle.kom_model.specs.After.{MayFollow}
 use Rattle.kom_model.specs.Legal.{state_after}
 use Rattle.kom_model.specs.Out.{given_by, given_by_pass, given_from, taken_by}
-use Rattle.hall_desk.specs.declared.turning.Made.{Made}
 use Rattle.hall_desk.specs.Passes.{PassView, connects_in, Knows}
 use Rattle.hall_desk.specs.Desks.{IsKnownAnswer, Kept, desk_view, Stands, GoesOn}
 use Rattle.hall_desk.specs.Turns.{entry_of, IsOfOpen, HadTurn, IsActed, said_flush, AnswersStopped, Looks}
@@ -54,14 +53,14 @@ goes_by old new table same on = record {
   drawn = on.drawn;
 }
 
-pub goes_turn : (old new : Kept) (moment : ℕ) (what : Act) (items : List Item) (made : Result Made NotMade) →
+pub goes_turn : (old new : Kept) (moment : ℕ) (what : Act) (items : List Item) (made : Result Record NotMade) →
     HadTurn old moment what items made new → GoesOn old new
 goes_turn old new moment what items made turn =
     goes_by old new turn.table turn.start
     (ended_grows old.start old.pass new.pass (entry_of old moment what) items made turn.stood.knows refl turn.ends)
 
 -- then an answer is logged
-pub turn_told : (old mid new : Kept) (moment : ℕ) (what : Act) (items : List Item) (made : Result Made NotMade)
+pub turn_told : (old mid new : Kept) (moment : ℕ) (what : Act) (items : List Item) (made : Result Record NotMade)
     (done : Deed) (answer : Result ⊤ NotMade) → HadTurn old moment what items made mid →
     new ≡ record mid { answers = mid.answers ++ (done, answer) ∷ [] } → HadTurn old moment what items made new
 turn_told old mid new moment what items made done answer turn is =
@@ -73,7 +72,7 @@ pub logged_after : (old mid new : Kept) (what : Deed) (answer : Result ⊤ NotMa
 logged_after old mid new what answer same is = ap (λ (kept : Kept). kept.answers) is
     ∙ ap (λ (answers : List Answer). answers ++ (what, answer) ∷ []) same
 
-pub acted_told : (old mid new : Kept) (moment : ℕ) (what : Act) (items : List Item) (made : Result Made NotMade)
+pub acted_told : (old mid new : Kept) (moment : ℕ) (what : Act) (items : List Item) (made : Result Record NotMade)
     (done : Deed) (answer : Result ⊤ NotMade) → HadTurn old moment what items made mid → done ≡ deed_of what →
     answer ≡ said made → mid.answers ≡ old.answers →
     new ≡ record mid { answers = mid.answers ++ (done, answer) ∷ [] } → IsActed old moment what made new
@@ -106,7 +105,7 @@ known_start old mid done answer told same is known =
     subst (λ (start : State). IsKnownAnswer start mid.pass (done, told)) (sym same)
     (subst (λ (answer : Result ⊤ NotMade). IsKnownAnswer old.start mid.pass (done, answer)) (sym is) known)
 
-pub act_known : (old mid : Kept) (moment : ℕ) (what : Act) (items : List Item) (made : Result Made NotMade)
+pub act_known : (old mid : Kept) (moment : ℕ) (what : Act) (items : List Item) (made : Result Record NotMade)
     (done : Deed) (answer : Result ⊤ NotMade) → IsOfOpen old.pass.mine what →
     HadTurn old moment what items made mid → done ≡ deed_of what → answer ≡ said made →
     IsKnownAnswer mid.start mid.pass (done, answer)
@@ -116,7 +115,7 @@ act_known old mid moment what items (Err one) done answer open' turn of_act is =
     known_start old mid done (Err one) answer turn.start is
     (known_turn old mid moment what items one done open' turn of_act)
 
-pub drain_known : (old mid : Kept) (moment session : ℕ) (items : List Item) (made : Result Made NotMade)
+pub drain_known : (old mid : Kept) (moment session : ℕ) (items : List Item) (made : Result Record NotMade)
     (answer : Result ⊤ NotMade) (is_empty : Bool) → IsOpen session old.pass.mine →
     HadTurn old moment (act.Drain session) items made mid → OnErr made (items ≡ []) → answer ≡ said made →
     is_empty ≡ (length items == 0) → IsKnownAnswer mid.start mid.pass (deed.Drain session is_empty, answer)
@@ -127,7 +126,7 @@ drain_known old mid moment session items (Err one) answer is_empty is_open turn 
     (known_turn old mid moment (act.Drain session) items one (deed.Drain session is_empty) is_open turn
     (ap (λ (nothing : Bool). deed.Drain session nothing) (empty ∙ none_is items ∙ ap is_nothing nothing)))
 
-pub flush_answer_known : (old mid : Kept) (moment : ℕ) (items : List Item) (made : Result Made NotMade)
+pub flush_answer_known : (old mid : Kept) (moment : ℕ) (items : List Item) (made : Result Record NotMade)
     (answer : Result ⊤ NotMade) → HadTurn old moment act.Flush items made mid → answer ≡ said_flush made →
     IsKnownAnswer mid.start mid.pass (deed.Flush, answer)
 flush_answer_known old mid moment items made answer turn is =
@@ -176,20 +175,20 @@ still_given old new pass moment what named short session same adds other =
 
 -- ---- an act that was made, and one that was refused
 
-adds_all : (old new : Kept) (moment : ℕ) (what : Act) (items : List Item) (made : Made) →
+adds_all : (old new : Kept) (moment : ℕ) (what : Act) (items : List Item) (made : Record) →
     HadTurn old moment what items (Ok made) new →
     (adds : Adds old.start old.pass new.pass (record_of old.pass.number moment what made.session made.short))
     × (items ≡ taken_by (state_after old.start (old.pass.seen ++ adds.between)) what)
 adds_all old new moment what items made turn =
     made_adds old.start old.pass new.pass (entry_of old moment what) items made turn.stood.knows refl turn.ends
 
-adds_of : (old new : Kept) (moment : ℕ) (what : Act) (items : List Item) (made : Made) →
+adds_of : (old new : Kept) (moment : ℕ) (what : Act) (items : List Item) (made : Record) →
     HadTurn old moment what items (Ok made) new →
     Adds old.start old.pass new.pass (record_of old.pass.number moment what made.session made.short)
 adds_of old new moment what items made turn = (adds_all old new moment what items made turn).0
 
 -- the record that was added, with the session and the mark that it must have
-added_as : (old new : Kept) (moment : ℕ) (what : Act) (made : Made) (session : ℕ) (short : Bool) →
+added_as : (old new : Kept) (moment : ℕ) (what : Act) (made : Record) (session : ℕ) (short : Bool) →
     Adds old.start old.pass new.pass (record_of old.pass.number moment what made.session made.short) →
     made.session ≡ session → made.short ≡ short →
     new.pass.mine ≡ old.pass.mine ++ record_of old.pass.number moment what session short ∷ []
@@ -246,7 +245,7 @@ err_told old new what one left tells = record {
 -- ---- a call
 
 calls_turn : (old new : Kept) (moment session reference : ℕ) (call : Call) (items : List Item)
-    (made : Result Made NotMade) → IsOpen session old.pass.mine →
+    (made : Result Record NotMade) → IsOpen session old.pass.mine →
     HadTurn old moment (act.Call session reference call) items made new →
     Logged old (deed.Call session) (said made) new →
     Calls {X = ⊤} (desk_view old) moment (act.Call session reference call) session (said made) (desk_view new)
@@ -269,7 +268,7 @@ calls_turn old new moment session reference call items (Err one) is_open turn te
       rest = err_told old new (deed.Call session) one left tells;
     }
 
-pub calls_acted : (old new : Kept) (moment session reference : ℕ) (call : Call) (made : Result Made NotMade)
+pub calls_acted : (old new : Kept) (moment session reference : ℕ) (call : Call) (made : Result Record NotMade)
     (answer : Result ⊤ NotMade) → IsOpen session old.pass.mine →
     IsActed old moment (act.Call session reference call) made new → answer ≡ said made →
     Calls (desk_view old) moment (act.Call session reference call) session answer (desk_view new)
@@ -285,7 +284,7 @@ broken_whole : (state : State) (pass moment number session : ℕ) (short : Bool)
 broken_whole state pass moment number session true may = absurd may.short
 broken_whole state pass moment number session false may = refl
 
-broken_turn : (old new : Kept) (moment session : ℕ) (items : List Item) (made : Result Made NotMade) →
+broken_turn : (old new : Kept) (moment session : ℕ) (items : List Item) (made : Result Record NotMade) →
     IsOpen session old.pass.mine → HadTurn old moment (act.Broken session) items made new →
     Logged old (deed.Broken session) (said made) new →
     Acts {X = ⊤} (desk_view old) moment (act.Broken session) session (said made) (desk_view new)
@@ -309,7 +308,7 @@ broken_turn old new moment session items (Err one) is_open turn tells =
       rest = err_told old new (deed.Broken session) one left tells;
     }
 
-pub broken_acted : (old new : Kept) (moment session : ℕ) (made : Result Made NotMade)
+pub broken_acted : (old new : Kept) (moment session : ℕ) (made : Result Record NotMade)
     (answer : Result ⊤ NotMade) → IsOpen session old.pass.mine → IsActed old moment (act.Broken session) made new →
     answer ≡ said made → Acts (desk_view old) moment (act.Broken session) session answer (desk_view new)
 broken_acted old new moment session made answer is_open acted is =
@@ -331,7 +330,7 @@ drained_items state session made may is =
     subst (λ (what : Act). refusal_of state what ≡ None) is may.possible in
     rw (taken_by, possible) refl
 
-drains_turn : (old new : Kept) (moment session : ℕ) (items : List Item) (made : Result Made NotMade) →
+drains_turn : (old new : Kept) (moment session : ℕ) (items : List Item) (made : Result Record NotMade) →
     IsOpen session old.pass.mine → HadTurn old moment (act.Drain session) items made new →
     OnErr made (items ≡ []) → Logged old (deed.Drain session (is_nothing items)) (said made) new →
     Drains {X = ⊤} (desk_view old) moment session items (said made) (desk_view new)
@@ -369,7 +368,7 @@ drains_turn old new moment session items (Err one) is_open turn nothing tells =
       rest = err_told old new (deed.Drain session (is_nothing items)) one left tells;
     }
 
-pub drains_told : (old mid new : Kept) (moment session : ℕ) (items : List Item) (made : Result Made NotMade)
+pub drains_told : (old mid new : Kept) (moment session : ℕ) (items : List Item) (made : Result Record NotMade)
     (answer : Result ⊤ NotMade) (is_empty : Bool) → IsOpen session old.pass.mine →
     HadTurn old moment (act.Drain session) items made mid → OnErr made (items ≡ []) → answer ≡ said made →
     is_empty ≡ (length items == 0) → mid.answers ≡ old.answers →
@@ -390,7 +389,7 @@ close_whole : (state : State) (pass moment number session : ℕ) (short : Bool) 
 close_whole state pass moment number session true may = absurd may.short
 close_whole state pass moment number session false may = refl
 
-closes_turn : (old new : Kept) (moment session : ℕ) (items : List Item) (made : Result Made NotMade) →
+closes_turn : (old new : Kept) (moment session : ℕ) (items : List Item) (made : Result Record NotMade) →
     IsOpen session old.pass.mine → HadTurn old moment (act.Close session) items made new →
     Logged old (deed.Close session) (said made) new →
     Closes {X = ⊤} (desk_view old) moment session (said made) (desk_view new)
@@ -414,7 +413,7 @@ closes_turn old new moment session items (Err one) is_open turn tells =
       rest = err_told old new (deed.Close session) one left tells;
     }
 
-pub closes_acted : (old new : Kept) (moment session : ℕ) (made : Result Made NotMade)
+pub closes_acted : (old new : Kept) (moment session : ℕ) (made : Result Record NotMade)
     (answer : Result ⊤ NotMade) → IsOpen session old.pass.mine → IsActed old moment (act.Close session) made new →
     answer ≡ said made → Closes (desk_view old) moment session answer (desk_view new)
 closes_acted old new moment session made answer is_open acted is =
@@ -433,7 +432,7 @@ adds_none old new moment (fault.Full number) same = same
 adds_none old new moment fault.Memory same = same
 
 -- one that was made, short where the store refused it
-flush_made : (old new : Kept) (moment : ℕ) (items : List Item) (made : Made) (short : Bool) → made.short ≡ short →
+flush_made : (old new : Kept) (moment : ℕ) (items : List Item) (made : Record) (short : Bool) → made.short ≡ short →
     HadTurn old moment act.Flush items (Ok made) new →
     Logged old deed.Flush (if short then Err (fault.Gone why.Stopped) else Ok tt) new →
     Flushes {X = ⊤} (desk_view old) moment (if short then Err (fault.Gone why.Stopped) else Ok tt) (desk_view new)
@@ -462,7 +461,7 @@ flush_made old new moment items made true is turn tells =
       pass = adds.on.number;
     }
 
-flush_turn : (old new : Kept) (moment : ℕ) (items : List Item) (made : Result Made NotMade) →
+flush_turn : (old new : Kept) (moment : ℕ) (items : List Item) (made : Result Record NotMade) →
     HadTurn old moment act.Flush items made new → Logged old deed.Flush (said_flush made) new →
     Flushes {X = ⊤} (desk_view old) moment (said_flush made) (desk_view new)
 flush_turn old new moment items (Ok made) turn tells =
@@ -479,7 +478,7 @@ flush_turn old new moment items (Err one) turn tells =
       pass = left.number;
     }
 
-pub flush_told : (old mid new : Kept) (moment : ℕ) (items : List Item) (made : Result Made NotMade)
+pub flush_told : (old mid new : Kept) (moment : ℕ) (items : List Item) (made : Result Record NotMade)
     (answer : Result ⊤ NotMade) → HadTurn old moment act.Flush items made mid → answer ≡ said_flush made →
     mid.answers ≡ old.answers → new ≡ record mid { answers = mid.answers ++ (deed.Flush, answer) ∷ [] } →
     Flushes (desk_view old) moment answer (desk_view new)
@@ -599,7 +598,7 @@ drawn_number start begins old new moment user host session short knows adds =
       ungiven = given_before session old.number start old.seen begins.drawn knows.legal above;
     }
 
-connects_turn : (old new : Kept) (moment : ℕ) (user host : List ℕ) (items : List Item) (made : Made) →
+connects_turn : (old new : Kept) (moment : ℕ) (user host : List ℕ) (items : List Item) (made : Record) →
     HadTurn old moment (act.Connect user host) items (Ok made) new → Logged old deed.Connect (Ok tt) new →
     Connects (desk_view old) moment user host (Ok made.session) (desk_view new)
 connects_turn old new moment user host items made turn tells =
@@ -627,13 +626,13 @@ connects_turn old new moment user host items made turn tells =
     }
 
 -- the act of a greeting
-acted_as : (old new : Kept) (moment : ℕ) (what : Act) (user host : List ℕ) (made : Result Made NotMade) →
+acted_as : (old new : Kept) (moment : ℕ) (what : Act) (user host : List ℕ) (made : Result Record NotMade) →
     what ≡ act.Connect user host → IsActed old moment what made new →
     IsActed old moment (act.Connect user host) made new
 acted_as old new moment what user host made is acted =
     subst (λ (what : Act). IsActed old moment what made new) is acted
 
-pub connects_made : (old new : Kept) (moment : ℕ) (what : Act) (user host : List ℕ) (made : Made) →
+pub connects_made : (old new : Kept) (moment : ℕ) (what : Act) (user host : List ℕ) (made : Record) →
     what ≡ act.Connect user host → IsActed old moment what (Ok made) new →
     Connects (desk_view old) moment user host (Ok made.session) (desk_view new)
 connects_made old new moment what user host made is acted =
@@ -659,6 +658,6 @@ connects_refused old new moment what user host one is acted =
     }
 
 -- what was acted is a later state
-pub acted_on : (old new : Kept) (moment : ℕ) (what : Act) (made : Result Made NotMade) →
+pub acted_on : (old new : Kept) (moment : ℕ) (what : Act) (made : Result Record NotMade) →
     IsActed old moment what made new → GoesOn old new
 acted_on old new moment what made acted = goes_turn old new moment what acted.items made acted.turn

@@ -7,15 +7,13 @@ use Rattle.std.proofs.lemmas.List.{append_cancel_left}
 use Rattle.kom_types.specs.declared.acts.Act.{Act}
 use Rattle.kom_types.specs.declared.acts.Entry.{Entry}
 use Rattle.kom_types.specs.declared.acts.Record.{Record}
-use Rattle.kom_types.specs.declared.answers.Refusal.{Refusal}
-use Rattle.kom_types.specs.declared.items.Item.{Item}
 use Rattle.kom_types.specs.declared.answers.NotMade.{NotMade}
+use Rattle.kom_types.specs.declared.items.Item.{Item}
 use Rattle.kom_types.specs.declared.answers.NotMade.TheVariants as fault
 use Rattle.kom_model.specs.State.{State}
 use Rattle.kom_model.specs.After.{MayFollow}
 use Rattle.kom_model.specs.Legal.{IsLegal, state_after}
 use Rattle.kom_model.specs.Out.{given_by, given_by_pass, taken_by}
-use Rattle.hall_desk.specs.declared.turning.Made.{Made}
 use Rattle.hall_desk.specs.Passes.{PassView, of_pass, Knows}
 use Rattle.hall_desk.specs.Turns.{Sees, LogsNone, HasNoTurn, record_in, WasMade, WasRefused, Ends}
 use Rattle.hall_desk.specs.Turns.{AnswersStopped, Looks}
@@ -60,7 +58,7 @@ seen_others start old new history knows sees =
 
 -- ---- from how an act ended
 
-pub made_adds : (start : State) (old new : PassView) (entry : Entry) (items : List Item) (made : Made) →
+pub made_adds : (start : State) (old new : PassView) (entry : Entry) (items : List Item) (made : Record) →
     Knows start old → entry.pass ≡ old.number → WasMade start old new entry items made →
     (adds : Adds start old new (record_in entry made))
     × (items ≡ taken_by (state_after start (old.seen ++ adds.between)) entry.act)
@@ -120,7 +118,7 @@ no_turn_keeps start old new ticket knows none = record {
   mine = none.mine;
 }
 
-refused_keeps : (start : State) (old new : PassView) (what : Act) (refusal : Option Refusal) → Knows start old →
+refused_keeps : (start : State) (old new : PassView) (what : Act) (refusal : Option NotMade) → Knows start old →
     WasRefused start old new what refusal → Keeps start old new
 refused_keeps start old new what refusal knows (history, sees, logs, why) =
     none_keeps start old new history knows sees logs
@@ -148,7 +146,7 @@ looks_keeps start old new knows (inr (ticket, none)) = no_turn_keeps start old n
 
 -- after an act, made or not
 pub ended_grows : (start : State) (old new : PassView) (entry : Entry) (items : List Item)
-    (result : Result Made NotMade) → Knows start old → entry.pass ≡ old.number →
+    (result : Result Record NotMade) → Knows start old → entry.pass ≡ old.number →
     Ends start old new entry items result → Grows start old new
 ended_grows start old new entry items (Ok made) knows own ends =
     (made_adds start old new entry items made knows own ends).0.on

@@ -1,29 +1,28 @@
 -- What the turns of the lock tell a pass, in records.
 use Rattle.std.proofs.Common.{◌≡◌, ℕ, ◌+◌, ◌^◌, ◌<◌, ◌≤◌, inl, inr, Bool, true, false, ◌||◌, eqb, List, [], ◌∷◌, ◌++◌}
 use Rattle.std.proofs.Common.{length, map, Option, Some, None, refl, sym, ap, subst, ◌∙◌, arith}
-use Rattle.std.specs.Prelude.{Ok, Err, IsSome}
+use Rattle.std.specs.Prelude.{Ok, Err}
 use Rattle.std.proofs.lemmas.Bool.{cases_Bool}
 use Rattle.std.proofs.lemmas.List.{map-append, length-map}
 use Rattle.kom_types.specs.declared.acts.Act.{Act}
 use Rattle.kom_types.specs.declared.acts.Act.TheVariants as act
 use Rattle.kom_types.specs.declared.acts.Entry.{Entry}
 use Rattle.kom_types.specs.declared.acts.Record.{Record}
-use Rattle.kom_types.specs.declared.answers.Refusal.{Refusal}
-use Rattle.kom_types.specs.declared.answers.Refusal.TheVariants.{Gone, Full}
-use Rattle.kom_types.specs.declared.items.Item.{Item}
 use Rattle.kom_types.specs.declared.answers.NotMade.{NotMade}
+use Rattle.kom_types.specs.declared.answers.NotMade.TheVariants.{Gone, Full, Memory}
+use Rattle.kom_types.specs.declared.items.Item.{Item}
 use Rattle.kom_model.specs.State.{State, session_of}
-use Rattle.kom_model.specs.Refusal.{refusal_of, TakesNoMemory}
+use Rattle.kom_model.specs.Refusal.{refusal_of}
 use Rattle.kom_model.specs.After.{MayFollow}
 use Rattle.kom_model.specs.Legal.{IsLegal, IsByOwner, AreByOwners, state_after}
-use Rattle.kom_model.specs.Out.{taken_by}
+use Rattle.kom_model.specs.Out.{taken_by, given_from}
 use Rattle.kom_state_lock.specs.declared.views.Turn.TheVariants.{Resting}
 use Rattle.kom_state_lock.specs.Views.{entries_of}
 use Rattle.kom_state_lock.specs.Passes.{HallModel, PassModel, TakesTurn, logged_pass, resting_pass}
-use Rattle.hall_desk.specs.Acts.{IsMadeBy, IsLed}
+use Rattle.kom_model.specs.Making.{IsMadeBy, IsNotMade}
+use Rattle.hall_desk.specs.Acts.{IsLed}
 use Rattle.hall_desk.specs.Passes.{PassView, pass_view, of_pass, Knows}
-use Rattle.hall_desk.specs.declared.turning.Made.{Made}
-use Rattle.hall_desk.specs.Turns.{IsOfOpen, Sees, Logs, LogsNone, record_in, fault_from, WasMade, WasRefused, IsConnect}
+use Rattle.hall_desk.specs.Turns.{IsOfOpen, Sees, Logs, LogsNone, record_in, WasMade, WasRefused}
 use Rattle.hall_desk.specs.Turns.{Ends, AnswersStopped, Looks}
 use Rattle.hall_desk.proofs.Starting.{IsStart}
 use Rattle.hall_desk.proofs.Stepping.{by_owner}
@@ -254,7 +253,7 @@ module _ {B E : Type 0} (made : E → Record) (server : B → State) (pass_of : 
 
   -- ---- what a turn leaves, all told
 
-  left_by : (one : Record) (entry : Entry) (made : Made) → one.entry ≡ entry → made.session ≡ one.session →
+  left_by : (one : Record) (entry : Entry) (made : Record) → one.entry ≡ entry → made.session ≡ one.session →
       made.short ≡ one.short → one ≡ record_in entry made
   left_by one entry made is named short =
       ap (λ (entry : Entry). record { entry = entry; session = one.session; short = one.short }) is
@@ -263,7 +262,7 @@ module _ {B E : Type 0} (made : E → Record) (server : B → State) (pass_of : 
 
   -- an act was made; `found` is the value that was lent
   pub turn_made : (hall : HallModel B) (old : PassModel B E) (value left found : B) (logged : E)
-      (new : PassModel B E) (entry : Entry) (items : List Item) (one : Made) →
+      (new : PassModel B E) (entry : Entry) (items : List Item) (one : Record) →
       Knows (server hall.opening) (pass_view made old) → MadeTurn hall old value left logged new → found ≡ value →
       IsMadeBy (server found) (server left) entry (made logged) → one.session ≡ (made logged).session →
       one.short ≡ (made logged).short → items ≡ taken_by (server found) entry.act → entry.pass ≡ old.number →
@@ -294,7 +293,7 @@ module _ {B E : Type 0} (made : E → Record) (server : B → State) (pass_of : 
 
   -- it was not
   pub turn_refused : (hall : HallModel B) (old : PassModel B E) (value found : B) (new : PassModel B E) (what : Act)
-      (refusal : Option Refusal) → Knows (server hall.opening) (pass_view made old) → LookedTurn hall old value new →
+      (refusal : Option NotMade) → Knows (server hall.opening) (pass_view made old) → LookedTurn hall old value new →
       found ≡ value → refusal_of (server found) what ≡ refusal →
       Knows (server hall.opening) (pass_view made new)
       × WasRefused (server hall.opening) (pass_view made old) (pass_view made new) what refusal
@@ -341,36 +340,27 @@ module _ {B E : Type 0} (made : E → Record) (server : B → State) (pass_of : 
         inl (ends.0, ends.1, ends.2),
       )
 
--- ---- by the fault of a refusal
+-- ---- why it was not
 
-from_refusal : (start : State) (old new : PassView) (entry : Entry) (items : List Item) (refusal : Refusal) →
-    WasRefused start old new entry.act (Some refusal) → Ends start old new entry items (Err (fault_from refusal))
-from_refusal start old new entry items (Gone told) was = was
-from_refusal start old new entry items (Full number) was = inr was
+-- an act that was not made takes nothing
+pub taken-none : (state : State) (what : Act) (one : NotMade) → IsNotMade state what one → taken_by state what ≡ []
+taken-none state (act.Connect user host) one is = refl
+taken-none state (act.Call session reference call) one is = refl
+taken-none state (act.Broken session) one is = refl
+taken-none state (act.Drain session) (Gone told) is =
+    ap (λ (found : Option NotMade). elim found [ None ↦ given_from session state | Some refusal ↦ [] ]) is
+taken-none state (act.Drain session) (Full number) is =
+    ap (λ (found : Option NotMade). elim found [ None ↦ given_from session state | Some refusal ↦ [] ]) is
+taken-none state (act.Drain session) Memory is = absurd is.1
+taken-none state act.Flush one is = refl
+taken-none state (act.Close session) one is = refl
 
-pub ends_refused : (start : State) (old new : PassView) (entry : Entry) (items : List Item) (refusal : Refusal)
-    (one : NotMade) → one ≡ fault_from refusal → WasRefused start old new entry.act (Some refusal) →
+pub ends_not_made : (state start : State) (old new : PassView) (entry : Entry) (items : List Item) (one : NotMade) →
+    IsNotMade state entry.act one → WasRefused start old new entry.act (refusal_of state entry.act) →
     Ends start old new entry items (Err one)
-ends_refused start old new entry items refusal one is was =
-    subst (λ (one : NotMade). Ends start old new entry items (Err one)) (sym is)
-    (from_refusal start old new entry items refusal was)
-
--- ---- where memory ran out
-
-none_or : (found : Option Refusal) → (IsSome found → ⊥) → found ≡ None
-none_or None never = refl
-none_or (Some refusal) never = absurd (never refl)
-
-wants : (state : State) (what : Act) → (TakesNoMemory state what → ⊥) →
-    (refusal_of state what ≡ None) × IsConnect what
-wants state (act.Connect user host) never = (none_or (refusal_of state (act.Connect user host)) never, tt)
-wants state (act.Call session reference call) never = absurd (never tt)
-wants state (act.Broken session) never = absurd (never tt)
-wants state (act.Drain session) never = absurd (never tt)
-wants state act.Flush never = absurd (never tt)
-wants state (act.Close session) never = absurd (never tt)
-
--- a Connect that nothing refuses
-pub wanted : (state : State) (what : Act) → (TakesNoMemory state what → false ≡ true) →
-    (refusal_of state what ≡ None) × IsConnect what
-wanted state what wrong = wants state what (λ takes. let both : false ≡ true = wrong takes in cc)
+ends_not_made state start old new entry items (Gone told) is was =
+    subst (λ (refusal : Option NotMade). WasRefused start old new entry.act refusal) is was
+ends_not_made state start old new entry items (Full number) is was =
+    inr (subst (λ (refusal : Option NotMade). WasRefused start old new entry.act refusal) is was)
+ends_not_made state start old new entry items Memory is was =
+    (subst (λ (refusal : Option NotMade). WasRefused start old new entry.act refusal) is.0 was, is.1)

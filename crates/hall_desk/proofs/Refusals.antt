@@ -8,7 +8,7 @@ use Rattle.kom_types.specs.declared.acts.Act.{Act}
 use Rattle.kom_types.specs.declared.acts.Act.TheVariants as act
 use Rattle.kom_types.specs.declared.acts.Entry.{Entry}
 use Rattle.kom_types.specs.declared.acts.Record.{Record}
-use Rattle.kom_types.specs.declared.answers.Refusal.TheVariants.{Gone, Full}
+use Rattle.kom_types.specs.declared.answers.NotMade.TheVariants.{Gone, Full}
 use Rattle.kom_types.specs.declared.answers.Why.{Why}
 use Rattle.kom_types.specs.declared.answers.Why.TheVariants as why
 use Rattle.kom_types.specs.declared.calls.Call.{Call}
@@ -24,7 +24,8 @@ use Rattle.kom_model.specs.Refusal.{connect_refused, unless_store_refused, refus
 use Rattle.kom_model.specs.Legal.{IsLegal, state_after}
 use Rattle.hall_desk.specs.Passes.{PassView, connects_in}
 use Rattle.hall_desk.specs.Desks.{WasStopped, IsKnown}
-use Rattle.hall_desk.specs.Turns.{IsOfOpen, Sees, LogsNone, HasNoTurn, Ends, AnswersStopped, IsConnect}
+use Rattle.hall_desk.specs.Turns.{IsOfOpen, Sees, LogsNone, HasNoTurn, Ends, AnswersStopped}
+use Rattle.kom_model.specs.Making.{IsConnect}
 use Rattle.hall_desk.proofs.Starting.{IsStart}
 use Rattle.hall_desk.proofs.Stepping.{Has}
 use Rattle.hall_desk.proofs.Histories.{and_both, or_second, open_has, connects-state_after, connects_within}

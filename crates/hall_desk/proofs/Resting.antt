@@ -14,7 +14,6 @@ use Rattle.kom_model.specs.State.{State}
 use Rattle.kom_model.specs.Legal.{HasUser, IsLegal, AreByOwners}
 use Rattle.kom_state_lock.specs.declared.views.Turn.TheVariants.{Resting}
 use Rattle.kom_state_lock.specs.Passes.{HallModel, PassModel, IsPassOf, HoldsNoTurn}
-use Rattle.hall_desk.specs.declared.turning.Made.{Made}
 use Rattle.hall_desk.specs.Acts.{IsOpening}
 use Rattle.hall_desk.specs.Passes.{waits_in, pass_view, of_pass, Knows}
 use Rattle.hall_desk.specs.Desks.{IsKnownAnswer, Kept, kept_in, Stands, Rests, GoesOn, desk_view}
@@ -49,7 +48,7 @@ module _ {B E : Type 0} (made : E → Record) (server : B → State) (hall : Hal
     stands_outside rests = subst (λ (kept : Kept). Stands kept) view rests.stands
 
     pub turn_outside : (new : PassModel B E) (moment : ℕ) (what : Act) (entry : Entry) (items : List Item)
-        (result : Result Made NotMade) → entry ≡ entry_of kept moment what → Rests made server hall pass answers →
+        (result : Result Record NotMade) → entry ≡ entry_of kept moment what → Rests made server hall pass answers →
         Ends (server hall.opening) (pass_view made pass) (pass_view made new) entry items result →
         HadTurn kept moment what items result (kept_in made server hall new answers)
     turn_outside new moment what entry items result is rests ends = record {
@@ -128,7 +127,7 @@ module _ {B E : Type 0} (made : E → Record) (server : B → State) (hall : Hal
     };
   }
 
-  pub rests_ended : (new : PassModel B E) (entry : Entry) (items : List Item) (result : Result Made NotMade) →
+  pub rests_ended : (new : PassModel B E) (entry : Entry) (items : List Item) (result : Result Record NotMade) →
       entry.pass ≡ pass.number → Rests made server hall pass answers → IsPassOf hall new → HoldsNoTurn new.turn →
       Knows (server hall.opening) (pass_view made new) →
       Ends (server hall.opening) (pass_view made pass) (pass_view made new) entry items result →

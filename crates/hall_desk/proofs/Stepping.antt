@@ -9,7 +9,7 @@ use Rattle.kom_types.specs.declared.limits.TheConstants.{MOST_SESSIONS}
 use Rattle.kom_types.specs.declared.acts.Act.{Act}
 use Rattle.kom_types.specs.declared.acts.Act.TheVariants as act
 use Rattle.kom_types.specs.declared.acts.Record.{Record}
-use Rattle.kom_types.specs.declared.answers.Refusal.TheVariants.{Full}
+use Rattle.kom_types.specs.declared.answers.NotMade.TheVariants.{Full}
 use Rattle.kom_types.specs.declared.decisions.Decision.{Decision}
 use Rattle.kom_types.specs.Sessions.{Session, waiting_limits, is_session, drained, fresh_session}
 use Rattle.kom_links.specs.DeskCalls.{record_of}

@@ -6,7 +6,6 @@ use Rattle.kom_types.specs.declared.limits.TheConstants.{MOST_SESSIONS}
 use Rattle.atomic_table.specs.Seated.{TableId}
 use Rattle.kom_types.specs.declared.acts.Act.TheVariants as act
 use Rattle.kom_types.specs.declared.acts.Record.{Record}
-use Rattle.kom_types.specs.declared.answers.Refusal.TheVariants.{Gone}
 use Rattle.kom_types.specs.declared.answers.Why.TheVariants as why
 use Rattle.kom_types.specs.Sessions.{Session}
 use Rattle.kom_types.specs.declared.answers.NotMade.{NotMade}
@@ -69,7 +68,7 @@ abbrev pub IsUndrained : State → ℕ → ℕ → List Record → Type 0
 IsUndrained start pass session history =
     IsOpen session (of_pass pass history)
     × (WasOverrun start session history
-    ⊎ (refusal_of (state_after start history) (act.Drain session) ≡ Some (Gone why.Dropped)))
+    ⊎ (refusal_of (state_after start history) (act.Drain session) ≡ Some (fault.Gone why.Dropped)))
 
 -- at some moment of what the pass has seen a drain of a session was refused so
 abbrev pub WasUndrained : State → PassView → ℕ → Type 0

@@ -4,7 +4,6 @@ use Rattle.std.specs.Prelude.{◌++◌, Some, None, Result, Ok, Err}
 use Rattle.kom_types.specs.declared.acts.Act.{Act}
 use Rattle.kom_types.specs.declared.acts.Act.TheVariants as act
 use Rattle.kom_types.specs.declared.acts.Record.{Record}
-use Rattle.kom_types.specs.declared.answers.Refusal.TheVariants.{Gone, Full}
 use Rattle.kom_types.specs.declared.answers.Why.TheVariants as why
 use Rattle.kom_types.specs.declared.answers.NotMade.{NotMade}
 use Rattle.kom_types.specs.declared.answers.NotMade.TheVariants as fault
@@ -31,11 +30,11 @@ IsLastTicket pass number = (2 ^ 62 ≤ number) × (number < pass.drawn) × (pass
 abbrev pub IsAnswer : {X : Type 0} → State → PassView → Act → Result X NotMade → Type 0
 IsAnswer start pass what (Ok value) = WasPossible start pass what false
 IsAnswer start pass what (Err (fault.Gone told)) =
-    (refusal_of (state_after start pass.seen) what ≡ Some (Gone told))
+    (refusal_of (state_after start pass.seen) what ≡ Some (fault.Gone told))
     ⊎ ((told ≡ why.Stopped) × (what ≡ act.Flush) × WasPossible start pass what true)
 IsAnswer start pass what (Err (fault.Full number)) =
     IsLastTicket pass number
-    ⊎ (refusal_of (state_after start pass.seen) what ≡ Some (Full number))
+    ⊎ (refusal_of (state_after start pass.seen) what ≡ Some (fault.Full number))
 IsAnswer start pass what (Err fault.Memory) =
     (user host : List ℕ) × (what ≡ act.Connect user host)
 

@@ -5,27 +5,20 @@ use Rattle.kom_types.specs.declared.acts.Act.{Act}
 use Rattle.kom_types.specs.declared.acts.Act.TheVariants as act
 use Rattle.kom_types.specs.declared.acts.Entry.{Entry}
 use Rattle.kom_types.specs.declared.acts.Record.{Record}
-use Rattle.kom_types.specs.declared.answers.Refusal.{Refusal}
-use Rattle.kom_types.specs.declared.answers.Refusal.TheVariants.{Gone, Full}
+use Rattle.kom_types.specs.declared.answers.NotMade.{NotMade}
 use Rattle.kom_types.specs.declared.answers.Why.TheVariants as why
 use Rattle.kom_types.specs.declared.items.Item.{Item}
-use Rattle.kom_types.specs.declared.answers.NotMade.{NotMade}
 use Rattle.kom_types.specs.declared.answers.NotMade.TheVariants as fault
 use Rattle.kom_links.specs.Answers.{said, deed_of}
 use Rattle.kom_links.specs.Records.{IsOpen}
 use Rattle.kom_model.specs.State.{State}
 use Rattle.kom_model.specs.Refusal.{refusal_of}
 use Rattle.kom_model.specs.After.{MayFollow}
+use Rattle.kom_model.specs.Making.{IsConnect}
 use Rattle.kom_model.specs.Legal.{IsLegal, AreByOwners, state_after}
 use Rattle.kom_model.specs.Out.{taken_by}
-use Rattle.hall_desk.specs.declared.turning.Made.{Made}
 use Rattle.hall_desk.specs.Passes.{PassView, of_pass}
 use Rattle.hall_desk.specs.Desks.{Kept, Stands}
-
--- the fault of a refusal
-abbrev pub fault_from : Refusal → NotMade
-fault_from (Gone told) = fault.Gone told
-fault_from (Full number) = fault.Full number
 
 -- the session of an act, if it has one before it, is open in these records
 abbrev pub IsOfOpen : List Record → Act → Type 0
@@ -71,38 +64,30 @@ pub record HasNoTurn (old new : PassView) (ticket : ℕ) : Type 0 where
   pub mine : new.mine ≡ old.mine
 
 -- the record of an entry that was made so
-abbrev pub record_in : Entry → Made → Record
+abbrev pub record_in : Entry → Record → Record
 record_in entry made = record { entry = entry; session = made.session; short = made.short }
 
 -- an act was made, and took these items
-abbrev pub WasMade : State → PassView → PassView → Entry → List Item → Made → Type 0
+abbrev pub WasMade : State → PassView → PassView → Entry → List Item → Record → Type 0
 WasMade start old new entry items made =
     (history : List Record) × Sees start old new history
     × Logs start old new history (record_in entry made)
     × (items ≡ taken_by (state_after start history) entry.act)
 
 -- this refused an act, or memory ran out where nothing did
-abbrev pub WasRefused : State → PassView → PassView → Act → Option Refusal → Type 0
+abbrev pub WasRefused : State → PassView → PassView → Act → Option NotMade → Type 0
 WasRefused start old new what refusal =
     (history : List Record) × Sees start old new history × LogsNone old new history
     × (refusal_of (state_after start history) what ≡ refusal)
 
-abbrev pub IsConnect : Act → Type 0
-IsConnect (act.Connect user host) = Unit {0}
-IsConnect (act.Call session reference call) = ⊥
-IsConnect (act.Broken session) = ⊥
-IsConnect (act.Drain session) = ⊥
-IsConnect act.Flush = ⊥
-IsConnect (act.Close session) = ⊥
-
 -- How an act that a pass asked for ended: it was made; it was refused; no turn was left; or at a
 -- Connect memory ran out.
-abbrev pub Ends : State → PassView → PassView → Entry → List Item → Result Made NotMade → Type 0
+abbrev pub Ends : State → PassView → PassView → Entry → List Item → Result Record NotMade → Type 0
 Ends start old new entry items (Ok made) = WasMade start old new entry items made
 Ends start old new entry items (Err (fault.Gone told)) =
-    WasRefused start old new entry.act (Some (Gone told))
+    WasRefused start old new entry.act (Some (fault.Gone told))
 Ends start old new entry items (Err (fault.Full number)) =
-    HasNoTurn old new number ⊎ WasRefused start old new entry.act (Some (Full number))
+    HasNoTurn old new number ⊎ WasRefused start old new entry.act (Some (fault.Full number))
 Ends start old new entry items (Err fault.Memory) =
     WasRefused start old new entry.act None × IsConnect entry.act
 
@@ -112,21 +97,21 @@ entry_of old moment what = record { pass = old.pass.number; moment = moment; act
 
 -- A desk had a turn for an act, which ended so and took these items.
 pub record HadTurn (old : Kept) (moment : ℕ) (what : Act) (items : List Item)
-    (made : Result Made NotMade) (new : Kept) : Type 0 where
+    (made : Result Record NotMade) (new : Kept) : Type 0 where
   pub stood : Stands old
   pub ends : Ends old.start old.pass new.pass (entry_of old moment what) items made
   pub table : new.table ≡ old.table
   pub start : new.start ≡ old.start
 
 -- It had one for an act that gives nothing, and logged how that was answered.
-pub record IsActed (old : Kept) (moment : ℕ) (what : Act) (made : Result Made NotMade)
+pub record IsActed (old : Kept) (moment : ℕ) (what : Act) (made : Result Record NotMade)
     (new : Kept) : Type 0 where
   pub items : List Item
   pub turn : HadTurn old moment what items made new
   pub tells : new.answers ≡ old.answers ++ (deed_of what, said made) ∷ []
 
 -- what a flush is answered: the desk is stopped where the store refused it
-abbrev pub said_flush : Result Made NotMade → Result ⊤ NotMade
+abbrev pub said_flush : Result Record NotMade → Result ⊤ NotMade
 said_flush (Ok made) = if made.short then Err (fault.Gone why.Stopped) else Ok tt
 said_flush (Err one) = Err one
 

@@ -1,19 +1,18 @@
-ghost use Rattle.std.specs.Prelude.{◌≡◌, ◌<◌, ◌^◌, ◌||◌, List, IfOk, IfSome, IsOk, OnErr};
-ghost use Rattle.kom_types.specs.declared.acts.Record.{Record as Made};
+ghost use Rattle.std.specs.Prelude.{◌≡◌, ◌<◌, ◌^◌, ◌||◌, List, IfSome};
+ghost use Rattle.kom_types.specs.declared.acts.Record.{Record as Logged};
 ghost use Rattle.kom_model.specs.State.{State as Server};
 ghost use Rattle.kom_model.specs.Legal.{HasUser, IsByOwner};
 ghost use Rattle.kom_model.specs.Out.{taken_by};
-ghost use Rattle.kom_model.specs.Refusal.{TakesNoMemory};
 ghost use Rattle.hall_desk.specs.Acts.{Comes, IsLed};
 
 use arrayvec::ArrayVec;
 use kom_state_lock::Booked;
-use kom_types::{Entry, Item, Memory, Refusal};
+use kom_types::{Entry, Item, NotMade};
 
 /// A server that a hall keeps: it makes acts, and each entry of its history has the record of one.
 pub trait Acts: Booked {
     /// The record of an entry of the history.
-    ghost made: { Self.Entry → Made };
+    ghost made: { Self.Entry → Logged };
 
     /// The server as plain rows.
     ghost server: { Self → Server };
@@ -23,17 +22,15 @@ pub trait Acts: Booked {
     /// as a short one.
     fn make(
         &mut self,
-        entry: Entry,
+        entry: &Entry,
         items: &mut ArrayVec<Item, 64>,
-    ) -> Result<Result<Self::Entry, Refusal>, Memory>
+    ) -> Result<Self::Entry, NotMade>
         requires room { (server self.old).entries < 2 ^ 62 }
-        requires own { IsByOwner (server self.old) entry }
-        requires user { HasUser entry.act }
-        ensures comes { IfOk result
-            (Comes Self.follows Self.stays made server self.old entry self.new) }
-        ensures taken { items.new.items ≡ taken_by (server self.old) entry.act }
-        ensures memory { OnErr result (Self.stays self.old self.new) }
-        ensures none_taken { TakesNoMemory (server self.old) entry.act → IsOk result };
+        requires own { IsByOwner (server self.old) entry.now }
+        requires user { HasUser entry.now.act }
+        ensures comes { Comes Self.follows Self.stays made server self.old entry.now self.new
+            result }
+        ensures taken { items.new.items ≡ taken_by (server self.old) entry.now.act };
 
     /// Whether the server was shut down or its store refused a flush.
     fn stopped(&self) -> bool

@@ -3,16 +3,15 @@ ghost use Rattle.std.specs.Prelude.{◌≡◌};
 ghost use Rattle.kom_links.specs.Answers.{said, said_stopped};
 ghost use Rattle.hall_desk.specs.Turns.{said_flush};
 
-use crate::turning::Made;
-use kom_types::{NotMade, Why};
+use kom_types::{Made, NotMade, Why};
 
 /// The answer to an act.
-pub(crate) fn answer_of(made: Result<Made, NotMade>) -> Result<(), NotMade>
-    ensures { result ≡ said made }
+pub(crate) fn answer_of(made: &Result<Made, NotMade>) -> Result<(), NotMade>
+    ensures { result ≡ said made.now }
 {
     match made {
         Ok(_made) => Ok(()),
-        Err(fault) => Err(fault),
+        Err(fault) => Err(*fault),
     }
 }
 
@@ -22,7 +21,7 @@ pub(crate) fn flush_answer(made: Result<Made, NotMade>) -> Result<(), NotMade>
 {
     match made {
         Ok(made) => {
-            if made.short {
+            if made.is_short() {
                 Err(NotMade::Gone(Why::Stopped))
             } else {
                 Ok(())

@@ -18,12 +18,12 @@ ghost use Rattle.hall_desk.specs.Rows.{IsAnswer, IsStopped};
 
 use crate::acts::Acts;
 use crate::answers::{answer_of, flush_answer, stop_answer};
-use crate::turning::{Made, ask, news, next_news, turn};
+use crate::turning::{ask, news, next_news, turn};
 use arrayvec::ArrayVec;
 use http_server::Log;
 use kom_links::{Deed, Desk, NewsDesk};
 use kom_state_lock::{Hall, Pass};
-use kom_types::{Act, Bytes, Call, Entry, Item, Memory, Moment, NotMade};
+use kom_types::{Act, Bytes, Call, Entry, Item, Made, Memory, Moment, NotMade};
 use std::alloc::Global;
 use std::marker::Model;
 use std::sync::Wait;
@@ -129,7 +129,7 @@ impl<'a, R: Wait, B: Acts> HallDesk<'a, R, B> {
         ensures answers { self.new.answers ≡ self.old.answers }
     {
         let entry = self.entry(moment, act);
-        turn(self.rt, self.hall, &mut self.pass, entry, items)
+        turn(self.rt, self.hall, &mut self.pass, &entry, items)
     }
 
     /// Makes an act that takes no items, and logs its record.
@@ -141,7 +141,7 @@ impl<'a, R: Wait, B: Acts> HallDesk<'a, R, B> {
         ensures answers { self.new.answers ≡ self.old.answers }
     {
         let entry = self.entry(moment, act);
-        turn(self.rt, self.hall, &mut self.pass, entry, &mut self.none)
+        turn(self.rt, self.hall, &mut self.pass, &entry, &mut self.none)
     }
 
     /// Makes an act that takes no items, and logs its record, and for clauses how it was answered.
@@ -152,7 +152,7 @@ impl<'a, R: Wait, B: Acts> HallDesk<'a, R, B> {
         ensures { IsActed self.old moment act result self.new }
     {
         let made = self.make_alone(moment, act);
-        self.tell(deed, answer_of(made));
+        self.tell(deed, answer_of(&made));
         made
     }
 
@@ -213,7 +213,7 @@ impl<'a, R: Wait, B: Acts> Desk for HallDesk<'a, R, B> {
             return Err(NotMade::Memory);
         };
         match self.act(moment, act, Deed::Connect) {
-            Ok(made) => Ok(made.session),
+            Ok(made) => Ok(made.session()),
             Err(fault) => Err(fault),
         }
     }
@@ -237,7 +237,7 @@ impl<'a, R: Wait, B: Acts> Desk for HallDesk<'a, R, B> {
             reference,
             call,
         };
-        answer_of(self.act(moment, act, Deed::Call(session)))
+        answer_of(&self.act(moment, act, Deed::Call(session)))
     }
 
     fn broken(&mut self, moment: Moment, session: u32) -> Result<(), NotMade>
@@ -247,7 +247,7 @@ impl<'a, R: Wait, B: Acts> Desk for HallDesk<'a, R, B> {
         ensures on { GoesOn self.old self.new }
         ensures answer { IsAnswer self.old.start self.new.pass (act.Broken session) result }
     {
-        answer_of(self.act(moment, Act::Broken { session }, Deed::Broken(session)))
+        answer_of(&self.act(moment, Act::Broken { session }, Deed::Broken(session)))
     }
 
     fn drain_into(
@@ -262,7 +262,7 @@ impl<'a, R: Wait, B: Acts> Desk for HallDesk<'a, R, B> {
         ensures on { GoesOn self.old self.new }
         ensures answer { IsAnswer self.old.start self.new.pass (act.Drain session) result }
     {
-        let answer = answer_of(self.make(moment, Act::Drain { session }, into));
+        let answer = answer_of(&self.make(moment, Act::Drain { session }, into));
         self.tell(Deed::Drain(session, into.is_empty()), answer);
         answer
     }
@@ -283,7 +283,7 @@ impl<'a, R: Wait, B: Acts> Desk for HallDesk<'a, R, B> {
         ensures on { GoesOn self.old self.new }
         ensures answer { IsAnswer self.old.start self.new.pass (act.Close session) result }
     {
-        answer_of(self.act(moment, Act::Close { session }, Deed::Close(session)))
+        answer_of(&self.act(moment, Act::Close { session }, Deed::Close(session)))
     }
 
     fn stopped(&mut self) -> Result<bool, NotMade>

@@ -3,20 +3,13 @@ ghost use Rattle.kom_state_lock.specs.Passes.{IsPassOf, HoldsNoTurn};
 ghost use Rattle.kom_model.specs.Legal.{HasUser};
 ghost use Rattle.hall_desk.specs.Acts.{IsOpening};
 ghost use Rattle.hall_desk.specs.Passes.{pass_view, Knows};
-ghost use Rattle.hall_desk.specs.Turns.{IsOfOpen, Ends, AnswersStopped, Looks, fault_from};
+ghost use Rattle.hall_desk.specs.Turns.{IsOfOpen, Ends, AnswersStopped, Looks};
 
 use crate::acts::Acts;
 use arrayvec::ArrayVec;
 use kom_state_lock::{Full, Hall, Pass};
-use kom_types::{Entry, Item, Memory, NotMade, Refusal};
+use kom_types::{Entry, Item, Made, NotMade};
 use std::sync::Wait;
-
-/// An act that was made: its session, and whether its record is short.
-#[derive(Clone, Copy, Debug)]
-pub(crate) struct Made {
-    pub session: u32,
-    pub short: bool,
-}
 
 /// Makes the act of an entry in one turn, and logs its record. What a drain takes is put into an
 /// array, in place of what stood there.
@@ -24,21 +17,21 @@ pub(crate) fn turn<R: Wait, B: Acts>(
     rt: &R,
     hall: &Hall<B>,
     pass: &mut Pass<B>,
-    entry: Entry,
+    entry: &Entry,
     items: &mut ArrayVec<Item, 64>,
 ) -> Result<Made, NotMade>
     requires pass { IsPassOf hall.now pass.old }
     requires free { HoldsNoTurn pass.old.turn }
     requires opening { IsOpening (B.server hall.now.opening) }
     requires knows { Knows (B.server hall.now.opening) (pass_view B.made pass.old) }
-    requires own { entry.pass ≡ pass.old.number }
-    requires open { IsOfOpen (pass_view B.made pass.old).mine entry.act }
-    requires user { HasUser entry.act }
+    requires own { entry.now.pass ≡ pass.old.number }
+    requires open { IsOfOpen (pass_view B.made pass.old).mine entry.now.act }
+    requires user { HasUser entry.now.act }
     ensures pass { IsPassOf hall.now pass.new }
     ensures free { HoldsNoTurn pass.new.turn }
     ensures knows { Knows (B.server hall.now.opening) (pass_view B.made pass.new) }
     ensures ends { Ends (B.server hall.now.opening) (pass_view B.made pass.old)
-        (pass_view B.made pass.new) entry items.new.items result }
+        (pass_view B.made pass.new) entry.now items.new.items result }
     ensures none_taken { OnErr result (items.new.items ≡ []) }
 {
     let mut held = match hall.take(rt, pass) {
@@ -49,22 +42,15 @@ pub(crate) fn turn<R: Wait, B: Acts>(
         }
     };
     match held.value().make(entry, items) {
-        Ok(Ok(logged)) => {
-            let made = Made {
-                session: B::session(&logged),
-                short: B::is_short(&logged),
-            };
+        Ok(logged) => {
+            let made = Made::of(entry, B::session(&logged), B::is_short(&logged));
             hall.log(pass, &mut held, logged);
             hall.put(pass, held);
             Ok(made)
         }
-        Ok(Err(refusal)) => {
+        Err(why) => {
             hall.put(pass, held);
-            Err(fault_of(refusal))
-        }
-        Err(Memory) => {
-            hall.put(pass, held);
-            Err(NotMade::Memory)
+            Err(why)
         }
     }
 }
@@ -141,14 +127,4 @@ pub(crate) fn next_news<R: Wait, B: Acts>(
     let next = held.value().next_news(number, above, since);
     hall.put(pass, held);
     next
-}
-
-/// The fault of a refusal.
-fn fault_of(refusal: Refusal) -> NotMade
-    ensures { result ≡ fault_from refusal }
-{
-    match refusal {
-        Refusal::Gone(why) => NotMade::Gone(why),
-        Refusal::Full(number) => NotMade::Full(number),
-    }
 }

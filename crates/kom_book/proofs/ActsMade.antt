@@ -1,33 +1,28 @@
 -- What the making of an act comes to, beside its store or without one.
 use Rattle.std.proofs.Common.{◌≡◌, ◌≢◌, ◌<◌, ◌^◌, ◌⊎◌, inl, inr, ℕ, Bool, true, false, List, [], ◌∷◌, ◌++◌, Option}
 use Rattle.std.proofs.Common.{Some, None, Result, Ok, Err, refl, sym, ap, ◌∙◌, subst, IsTrue}
-use Rattle.std.specs.Prelude.{is_some, IfOk, IsOk, OnErr, IfSome}
+use Rattle.std.specs.Prelude.{is_some, IfSome}
 use Rattle.std.proofs.lemmas.List.{append-nil}
 use Rattle.kom_types.specs.declared.acts.Act.TheVariants as act
 use Rattle.kom_types.specs.declared.acts.Entry.{Entry}
 use Rattle.kom_types.specs.declared.acts.Record.{Record}
-use Rattle.kom_types.specs.declared.answers.Refusal.{Refusal}
+use Rattle.kom_types.specs.declared.answers.NotMade.{NotMade}
 use Rattle.kom_types.specs.declared.effects.Effect.{Effect}
-use Rattle.kom_types.specs.declared.shortage.Memory.{Memory}
 use Rattle.kom_model.specs.Kept.{kept_of}
 use Rattle.kom_model.specs.State.{State}
 use Rattle.kom_model.specs.After.{after}
-use Rattle.kom_core.specs.Acts.{Held, refused_flush}
+use Rattle.kom_core.specs.Acts.{Held, CoreComes}
+use Rattle.kom_core.specs.Keeping.{kept_by}
 use Rattle.kom_state.specs.Keepers.{appended}
 use Rattle.batch_log.specs.declared.errors.FlushFault.{FlushFault}
-use Rattle.hall_desk.specs.Acts.{IsMadeBy}
-use Rattle.kom_model.specs.Refusal.{refusal_of}
+use Rattle.kom_model.specs.Making.{IsMadeBy}
 use Rattle.kom_journal.specs.Images.{Image}
 use Rattle.kom_journal.specs.Journals.{JournalView, StaysAs}
 use Rattle.kom_book.specs.Stores.{IsFlush, IsNotRefused, IfBoth, StoreStays, StoreFollows, StopFollows}
 use Rattle.kom_book.specs.Books.{BookView, Stays, IsMarked, state_in}
-use Rattle.kom_book.specs.Making.{CoreComes, BookComes, StopsCome, Advances, kept_in, book_of}
+use Rattle.kom_book.specs.Making.{BookComes, StopsCome, Advances, book_of}
 use Rattle.kom_book.specs.Records.{refused_or_not, marked_same, marked_refused}
 use Rattle.kom_book.proofs.StoreSteps.{kept_follows, kept_stops}
-
--- what an act of a core came to, with or without its record
-abbrev pub Came : Type 0
-Came = Result (Result Record Refusal) Memory
 
 -- ---- without a store
 
@@ -40,41 +35,31 @@ module _ {D : Type 0} (faults : D → ℕ) where
   abbrev pub unstored : Held → Option FlushFault → BookView D
   unstored core refused = record { core = core; journal = None; refused = refused }
 
-  pub unstored_comes : (came : Came) (old new : Held) (refused : Option FlushFault) (entry : Entry) →
-      IfOk came (CoreComes old.state entry new.state) →
-      IfOk came (BookComes faults (unstored old refused) entry (unstored new refused))
-  unstored_comes (Ok (Ok made)) old new refused entry comes =
+  pub unstored_comes : (came : Result Record NotMade) (old new : Held) (refused : Option FlushFault) (entry : Entry) →
+      CoreComes old.state entry new.state came →
+      BookComes faults (unstored old refused) entry (unstored new refused) came
+  unstored_comes (Ok made) old new refused entry comes =
       (comes.0, record { unrefused = λ long. refl; store = comes.1 })
-  unstored_comes (Ok (Err refusal)) old new refused entry comes =
-      (record { state = comes.0; refused = refl; store = tt }, comes.1)
-  unstored_comes (Err memory) old new refused entry comes = tt
+  unstored_comes (Err why) old new refused entry comes =
+      (record { state = comes.1; refused = refl; store = tt }, comes.0)
 
-  pub unstored_stays : (came : Came) (old new : Held) (refused : Option FlushFault) →
-      OnErr came (new.state ≡ old.state) → OnErr came (Stays (unstored old refused) (unstored new refused))
-  unstored_stays (Ok what) old new refused memory = tt
-  unstored_stays (Err memory) old new refused same = record { state = same; refused = refl; store = tt }
-
-  pub unstored_stops : (moment : D → ℕ) (images_at : D → ℕ → Image → Type 0) (came : Came) (old new : Held)
-      (refused : Option FlushFault) →
-      IfOk came (StopsCome moment images_at (unstored old refused) (unstored new refused))
-  unstored_stops moment images_at (Ok (Ok made)) old new refused = tt
-  unstored_stops moment images_at (Ok (Err refusal)) old new refused = tt
-  unstored_stops moment images_at (Err memory) old new refused = tt
+  pub unstored_stops : (moment : D → ℕ) (images_at : D → ℕ → Image → Type 0) (came : Result Record NotMade)
+      (old new : Held) (refused : Option FlushFault) →
+      StopsCome moment images_at (unstored old refused) (unstored new refused) came
+  unstored_stops moment images_at (Ok made) old new refused = tt
+  unstored_stops moment images_at (Err why) old new refused = tt
 
   -- ---- an act that is no flush, beside its store
 
   some_appended : (kept waited now : List Effect) → Some now ≡ appended kept (Some waited) → now ≡ waited ++ kept
   some_appended kept waited now is = cc
 
-  some_same : (waited now : List Effect) → ◌≡◌ {A = Option (List Effect)} (Some now) (Some waited) → now ≡ waited
-  some_same waited now is = cc
-
-  pub kept_comes : (came : Came) (old new : Held) (one other : JournalView D) (refused : Option FlushFault)
-      (entry : Entry) → (entry.act ≡ act.Flush → ⊥) → IfOk came (CoreComes old.state entry new.state) →
-      IfOk came (λ what. Some other.pending ≡ appended (kept_in old.state what) (Some one.pending)) →
-      StaysAs one other →
-      IfOk came (BookComes faults (book_of old one refused) entry (book_of new other refused))
-  kept_comes (Ok (Ok made)) old new one other refused entry unflushed comes kept stays = (
+  pub kept_comes : (came : Result Record NotMade) (old new : Held) (one other : JournalView D)
+      (refused : Option FlushFault) (entry : Entry) → (entry.act ≡ act.Flush → ⊥) →
+      CoreComes old.state entry new.state came →
+      Some other.pending ≡ appended (kept_by old.state came) (Some one.pending) → StaysAs one other →
+      BookComes faults (book_of old one refused) entry (book_of new other refused) came
+  kept_comes (Ok made) old new one other refused entry unflushed comes kept stays = (
     comes.0,
     record {
       unrefused = λ long. refl;
@@ -83,40 +68,26 @@ module _ {D : Type 0} (faults : D → ℕ) where
           (some_appended (kept_of old.state made) one.pending other.pending kept) stays;
     },
   )
-  kept_comes (Ok (Err refusal)) old new one other refused entry unflushed comes kept stays = (
+  kept_comes (Err why) old new one other refused entry unflushed comes kept stays = (
     record {
-      state = comes.0;
+      state = comes.1;
       refused = refl;
       store = (stays, some_appended [] one.pending other.pending kept ∙ append-nil one.pending);
     },
-    comes.1,
+    comes.0,
   )
-  kept_comes (Err memory) old new one other refused entry unflushed comes kept stays = tt
 
-  pub kept_stays : (came : Came) (old new : Held) (one other : JournalView D) (refused : Option FlushFault) →
-      OnErr came (new.state ≡ old.state) →
-      OnErr came (◌≡◌ {A = Option (List Effect)} (Some other.pending) (Some one.pending)) → StaysAs one other →
-      OnErr came (Stays (book_of old one refused) (book_of new other refused))
-  kept_stays (Ok what) old new one other refused memory unkept stays = tt
-  kept_stays (Err memory) old new one other refused same unkept stays = record {
-    state = same;
-    refused = refl;
-    store = (stays, some_same one.pending other.pending unkept);
-  }
-
-pub kept_leaves : {D : Type 0} (moment : D → ℕ) (images_at : D → ℕ → Image → Type 0) (came : Came)
+pub kept_leaves : {D : Type 0} (moment : D → ℕ) (images_at : D → ℕ → Image → Type 0) (came : Result Record NotMade)
     (old new : Held) (one other : JournalView D) (refused : Option FlushFault) (entry : Entry) →
-    (entry.act ≡ act.Flush → ⊥) → IfOk came (CoreComes old.state entry new.state) →
-    IfOk came (λ what. Some other.pending ≡ appended (kept_in old.state what) (Some one.pending)) →
-    StaysAs one other →
-    IfOk came (StopsCome moment images_at (book_of old one refused) (book_of new other refused))
-kept_leaves moment images_at (Ok (Ok made)) old new one other refused entry unflushed comes kept stays =
+    (entry.act ≡ act.Flush → ⊥) → CoreComes old.state entry new.state came →
+    Some other.pending ≡ appended (kept_by old.state came) (Some one.pending) → StaysAs one other →
+    StopsCome moment images_at (book_of old one refused) (book_of new other refused) came
+kept_leaves moment images_at (Ok made) old new one other refused entry unflushed comes kept stays =
     kept_stops moment images_at old.state new.state one other made
     (λ is. unflushed (sym (ap (λ e. e.act) comes.0.entry_made) ∙ is))
     comes.0.follows.possible comes.0.state
     (let is : other.pending ≡ one.pending ++ kept_of old.state made = cc in is) stays
-kept_leaves moment images_at (Ok (Err refusal)) old new one other refused entry unflushed comes kept stays = tt
-kept_leaves moment images_at (Err memory) old new one other refused entry unflushed comes kept stays = tt
+kept_leaves moment images_at (Err why) old new one other refused entry unflushed comes kept stays = tt
 
 -- ---- what a book keeps
 
@@ -185,11 +156,10 @@ module _ {D : Type 0} where
       }
 
   -- a book that comes to something keeps what it kept
-  pub marks_come : (faults : D → ℕ) (came : Came) (old new : BookView D) (entry : Entry) →
-      IfOk came (BookComes faults old entry new) → OnErr came (Stays old new) →
+  pub marks_come : (faults : D → ℕ) (came : Result Record NotMade) (old new : BookView D) (entry : Entry) →
+      BookComes faults old entry new came →
       IsMarked (state_in old).store_refused old.journal old.refused →
       IsMarked (state_in new).store_refused new.journal new.refused
-  marks_come faults (Ok (Ok made)) old new entry comes memory kept =
+  marks_come faults (Ok made) old new entry comes kept =
       marks_made faults old new entry made comes.0 comes.1 kept old.journal new.journal refl refl comes.1.store
-  marks_come faults (Ok (Err refusal)) old new entry comes memory kept = marks_stay old new comes.0 kept
-  marks_come faults (Err out) old new entry comes memory kept = marks_stay old new memory kept
+  marks_come faults (Err why) old new entry comes kept = marks_stay old new comes.0 kept

@@ -1,6 +1,5 @@
 pub mod ActsMade
 pub mod Booking
-pub mod Comings
 pub mod Flushing
 pub mod Kept
 pub mod Openings

@@ -1,5 +1,4 @@
 pub mod Making
-pub mod Ticking
 pub mod Stores
 pub mod Stops
 pub mod Books

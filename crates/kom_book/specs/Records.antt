@@ -5,7 +5,7 @@ use Rattle.std.specs.Prelude.{Some, None}
 use Rattle.kom_types.specs.declared.acts.Act.{Act}
 use Rattle.kom_types.specs.declared.acts.Act.TheVariants as act
 use Rattle.kom_types.specs.declared.acts.Record.{Record}
-use Rattle.kom_types.specs.declared.answers.Refusal.TheVariants.{Gone}
+use Rattle.kom_types.specs.declared.answers.NotMade.TheVariants.{Gone}
 use Rattle.kom_types.specs.declared.answers.Why.TheVariants.{Stopped}
 use Rattle.kom_types.specs.Sessions.{waiting_limits}
 use Rattle.kom_model.specs.Db.{Db}

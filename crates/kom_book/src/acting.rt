@@ -1,17 +1,16 @@
-ghost use Rattle.std.specs.Prelude.{◌≡◌, ◌<◌, ◌^◌, ◌||◌, IfOk, IfSome, IsOk, OnErr};
+ghost use Rattle.std.specs.Prelude.{◌≡◌, ◌<◌, ◌^◌, ◌||◌, IfSome};
 ghost use Rattle.kom_model.specs.Legal.{HasUser, IsByOwner};
 ghost use Rattle.kom_model.specs.Out.{taken_by};
-ghost use Rattle.kom_model.specs.Refusal.{TakesNoMemory};
 ghost use Rattle.hall_desk.specs.Acts.{Comes};
 ghost use Rattle.kom_journal.specs.Images.{images_at, moment};
 ghost use Rattle.kom_book.specs.Books.{GoesOn, Stays, state_in, record_of};
 
 use crate::book::Book;
-use crate::ticked::{Ticked, entry_with};
+use crate::ticked::Ticked;
 use arrayvec::ArrayVec;
 use hall_desk::Acts;
 use kom_disk::Disk;
-use kom_types::{Entry, Item, Memory, Refusal};
+use kom_types::{Entry, Item, NotMade};
 
 impl<D: Disk + Drop> Acts for Book<D> {
     ghost use Rattle.std.proofs.Common.{refl};
@@ -20,25 +19,21 @@ impl<D: Disk + Drop> Acts for Book<D> {
 
     ghost server = { state_in };
 
-    fn make(
-        &mut self,
-        entry: Entry,
-        items: &mut ArrayVec<Item, 64>,
-    ) -> Result<Result<Ticked<D>, Refusal>, Memory>
+    fn make(&mut self, entry: &Entry, items: &mut ArrayVec<Item, 64>) -> Result<Ticked<D>, NotMade>
         requires room { (state_in self.old).entries < 2 ^ 62 }
-        requires own { IsByOwner (state_in self.old) entry }
-        requires user { HasUser entry.act }
-        ensures comes { IfOk result
-            (Comes (GoesOn (moment D.moment) (images_at D.images_at) D.tells D.faults) Stays
-            record_of state_in
-            self.old entry self.new) }
-        ensures taken { items.new.items ≡ taken_by (state_in self.old) entry.act }
-        ensures memory { OnErr result (Stays self.old self.new) }
-        ensures none_taken { TakesNoMemory (state_in self.old) entry.act → IsOk result }
+        requires own { IsByOwner (state_in self.old) entry.now }
+        requires user { HasUser entry.now.act }
+        ensures comes { Comes (GoesOn (moment D.moment) (images_at D.images_at) D.tells D.faults)
+            Stays record_of state_in self.old entry.now self.new result }
+        ensures taken { items.new.items ≡ taken_by (state_in self.old) entry.now.act }
     {
-        let came = self.inner.make(entry, items);
-        let store = self.inner.store();
-        entry_with(came, store)
+        match self.inner.make(entry, items) {
+            Ok(made) => {
+                let store = self.inner.store();
+                Ok(Ticked { made, store })
+            }
+            Err(why) => Err(why),
+        }
     }
 
     fn stopped(&self) -> bool
@@ -58,11 +53,11 @@ impl<D: Disk + Drop> Acts for Book<D> {
     }
 
     fn session(entry: &Ticked<D>) -> u32 {
-        entry.made.session
+        entry.made.session()
     }
 
     fn is_short(entry: &Ticked<D>) -> bool {
-        entry.made.short
+        entry.made.is_short()
     }
 
     ghost names = { λ entry. refl };

@@ -1,15 +1,13 @@
 // What lies in a book's box: the core, and the store that keeps it.
-ghost use Rattle.std.specs.Prelude.{◌≡◌, ◌<◌, ◌^◌, ◌||◌, Some, None, IsTrue, IfOk, IsOk, OnErr};
+ghost use Rattle.std.specs.Prelude.{◌≡◌, ◌<◌, ◌^◌, ◌||◌, Some, None, IsTrue};
 ghost use Rattle.std.specs.Prelude.{is_some, false, IfSome};
 ghost use Rattle.kom_model.specs.Legal.{HasUser};
 ghost use Rattle.kom_model.specs.Out.{taken_by};
-ghost use Rattle.kom_model.specs.Refusal.{TakesNoMemory};
-ghost use Rattle.kom_book.specs.Books.{Stays, state_in, disk_in, batches_in};
+ghost use Rattle.kom_book.specs.Books.{state_in, disk_in, batches_in};
 ghost use Rattle.kom_journal.specs.Images.{images_at, moment};
 ghost use Rattle.kom_journal.specs.Journals.{EndsAtGate};
 ghost use Rattle.kom_book.specs.Making.{BookComes, StopsCome};
 
-use crate::making::make_record;
 use crate::storing::make_stored;
 use arrayvec::ArrayVec;
 use batch_log::FlushFault;
@@ -17,7 +15,7 @@ use kom_core::Core;
 use kom_disk::Disk;
 use kom_journal::Journal;
 use kom_state::Unkept;
-use kom_types::{Entry, Item, Memory, Record, Refusal};
+use kom_types::{Entry, Item, Made, NotMade};
 use std::marker::Model;
 use std::snapshot::Snapshot;
 
@@ -57,23 +55,21 @@ impl<D: Disk + Drop> Inner<D> {
         }
     }
 
-    /// Makes the act of an entry, and hands out its record; or returns why it is not made.
+    /// Makes the act of an entry, or returns why it is not made.
     pub(crate) fn make(
         &mut self,
-        entry: Entry,
+        entry: &Entry,
         items: &mut ArrayVec<Item, 64>,
-    ) -> Result<Result<Record, Refusal>, Memory>
+    ) -> Result<Made, NotMade>
         requires room { (state_in self.old).entries < 2 ^ 62 }
-        requires user { HasUser entry.act }
-        ensures comes { IfOk result (BookComes D.faults self.old entry self.new) }
+        requires user { HasUser entry.now.act }
+        ensures comes { BookComes D.faults self.old entry.now self.new result }
         ensures stops { IsTrue D.tells
-            → IfOk result (StopsCome (moment D.moment) (images_at D.images_at) self.old self.new) }
-        ensures taken { items.new.items ≡ taken_by (state_in self.old) entry.act }
-        ensures memory { OnErr result (Stays self.old self.new) }
-        ensures none_taken { TakesNoMemory (state_in self.old) entry.act → IsOk result }
+            → StopsCome (moment D.moment) (images_at D.images_at) self.old self.new result }
+        ensures taken { items.new.items ≡ taken_by (state_in self.old) entry.now.act }
     {
         match &mut self.journal {
-            None => make_record(&mut self.core, entry, items, &mut Unkept),
+            None => self.core.make_kept(entry, items, &mut Unkept),
             Some(store) => { make_stored(&mut self.core, store, &mut self.refused, entry, items) }
         }
     }

@@ -5,7 +5,6 @@ mod acting;
 mod book;
 mod booked;
 mod inner;
-mod making;
 mod starting;
 mod storing;
 mod ticked;

@@ -1,24 +1,25 @@
 -- What the parts of a step come to.
-use Rattle.std.proofs.Common.{◌≡◌, ℕ, Bool, true, false, Some, Result, Ok, refl, sym, ap, ◌∙◌, subst}
+use Rattle.std.proofs.Common.{◌≡◌, ℕ, ◌+◌, ◌≤◌, Bool, true, false, Result, Ok, Err, refl, sym, ap, ◌∙◌, subst, arith}
 use Rattle.kom_types.specs.declared.acts.Act.{Act}
 use Rattle.kom_types.specs.declared.acts.Act.TheVariants as act
 use Rattle.kom_types.specs.declared.acts.Entry.{Entry}
 use Rattle.kom_types.specs.declared.acts.Record.{Record}
-use Rattle.kom_types.specs.declared.answers.Refusal.{Refusal}
+use Rattle.kom_types.specs.declared.answers.NotMade.{NotMade}
+use Rattle.std.specs.Prelude.{None}
 use Rattle.kom_model.specs.State.{State, IsSound}
-use Rattle.kom_model.specs.After.{MayBeShort, HasUser}
+use Rattle.kom_model.specs.Refusal.{refusal_of}
+use Rattle.kom_model.specs.After.{MayBeShort, HasUser, sent, after}
 use Rattle.kom_model.proofs.Soundness.{IsSound-after}
-use Rattle.kom_core.specs.declared.server_state.Made.{Made}
 use Rattle.kom_laws.proofs.Refusing.{refused-keeps}
-use Rattle.kom_core.specs.Acts.{Kinded, KeepsRowsIfRefused}
-use Rattle.kom_core.specs.Steps.{Changes, ChangesBy, Steps, IsShort, TellsRecord, made_of}
+use Rattle.kom_core.specs.Acts.{CoreComes}
+use Rattle.kom_core.specs.Steps.{ChangesBy, Steps, IsShort, IsRecord, made_of, counted}
 
 -- the act of an entry, whatever its pass and moment
-pub Changes-by : (old new : State) (entry : Entry) (what : Act) (made : Made) → entry.act ≡ what →
-    ChangesBy old what new made → Changes old entry new made
-Changes-by old new entry what made same by =
-    let P : Act → Type 0 = λ one. Changes old (record entry { act = one }) new made in
-    subst P (sym same) (by entry.pass entry.moment)
+pub Changes-by : (old new : State) (entry : Entry) (what : Act) → entry.act ≡ what → ChangesBy old what new →
+    new ≡ sent old (made_of old entry false)
+Changes-by old new entry what same by =
+    subst (λ (one : Act). new ≡ sent old (made_of old (record entry { act = one }) false)) (sym same)
+    (by entry.pass entry.moment)
 
 may_be_short : (state : State) (moment : ℕ) (what : Act) (short : Bool) → IsShort state moment what short →
     MayBeShort state moment what short
@@ -34,54 +35,71 @@ flush_is_whole : (state : State) (moment : ℕ) (short : Bool) → IsShort state
 flush_is_whole state moment false is = refl
 flush_is_whole state moment true is = absurd is
 
--- what a step to an act that was made comes to
-abbrev Stepped : State → Entry → State → Made → Type 0
-Stepped old entry new made = Steps old entry new (Ok made)
+-- the record of an act that is made is this one
+record-is : (old : State) (entry : Entry) (made : Record) → IsRecord old entry made →
+    made ≡ made_of old entry made.short
+record-is old entry made is =
+    ap (λ (one : Entry). record { entry = one; session = made.session; short = made.short }) is.entry_made
+    ∙ ap (λ (session : ℕ). record { entry = entry; session = session; short = made.short }) is.session
 
-stepped : (old new : State) (entry : Entry) (came : Result Made Refusal) (made : Made) → came ≡ Ok made →
-    Steps old entry new came → Stepped old entry new made
-stepped old new entry came made is steps =
-    let P : Result Made Refusal → Type 0 = Steps old entry new in subst P is steps
+made-comes : (old new : State) (entry : Entry) (short : Bool) → refusal_of old entry.act ≡ None → HasUser entry.act →
+    IsShort old entry.moment entry.act short → new ≡ after old (made_of old entry short) →
+    CoreComes old entry new (Ok (made_of old entry short))
+made-comes old new entry short possible user may is = (
+  record {
+    entry_made = refl;
+    follows = record {
+      possible = possible;
+      user = user;
+      session = refl;
+      short = may_be_short old entry.moment entry.act short may;
+    };
+    state = is;
+  },
+  λ flush. flush_is_whole old entry.moment short
+      (subst (λ (what : Act). IsShort old entry.moment what short) flush may),
+  λ code status told. ap (λ (state : State). state.db) is
+      ∙ refused-keeps old (made_of old entry short) code status told,
+)
 
--- a step keeps a server sound
-pub IsSound-made : (old new : State) (entry : Entry) (came : Result Made Refusal) (made : Made) → came ≡ Ok made →
-    HasUser entry.act → IsSound old → Steps old entry new came → IsSound new
-IsSound-made old new entry came made is user sound steps =
-    let made_step : Stepped old entry new made = stepped old new entry came made is steps in
-    rw made_step.2 (IsSound-after old (made_of old entry made.short) user sound)
+-- what a step comes to
+pub step-comes : (old new : State) (entry : Entry) (came : Result Record NotMade) → HasUser entry.act →
+    Steps old entry new came → CoreComes old entry new came
+step-comes old new entry (Ok made) user step =
+    subst (λ (one : Record). CoreComes old entry new (Ok one)) (sym (record-is old entry made step.1))
+    (made-comes old new entry made.short step.0 user step.1.short step.2)
+step-comes old new entry (Err why) user step = step
 
--- the record that a core keeps of an act that was made
-abbrev pub kept : Entry → Made → Record
-kept entry made = record { entry = entry; session = made.session; short = made.short }
+-- it keeps a server sound
+pub step-sound : (old new : State) (entry : Entry) (came : Result Record NotMade) → HasUser entry.act → IsSound old →
+    Steps old entry new came → IsSound new
+step-sound old new entry (Ok made) user sound step =
+    subst IsSound (sym step.2) (IsSound-after old (made_of old entry made.short) user sound)
+step-sound old new entry (Err why) user sound step = subst IsSound (sym step.1) sound
 
-pub Kinded-made : (old new : State) (entry : Entry) (came : Result Made Refusal) (made : Made) → came ≡ Ok made →
-    HasUser entry.act → Steps old entry new came →
-    Kinded old entry (record { state = new; last = Some (kept entry made) }) made.answer
-Kinded-made old new entry came made is user steps =
-    let made_step : Stepped old entry new made = stepped old new entry came made is steps in
-    let tells : TellsRecord old entry made = made_step.1 in
-    rw (Kinded, made_step.0) (
-      tells.answer,
-      (
-        kept entry made,
-        record {
-          entry_made = refl;
-          follows = record {
-            possible = made_step.0;
-            user = user;
-            session = tells.session;
-            short = may_be_short old entry.moment entry.act made.short tells.short;
-          };
-          flushed = λ flush. flush_is_whole old entry.moment made.short (rw flush at tells.short);
-          handed = refl;
-          state = made_step.2;
-        },
-      ),
-    )
+-- and makes one entry at most
+pub step-counted : (old new : State) (entry : Entry) (came : Result Record NotMade) → Steps old entry new came →
+    new.entries ≤ old.entries + 1
+step-counted old new entry (Ok made) step =
+    let one : new.entries ≡ old.entries + 1 = ap (λ (state : State). state.entries) step.2 in omega (arith, one)
+step-counted old new entry (Err why) step =
+    let same : new.entries ≡ old.entries = ap (λ (state : State). state.entries) step.1 in omega (arith, same)
 
--- a call that was refused left the stored rows as they were
-pub rows-kept : (old new : State) (entry : Entry) (came : Result Made Refusal) (made : Made) → came ≡ Ok made →
-    Steps old entry new came → KeepsRowsIfRefused old (record { state = new; last = Some (kept entry made) })
-rows-kept old new entry came made is steps code status told =
-    ap (λ (state : State). state.db) (stepped old new entry came made is steps).2
-    ∙ refused-keeps old (made_of old entry made.short) code status told
+-- ---- a flush that the store refused
+
+-- the record of its entry
+abbrev pub refused_of : Entry → Record
+refused_of entry = record { entry = entry; session = 0; short = true }
+
+pub refused-after : (old : State) (entry : Entry) → entry.act ≡ act.Flush →
+    counted entry.moment (record old { store_refused = true }) ≡ after old (refused_of entry)
+refused-after old entry is =
+    subst (λ (what : Act). counted entry.moment (record old { store_refused = true })
+    ≡ after old (refused_of (record entry { act = what }))) (sym is) refl
+
+pub refused-sound : (old new : State) (entry : Entry) (made : Record) → entry.act ≡ act.Flush →
+    made ≡ refused_of entry → IsSound old → new ≡ after old made → IsSound new
+refused-sound old new entry made is same sound next =
+    let user : HasUser made.entry.act =
+    subst (λ (one : Record). HasUser one.entry.act) (sym same) (subst HasUser (sym is) tt) in
+    subst IsSound (sym next) (IsSound-after old made user sound)

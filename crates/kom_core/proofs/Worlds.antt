@@ -1,15 +1,16 @@
 -- What an act of a core does to a group, beside an act of a core whose state is the same for the group.
-use Rattle.std.proofs.Common.{◌≡◌, ◌+◌, true, false, List, [], Option, Some, None, refl, sym, ap, ◌∙◌, subst}
-use Rattle.std.specs.Prelude.{Result, Ok, Err, IfOk, OnOk, IfSome}
+use Rattle.std.proofs.Common.{◌≡◌, ℕ, ◌+◌, Bool, true, false, List, [], Option, Some, None, refl, sym, ap, ◌∙◌, subst}
+use Rattle.std.specs.Prelude.{Result, Ok, Err, IfOk}
 use Rattle.kom_types.specs.declared.acts.Act.{Act}
 use Rattle.kom_types.specs.declared.acts.Act.TheVariants as act
 use Rattle.kom_types.specs.declared.acts.Entry.{Entry}
 use Rattle.kom_types.specs.declared.acts.Record.{Record}
-use Rattle.kom_types.specs.declared.answers.Answer.{Answer}
-use Rattle.kom_types.specs.declared.answers.Refusal.{Refusal}
+use Rattle.kom_types.specs.declared.answers.NotMade.{NotMade}
+use Rattle.kom_types.specs.declared.answers.NotMade.TheVariants.{Gone, Full, Memory}
 use Rattle.kom_types.specs.declared.items.Item.{Item}
-use Rattle.kom_model.specs.After.{after}
-use Rattle.kom_model.specs.Out.{queued_for, taken_by}
+use Rattle.kom_model.specs.After.{after, session_in}
+use Rattle.kom_model.specs.Making.{IsNotMade}
+use Rattle.kom_model.specs.Out.{taken_by}
 use Rattle.kom_model.specs.Refusal.{refusal_of}
 use Rattle.kom_model.specs.State.{State, IsSound}
 use Rattle.kom_laws.specs.Groups.{Group}
@@ -20,48 +21,36 @@ use Rattle.noninterference.specs.steps.Same.{IsSameFor}
 use Rattle.noninterference.proofs.Along.{steps-hide}
 use Rattle.noninterference.proofs.Own.{own-steps-hide}
 use Rattle.noninterference.proofs.steps.Acts.{acts-erased}
-use Rattle.kom_core.specs.declared.answer_kind.AnswerKind.{AnswerKind}
-use Rattle.kom_core.specs.declared.answer_kind.AnswerKind.TheVariants as kind
-use Rattle.kom_core.specs.Acts.{Held, IsMade, IsUnchanged, IsAnswer, Answered, kind_of}
-use Rattle.kom_core.specs.Worlds.{IsSameAnswer, DoSame, IsConsistent, RespectsGroups}
-
--- what a core does where this refuses an act, or nothing does
-abbrev KindedBy : Option Refusal → State → Entry → Held → AnswerKind → Type 0
-KindedBy refusal old entry new which = elim refusal [
-  | None ↦ (which ≡ kind_of old entry.act) × ((made : Record) × IsMade old entry new made)
-  | Some refusal ↦ (which ≡ kind.Refused refusal) × IsUnchanged old new
-]
+use Rattle.kom_core.specs.Acts.{CoreComes}
+use Rattle.kom_core.specs.Worlds.{IsAmple, DoSame, IsConsistent, RespectsGroups}
 
 -- ---- two acts that were made, or refused
-both-made : (group : Group) (old other : State) (entry entry' : Entry) (new new' : Held) (made made' : Record) →
-    IsMade old entry new made → IsMade other entry' new' made' → IsSameStep group old made other made' →
-    DoSame group old new other new'
-both-made group old other entry entry' new new' made made' is is' step = record {
-  states = subst (λ state. IsSameFor group state new'.state) (sym is.state)
-      (subst (λ state. IsSameFor group (after old made) state) (sym is'.state) step.states);
-  queued = λ session among. ap (λ last. elim last [ None ↦ [] | Some made ↦ queued_for session old made ]) is.handed
-      ∙ step.queued session among
-      ∙ sym (ap (λ last. elim last [ None ↦ [] | Some made ↦ queued_for session other made ]) is'.handed);
+both-made : (group : Group) (old new other new' : State) (made made' : Record) → new ≡ after old made →
+    new' ≡ after other made' → IsSameStep group old made other made' →
+    DoSame group old new (Ok made) other new' (Ok made')
+both-made group old new other new' made made' is is' step = record {
+  states = subst (λ (state : State). IsSameFor group state new') (sym is)
+      (subst (λ (state : State). IsSameFor group (after old made) state) (sym is') step.states);
+  queued = step.queued;
 }
 
-both-refused : (group : Group) (old other : State) (new new' : Held) → IsUnchanged old new → IsUnchanged other new' →
-    IsSameFor group old other → DoSame group old new other new'
-both-refused group old other new new' is is' worlds = record {
-  states = subst (λ state. IsSameFor group state new'.state) (sym is.state)
-      (subst (λ state. IsSameFor group old state) (sym is'.state) worlds);
-  queued = λ session among. ap (λ last. elim last [ None ↦ [] | Some made ↦ queued_for session old made ]) is.last
-      ∙ sym (ap (λ last. elim last [ None ↦ [] | Some made ↦ queued_for session other made ]) is'.last);
+both-refused : (group : Group) (old new other new' : State) (why why' : NotMade) → new ≡ old → new' ≡ other →
+    IsSameFor group old other → DoSame group old new (Err why) other new' (Err why')
+both-refused group old new other new' why why' is is' worlds = record {
+  states = subst (λ (state : State). IsSameFor group state new') (sym is)
+      (subst (λ (state : State). IsSameFor group old state) (sym is') worlds);
+  queued = λ session among. refl;
 }
 
--- ---- acts of the group are answered the same
+-- ---- acts of the group come to the same
 module _ (group : Group) (one other : State) (worlds : IsSameFor group one other) where
-  kind-same : (what : Act) → kind_of one what ≡ kind_of other what
-  kind-same (act.Connect user host) = ap (λ (state : State). kind.Connected (state.connects + 1)) worlds.same
-  kind-same (act.Call session reference call) = refl
-  kind-same (act.Broken session) = refl
-  kind-same (act.Drain session) = refl
-  kind-same act.Flush = refl
-  kind-same (act.Close session) = refl
+  session-same : (what : Act) → session_in one what ≡ session_in other what
+  session-same (act.Connect user host) = ap (λ (state : State). state.connects + 1) worlds.same
+  session-same (act.Call session reference call) = refl
+  session-same (act.Broken session) = refl
+  session-same (act.Drain session) = refl
+  session-same act.Flush = refl
+  session-same (act.Close session) = refl
 
   refused-same : (what : Act) → is_by group what ≡ true → refusal_of one what ≡ refusal_of other what
   refused-same what own = acts-erased.refused group one other what worlds.same own
@@ -77,84 +66,82 @@ module _ (group : Group) (one other : State) (worlds : IsSameFor group one other
   taken-same act.Flush own = refl
   taken-same (act.Close session) own = refl
 
+-- why an act was not made, if memory did not run out
+refused-for : (state : State) (what : Act) (why : NotMade) → IsAmple (Err why) → IsNotMade state what why →
+    refusal_of state what ≡ Some why
+refused-for state what (Gone why) ample is = is
+refused-for state what (Full number) ample is = is
+refused-for state what Memory ample is = absurd ample
+
+none-some : {X : Type 0} (found : Option X) (one : X) → found ≡ None → found ≡ Some one → ⊥
+none-some found one none some = let wrong : None ≡ Some one = sym none ∙ some in cc
+
+same-made : (made made' : Record) → made.entry ≡ made'.entry → made.session ≡ made'.session →
+    made.short ≡ made'.short → made ≡ made'
+same-made made made' entries sessions shorts =
+    ap (λ (one : Entry). record { entry = one; session = made.session; short = made.short }) entries
+    ∙ ap (λ (one : ℕ). record { entry = made'.entry; session = one; short = made.short }) sessions
+    ∙ ap (λ (one : Bool). record { entry = made'.entry; session = made'.session; short = one }) shorts
+
 -- ---- the clauses
-consistent : (old : State) (entry : Entry) (new : Held) (given : Answer) → IsSound old →
-    Answered old entry new given → IsConsistent old entry new given
-consistent old entry new given sound answered group other new' given' sound' worlds own quiet answered' long =
-    by (refusal_of old entry.act) answered.1 (subst (λ refusal. KindedBy refusal other entry new' answered'.0)
-    (sym (refused-same group old other worlds entry.act own)) answered'.1) where
-      items : List Item
-      items = taken_by old entry.act
+pub consistent : (old new : State) (entry : Entry) (came : Result Record NotMade) → IsSound old →
+    CoreComes old entry new came → IsConsistent old entry new came
+consistent old new entry came sound comes group other new' came' sound' worlds own quiet ample comes' ample' =
+    by came came' comes comes' quiet ample ample'
+  where
+    refusals : refusal_of old entry.act ≡ refusal_of other entry.act
+    refusals = refused-same group old other worlds entry.act own
 
-      answer : answered.0 ≡ answered'.0 → IsSameAnswer given given'
-      answer same = (
-        answered.0,
-        items,
-        answered.2,
-        subst (λ which. IsAnswer which items given') (sym same)
-            (subst (λ items. IsAnswer answered'.0 items given')
-            (sym (taken-same group old other worlds entry.act own)) answered'.2),
-      )
+    taken : taken_by old entry.act ≡ taken_by other entry.act
+    taken = taken-same group old other worlds entry.act own
 
-      act_made : (made made' : Record) → IsMade old entry new made → IsMade other entry new' made' →
-          DoSame group old new other new'
-      act_made made made' is is' =
-          let step = own-steps-hide group old other made made' sound sound' worlds
-          (subst (λ (entry : Entry). is_by group entry.act ≡ true) (sym is.entry_made) own)
-          (is.entry_made ∙ sym is'.entry_made)
-          (subst (λ last. IfSome last (IsQuiet group old)) is.handed quiet) is'.follows
-          (subst (λ last. IfSome last (λ made. made.short ≡ false)) is'.handed long) in
-          both-made group old other entry entry new new' made made' is is' step.0
+    by : (came came' : Result Record NotMade) → CoreComes old entry new came → CoreComes other entry new' came' →
+        IfOk came (IsQuiet group old) → IsAmple came → IsAmple came' →
+        (came ≡ came') × (taken_by old entry.act ≡ taken_by other entry.act)
+        × DoSame group old new came other new' came'
+    by (Ok made) (Ok made') comes comes' quiet ample ample' =
+        let is = comes.0 in
+        let is' = comes'.0 in
+        let entries : made.entry ≡ made'.entry = is.entry_made ∙ sym is'.entry_made in
+        let sessions : made.session ≡ made'.session =
+        is.follows.session ∙ session-same group old other worlds made.entry.act
+        ∙ ap (λ (one : Entry). session_in other one.act) entries ∙ sym is'.follows.session in
+        let step = own-steps-hide group old other made made' sound sound' worlds
+        (subst (λ (entry : Entry). is_by group entry.act ≡ true) (sym is.entry_made) own) entries quiet is'.follows
+        ample' in (
+          ap (λ (one : Record). Ok one) (same-made made made' entries sessions (ample ∙ sym ample')),
+          taken,
+          both-made group old new other new' made made' is.state is'.state step.0,
+        )
+    by (Ok made) (Err why) comes comes' quiet ample ample' =
+        let possible : refusal_of old entry.act ≡ None =
+        subst (λ (one : Entry). refusal_of old one.act ≡ None) comes.0.entry_made comes.0.follows.possible in
+        absurd (none-some (refusal_of other entry.act) why (sym refusals ∙ possible)
+        (refused-for other entry.act why ample' comes'.0))
+    by (Err why) (Ok made) comes comes' quiet ample ample' =
+        let possible : refusal_of other entry.act ≡ None =
+        subst (λ (one : Entry). refusal_of other one.act ≡ None) comes'.0.entry_made comes'.0.follows.possible in
+        absurd (none-some (refusal_of old entry.act) why (refusals ∙ possible)
+        (refused-for old entry.act why ample comes.0))
+    by (Err why) (Err why') comes comes' quiet ample ample' =
+        let one : Some why ≡ Some why' = sym (refused-for old entry.act why ample comes.0) ∙ refusals
+        ∙ refused-for other entry.act why' ample' comes'.0 in
+        let same : why ≡ why' = cc in (
+          ap (λ (one : NotMade). Err one) same,
+          taken,
+          both-refused group old new other new' why why' comes.1 comes'.1 worlds,
+        )
 
-      by : (refusal : Option Refusal) → KindedBy refusal old entry new answered.0 →
-          KindedBy refusal other entry new' answered'.0 →
-          IsSameAnswer given given' × DoSame group old new other new'
-      by None kinded kinded' = (
-        answer (kinded.0 ∙ kind-same group old other worlds entry.act ∙ sym kinded'.0),
-        act_made kinded.1.0 kinded'.1.0 kinded.1.1 kinded'.1.1,
-      )
-      by (Some refusal) kinded kinded' = (
-        answer (kinded.0 ∙ sym kinded'.0),
-        both-refused group old other new new' kinded.1 kinded'.1 worlds,
-      )
-
--- the record that waits is that of the act
-is-made : (old : State) (entry : Entry) (new : Held) (given : Answer) (made : Record) → Answered old entry new given →
-    new.last ≡ Some made → IsMade old entry new made
-is-made old entry new given made answered waits = by (refusal_of old entry.act) answered.1 where
-  only : {one other : Record} → Some one ≡ Some other → one ≡ other
-  only same = cc
-
-  by : (refusal : Option Refusal) → KindedBy refusal old entry new answered.0 → IsMade old entry new made
-  by None kinded = subst (λ made. IsMade old entry new made) (only (sym kinded.1.1.handed ∙ waits)) kinded.1.1
-  by (Some refusal) kinded = let wrong : None ≡ Some made = sym kinded.1.last ∙ waits in cc
-
-respects : (old : State) (entry : Entry) (new : Held) (given : Answer) → IsSound old →
-    Answered old entry new given → RespectsGroups old entry new
-respects old entry new given sound answered group other entry' new' given' sound' worlds stand answered' quiet =
+pub respects : (old new : State) (entry : Entry) (came : Result Record NotMade) → IsSound old →
+    CoreComes old entry new came → RespectsGroups old entry new came
+respects old new entry came sound comes group other entry' new' came' sound' worlds stand comes' quiet =
     let made : Record = quiet.0 in
     let made' : Record = quiet.1 in
-    let is : IsMade old entry new made = is-made old entry new given made answered quiet.2 in
-    let is' : IsMade other entry' new' made' = is-made other entry' new' given' made' answered' quiet.3 in
-    both-made group old other entry entry' new new' made made' is is'
+    let is = (subst (λ (came : Result Record NotMade). CoreComes old entry new came) quiet.2 comes).0 in
+    let is' = (subst (λ (came : Result Record NotMade). CoreComes other entry' new' came) quiet.3 comes').0 in
+    subst (λ (came : Result Record NotMade). DoSame group old new came other new' came') (sym quiet.2)
+    (subst (λ (came : Result Record NotMade). DoSame group old new (Ok made) other new' came) (sym quiet.3)
+    (both-made group old new other new' made made' is.state is'.state
     (steps-hide group old other made made' sound sound' worlds
-    (subst (λ entry. StandAlike group entry made'.entry) (sym is.entry_made)
-    (subst (λ entry'. StandAlike group entry entry') (sym is'.entry_made) stand)) quiet.4)
-
--- ---- of an act that is answered
-of-each : {T E : Type 0} (P Q : T → Type 0) (result : Result T E) → ((given : T) → P given → Q given) →
-    IfOk result P → IfOk result Q
-of-each P Q (Ok given) also is = also given is
-of-each P Q (Err error) also is = tt
-
-pub answered-consistent : {E : Type 0} (old : State) (entry : Entry) (new : Held) (result : Result Answer E) →
-    IsSound old → IfOk result (Answered old entry new) → IfOk result (IsConsistent old entry new)
-answered-consistent old entry new result sound answered =
-    of-each (Answered old entry new) (IsConsistent old entry new) result
-    (λ given answered. consistent old entry new given sound answered) answered
-
-pub answered-respects : {E : Type 0} (old : State) (entry : Entry) (new : Held) (result : Result Answer E) →
-    IsSound old → IfOk result (Answered old entry new) → OnOk result (RespectsGroups old entry new)
-answered-respects old entry new result sound answered =
-    of-each (Answered old entry new) (λ given. RespectsGroups old entry new) result
-    (λ given answered. respects old entry new given sound answered) answered
+    (subst (λ (entry : Entry). StandAlike group entry made'.entry) (sym is.entry_made)
+    (subst (λ (entry' : Entry). StandAlike group entry entry') (sym is'.entry_made) stand)) quiet.4)))

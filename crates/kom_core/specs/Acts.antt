@@ -1,5 +1,5 @@
 -- What an act does to a core.
-use Rattle.std.specs.Prelude.{◌≡◌, ℕ, ◌+◌, true, false, List, [], Option, Some, None, IfSome}
+use Rattle.std.specs.Prelude.{◌≡◌, ℕ, false, List, Option, Some, None, Result, Ok, Err, OnOk}
 use Rattle.arrayvec.specs.ArrayVec.{ArrayVec}
 use Rattle.kom_types.specs.declared.acts.Act.{Act}
 use Rattle.kom_types.specs.declared.acts.Act.TheVariants as act
@@ -7,14 +7,14 @@ use Rattle.kom_types.specs.declared.acts.Entry.{Entry}
 use Rattle.kom_types.specs.declared.acts.Record.{Record}
 use Rattle.kom_types.specs.declared.answers.Answer.{Answer}
 use Rattle.kom_types.specs.declared.answers.Answer.TheVariants as answer
+use Rattle.kom_types.specs.declared.answers.NotMade.{NotMade}
+use Rattle.kom_types.specs.declared.answers.NotMade.TheVariants as why
 use Rattle.kom_types.specs.declared.items.Item.{Item}
-use Rattle.kom_core.specs.declared.answer_kind.AnswerKind.{AnswerKind}
-use Rattle.kom_core.specs.declared.answer_kind.AnswerKind.TheVariants as kind
-use Rattle.kom_types.specs.declared.answers.Refusal.TheVariants.{Gone, Full}
 use Rattle.kom_types.specs.declared.replies.Reply.TheVariants as reply
+use Rattle.kom_types.specs.declared.shortage.Memory.{Memory}
 use Rattle.kom_model.specs.State.{State}
-use Rattle.kom_model.specs.Refusal.{refusal_of}
-use Rattle.kom_model.specs.After.{MayFollow, after, reply_in}
+use Rattle.kom_model.specs.After.{reply_in}
+use Rattle.kom_model.specs.Making.{IsMadeBy, IsNotMade}
 use Rattle.kom_model.specs.Out.{taken_by}
 
 -- what a core holds: the state, and the record of its last act until that is handed out
@@ -22,65 +22,43 @@ pub record Held : Type 0 where
   pub state : State
   pub last : Option Record
 
--- the kind of answer to an act that is made
-abbrev pub kind_of : State → Act → AnswerKind
-kind_of state (act.Connect user host) = kind.Connected (state.connects + 1)
-kind_of state (act.Call session reference call) = kind.Taken
-kind_of state (act.Broken session) = kind.Taken
-kind_of state (act.Drain session) = kind.Items
-kind_of state act.Flush = kind.Taken
-kind_of state (act.Close session) = kind.Taken
-
--- the answer of a kind, with these items where it gives any
-abbrev pub answer_of : AnswerKind → ArrayVec Item → Answer
-answer_of (kind.Connected number) items = answer.Connected number
-answer_of kind.Taken items = answer.Taken
-answer_of kind.Items items = answer.Items items
-answer_of (kind.Refused (Gone why)) items = answer.Gone why
-answer_of (kind.Refused (Full number)) items = answer.Full number
-
--- an answer of this kind, with the items of this list where it gives any
-abbrev pub IsAnswer : AnswerKind → List Item → Answer → Type 0
-IsAnswer which items given =
-    (held : ArrayVec Item) × (held.items ≡ items) × (given ≡ answer_of which held)
-
--- The act of this entry was made, and its record waits to be handed out. A flush was not refused by
--- the store: a core has none.
-pub record IsMade (old : State) (entry : Entry) (new : Held) (made : Record) : Type 0 where
-  pub entry_made : made.entry ≡ entry
-  pub follows : MayFollow old made
-  pub flushed : made.entry.act ≡ act.Flush → made.short ≡ false
-  pub handed : new.last ≡ Some made
-  pub state : new.state ≡ after old made
-
 -- a call that was refused left the stored rows as they were
-abbrev pub KeepsRowsIfRefused : State → Held → Type 0
-KeepsRowsIfRefused old new = IfSome new.last (λ made. (code status : ℕ)
-    → reply_in old made ≡ Some (reply.Refused code status) → new.state.db ≡ old.db)
+abbrev pub KeepsRowsIfRefused : State → State → Record → Type 0
+KeepsRowsIfRefused old new made = (code status : ℕ)
+    → reply_in old made ≡ Some (reply.Refused code status) → new.db ≡ old.db
 
--- nothing was made
-pub record IsUnchanged (old : State) (new : Held) : Type 0 where
-  pub state : new.state ≡ old
-  pub last : new.last ≡ None
+-- The act of an entry was made on a core, by this record; that of a flush is not short, since a
+-- core has no store. Or it was not made, for this, and nothing changed.
+abbrev pub CoreComes : State → Entry → State → Result Record NotMade → Type 0
+CoreComes old entry new (Ok made) = IsMadeBy old new entry made
+    × (made.entry.act ≡ act.Flush → made.short ≡ false) × KeepsRowsIfRefused old new made
+CoreComes old entry new (Err why) = IsNotMade old entry.act why × (new ≡ old)
 
--- An act that nothing refuses was made, and answered so; one that something refuses was answered
--- why, and changed nothing.
-abbrev pub Kinded : State → Entry → Held → AnswerKind → Type 0
-Kinded old entry new which = elim (refusal_of old entry.act) [
-  | None ↦ (which ≡ kind_of old entry.act) × ((made : Record) × IsMade old entry new made)
-  | Some refusal ↦ (which ≡ kind.Refused refusal) × IsUnchanged old new
-]
+-- the record of an act that was made
+abbrev pub record_in : Result Record NotMade → Option Record
+record_in (Ok made) = Some made
+record_in (Err why) = None
 
--- the same, with the items that a drain takes
-abbrev pub Answered : State → Entry → Held → Answer → Type 0
-Answered old entry new given =
-    (which : AnswerKind) × Kinded old entry new which
-    × IsAnswer which (taken_by old entry.act) given
+-- the answer to an act that was made, by its session and the items that it took
+abbrev pub answer_to : Act → ℕ → ArrayVec Item → Answer
+answer_to (act.Connect user host) session items = answer.Connected session
+answer_to (act.Call caller reference call) session items = answer.Taken
+answer_to (act.Broken caller) session items = answer.Taken
+answer_to (act.Drain caller) session items = answer.Items items
+answer_to act.Flush session items = answer.Taken
+answer_to (act.Close caller) session items = answer.Taken
 
--- the record of a flush that the store refused
-abbrev pub refused_flush : ℕ → ℕ → Record
-refused_flush pass moment = record {
-  entry = record { pass = pass; moment = moment; act = act.Flush };
-  session = 0;
-  short = true;
-}
+-- an act that came to this, and took these items, is answered so
+abbrev pub IsAnswer : Act → Result Record NotMade → List Item → Result Answer Memory → Type 0
+IsAnswer what (Ok made) items given = (held : ArrayVec Item) × (held.items ≡ items)
+    × (given ≡ Ok (answer_to what made.session held))
+IsAnswer what (Err (why.Gone told)) items given = given ≡ Ok (answer.Gone told)
+IsAnswer what (Err (why.Full number)) items given = given ≡ Ok (answer.Full number)
+IsAnswer what (Err why.Memory) items given = OnOk given ⊥
+
+-- An act of a core came to this, was answered so, and left its record to be handed out.
+pub record IsAnswered (old : State) (entry : Entry) (new : Held) (given : Result Answer Memory)
+    (came : Result Record NotMade) : Type 0 where
+  pub comes : CoreComes old entry new.state came
+  pub answer : IsAnswer entry.act came (taken_by old entry.act) given
+  pub last : new.last ≡ record_in came

@@ -6,7 +6,7 @@ use Rattle.kom_types.specs.declared.acts.Act.{Act}
 use Rattle.kom_types.specs.declared.acts.Act.TheVariants as act
 use Rattle.kom_types.specs.declared.acts.Entry.{Entry}
 use Rattle.kom_types.specs.declared.acts.Record.{Record}
-use Rattle.kom_types.specs.declared.answers.Refusal.{Refusal}
+use Rattle.kom_types.specs.declared.answers.NotMade.{NotMade}
 use Rattle.kom_types.specs.declared.replies.Reply.{Reply}
 use Rattle.kom_types.specs.declared.replies.Reply.TheVariants as reply
 use Rattle.kom_types.specs.declared.decisions.Decision.{Decision}
@@ -15,12 +15,11 @@ use Rattle.kom_types.specs.declared.session_changes.SessionChange.TheVariants.{S
 use Rattle.kom_types.specs.Sessions.{waiting_limits, changed_session, is_stop}
 use Rattle.kom_model.specs.State.{State}
 use Rattle.kom_model.specs.Refusal.{refusal_of}
+use Rattle.kom_model.specs.Making.{IsNotMade}
 use Rattle.kom_model.specs.Decide.{asked_in, is_firm}
 use Rattle.kom_model.specs.Sending.{Delivery}
 use Rattle.kom_model.specs.After.{session_in, moment_of, queue_all, reply_to, carry_out, sent}
 use Rattle.kom_model.specs.After.{after}
-use Rattle.kom_core.specs.declared.server_state.Made.{Made}
-use Rattle.kom_core.specs.Acts.{kind_of}
 use Rattle.kom_core.specs.declared.asking.Asking.{Asking}
 use Rattle.kom_core.specs.Deciding.{IsFirm, ComesTo}
 
@@ -44,28 +43,28 @@ IsShort state moment (act.Drain session) true = ⊥
 IsShort state moment act.Flush true = ⊥
 IsShort state moment (act.Close session) true = ⊥
 
--- what an act that is made tells of its record
-pub record TellsRecord (old : State) (entry : Entry) (made : Made) : Type 0 where
+-- a record is that of an act that is made
+pub record IsRecord (old : State) (entry : Entry) (made : Record) : Type 0 where
+  pub entry_made : made.entry ≡ entry
   pub session : made.session ≡ session_in old entry.act
-  pub answer : made.answer ≡ kind_of old entry.act
   pub short : IsShort old entry.moment entry.act made.short
 
--- an act was made, but for the count of entries and the moment
-abbrev pub Changes : State → Entry → State → Made → Type 0
-Changes old entry new made =
-    TellsRecord old entry made × (new ≡ sent old (made_of old entry made.short))
+-- An act was made, but for the count of entries and the moment, by a record of this session, which
+-- is short or not.
+abbrev pub Changes : State → Entry → State → ℕ → Bool → Type 0
+Changes old entry new session short = (session ≡ session_in old entry.act)
+    × IsShort old entry.moment entry.act short × (new ≡ sent old (made_of old entry short))
 
--- the same, whatever the pass and the moment of the entry
-abbrev pub ChangesBy : State → Act → State → Made → Type 0
-ChangesBy old what new made =
-    (pass moment : ℕ) → Changes old (record { pass = pass; moment = moment; act = what }) new made
+-- an act was made so that its record is not short, whatever the pass and the moment of the entry
+abbrev pub ChangesBy : State → Act → State → Type 0
+ChangesBy old what new = (pass moment : ℕ)
+    → new ≡ sent old (made_of old (record { pass = pass; moment = moment; act = what }) false)
 
--- an act was made, or refused
-abbrev pub Steps : State → Entry → State → Result Made Refusal → Type 0
-Steps old entry new (Ok made) =
-    (refusal_of old entry.act ≡ None) × TellsRecord old entry made
+-- an act was made, or not, for this
+abbrev pub Steps : State → Entry → State → Result Record NotMade → Type 0
+Steps old entry new (Ok made) = (refusal_of old entry.act ≡ None) × IsRecord old entry made
     × (new ≡ after old (made_of old entry made.short))
-Steps old entry new (Err refusal) = (refusal_of old entry.act ≡ Some refusal) × (new ≡ old)
+Steps old entry new (Err why) = IsNotMade old entry.act why × (new ≡ old)
 
 -- A call was carried out, but for what it sends: these messages, and this reply.
 abbrev pub CarriesOut : State → Asking → Reply → List Delivery → State → Type 0

@@ -1,5 +1,9 @@
-ghost use Rattle.std.specs.Prelude.{◌≡◌, ◌+◌, ◌^◌, ◌<◌, ◌≤◌, ◌||◌, IfOk, OnOk, OnErr, IsOk, Some};
-ghost use Rattle.std.specs.Prelude.{None};
+ghost use Rattle.std.specs.Prelude.{◌≡◌, ◌+◌, ◌^◌, ◌<◌, ◌≤◌, ◌||◌, List, None, Result, Err, IfOk};
+ghost use Rattle.std.specs.Prelude.{true};
+ghost use Rattle.kom_types.specs.declared.acts.Act.{Act as What};
+ghost use Rattle.kom_types.specs.declared.acts.Record.{Record as Logged};
+ghost use Rattle.kom_types.specs.declared.answers.NotMade.{NotMade as Reason};
+ghost use Rattle.kom_types.specs.declared.items.Item.{Item as Taken};
 ghost use Rattle.kom_model.specs.Effects.{IsProtected};
 ghost use Rattle.kom_model.specs.Initial.{initial};
 ghost use Rattle.kom_model.specs.State.{IsSound, opening};
@@ -7,22 +11,20 @@ ghost use Rattle.kom_model.specs.Whole.{IsWhole};
 ghost use Rattle.kom_model.specs.After.{after};
 ghost use Rattle.kom_model.specs.Legal.{HasUser};
 ghost use Rattle.kom_model.specs.Out.{taken_by};
-ghost use Rattle.kom_model.specs.Refusal.{TakesNoMemory, refusal_of};
+ghost use Rattle.kom_model.specs.Refusal.{refusal_of};
 ghost use Rattle.kom_types.specs.declared.acts.Act.TheVariants as act;
 ghost use Rattle.kom_state.specs.Keepers.{appended};
 ghost use Rattle.kom_core.specs.Keeping.{kept_by};
-ghost use Rattle.kom_core.specs.Acts.{Answered, Kinded, IsUnchanged, refused_flush};
-ghost use Rattle.kom_core.specs.Acts.{KeepsRowsIfRefused};
+ghost use Rattle.kom_core.specs.Acts.{CoreComes, IsAnswer, IsAnswered, answer_to as answer_of};
 ghost use Rattle.kom_core.specs.Worlds.{IsConsistent, RespectsGroups};
 
 mod news;
 mod reading;
 
-use crate::answer_kind::AnswerKind;
 use crate::server_state::ServerState;
 use arrayvec::ArrayVec;
 use kom_state::{Keeper, Unkept};
-use kom_types::{Act, Answer, Entry, Item, Memory, Moment, Record};
+use kom_types::{Act, Answer, Entry, Item, Made, Memory, Moment, NotMade, Record};
 use std::alloc::Global;
 use std::marker::Model;
 
@@ -80,120 +82,96 @@ impl Core {
     pub fn act(&mut self, entry: Entry) -> Result<Answer, Memory>
         requires room { self.old.state.entries < 2 ^ 62 }
         requires user { HasUser entry.act }
-        ensures answered { IfOk result (Answered self.old.state entry self.new) }
-        ensures memory { OnErr result (IsUnchanged self.old.state self.new) }
-        ensures none_taken { TakesNoMemory self.old.state entry.act → IsOk result }
+        ensures answered { (came : Result Logged Reason)
+            × IsAnswered self.old.state entry self.new result came
+            × IsConsistent self.old.state entry self.new.state came
+            × RespectsGroups self.old.state entry self.new.state came }
         ensures counted { self.new.state.entries ≤ self.old.state.entries + 1 }
         ensures was_sound { IsSound self.old.state }
         ensures sound { IsSound self.new.state }
-        ensures consistent { IfOk result (IsConsistent self.old.state entry self.new) }
-        ensures respects { OnOk result (RespectsGroups self.old.state entry self.new) }
     {
         self.act_kept(entry, &mut Unkept)
     }
 
     /// Makes the act of an entry as `act` does, and gives a keeper each effect of a call as it is
-    /// made. Room for all of them is taken before; where memory for it runs out, the call is
-    /// answered so, and nothing is kept.
+    /// made.
     pub fn act_kept<K: Keeper>(&mut self, entry: Entry, keeper: &mut K) -> Result<Answer, Memory>
         requires room { self.old.state.entries < 2 ^ 62 }
         requires user { HasUser entry.act }
-        ensures answered { IfOk result (Answered self.old.state entry self.new) }
-        ensures kept { OnOk result (K.pending keeper.new
-            ≡ appended (kept_by self.old.state self.new.last) (K.pending keeper.old)) }
-        ensures memory { OnErr result (IsUnchanged self.old.state self.new) }
-        ensures unkept { OnErr result (K.pending keeper.new ≡ K.pending keeper.old) }
+        ensures answered { (came : Result Logged Reason)
+            × IsAnswered self.old.state entry self.new result came
+            × IsConsistent self.old.state entry self.new.state came
+            × RespectsGroups self.old.state entry self.new.state came
+            × (K.pending keeper.new ≡ appended (kept_by self.old.state came)
+            (K.pending keeper.old)) }
         ensures rest { K.stays keeper.old keeper.new }
-        ensures none_taken { TakesNoMemory self.old.state entry.act → IsOk result }
         ensures counted { self.new.state.entries ≤ self.old.state.entries + 1 }
         ensures was_sound { IsSound self.old.state }
         ensures sound { IsSound self.new.state }
     {
         let mut items = ArrayVec::new();
-        let kind = self.make_kept(entry, &mut items, keeper)?;
-        Ok(kind.with_items(items))
-    }
-
-    /// Makes the act of an entry as `act` does, and leaves the items that a drain takes in an array
-    /// of the caller's, in place of what stood there; at any other act that is empty. No array of
-    /// 64 items is moved.
-    pub fn make(
-        &mut self,
-        entry: Entry,
-        items: &mut ArrayVec<Item, 64>,
-    ) -> Result<AnswerKind, Memory>
-        requires room { self.old.state.entries < 2 ^ 62 }
-        requires user { HasUser entry.act }
-        ensures answered { IfOk result (Kinded self.old.state entry self.new) }
-        ensures given { items.new.items ≡ taken_by self.old.state entry.act }
-        ensures memory { OnErr result (IsUnchanged self.old.state self.new) }
-        ensures none_taken { TakesNoMemory self.old.state entry.act → IsOk result }
-        ensures counted { self.new.state.entries ≤ self.old.state.entries + 1 }
-        ensures was_sound { IsSound self.old.state }
-        ensures sound { IsSound self.new.state }
-    {
-        self.make_kept(entry, items, &mut Unkept)
-    }
-
-    /// The same, and a keeper gets the effects of a call.
-    pub fn make_kept<K: Keeper>(
-        &mut self,
-        entry: Entry,
-        items: &mut ArrayVec<Item, 64>,
-        keeper: &mut K,
-    ) -> Result<AnswerKind, Memory>
-        requires room { self.old.state.entries < 2 ^ 62 }
-        requires user { HasUser entry.act }
-        ensures answered { IfOk result (Kinded self.old.state entry self.new) }
-        ensures refused { OnOk result (KeepsRowsIfRefused self.old.state self.new) }
-        ensures given { items.new.items ≡ taken_by self.old.state entry.act }
-        ensures kept { OnOk result (K.pending keeper.new
-            ≡ appended (kept_by self.old.state self.new.last) (K.pending keeper.old)) }
-        ensures memory { OnErr result (IsUnchanged self.old.state self.new) }
-        ensures unkept { OnErr result (K.pending keeper.new ≡ K.pending keeper.old) }
-        ensures rest { K.stays keeper.old keeper.new }
-        ensures none_taken { TakesNoMemory self.old.state entry.act → IsOk result }
-        ensures counted { self.new.state.entries ≤ self.old.state.entries + 1 }
-        ensures was_sound { IsSound self.old.state }
-        ensures sound { IsSound self.new.state }
-    {
-        self.last = None;
-        items.clear();
-        match self.server.make(&entry, items, keeper)? {
+        match self.make_kept(&entry, &mut items, keeper) {
             Ok(made) => {
-                self.last = Some(Record {
-                    entry,
-                    session: made.session,
-                    short: made.short,
-                });
-                Ok(made.answer)
+                let answer = answer_to(&entry.act, made.session(), items);
+                self.put_last(Some(made.with_entry(entry)));
+                Ok(answer)
             }
-            Err(refusal) => {
-                drop(entry);
-                Ok(AnswerKind::Refused(refusal))
+            Err(why) => {
+                drop((entry, items));
+                self.put_last(None);
+                answer_why(why)
             }
         }
     }
 
-    /// Makes the entry of a flush that the store refused, after which no act is made but a Close.
-    /// It takes no memory.
-    pub fn refuse_flush(&mut self, pass: u32, moment: Moment)
+    /// The record is to be handed out, if there is one.
+    fn put_last(&mut self, last: Option<Record>)
+        ensures { self.new ≡ record self.old { last = last } }
+    {
+        self.last = last;
+    }
+
+    /// Makes the act of an entry, or returns why it is not made. The items that a drain takes stand
+    /// in an array of the caller's then, in place of what stood there; at any other act that is
+    /// empty. A keeper gets each effect of a call as it is made. Room for all of them is taken
+    /// before; where memory for it runs out, the call is answered so, and nothing is kept. What
+    /// `last` hands out stays.
+    pub fn make_kept<K: Keeper>(
+        &mut self,
+        entry: &Entry,
+        items: &mut ArrayVec<Item, 64>,
+        keeper: &mut K,
+    ) -> Result<Made, NotMade>
         requires room { self.old.state.entries < 2 ^ 62 }
-        requires possible { refusal_of self.old.state act.Flush ≡ None }
-        ensures state { self.new.state ≡ after self.old.state (refused_flush pass moment) }
-        ensures handed { self.new.last ≡ Some (refused_flush pass moment) }
+        requires user { HasUser entry.now.act }
+        ensures comes { CoreComes self.old.state entry.now self.new.state result }
+        ensures consistent { IsConsistent self.old.state entry.now self.new.state result }
+        ensures respects { RespectsGroups self.old.state entry.now self.new.state result }
+        ensures given { items.new.items ≡ taken_by self.old.state entry.now.act }
+        ensures kept { K.pending keeper.new
+            ≡ appended (kept_by self.old.state result) (K.pending keeper.old) }
+        ensures rest { K.stays keeper.old keeper.new }
+        ensures last { self.new.last ≡ self.old.last }
+        ensures counted { self.new.state.entries ≤ self.old.state.entries + 1 }
+        ensures was_sound { IsSound self.old.state }
         ensures sound { IsSound self.new.state }
     {
-        self.server.refuse_flush(pass, moment);
-        self.last = Some(Record {
-            entry: Entry {
-                pass,
-                moment,
-                act: Act::Flush,
-            },
-            session: 0,
-            short: true,
-        });
+        items.clear();
+        self.server.make(entry, items, keeper)
+    }
+
+    /// Makes the entry of a flush that the store refused, after which no act is made but a Close.
+    /// It takes no memory. What `last` hands out stays.
+    pub fn refuse_flush(&mut self, entry: &Entry) -> Made
+        requires room { self.old.state.entries < 2 ^ 62 }
+        requires flush { entry.now.act ≡ act.Flush }
+        requires possible { refusal_of self.old.state act.Flush ≡ None }
+        ensures made { result ≡ record { entry = entry.now; session = 0; short = true } }
+        ensures state { self.new.state ≡ after self.old.state result }
+        ensures last { self.new.last ≡ self.old.last }
+        ensures sound { IsSound self.new.state }
+    {
+        self.server.refuse_flush(entry)
     }
 
     /// Whether the server was shut down or its store refused a flush.
@@ -210,5 +188,27 @@ impl Core {
         ensures sound { IsSound self.new.state }
     {
         self.last.take()
+    }
+}
+
+/// The answer to an act that was made, with the items that it took.
+fn answer_to(what: &Act, session: u32, items: ArrayVec<Item, 64>) -> Answer
+    ensures { result ≡ answer_of what.now session items }
+{
+    match what {
+        Act::Connect { .. } => Answer::Connected(session),
+        Act::Drain { .. } => Answer::Items(items),
+        Act::Call { .. } | Act::Broken { .. } | Act::Flush | Act::Close { .. } => Answer::Taken,
+    }
+}
+
+/// The answer to an act that was not made.
+fn answer_why(why: NotMade) -> Result<Answer, Memory>
+    ensures { (what : What) (items : List Taken) → IsAnswer what (Err why) items result }
+{
+    match why {
+        NotMade::Gone(why) => Ok(Answer::Gone(why)),
+        NotMade::Full(number) => Ok(Answer::Full(number)),
+        NotMade::Memory => Err(Memory),
     }
 }

@@ -1,12 +1,11 @@
-ghost use Rattle.std.specs.Prelude.{◌≡◌, ◌+◌, ◌^◌, ◌<◌, ◌||◌, [], max, IfOk, OnErr, IsOk};
+ghost use Rattle.std.specs.Prelude.{◌≡◌, ◌+◌, ◌^◌, ◌<◌, ◌||◌, [], max, true};
 ghost use Rattle.kom_model.specs.State.{IsSound, opening as opening_state};
-ghost use Rattle.kom_model.specs.Out.{taken_by};
-ghost use Rattle.kom_model.specs.Refusal.{TakesNoMemory, refusal_of};
+ghost use Rattle.kom_types.specs.declared.acts.Act.TheVariants as act;
 ghost use Rattle.kom_model.specs.After.{after};
+ghost use Rattle.kom_model.specs.Out.{taken_by};
 ghost use Rattle.kom_state.specs.Keepers.{appended};
-ghost use Rattle.kom_core.specs.Acts.{refused_flush};
 ghost use Rattle.kom_core.specs.Deciding.{asked_by};
-ghost use Rattle.kom_core.specs.Keeping.{kept_in};
+ghost use Rattle.kom_core.specs.Keeping.{kept_by};
 ghost use Rattle.kom_core.specs.Steps.{Steps, counted};
 
 mod acting;
@@ -16,11 +15,10 @@ mod queueing;
 mod reading;
 mod refusing;
 
-use crate::answer_kind::AnswerKind;
 use crate::asking::Asking;
 use arrayvec::ArrayVec;
 use kom_state::{Asked, Keeper};
-use kom_types::{Entry, Item, Memory, Moment, Refusal};
+use kom_types::{Entry, Item, Made, Memory, Moment, NotMade};
 use sessions::Sessions;
 use std::alloc::Global;
 use std::marker::Model;
@@ -76,14 +74,6 @@ impl Model for ServerState {
     } };
 }
 
-/// An act that was made: the session of its record, its answer, and whether its record is short.
-#[derive(Clone, Copy, Debug)]
-pub(crate) struct Made {
-    pub(crate) session: u32,
-    pub(crate) answer: AnswerKind,
-    pub(crate) short: bool,
-}
-
 impl ServerState {
     /// A server before its first entry, with these stored rows.
     pub(crate) fn opening(alloc: Global, rows: kom_state::StoredRows) -> ServerState
@@ -125,39 +115,51 @@ impl ServerState {
 
     /// Makes the act of an entry, or returns why it is not made. A drain moves its items into an
     /// array, and a keeper gets the effects of a call.
+    #[tactic(auto, using(crate::proofs::Keeping::none_appended))]
     pub(crate) fn make<K: Keeper>(
         &mut self,
         entry: &Entry,
         items: &mut ArrayVec<Item, 64>,
         keeper: &mut K,
-    ) -> Result<Result<Made, Refusal>, Memory>
+    ) -> Result<Made, NotMade>
         requires sound { IsSound self.old }
         requires room { self.old.entries < 2 ^ 62 }
         requires none { items.old.items ≡ [] }
-        ensures step { IfOk result (Steps self.old entry.now self.new) }
-        ensures kept { IfOk result (λ came. K.pending keeper.new
-            ≡ appended (kept_in self.old entry.now came) (K.pending keeper.old)) }
-        ensures err { OnErr result (self.new ≡ self.old) }
-        ensures unkept { OnErr result (K.pending keeper.new ≡ K.pending keeper.old) }
+        ensures steps { Steps self.old entry.now self.new result }
+        ensures kept { K.pending keeper.new
+            ≡ appended (kept_by self.old result) (K.pending keeper.old) }
         ensures rest { K.stays keeper.old keeper.new }
-        ensures none_taken { TakesNoMemory self.old entry.now.act → IsOk result }
         ensures given { items.new.items ≡ taken_by self.old entry.now.act }
     {
-        if let Some(refusal) = self.refusal(&entry.act) {
-            return Ok(Err(refusal));
+        if let Some(why) = self.refusal(&entry.act) {
+            return Err(why);
         }
-        let made = self.change(entry, items, keeper)?;
-        self.advance(entry.moment);
-        Ok(Ok(made))
+        match self.change(entry, items, keeper) {
+            Ok((session, short)) => {
+                self.advance(entry.moment);
+                Ok(Made::of(entry, session, short))
+            }
+            Err(Memory) => Err(NotMade::Memory),
+        }
     }
 
     /// Makes the entry of a flush that the store refused.
-    pub(crate) fn refuse_flush(&mut self, pass: u32, moment: Moment)
-        requires { self.old.entries < 2 ^ 62 }
-        ensures { self.new ≡ after self.old (refused_flush pass moment) }
+    pub(crate) fn refuse_flush(&mut self, entry: &Entry) -> Made
+        requires room { self.old.entries < 2 ^ 62 }
+        requires flush { entry.now.act ≡ act.Flush }
+        ensures made { result ≡ record { entry = entry.now; session = 0; short = true } }
+        ensures state { self.new ≡ after self.old result }
+    {
+        self.mark();
+        self.advance(entry.moment);
+        Made::of(entry, 0, true)
+    }
+
+    /// The store has refused a flush.
+    fn mark(&mut self)
+        ensures { self.new ≡ record self.old { store_refused = true } }
     {
         self.store_refused = true;
-        self.advance(moment);
     }
 
     /// Counts an entry that was made.

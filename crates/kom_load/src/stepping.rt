@@ -8,6 +8,7 @@ ghost use Rattle.kom_load.specs.Steps.{Leads, AreBefore, taken_at};
 
 use arrayvec::ArrayVec;
 use kom_core::Core;
+use kom_state::Unkept;
 use kom_types::{Act, Bytes, Call, Entry, Item, Memory, Moment, Reply};
 use std::alloc::Global;
 
@@ -88,11 +89,10 @@ fn make(
         moment: moment_of(moment),
         act,
     };
-    core.make(entry, items)?;
-    let Some(record) = core.last() else {
+    let Ok(made) = core.make_kept(&entry, items, &mut Unkept) else {
         return Err(Memory);
     };
-    if record.short {
+    if made.is_short() {
         return Err(Memory);
     }
     Ok(())

@@ -4,7 +4,7 @@ use Rattle.std.proofs.Common.{Option, Some, None, refl, sym, ap, ◌∙◌, subs
 use Rattle.std.proofs.lemmas.List.{append-nil, map-append}
 use Rattle.kom_types.specs.declared.acts.Act.TheVariants as act
 use Rattle.kom_types.specs.declared.acts.Record.{Record}
-use Rattle.kom_types.specs.declared.answers.Refusal.TheVariants.{Gone}
+use Rattle.kom_types.specs.declared.answers.NotMade.TheVariants.{Gone}
 use Rattle.kom_types.specs.declared.answers.Why.TheVariants.{Dropped, Overrun}
 use Rattle.kom_types.specs.declared.seats.Seat.{Seat}
 use Rattle.kom_types.specs.Sessions.{Waiting, Session}

@@ -21,3 +21,4 @@ pub mod Closing
 pub mod Along
 pub mod Prefixes
 pub mod Complete
+pub mod Refusing

@@ -16,5 +16,6 @@ pub mod Refusal
 pub mod After
 pub mod Kept
 pub mod Legal
+pub mod Making
 pub mod Out
 pub mod Laws

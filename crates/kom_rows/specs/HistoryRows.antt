@@ -3,7 +3,7 @@ use Rattle.std.specs.Prelude.{◌≡◌, ℕ, true, false, List, [], ◌∷◌, 
 use Rattle.kom_types.specs.declared.acts.Act.{Act}
 use Rattle.kom_types.specs.declared.acts.Act.TheVariants as act
 use Rattle.kom_types.specs.declared.acts.Record.{Record}
-use Rattle.kom_types.specs.declared.answers.Refusal.TheVariants.{Gone, Full}
+use Rattle.kom_types.specs.declared.answers.NotMade.TheVariants.{Gone, Full}
 use Rattle.kom_types.specs.declared.answers.Why.TheVariants.{Dropped, Overrun, Stopped, Absent}
 use Rattle.kom_types.specs.declared.calls.Call.TheVariants as call
 use Rattle.kom_types.specs.declared.replies.Reply.TheVariants as reply

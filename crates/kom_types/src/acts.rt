@@ -3,6 +3,8 @@ ghost use Rattle.std.specs.Prelude.{◌≡◌, ◌↔◌, IsTrue};
 use crate::calls::Call;
 use crate::lists::Bytes;
 use crate::times::Moment;
+use std::marker::Model;
+use std::snapshot::Snapshot;
 
 /// What happens to the server: one atomic step.
 #[derive(PartialEq, Drop)]
@@ -60,4 +62,63 @@ pub struct Record {
     /// Whether the act was a call that was answered 39, out of memory, or a flush that the store
     /// refused.
     pub short: bool,
+}
+
+/// What an act that was made is handed on as: clauses see its record. Of the entry it has no bytes.
+#[derive(Drop)]
+pub struct Made {
+    of: Snapshot<Entry>,
+    session: u32,
+    short: bool,
+}
+
+impl Model for Made {
+    ghost use Rattle.kom_types.specs.declared.acts.Record.{Record as Logged};
+
+    ghost Value = { Logged };
+
+    ghost view = { λ made. record {
+      entry = made.of.value;
+      session = made.session;
+      short = made.short;
+    } };
+}
+
+impl Made {
+    /// The act of an entry, by its session.
+    pub fn of(entry: &Entry, session: u32, short: bool) -> Made
+        ensures { result ≡ record { entry = entry.now; session = session; short = short } }
+    {
+        Made {
+            of: Snapshot::of(entry),
+            session,
+            short,
+        }
+    }
+
+    /// The session of the record.
+    pub fn session(&self) -> u32
+        ensures { result ≡ self.now.session }
+    {
+        self.session
+    }
+
+    /// Whether the record is short.
+    pub fn is_short(&self) -> bool
+        ensures { result ≡ self.now.short }
+    {
+        self.short
+    }
+
+    /// The record, with the entry of which it is.
+    pub fn with_entry(&self, entry: Entry) -> Record
+        requires { self.now.entry ≡ entry }
+        ensures { result ≡ self.now }
+    {
+        Record {
+            entry,
+            session: self.session,
+            short: self.short,
+        }
+    }
 }

@@ -14,15 +14,6 @@ pub enum Why {
     Absent,
 }
 
-/// What refuses an act.
-#[derive(Clone, Copy, Debug, PartialEq, Eq)]
-pub enum Refusal {
-    /// Its session is served no longer, or the server is not.
-    Gone(Why),
-    /// This many were made already.
-    Full(u64),
-}
-
 /// Why an act is not made.
 #[derive(Clone, Copy, Debug, PartialEq, Eq)]
 pub enum NotMade {

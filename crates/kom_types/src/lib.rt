@@ -33,8 +33,8 @@ mod side;
 mod texts;
 mod times;
 
-pub use acts::{Act, Entry, Record};
-pub use answers::{Answer, NotMade, Refusal, Why};
+pub use acts::{Act, Entry, Made, Record};
+pub use answers::{Answer, NotMade, Why};
 pub use aux_items::{Adder, AuxChange, AuxInput, AuxInputs, AuxRow, AuxRows, ItemRow, Object};
 pub use boxed::Boxed;
 pub use byte_kind::{ByteKind, kind_of_byte};

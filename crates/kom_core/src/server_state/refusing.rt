@@ -5,11 +5,11 @@ ghost use Rattle.kom_model.specs.Refusal.{connect_refused, unless_store_refused}
 
 use super::ServerState;
 use kom_types::limits::MOST_SESSIONS;
-use kom_types::{Act, Refusal, Why};
+use kom_types::{Act, NotMade, Why};
 
 impl ServerState {
     /// Why an act is not made, if it is not.
-    pub(super) fn refusal(&self, act: &Act) -> Option<Refusal>
+    pub(super) fn refusal(&self, act: &Act) -> Option<NotMade>
         ensures { result ≡ refusal_of self.now act.now }
     {
         match act {
@@ -23,40 +23,40 @@ impl ServerState {
     }
 
     /// Once the store has refused a flush, the server is stopped, whatever else refuses an act.
-    fn unless_store_refused(&self, refusal: Option<Refusal>) -> Option<Refusal>
+    fn unless_store_refused(&self, refusal: Option<NotMade>) -> Option<NotMade>
         ensures { result ≡ unless_store_refused self.now.store_refused refusal }
     {
         if self.store_refused {
-            Some(Refusal::Gone(Why::Stopped))
+            Some(NotMade::Gone(Why::Stopped))
         } else {
             refusal
         }
     }
 
-    fn connect_refusal(&self) -> Option<Refusal>
+    fn connect_refusal(&self) -> Option<NotMade>
         ensures { result ≡ connect_refused self.now.stopped self.now.connects }
     {
         if self.stopped {
-            Some(Refusal::Gone(Why::Stopped))
+            Some(NotMade::Gone(Why::Stopped))
         } else if self.connects < MOST_SESSIONS {
             None
         } else {
-            Some(Refusal::Full(u64::from(self.connects)))
+            Some(NotMade::Full(u64::from(self.connects)))
         }
     }
 
-    fn call_refusal(&self, session: u32) -> Option<Refusal>
+    fn call_refusal(&self, session: u32) -> Option<NotMade>
         ensures { result ≡ call_refused self.now.stopped (session_of session self.now) }
     {
         match self.sessions.get(session) {
-            None => Some(Refusal::Gone(Why::Absent)),
+            None => Some(NotMade::Gone(Why::Absent)),
             Some(row) => {
                 if row.seat().ended {
-                    Some(Refusal::Gone(Why::Dropped))
+                    Some(NotMade::Gone(Why::Dropped))
                 } else if row.is_overrun() {
-                    Some(Refusal::Gone(Why::Overrun))
+                    Some(NotMade::Gone(Why::Overrun))
                 } else if self.stopped {
-                    Some(Refusal::Gone(Why::Stopped))
+                    Some(NotMade::Gone(Why::Stopped))
                 } else {
                     None
                 }
@@ -64,16 +64,16 @@ impl ServerState {
         }
     }
 
-    fn drain_refusal(&self, session: u32) -> Option<Refusal>
+    fn drain_refusal(&self, session: u32) -> Option<NotMade>
         ensures { result ≡ drain_refused (session_of session self.now) }
     {
         match self.sessions.get(session) {
-            None => Some(Refusal::Gone(Why::Absent)),
+            None => Some(NotMade::Gone(Why::Absent)),
             Some(row) => {
                 if row.seat().ended && row.is_drained() {
-                    Some(Refusal::Gone(Why::Dropped))
+                    Some(NotMade::Gone(Why::Dropped))
                 } else if row.is_overrun() {
-                    Some(Refusal::Gone(Why::Overrun))
+                    Some(NotMade::Gone(Why::Overrun))
                 } else {
                     None
                 }
@@ -81,11 +81,11 @@ impl ServerState {
         }
     }
 
-    fn close_refusal(&self, session: u32) -> Option<Refusal>
+    fn close_refusal(&self, session: u32) -> Option<NotMade>
         ensures { result ≡ close_refused (session_of session self.now) }
     {
         match self.sessions.get(session) {
-            None => Some(Refusal::Gone(Why::Absent)),
+            None => Some(NotMade::Gone(Why::Absent)),
             Some(_) => None,
         }
     }

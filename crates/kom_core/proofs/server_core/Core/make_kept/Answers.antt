@@ -1,31 +1,45 @@
-use Rattle.std.proofs.Common.{Some, ap, subst}
+use Rattle.std.proofs.Common.{◌+◌, ◌≤◌, ap, subst}
 use Rattle.kom_model.specs.State.{State}
-use Rattle.kom_core.specs.Acts.{Kinded, KeepsRowsIfRefused}
-use Rattle.kom_core.proofs.Making.{IsSound-made, Kinded-made, kept, rows-kept}
+use Rattle.kom_core.specs.Acts.{CoreComes}
+use Rattle.kom_core.specs.Worlds.{IsConsistent, RespectsGroups}
+use Rattle.kom_core.proofs.Making.{step-comes, step-sound, step-counted}
+use Rattle.kom_core.proofs.Worlds.{consistent, respects}
 use Rattle.kom_core.proofs.server_core.Core.make_kept.Goals as goal
 
-pub invariant_of-self-in-Ok : goal.invariant_of-self-in-Ok
-invariant_of-self-in-Ok g c =
-    IsSound-made c.self.inside.server c.make.new.self c.args.entry c.in_ok-made.field-0 c.in-Ok.made c.in-Ok.is
-    c.requires.user c.self.invariant c.in_ok-made.ensures.step
+pub invariant_of-self : goal.invariant_of-self
+invariant_of-self g c =
+    step-sound c.self.inside.server c.make.new.self c.args.entry.now c.make.result c.requires.user c.self.invariant
+    c.make.ensures.steps
 
-pub returns-in-Ok-clause-answered : goal.returns-in-Ok-clause-answered
-returns-in-Ok-clause-answered g c =
-    let P : State → Type 0 = λ old. Kinded old c.args.entry
-    (record { state = c.make.new.self; last = Some (kept c.args.entry c.in-Ok.made) }) c.in-Ok.made.answer in
-    subst P (ap (λ held. held.state) c.self.view_is)
-    (Kinded-made c.self.inside.server c.make.new.self c.args.entry c.in_ok-made.field-0 c.in-Ok.made c.in-Ok.is
-    c.requires.user c.in_ok-made.ensures.step)
+pub returns-clause-comes : goal.returns-clause-comes
+returns-clause-comes g c =
+    subst (λ (old : State). CoreComes old c.args.entry.now c.make.new.self c.make.result)
+    (ap (λ held. held.state) c.self.view_is)
+    (step-comes c.self.inside.server c.make.new.self c.args.entry.now c.make.result c.requires.user
+    c.make.ensures.steps)
 
-pub returns-in-Ok-clause-refused : goal.returns-in-Ok-clause-refused
-returns-in-Ok-clause-refused g c =
-    let P : State → Type 0 = λ old. KeepsRowsIfRefused old
-    (record { state = c.make.new.self; last = Some (kept c.args.entry c.in-Ok.made) }) in
-    subst P (ap (λ held. held.state) c.self.view_is)
-    (rows-kept c.self.inside.server c.make.new.self c.args.entry c.in_ok-made.field-0 c.in-Ok.made c.in-Ok.is
-    c.in_ok-made.ensures.step)
+pub returns-clause-consistent : goal.returns-clause-consistent
+returns-clause-consistent g c =
+    subst (λ (old : State). IsConsistent old c.args.entry.now c.make.new.self c.make.result)
+    (ap (λ held. held.state) c.self.view_is)
+    (consistent c.self.inside.server c.make.new.self c.args.entry.now c.make.result c.self.invariant
+    (step-comes c.self.inside.server c.make.new.self c.args.entry.now c.make.result c.requires.user
+    c.make.ensures.steps))
 
-pub returns-in-Ok-clause-sound : goal.returns-in-Ok-clause-sound
-returns-in-Ok-clause-sound g c =
-    IsSound-made c.self.inside.server c.make.new.self c.args.entry c.in_ok-made.field-0 c.in-Ok.made c.in-Ok.is
-    c.requires.user c.self.invariant c.in_ok-made.ensures.step
+pub returns-clause-respects : goal.returns-clause-respects
+returns-clause-respects g c =
+    subst (λ (old : State). RespectsGroups old c.args.entry.now c.make.new.self c.make.result)
+    (ap (λ held. held.state) c.self.view_is)
+    (respects c.self.inside.server c.make.new.self c.args.entry.now c.make.result c.self.invariant
+    (step-comes c.self.inside.server c.make.new.self c.args.entry.now c.make.result c.requires.user
+    c.make.ensures.steps))
+
+pub returns-clause-counted : goal.returns-clause-counted
+returns-clause-counted g c =
+    subst (λ (old : State). c.make.new.self.entries ≤ old.entries + 1) (ap (λ held. held.state) c.self.view_is)
+    (step-counted c.self.inside.server c.make.new.self c.args.entry.now c.make.result c.make.ensures.steps)
+
+pub returns-clause-sound : goal.returns-clause-sound
+returns-clause-sound g c =
+    step-sound c.self.inside.server c.make.new.self c.args.entry.now c.make.result c.requires.user c.self.invariant
+    c.make.ensures.steps
