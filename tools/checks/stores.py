@@ -4,16 +4,20 @@
 What the files there say is in tests/stores/README.md. Of each store it looks at what `check` prints, its status and what it leaves
 of the file; at a second `check`, which changes nothing; and at `once`, which is answered as the store's files say, keeps all
 batches, or is refused as `check` is. Then it looks at the words themselves: a store that `init` makes, its mode and what may stand in
-its place; a path where nothing is, a folder, and a store that another process has open.
+its place; a path where nothing is, a folder, and a store that another process has open. And at a sparse file of four gigabytes, which
+declares that many read ranges: it is refused with little memory, and in a moment.
 
 It prints a line for each thing that is otherwise, and a count, and ends with 1 if there is one, else with 0. PROGRAM is the built `komd` unless it is named.
 """
 import json
 import pathlib
+import resource
 import shutil
+import struct
 import subprocess
 import sys
 import tempfile
+import time
 
 sys.path.insert(0, str(pathlib.Path(__file__).resolve().parents[1] / "common"))
 from built import ROOT, USAGE, program_of, script
@@ -25,6 +29,12 @@ GREETING = b"A1Hq\n"
 # The length of a store that `init` has made with an empty password, whatever the moment.
 LENGTH_OF_INITIAL = 327
 STORE_FAILED, UNFIT, REFUSED_WORDS = 3, 4, 2
+# What is declared of a sparse file, and what its refusal may take.
+KIND_OF_READ_SET = 19
+PERSON, CONFERENCE, MOMENT = 5, 5, 0
+RANGES = 500_000_000
+BYTES_OF_MEMORY = 200 << 20
+SECONDS = 5
 
 
 class Openings(Tried):
@@ -123,6 +133,35 @@ def try_lock(tried):
     store.unlink()
 
 
+def try_sparse(tried):
+    """Opens stores whose last batch declares many read ranges, of which the first is faulty: all bytes of them are zeros."""
+    effect = bytes([KIND_OF_READ_SET]) + struct.pack("<IIQI", PERSON, CONFERENCE, MOMENT, RANGES)
+    size = len(effect) + 8 * RANGES
+    sparse = tried.folder / "sparse"
+    for name in ["empty", "initial"]:
+        before = (STORES / f"{name}.store").read_bytes()[:-1]
+        head = before + b"\x01" + struct.pack("<Q", size) + effect
+        with sparse.open("wb") as file:
+            file.write(head)
+            file.truncate(len(before) + 9 + size + 1)
+        length = sparse.stat().st_size
+        began = time.monotonic()
+        limits = BYTES_OF_MEMORY, BYTES_OF_MEMORY
+        done = subprocess.run(
+            [tried.program, "check", sparse],
+            capture_output=True,
+            timeout=300,
+            preexec_fn=lambda: resource.setrlimit(resource.RLIMIT_AS, limits),
+        )
+        took = time.monotonic() - began
+        tried.same(f"{name}, many ranges", (UNFIT, b"", b""), (done.returncode, done.stdout, done.stderr))
+        tried.same(f"{name}, many ranges: refused within {SECONDS} seconds", True, took < SECONDS)
+        tried.same(f"{name}, many ranges: the length after it", length, sparse.stat().st_size)
+        with sparse.open("rb") as file:
+            tried.same(f"{name}, many ranges: the file after it", head, file.read(len(head)))
+        sparse.unlink()
+
+
 def try_words(tried):
     """Words that are no command."""
     usage = REFUSED_WORDS, USAGE, b""
@@ -141,6 +180,7 @@ def main(words):
         try_making(tried)
         try_places(tried)
         try_lock(tried)
+        try_sparse(tried)
         try_words(tried)
     print(f"{len(names)} stores, {tried.count} things looked at, {tried.failed} are otherwise")
     return 1 if tried.failed or not names else 0

@@ -7,3 +7,5 @@ pub mod Stays
 pub mod Spelled
 pub mod Spellings
 pub mod GoesOn
+pub mod Rising
+pub mod Begins

@@ -27,12 +27,12 @@ and_then_whole Short next made rest is = absurd (cc is)
 and_then_whole Wrong next made rest is = absurd (cc is)
 
 -- what was read of so many bytes
-record HasRead {X : Type 0} (value : List ℕ → X) (many : ℕ) (bytes : List ℕ) (found : X) (rest : List ℕ) : Type 0 where
+pub record HasRead {X : Type 0} (value : List ℕ → X) (many : ℕ) (bytes : List ℕ) (found : X) (rest : List ℕ) : Type 0 where
   pub here : many ≤ length bytes
   pub found_is : found ≡ value bytes
   pub rest_is : rest ≡ drop many bytes
 
-read_whole : {X : Type 0} (value : List ℕ → X) (many : ℕ) (bytes : List ℕ) (found : X) (rest : List ℕ)
+pub read_whole : {X : Type 0} (value : List ℕ → X) (many : ℕ) (bytes : List ℕ) (found : X) (rest : List ℕ)
     → read_of value many bytes ≡ Whole found rest → HasRead value many bytes found rest
 read_whole {X} value many bytes found rest = by_test (ltb (length bytes) many) refl where
   by_test : (test : Bool) → ltb (length bytes) many ≡ test
@@ -40,7 +40,7 @@ read_whole {X} value many bytes found rest = by_test (ltb (length bytes) many) r
   by_test true short is = absurd (cc is)
   by_test false enough is = record { here = ltb-false _ _ enough; found_is = cc is; rest_is = cc is }
 
-limited_whole : (w : Width) (greatest : ℕ) (bytes : List ℕ) (found : ℕ) (rest : List ℕ)
+pub limited_whole : (w : Width) (greatest : ℕ) (bytes : List ℕ) (found : ℕ) (rest : List ℕ)
     → limited_at w greatest bytes ≡ Whole found rest
     → HasRead (from_le_bytes w) (byte_len w) bytes found rest × (found ≤ greatest)
 limited_whole w greatest bytes found rest = by_test (ltb greatest (from_le_bytes w bytes)) refl where

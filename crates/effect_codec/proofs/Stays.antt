@@ -101,7 +101,7 @@ read_stays {X} value many bytes more same = by_test (ltb (length bytes) many) re
       read_on value many bytes more here (same here)
 
 -- the number of the first bytes is the same when more follow
-le_before : (w : Width) (bytes more : List ℕ) → 0 < byte_len w → byte_len w ≤ length bytes
+pub le_before : (w : Width) (bytes more : List ℕ) → 0 < byte_len w → byte_len w ≤ length bytes
     → from_le_bytes w (bytes ++ more) ≡ from_le_bytes w bytes
 le_before w bytes more some here =
     le_same w (bytes ++ more) bytes (λ i below. get_or_append_left bytes more 0 i (omega (arith, below, here, some)))

@@ -3,3 +3,4 @@ pub mod Table
 pub mod Coding
 pub mod Laws
 pub mod Giving
+pub mod Faulty

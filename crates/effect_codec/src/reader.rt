@@ -191,13 +191,13 @@ impl<'a> Reader<'a> {
     }
 }
 
-fn byte_of(bytes: &[u8], place: usize) -> u8
+pub(crate) fn byte_of(bytes: &[u8], place: usize) -> u8
     ensures { result ≡ slice_index bytes.now place }
 {
     if place < bytes.len() { bytes[place] } else { 0 }
 }
 
-fn number_of(bytes: &[u8]) -> u32
+pub(crate) fn number_of(bytes: &[u8]) -> u32
     ensures { result ≡ from_le_bytes w32 bytes.now }
 {
     u32::from_le_bytes([
@@ -238,7 +238,7 @@ fn so_many_ranges(alloc: Global, bytes: &[u8], many: usize) -> Result<ReadRanges
     Ok(ReadRanges::of(ranges))
 }
 
-fn rest_of(bytes: &[u8], place: usize) -> &[u8]
+pub(crate) fn rest_of(bytes: &[u8], place: usize) -> &[u8]
     requires { place ≤ length bytes.now }
     ensures { result.now ≡ drop place bytes.now }
 {

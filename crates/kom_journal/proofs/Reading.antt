@@ -1,23 +1,27 @@
 -- What the reading of bytes comes to, over one effect, a block, and a body.
 use Rattle.std.proofs.Common.{◌≡◌, ◌<◌, ◌≤◌, ◌+◌, ◌-◌, ℕ, true, false, List, [], ◌∷◌, ◌++◌, length, take, drop}
 use Rattle.std.proofs.Common.{append_assoc, ap, sym, subst, ◌∙◌, refl, arith, length-append, length-drop}
+use Rattle.std.proofs.Common.{◌&&◌, is_some}
 use Rattle.std.proofs.Math.Seq.{take-add}
 use Rattle.std.proofs.lemmas.List.{append-nil, drop-drop, drop-take, drop-append-le, take_at, take_all, take-take}
 use Rattle.std.proofs.lemmas.List.{take-append-le, length-take-le}
 use Rattle.batch_log.specs.Walk.{HasFirst}
 use Rattle.batch_log.proofs.Parts.{rest_of}
 use Rattle.kom_types.specs.declared.effects.Effect.{Effect}
-use Rattle.kom_model.specs.Db.{Db}
+use Rattle.kom_types.specs.declared.effects.Effect.TheVariants as effect
+use Rattle.read_ranges.specs.Changed.{rise_after}
+use Rattle.kom_model.specs.Db.{Db, membership_of}
 use Rattle.kom_model.specs.Effects.{fits, apply, apply_all}
 use Rattle.effect_codec.specs.Coding.{coded_effect, effect_at, IsInRange}
 use Rattle.effect_codec.specs.Fields.{Whole, Short, Wrong}
+use Rattle.effect_codec.specs.Faulty.{has_faulty_range, BeginsFaulty}
 use Rattle.effect_codec.proofs.Effects.{effect_again, begins_no_other}
 use Rattle.effect_codec.proofs.Stays.{stays_wrong}
 use Rattle.kom_journal.specs.Files.{body_of}
 use Rattle.kom_journal.specs.Opening.{BeginsWith, BeginsUnfit, IsUnfit}
 use Rattle.kom_journal.specs.Reading.{MakesOne, MakesSome, ComesUnfit, MakesPart, part}
 use Rattle.kom_journal.proofs.Spelled.{all_more, body_both, never_empty}
-use Rattle.kom_journal.proofs.Sound.{apply_all-append, all_fit-append, and_both}
+use Rattle.kom_journal.proofs.Sound.{apply_all-append, all_fit-append, and_both, and_parts}
 
 -- effects after effects
 pub begins_none : (db : Db) (bytes : List ℕ) → BeginsWith [] db bytes bytes
@@ -67,6 +71,22 @@ found_unfit db one bytes after more is coded unfit other rest in_range also fit 
     let same : one ≡ other = (begins_no_other one other (after ++ more) rest coded in_range whole).0 in
     let wrong : true ≡ false = sym fit ∙ ap (λ (e : Effect). fits e db) (sym same) ∙ unfit in
     cc
+
+-- a set of ranges of which one is faulty, before all of them are there
+pub faulty_unfit : (db : Db) (bytes more : List ℕ) → BeginsFaulty bytes → BeginsUnfit db (bytes ++ more)
+unfolding fits
+faulty_unfit db bytes more faulty other rest in_range is fit =
+    let set = faulty other more rest in_range is in
+    let set_fits : is_some (membership_of db set.person set.conference) && rise_after 0 set.ranges ≡ true =
+    ap (λ (e : Effect). fits e db) (sym set.is) ∙ fit in
+    let rise : rise_after 0 set.ranges ≡ true =
+    (and_parts (is_some (membership_of db set.person set.conference)) (rise_after 0 set.ranges) set_fits).1 in
+    let wrong : true ≡ false = sym rise ∙ set.faulty in
+    cc wrong
+
+pub faulty_some : (bytes : List ℕ) → has_faulty_range bytes ≡ true → 0 < length bytes
+faulty_some [] is = absurd (cc is)
+faulty_some (byte ∷ bytes) is = omega arith
 
 no_bytes : (bytes : List ℕ) → (bytes ≡ [] → ⊥) → 0 < length bytes
 no_bytes [] never = absurd (never refl)

@@ -4,7 +4,7 @@ ghost use Rattle.kom_journal.specs.Opening.{BeginsUnfit};
 ghost use Rattle.kom_journal.specs.Reading.{MakesNext, MakesSome, ComesUnfit};
 
 use crate::rows::MadeRows;
-use effect_codec::{ReadError, read};
+use effect_codec::{ReadError, has_faulty_range, read};
 use kom_disk::Failed;
 use kom_types::Memory;
 use std::alloc::Global;
@@ -32,6 +32,10 @@ pub(crate) fn make_next(
     ensures some { result ≡ Err Stop.Unfit → 0 < length bytes.now }
     ensures no_fault { result ≢ Err Stop.Fault }
 {
+    // Ranges are refused as they come: a set may declare more than there is memory for.
+    if has_faulty_range(bytes) {
+        return Err(Stop::Unfit);
+    }
     let (effect, len) = match read(alloc, bytes) {
         Ok(Some(found)) => found,
         Ok(None) => return Ok(None),
