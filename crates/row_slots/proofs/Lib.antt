@@ -7,3 +7,4 @@ pub mod Passing
 pub mod Places
 pub mod Rooms
 pub mod Rows
+pub mod Walks

@@ -7,6 +7,7 @@ mod dense_lists;
 mod lists;
 mod page;
 mod slots;
+mod walk;
 
 // A crate can name the slots in a contract only if the types of their fields are exported.
 #[doc(hidden)]
@@ -14,3 +15,4 @@ pub use block::Block;
 pub use dense_lists::DenseLists;
 pub use lists::Lists;
 pub use slots::Slots;
+pub use walk::SlotWalk;

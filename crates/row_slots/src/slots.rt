@@ -1,9 +1,10 @@
 ghost use Rattle.std.specs.Prelude.{◌≡◌, ◌<◌, ◌≤◌, ◌+◌, ◌-◌, ◌++◌, ◌∷◌, [], length, Some};
 ghost use Rattle.std.specs.Prelude.{slice_get, option_copied, IsOk, OnOk, OnErr, IfOk};
 ghost use Rattle.std.specs.Option.{option_flatten};
-ghost use Rattle.row_slots.specs.Slots.{emptied, replaced};
+ghost use Rattle.row_slots.specs.Slots.{emptied, replaced, rows_in};
 
 use crate::block::{BLOCK, Block, row_at, set_at, take_at};
+use crate::walk::SlotWalk;
 use std::alloc::{AllocError, Global};
 use std::marker::Model;
 use std::mem;
@@ -81,12 +82,22 @@ impl<R: Drop> Slots<R> {
     }
 
     /// How many slots there are.
-    fn count(&self) -> usize
+    pub(crate) fn count(&self) -> usize
         ensures count { result ≡ length self.now.slots }
         ensures fits { result ≤ 4294967295 }
         ensures spare { self.now.spare ≤ 4294967295 - result }
     {
         BLOCK * self.settled.len() + self.last.len()
+    }
+
+    /// The rows, in the order of adding.
+    pub fn rows(&self) -> SlotWalk<'_, R>
+        ensures { result ≡ rows_in self.now.slots }
+    {
+        SlotWalk {
+            slots: self,
+            place: 0,
+        }
     }
 
     /// Takes the row out of a slot, if one is there.

@@ -1,5 +1,5 @@
 ghost use Rattle.std.specs.Prelude.{◌≡◌, ◌+◌, ◌<◌, ◌≤◌, [], None, length, option_copied};
-ghost use Rattle.std.specs.Prelude.{IsOk, OnOk, OnErr};
+ghost use Rattle.std.specs.Prelude.{map, IsOk, IfOk, OnOk, OnErr};
 ghost use Rattle.row_table.specs.Tables.{row_of, with_row, without_row, changed_row, IsByNumber};
 
 use crate::keyed::{Change, Keyed};
@@ -49,6 +49,16 @@ impl<K: Keyed> Table<K> {
         ensures rising { IsByNumber K.number_of self.now.rows }
     {
         self.rows.get(&number)
+    }
+
+    /// The numbers of the rows, rising. The list has four bytes for each row.
+    pub fn numbers(&self) -> Result<Vec<u32>, AllocError>
+        ensures { IfOk result (λ numbers. numbers.items ≡ map K.number_of self.now.rows) }
+    {
+        let mut numbers: Vec<u32> = self.rows.keys().copied().collect(*self.rows.allocator())?;
+        numbers.sort_unstable();
+        numbers.dedup();
+        Ok(numbers)
     }
 
     /// Puts a row in, in place of the one of its number if there is one, which takes no memory.
