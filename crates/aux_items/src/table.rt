@@ -7,7 +7,7 @@ ghost use Rattle.aux_items.specs.Keeping.{is_number_at};
 use crate::objects::ObjectLists;
 use crate::of_object::ItemsOf;
 use kom_types::{AuxRow, ItemRow, Memory};
-use row_slots::Slots;
+use row_slots::{SlotWalk, Slots};
 use std::alloc::Global;
 use std::marker::Model;
 
@@ -55,6 +55,13 @@ impl Items {
             rows: Slots::new(alloc),
             of_objects: ObjectLists::new(alloc),
         }
+    }
+
+    /// The items of all texts and conferences, in the order of adding.
+    pub fn rows(&self) -> SlotWalk<'_, ItemRow>
+        ensures { result ≡ self.now.rows }
+    {
+        self.rows.rows()
     }
 
     /// How many items a text, or a conference, has, in constant time.

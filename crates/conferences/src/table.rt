@@ -1,10 +1,11 @@
 ghost use Rattle.std.specs.Prelude.{◌≡◌, ◌+◌, ◌<◌, ◌≤◌, [], None, length, option_copied};
 ghost use Rattle.std.specs.Prelude.{map, filter};
-ghost use Rattle.std.specs.Prelude.{IsOk, OnOk, OnErr};
+ghost use Rattle.std.specs.Prelude.{IsOk, IfOk, OnOk, OnErr};
 ghost use Rattle.row_table.specs.Tables.{row_of, with_row, without_row, changed_row, IsByNumber};
 ghost use Rattle.kom_types.specs.tables.Conferences.{number_of_conference, with_field, with_name};
 ghost use Rattle.kom_types.specs.tables.Conferences.{with_local_drawn, with_item_drawn};
 ghost use Rattle.kom_types.specs.tables.Conferences.{is_secret_conference};
+ghost use Rattle.conferences.specs.Numbers.{with_next_local, with_next_item};
 
 use crate::changes::{Rename, SetField, SetNextItem, SetNextLocal};
 use crate::keyed::ByNumber;
@@ -59,6 +60,13 @@ impl Conferences {
         ensures { result ≡ length self.now.rows }
     {
         self.rows.len()
+    }
+
+    /// The numbers of the conferences, rising. The list has four bytes for each.
+    pub fn numbers(&self) -> Result<Vec<u32>, Memory>
+        ensures { IfOk result (λ numbers. numbers.items ≡ map number_of_conference self.now.rows) }
+    {
+        Ok(self.rows.numbers()?)
     }
 
     /// The row of a conference, if it is there.
@@ -150,6 +158,24 @@ impl Conferences {
         ensures spare { self.old.spare ≤ self.new.spare }
     {
         self.rows.change(number, SetNextItem(item + 1));
+    }
+
+    /// The next text of a conference gets this local number.
+    pub fn set_next_local(&mut self, number: u32, next: u32)
+        ensures rows { self.new.rows
+            ≡ changed_row number_of_conference number (with_next_local next) self.old.rows }
+        ensures spare { self.old.spare ≤ self.new.spare }
+    {
+        self.rows.change(number, SetNextLocal(next));
+    }
+
+    /// The next aux-item of a conference gets this number.
+    pub fn set_next_item(&mut self, number: u32, next: u32)
+        ensures rows { self.new.rows
+            ≡ changed_row number_of_conference number (with_next_item next) self.old.rows }
+        ensures spare { self.old.spare ≤ self.new.spare }
+    {
+        self.rows.change(number, SetNextItem(next));
     }
 
     /// Gives a conference another name.

@@ -7,7 +7,7 @@ ghost use Rattle.marks.specs.Keeping.{is_person_at, mark_at};
 ghost use Rattle.marks.specs.Marked.{room_of_person, room_on, HasRoom, KeepsRoom, UsesRoom};
 
 use kom_types::{Mark, MarkRow, Marks, Memory};
-use row_slots::{Lists, Slots};
+use row_slots::{Lists, SlotWalk, Slots};
 use std::alloc::Global;
 use std::marker::Model;
 
@@ -73,6 +73,13 @@ impl MarkTable {
     {
         let place = place_of(&self.rows, self.on_text.list(text), person)?;
         self.rows.get(place).copied()
+    }
+
+    /// All marks, in the order of setting.
+    pub fn rows(&self) -> SlotWalk<'_, MarkRow>
+        ensures { result ≡ self.now.marks }
+    {
+        self.rows.rows()
     }
 
     /// How many marks a person has, in constant time.

@@ -9,7 +9,7 @@ ghost use Rattle.misc_links.specs.Linked.{HasRoom, KeepsRoom, UsesRoom};
 
 use crate::kinds::KindLists;
 use kom_types::{Memory, TextLink};
-use row_slots::Slots;
+use row_slots::{SlotWalk, Slots};
 use std::alloc::Global;
 use std::marker::Model;
 
@@ -98,6 +98,13 @@ impl Links {
     {
         let place = place_from(&self.rows, self.into.list(parent, footnote), child)?;
         self.rows.get(place)
+    }
+
+    /// All links, in the order of adding.
+    pub fn rows(&self) -> SlotWalk<'_, TextLink>
+        ensures { result ≡ self.now.links }
+    {
+        self.rows.rows()
     }
 
     /// How many texts a text is a comment, or a footnote, to, in constant time.

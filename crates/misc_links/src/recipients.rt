@@ -5,7 +5,7 @@ ghost use Rattle.misc_links.specs.Received.{room_of_text, AreOnce, HasRoom, Keep
 ghost use Rattle.misc_links.specs.Receiving.{is_conference_at};
 
 use kom_types::{Memory, Recipient};
-use row_slots::{DenseLists, Slots};
+use row_slots::{DenseLists, SlotWalk, Slots};
 use std::alloc::Global;
 use std::marker::Model;
 
@@ -59,6 +59,13 @@ impl Recipients {
     {
         let place = place_of(&self.rows, self.by_text.list(text), conference)?;
         self.rows.get(place)
+    }
+
+    /// All recipients, in the order of adding.
+    pub fn rows(&self) -> SlotWalk<'_, Recipient>
+        ensures { result ≡ self.now.recipients }
+    {
+        self.rows.rows()
     }
 
     /// How many recipients a text has, in constant time.

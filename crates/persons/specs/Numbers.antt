@@ -26,3 +26,7 @@ number-counted counter.CreatedConferences by row = refl
 -- with this next number of a text
 abbrev pub with_next_created : ℕ → PersonRow → PersonRow
 with_next_created next row = record row { next_created = next }
+
+-- with so many sessions counted
+abbrev pub with_sessions : ℕ → PersonRow → PersonRow
+with_sessions sessions row = record row { sessions = sessions }

@@ -121,3 +121,20 @@ impl Change<ByNumber> for SetNextCreated {
         row.next_created = self.0;
     }
 }
+
+/// So many sessions of the person were counted.
+#[derive(Drop)]
+pub(crate) struct SetSessions(pub(crate) u32);
+
+impl Change<ByNumber> for SetSessions {
+    ghost use Rattle.std.specs.Prelude.{refl};
+    ghost use Rattle.persons.specs.Numbers.{with_sessions};
+
+    ghost changed = { λ set. with_sessions set.0 };
+
+    ghost keeps_number = { λ set row. refl };
+
+    fn change(self, row: &mut PersonRow) {
+        row.sessions = self.0;
+    }
+}

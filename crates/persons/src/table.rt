@@ -1,10 +1,11 @@
 ghost use Rattle.std.specs.Prelude.{◌≡◌, ◌+◌, ◌<◌, ◌≤◌, [], None, length, option_copied};
-ghost use Rattle.std.specs.Prelude.{IsOk, OnOk, OnErr};
+ghost use Rattle.std.specs.Prelude.{map, IsOk, IfOk, OnOk, OnErr};
 ghost use Rattle.row_table.specs.Tables.{row_of, with_row, without_row, changed_row, IsByNumber};
 ghost use Rattle.kom_types.specs.tables.Persons.{number_of_person, with_field, counted};
 ghost use Rattle.kom_types.specs.tables.Persons.{logged_in, with_hash, with_created_drawn};
+ghost use Rattle.persons.specs.Numbers.{with_next_created, with_sessions};
 
-use crate::changes::{LogIn, Rise, SetField, SetHash, SetNextCreated};
+use crate::changes::{LogIn, Rise, SetField, SetHash, SetNextCreated, SetSessions};
 use crate::keyed::ByNumber;
 use kom_types::{Bytes, Counter, Memory, Moment, PersonField, PersonRow};
 use row_table::Table;
@@ -43,6 +44,13 @@ impl Persons {
         ensures { result ≡ length self.now.rows }
     {
         self.rows.len()
+    }
+
+    /// The numbers of the persons, rising. The list has four bytes for each.
+    pub fn numbers(&self) -> Result<Vec<u32>, Memory>
+        ensures { IfOk result (λ numbers. numbers.items ≡ map number_of_person self.now.rows) }
+    {
+        Ok(self.rows.numbers()?)
     }
 
     /// The row of a person, if it is there.
@@ -111,6 +119,24 @@ impl Persons {
         ensures spare { self.old.spare ≤ self.new.spare }
     {
         self.rows.change(number, SetNextCreated(local + 1));
+    }
+
+    /// The next text that a person makes gets this number among those that it made.
+    pub fn set_next_created(&mut self, number: u32, next: u32)
+        ensures rows { self.new.rows
+            ≡ changed_row number_of_person number (with_next_created next) self.old.rows }
+        ensures spare { self.old.spare ≤ self.new.spare }
+    {
+        self.rows.change(number, SetNextCreated(next));
+    }
+
+    /// So many sessions of a person were counted.
+    pub fn set_sessions(&mut self, number: u32, sessions: u32)
+        ensures rows { self.new.rows
+            ≡ changed_row number_of_person number (with_sessions sessions) self.old.rows }
+        ensures spare { self.old.spare ≤ self.new.spare }
+    {
+        self.rows.change(number, SetSessions(sessions));
     }
 
     /// Notes that a person logs in at this moment, and the user name that was told.

@@ -12,6 +12,7 @@ ghost use Rattle.texts.specs.Keeping.{IsFrom};
 use crate::texts::Texts;
 use kom_types::{Mapping, MarkRow, Marks, Memory, Recipient, TextLink, TextRow};
 use local_maps::PairsFrom;
+use row_slots::SlotWalk;
 
 impl Texts {
     /// How many texts there are.
@@ -19,6 +20,13 @@ impl Texts {
         ensures { result ≡ length self.now.rows.texts }
     {
         self.texts.len()
+    }
+
+    /// The numbers of the texts, rising. The list has four bytes for each text.
+    pub fn text_numbers(&self) -> Result<Vec<u32>, Memory>
+        ensures { IfOk result (λ numbers. numbers.items ≡ map number_of_text self.now.rows.texts) }
+    {
+        self.texts.numbers()
     }
 
     /// The row of a text, in constant time.
@@ -34,6 +42,27 @@ impl Texts {
         ensures { option_copied result ≡ recipient_of text conference self.now.rows.recipients }
     {
         self.recipients.get(text, conference)
+    }
+
+    /// All recipients, in the order of adding.
+    pub fn all_recipients(&self) -> SlotWalk<'_, Recipient>
+        ensures { result ≡ self.now.rows.recipients }
+    {
+        self.recipients.rows()
+    }
+
+    /// All links, in the order of adding.
+    pub fn all_links(&self) -> SlotWalk<'_, TextLink>
+        ensures { result ≡ self.now.rows.links }
+    {
+        self.links.rows()
+    }
+
+    /// All marks, in the order of setting.
+    pub fn all_marks(&self) -> SlotWalk<'_, MarkRow>
+        ensures { result ≡ self.now.rows.marks }
+    {
+        self.marks.rows()
     }
 
     /// How many recipients a text has, in constant time.

@@ -1,8 +1,9 @@
 ghost use Rattle.std.specs.Prelude.{◌≡◌, ◌+◌, ◌<◌, ◌≤◌, [], None, length, option_copied};
-ghost use Rattle.std.specs.Prelude.{IsOk, OnOk, OnErr};
+ghost use Rattle.std.specs.Prelude.{map, IsOk, IfOk, OnOk, OnErr};
 ghost use Rattle.row_table.specs.Tables.{row_of, with_row, without_row, changed_row, IsByNumber};
 ghost use Rattle.kom_types.specs.tables.Texts.{number_of_text, with_created_local};
 ghost use Rattle.kom_types.specs.tables.Texts.{with_item_drawn};
+ghost use Rattle.texts.specs.Keeping.{with_next_item};
 
 use crate::changes::{SetCreatedLocal, SetNextItem};
 use crate::keyed::ByNumber;
@@ -43,6 +44,13 @@ impl TextTable {
         ensures { result ≡ length self.now.rows }
     {
         self.rows.len()
+    }
+
+    /// The numbers of the texts, rising. The list has four bytes for each.
+    pub fn numbers(&self) -> Result<Vec<u32>, Memory>
+        ensures { IfOk result (λ numbers. numbers.items ≡ map number_of_text self.now.rows) }
+    {
+        Ok(self.rows.numbers()?)
     }
 
     /// The row of a text, if it is there.
@@ -92,6 +100,15 @@ impl TextTable {
         ensures spare { self.old.spare ≤ self.new.spare }
     {
         self.rows.change(number, SetCreatedLocal(local));
+    }
+
+    /// The next aux-item of a text gets this number. Takes no memory.
+    pub fn set_next_item(&mut self, number: u32, next: u32)
+        ensures rows { self.new.rows
+            ≡ changed_row number_of_text number (with_next_item next) self.old.rows }
+        ensures spare { self.old.spare ≤ self.new.spare }
+    {
+        self.rows.change(number, SetNextItem(next));
     }
 
     /// Notes that an aux-item of a text has got this number: the next one gets a greater. Takes no

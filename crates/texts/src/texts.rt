@@ -6,7 +6,7 @@ ghost use Rattle.kom_types.specs.tables.Texts.{recipient_of, without_recipient, 
 ghost use Rattle.kom_types.specs.tables.Texts.{without_link, with_mark, without_mark, locals_of};
 ghost use Rattle.kom_types.specs.tables.Texts.{created_by, with_item_drawn};
 ghost use Rattle.local_maps.specs.Pairs.{AllBelow, least_of};
-ghost use Rattle.texts.specs.Keeping.{IsUnnumbered};
+ghost use Rattle.texts.specs.Keeping.{IsUnnumbered, with_next_item};
 ghost use Rattle.texts.specs.Needs.{HasRoom, KeepsRoom, UsesRoom, room_for, text_needs};
 ghost use Rattle.texts.specs.Needs.{recipient_needs, link_needs, mark_needs, created_needs};
 
@@ -219,6 +219,16 @@ impl Texts {
         ensures room { KeepsRoom self.old.room self.new.room }
     {
         self.texts.draw_item(number, item);
+    }
+
+    /// The next aux-item of a text gets this number. It takes no memory.
+    pub fn set_next_item(&mut self, number: u32, next: u32)
+        ensures rows { self.new.rows ≡ record self.old.rows {
+          texts = changed_row number_of_text number (with_next_item next) self.old.rows.texts;
+        } }
+        ensures room { KeepsRoom self.old.room self.new.room }
+    {
+        self.texts.set_next_item(number, next);
     }
 
     /// Takes away the number that each text of a person has among those that the person made. It
