@@ -12,3 +12,4 @@ pub mod OnPersons
 pub mod OnTexts
 pub mod OnMembers
 pub mod Effects
+pub mod Raises

@@ -6,6 +6,7 @@ pub mod Sending
 pub mod Messages
 pub mod Effects
 pub mod Whole
+pub mod Raising
 pub mod Initial
 pub mod State
 pub mod Kinds

@@ -1,6 +1,7 @@
 ghost use Rattle.kom_model.specs.Laws.{GivesPrefixes, GivesStable, GivesAllBefore};
 ghost use Rattle.kom_model.specs.Laws.{GivesAllToDropped, StaysSound, FitsWithin};
 ghost use Rattle.kom_model.specs.Laws.{KeptFits, KeptMakes, FittingIsAll};
+ghost use Rattle.kom_model.specs.Raising.{RaisesLeaveWhole};
 ghost use Rattle.kom_model.specs.Whole.{StandWhole};
 
 /// A law alone: what drains give is a prefix of what the session is to be sent, of stable entries,
@@ -19,6 +20,11 @@ pub fn kept_effects_are_made()
     ensures fits { KeptFits }
     ensures makes { KeptMakes }
     ensures all { FittingIsAll }
+{}
+
+/// A law alone: a counter that may be raised leaves whole rows whole.
+pub fn raises_leave_whole()
+    ensures { RaisesLeaveWhole }
 {}
 
 /// A law alone: effects leave whole rows whole, from no row on.

@@ -5,10 +5,11 @@ use Rattle.kom_model.specs.Db.{Db, empty_db}
 use Rattle.kom_model.specs.Effects.{IsProtected, fits, made, apply_all}
 use Rattle.kom_model.specs.Initial.{initial}
 use Rattle.kom_model.specs.Whole.{IsWhole}
-use Rattle.kom_snapshot.specs.declared.raised.Raised.{Raised}
+use Rattle.kom_types.specs.declared.raised.Raised.{Raised}
 use Rattle.kom_snapshot.specs.Listed.{IsListed}
 use Rattle.kom_snapshot.specs.Snap.{snap}
-use Rattle.kom_snapshot.specs.Snapshot.{Snapshot, stands_for, may_raise, raised_in}
+use Rattle.kom_model.specs.Raising.{may_raise, raised_in}
+use Rattle.kom_snapshot.specs.Snapshot.{Snapshot, stands_for}
 
 -- The rows before any effect are listed. An effect that fits leaves whole rows listed that were; so
 -- do effects one after the other, since one that does not fit changes nothing. So the rows of a new

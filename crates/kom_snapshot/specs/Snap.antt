@@ -13,9 +13,9 @@ use Rattle.kom_types.specs.declared.persons.PersonRow.{PersonRow}
 use Rattle.kom_types.specs.tables.Texts.{created_by}
 use Rattle.read_ranges.specs.Reads.{ReadRow, read_of}
 use Rattle.kom_model.specs.Db.{Db}
-use Rattle.kom_snapshot.specs.declared.raised.Raised.{Raised}
-use Rattle.kom_snapshot.specs.declared.raised.RaisedCounter.{RaisedCounter}
-use Rattle.kom_snapshot.specs.declared.raised.RaisedCounter.TheVariants as counter
+use Rattle.kom_types.specs.declared.raised.Raised.{Raised}
+use Rattle.kom_types.specs.declared.raised.RaisedCounter.{RaisedCounter}
+use Rattle.kom_types.specs.declared.raised.RaisedCounter.TheVariants as counter
 use Rattle.kom_snapshot.specs.Snapshot.{Snapshot}
 
 -- a conference: as it is called now, of its type and its supervisor, and its other fields

@@ -20,10 +20,11 @@ use Rattle.read_ranges.specs.Reads.{ReadRow}
 use Rattle.kom_model.specs.Db.{Db, empty_db}
 use Rattle.kom_model.specs.Effects.{apply_all, all_fit}
 use Rattle.kom_model.specs.Initial.{initial}
-use Rattle.kom_snapshot.specs.declared.raised.Raised.{Raised}
-use Rattle.kom_snapshot.specs.declared.raised.RaisedCounter.TheVariants as counter
+use Rattle.kom_types.specs.declared.raised.Raised.{Raised}
+use Rattle.kom_types.specs.declared.raised.RaisedCounter.TheVariants as counter
 use Rattle.kom_snapshot.specs.Snap.{snap, raised}
-use Rattle.kom_snapshot.specs.Snapshot.{Snapshot, stands_for, may_raise}
+use Rattle.kom_model.specs.Raising.{may_raise}
+use Rattle.kom_snapshot.specs.Snapshot.{Snapshot, stands_for}
 
 abbrev pub recipient : ℕ → ℕ → ℕ → Recipient
 recipient text conference local = record {

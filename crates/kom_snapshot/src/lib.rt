@@ -3,7 +3,5 @@
 #![tactic(auto)]
 
 mod laws;
-mod raised;
 
 pub use laws::{effects_leave_listed, raises_leave_restorable, snapshots_stand, worked_snapshots};
-pub use raised::{Raised, RaisedCounter};

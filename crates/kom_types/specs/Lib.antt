@@ -13,3 +13,4 @@ pub mod Names
 pub mod Mappings
 pub mod AuxItems
 pub mod tables
+pub mod Parts

@@ -20,8 +20,10 @@ pub mod limits;
 mod lists;
 mod memberships;
 mod messages;
+mod parts;
 mod passwords;
 mod persons;
+mod raised;
 mod replies;
 mod seats;
 mod sequence;
@@ -48,11 +50,14 @@ pub use effects::{ConfField, Counter, Effect, PersonField};
 pub use items::Item;
 pub use lists::{Bytes, Numbers, Words};
 pub use memberships::{
-    Member, Members, Membership, MembershipRow, Memberships, RangesShown, ReadRange, ReadRanges,
+    Member, Members, Membership, MembershipRow, Memberships, Placed, RangesShown, ReadRange,
+    ReadRanges,
 };
 pub use messages::{ChangedItems, Message, NewName, SentMessage};
+pub use parts::PartRef;
 pub use passwords::{LoginPassword, password_hash};
 pub use persons::{NewPerson, PasswordChange, Person, PersonRow};
+pub use raised::{Raised, RaisedCounter};
 pub use replies::Reply;
 pub use seats::Seat;
 pub use sequence::Sequence;

@@ -51,6 +51,15 @@ pub struct MembershipRow {
     pub kind: u8,
 }
 
+/// Where a membership stands among those of its person.
+#[derive(Clone, Copy, Debug)]
+pub struct Placed {
+    pub person: u32,
+    pub conference: u32,
+    /// Its place among all memberships of the person, from 0 on.
+    pub position: u32,
+}
+
 /// A member of a conference. (Protocol A, "Member".)
 #[derive(Clone, Copy, Debug)]
 pub struct Member {

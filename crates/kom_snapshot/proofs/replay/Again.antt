@@ -21,7 +21,7 @@ use Rattle.kom_model.proofs.Protection.{IsProtected-apply_all}
 use Rattle.kom_model.proofs.whole.Effects.{effects-whole, empty-whole}
 use Rattle.kom_snapshot.proofs.Keeping.{effects-listed, empty-listed}
 use Rattle.kom_model.proofs.whole.Counts.{all-of, all-weaker}
-use Rattle.kom_snapshot.specs.declared.raised.RaisedCounter.TheVariants as counter
+use Rattle.kom_types.specs.declared.raised.RaisedCounter.TheVariants as counter
 use Rattle.kom_snapshot.specs.Listed.{IsListed, IsListedConference, IsListedPerson, IsListedText}
 use Rattle.kom_snapshot.specs.Snap.{snap, effects_of, raised_of, raised, conference_effects, person_effects}
 use Rattle.kom_snapshot.specs.Snap.{created_effects, membership_list}

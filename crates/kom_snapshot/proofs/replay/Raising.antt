@@ -14,11 +14,11 @@ use Rattle.kom_types.specs.tables.Conferences.{number_of_conference}
 use Rattle.kom_types.specs.tables.Persons.{number_of_person, last_count}
 use Rattle.kom_types.specs.tables.Texts.{number_of_text}
 use Rattle.kom_model.specs.Db.{Db, conference_of, person_of, text_of}
-use Rattle.kom_snapshot.specs.declared.raised.Raised.{Raised}
-use Rattle.kom_snapshot.specs.declared.raised.RaisedCounter.TheVariants as counter
+use Rattle.kom_types.specs.declared.raised.Raised.{Raised}
+use Rattle.kom_types.specs.declared.raised.RaisedCounter.TheVariants as counter
 use Rattle.kom_snapshot.specs.Listed.{IsListedConference, IsListedPerson, IsListedText}
 use Rattle.kom_snapshot.specs.Snap.{raised}
-use Rattle.kom_snapshot.specs.Snapshot.{may_raise, raised_in, is_between}
+use Rattle.kom_model.specs.Raising.{may_raise, raised_in, is_between}
 use Rattle.kom_snapshot.proofs.replay.Conferences.{conf_as}
 use Rattle.kom_snapshot.proofs.replay.Persons.{begun, person_as}
 use Rattle.kom_snapshot.proofs.replay.Replaying.{Raises, raises-none, raises-cons}

@@ -5,8 +5,9 @@ use Rattle.std.proofs.lemmas.Bool.{cases_Bool, and_parts}
 use Rattle.kom_types.specs.declared.effects.Effect.{Effect}
 use Rattle.kom_model.specs.Db.{Db}
 use Rattle.kom_model.specs.Effects.{fits, made, apply, apply_all, all_fit}
-use Rattle.kom_snapshot.specs.declared.raised.Raised.{Raised}
-use Rattle.kom_snapshot.specs.Snapshot.{may_raise, raised_in, raise_all, all_may_raise}
+use Rattle.kom_types.specs.declared.raised.Raised.{Raised}
+use Rattle.kom_model.specs.Raising.{may_raise, raised_in}
+use Rattle.kom_snapshot.specs.Snapshot.{raise_all, all_may_raise}
 use Rattle.kom_snapshot.specs.Snap.{unless_zero}
 
 -- each effect fits after those before it, and all of them make the new rows

@@ -6,6 +6,7 @@ use Rattle.std.specs.Prelude.{Option, Some, None, if◌then◌else◌}
 use Rattle.kom_types.specs.Bits.{is_on}
 use Rattle.kom_types.specs.declared.memberships.Member.{Member}
 use Rattle.kom_types.specs.declared.memberships.MembershipRow.{MembershipRow}
+use Rattle.kom_types.specs.declared.memberships.Placed.{Placed}
 
 -- the bit of a membership's type that says that the person was invited and has not joined yet
 abbrev pub is_invitation : ℕ → Bool
@@ -26,6 +27,14 @@ member_of row = record {
   added_by = row.added_by;
   added_at = row.added_at;
   kind = row.kind;
+}
+
+-- where a membership stands
+abbrev pub placed_of : MembershipRow → Placed
+placed_of row = record {
+  person = row.person;
+  conference = row.conference;
+  position = row.position;
 }
 
 -- whether this is the membership of a person in a conference

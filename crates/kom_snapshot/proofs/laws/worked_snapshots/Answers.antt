@@ -6,7 +6,7 @@ use Rattle.kom_model.specs.Db.{recipients_of, link_of, links_from, links_into, l
 use Rattle.kom_model.specs.Effects.{fits, made}
 use Rattle.kom_model.specs.Initial.{initial}
 use Rattle.kom_snapshot.specs.Snap.{snap}
-use Rattle.kom_snapshot.specs.Snapshot.{may_raise, raised_in}
+use Rattle.kom_model.specs.Raising.{may_raise, raised_in}
 use Rattle.kom_snapshot.proofs.laws.worked_snapshots.Goals as goal
 
 pub returns : goal.returns
