@@ -9,3 +9,4 @@ pub mod Spellings
 pub mod GoesOn
 pub mod Rising
 pub mod Begins
+pub mod Counters

@@ -63,7 +63,7 @@ bytes_taken (suc n) [] are i = omega arith
 bytes_taken (suc n) (byte ∷ bytes) are zero = are 0
 bytes_taken (suc n) (byte ∷ bytes) are (suc i) = bytes_taken n bytes (λ j. are (suc j)) i
 
-taken_and_dropped : (n : ℕ) (bytes : List ℕ) → bytes ≡ take n bytes ++ drop n bytes
+pub taken_and_dropped : (n : ℕ) (bytes : List ℕ) → bytes ≡ take n bytes ++ drop n bytes
 taken_and_dropped zero bytes = refl
 taken_and_dropped (suc n) [] = refl
 taken_and_dropped (suc n) (byte ∷ bytes) = ap (λ (l : List ℕ). byte ∷ l) (taken_and_dropped n bytes)

@@ -27,7 +27,7 @@ Stays (Whole value rest) more after = after ≡ Whole value (rest ++ more)
 Stays Short more after = Unit {0}
 Stays Wrong more after = after ≡ Wrong
 
-and_then_stays : {X Y : Type 0} (read after : Read X) (next : X → List ℕ → Read Y) (more : List ℕ) →
+pub and_then_stays : {X Y : Type 0} (read after : Read X) (next : X → List ℕ → Read Y) (more : List ℕ) →
     Stays read more after
     → ((value : X) (rest : List ℕ) → Stays (next value rest) more (next value (rest ++ more)))
     → Stays (and_then read next) more (and_then after next)
@@ -89,7 +89,7 @@ read_on {X} value many bytes more here same =
     ∙ ap (λ (v : X). Whole v (drop many (bytes ++ more))) same
     ∙ ap (λ (l : List ℕ). Whole (value bytes) l) (drop-append-le many bytes more here)
 
-read_stays : {X : Type 0} (value : List ℕ → X) (many : ℕ) (bytes more : List ℕ)
+pub read_stays : {X : Type 0} (value : List ℕ → X) (many : ℕ) (bytes more : List ℕ)
     → (many ≤ length bytes → value (bytes ++ more) ≡ value bytes)
     → Stays (read_of value many bytes) more (read_of value many (bytes ++ more))
 read_stays {X} value many bytes more same = by_test (ltb (length bytes) many) refl where
@@ -140,7 +140,7 @@ limited_stays w greatest bytes more some = by_test (ltb greatest (from_le_bytes 
       ap (λ (b : Bool). cond b Wrong (read_of (from_le_bytes w) (byte_len w) (bytes ++ more))) still
   by_test false within = by_length (ltb (length bytes) (byte_len w)) refl within
 
-byte_stays : (bytes more : List ℕ) → Stays (byte_at bytes) more (byte_at (bytes ++ more))
+pub byte_stays : (bytes more : List ℕ) → Stays (byte_at bytes) more (byte_at (bytes ++ more))
 byte_stays [] more = tt
 byte_stays (byte ∷ bytes) more = refl
 
@@ -217,15 +217,15 @@ pub effect_stays : (bytes more : List ℕ) → Stays (effect_at bytes) more (eff
 effect_stays [] more = tt
 effect_stays (kind ∷ bytes) more = kind_stays (row_of kind) bytes more
 
--- what becomes an effect of which no byte is left was too short before
-short_before : (read : Read Effect) (effect : Effect) (missing : List ℕ) → missing ≢ []
-    → Stays read missing (Whole effect []) → read ≡ Short
-short_before (Whole value rest) effect missing some stays = absurd (some (none_left rest missing (cc stays))) where
+-- what becomes something of which no byte is left was too short before
+pub short_before : {X : Type 0} (read : Read X) (one : X) (missing : List ℕ) → missing ≢ []
+    → Stays read missing (Whole one []) → read ≡ Short
+short_before (Whole value rest) one missing some stays = absurd (some (none_left rest missing (cc stays))) where
   none_left : (rest missing : List ℕ) → [] ≡ rest ++ missing → missing ≡ []
   none_left [] missing nothing = sym nothing
   none_left (byte ∷ rest) missing nothing = absurd (cc nothing)
-short_before Short effect missing some stays = refl
-short_before Wrong effect missing some stays = absurd (cc stays)
+short_before Short one missing some stays = refl
+short_before Wrong one missing some stays = absurd (cc stays)
 
 pub stays_short : StaysShort
 stays_short effect bytes missing is some same =

@@ -4,3 +4,4 @@ pub mod Coding
 pub mod Laws
 pub mod Giving
 pub mod Faulty
+pub mod Parts

@@ -1,5 +1,6 @@
 ghost use Rattle.effect_codec.specs.Laws.{ReadsAgain, BeginsNoOther, StaysShort, IsSpelled, GoesOn};
 ghost use Rattle.effect_codec.specs.Laws.{StaysWrong};
+ghost use Rattle.effect_codec.specs.Parts.{RaisedStand};
 
 /// A law alone: what is written is read again, whatever follows it; so no effect's bytes begin
 /// another's.
@@ -16,4 +17,10 @@ pub fn readings_stay()
     ensures is_spelled { IsSpelled }
     ensures goes_on { GoesOn }
     ensures stays_wrong { StaysWrong }
+{}
+
+/// A law alone: the bytes of a raised counter are read as it, and nothing else is; and no effect's
+/// bytes begin those of one.
+pub fn raised_counters_stand()
+    ensures { RaisedStand }
 {}

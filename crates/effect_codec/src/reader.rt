@@ -208,7 +208,7 @@ pub(crate) fn number_of(bytes: &[u8]) -> u32
     ])
 }
 
-fn amount_of(bytes: &[u8]) -> u64
+pub(crate) fn amount_of(bytes: &[u8]) -> u64
     ensures { result ≡ from_le_bytes w64 bytes.now }
 {
     u64::from_le_bytes([

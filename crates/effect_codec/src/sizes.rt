@@ -35,7 +35,7 @@ pub fn coded_len(effect: &Effect) -> u64
     }
 }
 
-fn bytes_len(bytes: &[u8]) -> u64
+pub(crate) fn bytes_len(bytes: &[u8]) -> u64
     ensures len { result ≡ length bytes.now }
     ensures bound { result < 2 ^ 63 }
 {

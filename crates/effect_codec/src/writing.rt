@@ -7,7 +7,7 @@ use crate::fields::{
     put_text,
 };
 use crate::settings::{conf_setting, counter_number, person_setting};
-use kom_types::{AuxRow, Effect, Recipient, TextLink};
+use kom_types::{AuxRow, Effect, Moment, ReadRange, Recipient, TextLink};
 
 /// Puts the bytes of an effect at the end. Takes no memory.
 pub fn append(out: &mut Vec<u8>, effect: &Effect)
@@ -25,13 +25,15 @@ pub fn append(out: &mut Vec<u8>, effect: &Effect)
             at,
             creator,
             supervisor,
-        } => {
-            put_start(out, 1, &[*number]);
-            put_text(out, name.as_slice());
-            put_byte(out, *kind);
-            put_amount(out, at.seconds());
-            put_numbers(out, &[*creator, *supervisor]);
-        }
+        } => append_conference(
+            out,
+            *number,
+            name.as_slice(),
+            *kind,
+            *at,
+            *creator,
+            *supervisor,
+        ),
         Effect::ConfGone { number } => {
             put_start(out, 2, &[*number]);
         }
@@ -67,11 +69,7 @@ pub fn append(out: &mut Vec<u8>, effect: &Effect)
             put_start(out, 8, &[*number]);
             put(out, hash);
         }
-        Effect::LoggedIn { number, at, user } => {
-            put_start(out, 9, &[*number]);
-            put_amount(out, at.seconds());
-            put_text(out, user.as_slice());
-        }
+        Effect::LoggedIn { number, at, user } => append_login(out, *number, *at, user.as_slice()),
         Effect::Counted {
             number,
             counter,
@@ -85,11 +83,7 @@ pub fn append(out: &mut Vec<u8>, effect: &Effect)
             author,
             at,
             body,
-        } => {
-            put_start(out, 11, &[*number, *author]);
-            put_amount(out, at.seconds());
-            put_text(out, body.as_slice());
-        }
+        } => append_text(out, *number, *author, *at, body.as_slice()),
         Effect::TextGone { number } => {
             put_start(out, 12, &[*number]);
         }
@@ -131,11 +125,7 @@ pub fn append(out: &mut Vec<u8>, effect: &Effect)
             conference,
             at,
             ranges,
-        } => {
-            put_start(out, 19, &[*person, *conference]);
-            put_amount(out, at.seconds());
-            put_ranges(out, ranges.as_slice());
-        }
+        } => append_read(out, *person, *conference, *at, ranges.as_slice()),
         Effect::MarkSet { person, text, kind } => {
             put_start(out, 20, &[*person, *text, *kind as u32]);
         }
@@ -168,7 +158,81 @@ pub fn append(out: &mut Vec<u8>, effect: &Effect)
     }
 }
 
-fn append_item(out: &mut Vec<u8>, on_text: bool, object: u32, item: &AuxRow)
+pub(crate) fn append_conference(
+    out: &mut Vec<u8>,
+    number: u32,
+    name: &[u8],
+    kind: u8,
+    at: Moment,
+    creator: u32,
+    supervisor: u32,
+)
+    requires lengths { IsShortEnough
+        (effect.ConfAdded number name.now kind at creator supervisor) }
+    requires room { vec_len out.old + length
+        (coded_effect (effect.ConfAdded number name.now kind at creator supervisor))
+        ≤ vec_capacity out.old }
+    ensures items { out.new.items ≡ out.old.items
+        ++ coded_effect (effect.ConfAdded number name.now kind at creator supervisor) }
+    ensures capacity { vec_capacity out.old ≤ vec_capacity out.new }
+    ensures range { IsInRange (effect.ConfAdded number name.now kind at creator supervisor) }
+{
+    put_start(out, 1, &[number]);
+    put_text(out, name);
+    put_byte(out, kind);
+    put_amount(out, at.seconds());
+    put_numbers(out, &[creator, supervisor]);
+}
+
+pub(crate) fn append_login(out: &mut Vec<u8>, number: u32, at: Moment, user: &[u8])
+    requires lengths { IsShortEnough (effect.LoggedIn number at user.now) }
+    requires room { vec_len out.old + length (coded_effect (effect.LoggedIn number at user.now))
+        ≤ vec_capacity out.old }
+    ensures items { out.new.items
+        ≡ out.old.items ++ coded_effect (effect.LoggedIn number at user.now) }
+    ensures capacity { vec_capacity out.old ≤ vec_capacity out.new }
+    ensures range { IsInRange (effect.LoggedIn number at user.now) }
+{
+    put_start(out, 9, &[number]);
+    put_amount(out, at.seconds());
+    put_text(out, user);
+}
+
+pub(crate) fn append_text(out: &mut Vec<u8>, number: u32, author: u32, at: Moment, body: &[u8])
+    requires lengths { IsShortEnough (effect.TextAdded number author at body.now) }
+    requires room { vec_len out.old + length
+        (coded_effect (effect.TextAdded number author at body.now)) ≤ vec_capacity out.old }
+    ensures items { out.new.items
+        ≡ out.old.items ++ coded_effect (effect.TextAdded number author at body.now) }
+    ensures capacity { vec_capacity out.old ≤ vec_capacity out.new }
+    ensures range { IsInRange (effect.TextAdded number author at body.now) }
+{
+    put_start(out, 11, &[number, author]);
+    put_amount(out, at.seconds());
+    put_text(out, body);
+}
+
+pub(crate) fn append_read(
+    out: &mut Vec<u8>,
+    person: u32,
+    conference: u32,
+    at: Moment,
+    ranges: &[ReadRange],
+)
+    requires lengths { IsShortEnough (effect.ReadSet person conference at ranges.now) }
+    requires room { vec_len out.old + length
+        (coded_effect (effect.ReadSet person conference at ranges.now)) ≤ vec_capacity out.old }
+    ensures items { out.new.items
+        ≡ out.old.items ++ coded_effect (effect.ReadSet person conference at ranges.now) }
+    ensures capacity { vec_capacity out.old ≤ vec_capacity out.new }
+    ensures range { IsInRange (effect.ReadSet person conference at ranges.now) }
+{
+    put_start(out, 19, &[person, conference]);
+    put_amount(out, at.seconds());
+    put_ranges(out, ranges);
+}
+
+pub(crate) fn append_item(out: &mut Vec<u8>, on_text: bool, object: u32, item: &AuxRow)
     requires lengths { IsShortEnough (effect.AuxAdded on_text object item.now) }
     requires room { vec_len out.old + length
         (coded_effect (effect.AuxAdded on_text object item.now))
