@@ -20,7 +20,7 @@ use Rattle.memberships.proofs.Order.{Rises, Differ, named, one_order}
 use Rattle.memberships.proofs.Pairs.{all_weaker, all_both, all_filter, all_map, map-map, filter-map, Pairwise}
 use Rattle.memberships.proofs.Pairs.{pairwise_filter}
 use Rattle.memberships.proofs.Places.{flip_eqb}
-use Rattle.memberships.proofs.Turns.{key_decides, AreInTurn, in_turn_is, all_in_turn, turn}
+use Rattle.memberships.proofs.Turns.{key_decides, AreInTurn, in_turn_is, all_in_turn, all_kept, turn}
 
 -- a turn, and the person and the conference of a membership
 abbrev pub Timed : Type 0
@@ -396,3 +396,45 @@ module _ (es : List Entry) (next : ℕ) (conferences persons : ℕ → List ℕ)
       ∙ sym (has-wanted number k (in_turn es)
       ∙ ap (λ o. is_at number k && is_some o) (turns.found k))))
       ∙ keys_wanted
+
+-- ---- all memberships
+
+module _ (es : List Entry) (next : ℕ) (conferences persons : ℕ → List ℕ)
+    (table : IsTable es next conferences persons) where
+  in_turns : AreInTurn (in_turn es) (λ key. kept_at key es)
+  in_turns = in_turn_is es table.unique table.apart
+
+  has-all : (k : Key) (l : List Entry) → has k (map timed l) ≡ is_some (kept_at k l)
+  has-all k [] = refl
+  has-all k (e ∷ l) = elim (cases_Bool (same_key k e.0)) [
+    | inl same ↦ rw same refl
+    | inr other ↦ rw other (has-all k l)
+  ]
+
+  -- each entry is timed, in whatever order
+  all_entries : AllByRecursion (IsTimed es) (map timed es)
+  all_entries = all_map (IsTimed es) timed es
+      (all_kept (λ e. timed_at es e.0 ≡ Some (timed e)) es table.unique
+      (λ e there. ap (option_map (λ kept. (kept.turn, e.0))) there))
+
+  all_timed_in_turn : AllByRecursion (IsTimed es) (map timed (in_turn es))
+  all_timed_in_turn = all_map (IsTimed es) timed (in_turn es)
+      (all_in_turn (λ e. timed_at es e.0 ≡ Some (timed e)) (in_turn es) (λ key. kept_at key es) in_turns
+      (λ key v there. ap (option_map (λ kept. (kept.turn, key))) there))
+
+  rises_all : Rises when (map timed (in_turn es))
+  rises_all = pairwise_map (λ x y. when x < when y) timed (in_turn es) in_turns.rises
+
+  keys_all : map key_in (map timed (in_turn es)) ≡ map (λ row. (row.person, row.conference)) (rows_of conferences es)
+  unfolding rows_of
+  keys_all = map-map key_in timed (in_turn es)
+      ∙ sym (map-map (λ (row : MembershipRow). (row.person, row.conference)) (row_of conferences) (in_turn es))
+
+  pub keys_in_turn : (given sorted : List Timed) → given ≡ map timed es → IsPermutation given sorted →
+      IsNonDecreasingBy when sorted →
+      map key_in (dedup same_timed sorted) ≡ map (λ row. (row.person, row.conference)) (rows_of conferences es)
+  keys_in_turn given sorted is moved up =
+      ap (map key_in) (timed_once es table.apart given sorted (map timed (in_turn es))
+      (subst (AllByRecursion (IsTimed es)) (sym is) all_entries) moved up all_timed_in_turn rises_all
+      (λ k. ap (has k) is ∙ has-all k es ∙ sym (has-all k (in_turn es) ∙ ap is_some (in_turns.found k))))
+      ∙ keys_all

@@ -9,6 +9,7 @@ pub mod LeftRows
 pub mod Order
 pub mod Pairs
 pub mod Places
+pub mod Placing
 pub mod ReadRows
 pub mod RenewedRows
 pub mod Renewing

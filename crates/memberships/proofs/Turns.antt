@@ -125,6 +125,15 @@ all_in_turn P es kept turns each =
     let there : kept k ≡ Some e.1 = sym (turns.found k) ∙ kept_at-entry k es ∙ ap (option_map (λ x. x.1)) found in
     subst (λ key. P (key, e.1)) is (each k e.1 there))
 
+-- what holds of each entry that its key finds holds of all
+pub all_kept : (P : Entry → Type 0) (es : List Entry) → IsDistinct same_key (keys_of es) →
+    ((e : Entry) → kept_at e.0 es ≡ Some e.1 → P e) → AllByRecursion P es
+all_kept P es distinct each =
+    all_from_named turn same_key key_decides key_of P es (keys_differ es distinct) (λ k e found.
+    let is : k ≡ e.0 = named_has turn same_key key_decides key_of k es e found in
+    let there : kept_at k es ≡ Some e.1 = kept_at-entry k es ∙ ap (option_map (λ x. x.1)) found in
+    each e (ap (λ key. kept_at key es) (sym is) ∙ there))
+
 -- the list of a key is this one now, and those of all other keys are as they were
 pub record Sets (old new : ℕ → List ℕ) (key : ℕ) (list : List ℕ) : Type 0 where
   pub here : new key ≡ list

@@ -3,3 +3,4 @@ pub mod Keeping
 pub mod Order
 pub mod Secrets
 pub mod Table
+pub mod Placing

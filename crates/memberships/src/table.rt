@@ -14,6 +14,7 @@ ghost use Rattle.read_ranges.specs.Reads.{read_of, with_reader, without_reader};
 ghost use Rattle.read_ranges.specs.Reads.{with_read, read_at};
 
 mod keys;
+mod places;
 mod secrets;
 
 use crate::kept::Kept;

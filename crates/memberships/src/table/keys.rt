@@ -12,6 +12,19 @@ use std::alloc::Global;
 type Timed = (u64, (u32, u32));
 
 impl Memberships {
+    /// The person and the conference of each membership, in the order of joining. The list has
+    /// eight bytes for each, after one of 16 while they are sorted.
+    pub(crate) fn keys(&self) -> Result<Vec<(u32, u32)>, Memory>
+        ensures { IfOk result
+            (λ keys. keys.items ≡ map (λ row. (row.person, row.conference)) self.now.rows) }
+    {
+        let alloc = *self.entries.allocator();
+        let mut timed = all_timed(&self.entries, alloc)?;
+        timed.sort_unstable_by_key(|key| key.0);
+        timed.dedup();
+        keys_of(&timed, alloc)
+    }
+
     /// The person and the conference of each membership in the conference of a number, or of the
     /// person of that number, in the order of joining. The time grows with their number, times its
     /// logarithm.
@@ -27,6 +40,17 @@ impl Memberships {
         timed.dedup();
         keys_of(&timed, alloc)
     }
+}
+
+/// Each membership with its turn, in no order.
+fn all_timed(entries: &IndexMap<(u32, u32), Kept>, alloc: Global) -> Result<Vec<Timed>, Memory>
+    ensures { IfOk result (λ timed. timed.items ≡ map (λ e. (e.1.turn, e.0)) entries.now.entries) }
+{
+    let timed = entries
+        .iter()
+        .map(|(key, kept)| (kept.turn, *key))
+        .collect(alloc)?;
+    Ok(timed)
 }
 
 /// The memberships of the person of a number in these conferences, and those of these persons in
