@@ -21,3 +21,4 @@ pub mod ItemRooms
 pub mod NewItems
 pub mod Secrecy
 pub mod Roomless
+pub mod Raises

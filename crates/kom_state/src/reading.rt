@@ -6,7 +6,7 @@ ghost use Rattle.kom_model.specs.Db.{conference_of, person_of, membership_of};
 ghost use Rattle.kom_model.specs.Db.{memberships_of, members_of, conferences_of};
 ghost use Rattle.kom_types.specs.tables.Conferences.{number_of_conference};
 ghost use Rattle.kom_model.specs.Db.{read_of, memberships_at};
-ghost use Rattle.kom_types.specs.tables.Memberships.{member_of};
+ghost use Rattle.kom_types.specs.tables.Memberships.{member_of, at_place};
 ghost use Rattle.read_ranges.specs.Numbers.{ranges_of};
 ghost use Rattle.kom_state.specs.Keeping.{AreBelow};
 ghost use Rattle.kom_state.specs.Placed.{AreThere, AreInPlace, AreFound};
@@ -54,6 +54,15 @@ impl StoredRows {
         ensures { result ≡ membership_of self.now.db person conference }
     {
         self.memberships.get(person, conference)
+    }
+
+    /// The membership of a person in a conference as if it stood first, in constant time.
+    #[tactic(auto, unfolding(kom_model::specs::Db::membership_of))]
+    pub fn unplaced_membership(&self, person: u32, conference: u32) -> Option<MembershipRow>
+        ensures { result
+            ≡ option_map (at_place 0) (membership_of self.now.db person conference) }
+    {
+        self.memberships.unplaced(person, conference)
     }
 
     /// Whether a person has a membership in a conference, in constant time.
