@@ -1,19 +1,24 @@
--- Rows that effects make are whole.
+-- Rows that effects make are whole, and as a snapshot gives them again.
 use Rattle.std.proofs.Common.{◌≡◌, true, [], ◌∷◌, refl, sym, subst}
 use Rattle.kom_types.specs.declared.effects.Effect.{Effect}
 use Rattle.kom_model.specs.Db.{Db, empty_db}
-use Rattle.kom_model.specs.Effects.{fits, made, apply, IsProtected}
-use Rattle.kom_model.specs.Whole.{IsWhole}
+use Rattle.kom_model.specs.Effects.{fits, made, apply}
 use Rattle.kom_model.proofs.Protection.{IsProtected-apply_all}
 use Rattle.kom_model.proofs.whole.Effects.{effects-whole, empty-whole}
+use Rattle.kom_snapshot.specs.Laws.{IsRestorable}
+use Rattle.kom_snapshot.proofs.Keeping.{effects-listed, empty-listed}
 
-pub whole_empty : (db : Db) → db ≡ empty_db → IsProtected db × IsWhole db
-whole_empty db is = subst (λ (rows : Db). IsProtected rows × IsWhole rows) (sym is) (tt, empty-whole)
+pub whole_empty : (db : Db) → db ≡ empty_db → IsRestorable db
+whole_empty db is =
+    subst IsRestorable (sym is) (record { whole = empty-whole; protected = tt; listed = empty-listed })
 
 -- one more that fits
-pub whole_made : (what : Effect) (old new : Db) → fits what old ≡ true → new ≡ made what old →
-    IsProtected old × IsWhole old → IsProtected new × IsWhole new
+pub whole_made : (what : Effect) (old new : Db) → fits what old ≡ true → new ≡ made what old → IsRestorable old →
+    IsRestorable new
 whole_made what old new fit is kept =
     let same : apply what old ≡ new = rw (fit, is) refl in
-    subst (λ (rows : Db). IsProtected rows × IsWhole rows) same
-    (IsProtected-apply_all (what ∷ []) old kept.0, effects-whole (what ∷ []) old kept.1)
+    subst IsRestorable same (record {
+      whole = effects-whole (what ∷ []) old kept.whole;
+      protected = IsProtected-apply_all (what ∷ []) old kept.protected;
+      listed = effects-listed (what ∷ []) old kept.whole kept.listed;
+    })

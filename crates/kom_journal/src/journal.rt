@@ -11,6 +11,7 @@ ghost use Rattle.effect_codec.specs.Coding.{coded_effect, IsShortEnough};
 ghost use Rattle.kom_model.specs.Db.{Db, empty_db};
 ghost use Rattle.kom_model.specs.Effects.{apply_all, all_fit, IsProtected};
 ghost use Rattle.kom_model.specs.Whole.{IsWhole};
+ghost use Rattle.kom_snapshot.specs.Listed.{IsListed};
 ghost use Rattle.kom_journal.specs.Files.{header, body_of};
 ghost use Rattle.kom_journal.specs.Images.{StandsFor, AreFor, IsKept, IsForEither, IsCause};
 ghost use Rattle.kom_journal.specs.Images.{HasCount, IsLeftOf, as_read, images, images_at, moment};
@@ -114,6 +115,7 @@ impl<D: Disk> Journal<D> {
             → IfOk result (λ opened. HasCount opened.0.batches (as_read D.bytes disk)) }
         ensures protected { IfOk result (λ opened. IsProtected opened.1.db) }
         ensures whole { IfOk result (λ opened. IsWhole opened.1.db) }
+        ensures listed { IfOk result (λ opened. IsListed opened.1.db) }
 
         // Why it is not opened.
         ensures cause { IsTrue D.tells

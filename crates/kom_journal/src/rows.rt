@@ -4,6 +4,7 @@ ghost use Rattle.kom_state.specs.Room.{HasRoom};
 ghost use Rattle.kom_model.specs.Db.{empty_db};
 ghost use Rattle.kom_model.specs.Effects.{fits, made, IsProtected};
 ghost use Rattle.kom_model.specs.Whole.{IsWhole};
+ghost use Rattle.kom_snapshot.specs.Listed.{IsListed};
 
 use kom_state::StoredRows;
 use kom_types::{Effect, Memory};
@@ -11,22 +12,22 @@ use std::alloc::Global;
 use std::marker::Model;
 use std::slice;
 
-/// Rows that effects made, from no row on: so they are whole, whatever the disk gave.
+/// Rows that effects made, from no row on: so they are whole, and as a snapshot needs them, whatever
+/// the disk gave.
 #[derive(Drop)]
 pub(crate) struct MadeRows {
     rows: StoredRows,
 }
 
 impl Model for MadeRows {
-    ghost use Rattle.kom_model.specs.Effects.{IsProtected};
-    ghost use Rattle.kom_model.specs.Whole.{IsWhole};
+    ghost use Rattle.kom_snapshot.specs.Laws.{IsRestorable};
     ghost use Rattle.kom_state.specs.Room.{Stored};
 
     ghost Value = { Stored };
 
     ghost view = { λ made. made.rows };
 
-    ghost invariant = { λ made. IsProtected made.rows.db × IsWhole made.rows.db };
+    ghost invariant = { λ made. IsRestorable made.rows.db };
 }
 
 impl MadeRows {
@@ -66,6 +67,7 @@ impl MadeRows {
         ensures same { result ≡ self }
         ensures protected { IsProtected result.db }
         ensures whole { IsWhole result.db }
+        ensures listed { IsListed result.db }
     {
         self.rows
     }
