@@ -1,0 +1,20 @@
+use Rattle.std.proofs.Common.{[], ◌∷◌, length, ◌≤◌}
+use Rattle.std.specs.List.{flat_map, AllByRecursion}
+use Rattle.kom_types.specs.Parts.{Makes}
+use Rattle.kom_types.specs.declared.effects.Effect.TheVariants as effect
+use Rattle.kom_types.specs.declared.limits.TheConstants.{LONGEST_CONTENT}
+use Rattle.kom_telling.specs.Takes.{Keeps}
+use Rattle.kom_telling.proofs.Going.{Going}
+use Rattle.kom_telling.proofs.added.tell_items.Given as goal
+
+abbrev pub invariant-loop-row : goal.invariant-loop-row
+invariant-loop-row g l = record {
+  told : Going g.S.PartSink.took l.fn.sink l.sink (flat_map (λ row. Makes (effect.AuxAdded row.on_text row.object
+      row.item) ∷ []) l.fn.walk) (flat_map (λ row. Makes (effect.AuxAdded row.on_text row.object row.item) ∷ [])
+      l.walk);
+  keeps : Keeps g.S.PartSink.becomes l.fn.sink l.sink;
+  short : AllByRecursion (λ row. length row.item.content ≤ LONGEST_CONTENT) l.walk;
+}
+
+abbrev pub decreases-loop-row : goal.decreases-loop-row
+decreases-loop-row g l = length l.walk
