@@ -2,6 +2,7 @@
 ghost use Rattle.std.specs.Prelude.{◌≡◌, ◌<◌, ◌≤◌, ◌++◌, ◌==◌, ◌&&◌, not, length, map, IsTrue};
 ghost use Rattle.std.specs.Prelude.{nat_lt};
 ghost use Rattle.std.specs.List.{list_any};
+ghost use Rattle.kom_types.specs.declared.limits.TheConstants.{MOST_AUX_ITEMS};
 ghost use Rattle.kom_types.specs.AuxItems as Items;
 ghost use Rattle.aux_items.specs.Kinds.{count_meant, kind_meant};
 
@@ -65,7 +66,7 @@ impl<'a, R: ItemList> Standing<'a, R> {
     /// Whether there may be one more of a kind by a creator.
     pub(crate) fn takes(&self, known: &AuxKind, creator: u32) -> bool
         ensures value { result ≡ Items.may_stand (kind_meant known.now) self.now creator }
-        ensures room { IsTrue result → length self.now < 100 }
+        ensures room { IsTrue result → length self.now < MOST_AUX_ITEMS }
     {
         self.is_short() && self.leaves_room(known.count, known.tag, creator)
     }
@@ -82,7 +83,7 @@ impl<'a, R: ItemList> Standing<'a, R> {
 
     /// Whether there are fewer items than an object may have.
     fn is_short(&self) -> bool
-        ensures { result ≡ nat_lt (length self.now) 100 }
+        ensures { result ≡ nat_lt (length self.now) MOST_AUX_ITEMS }
     {
         count_left(self.rows, self.deleted).saturating_add(self.added.len()) < MOST_AUX_ITEMS
     }

@@ -2,6 +2,7 @@ ghost use Rattle.std.specs.Prelude.{◌≡◌, ◌<◌, ◌≤◌, ◌++◌, ◌
 ghost use Rattle.std.specs.Prelude.{IfOk, IfSome, OnErr};
 ghost use Rattle.kom_types.specs.declared.acts.Act.TheVariants as act;
 ghost use Rattle.kom_types.specs.declared.items.Item.{Item as TakenItem};
+ghost use Rattle.kom_types.specs.declared.limits.TheConstants.{LONGEST_USER_NAME};
 ghost use Rattle.kom_links.specs.Answers.{deed_of};
 ghost use Rattle.kom_links.specs.Records.{IsOpen};
 ghost use Rattle.kom_links.specs.DeskCalls.{Connects, Acts as MakesAct, Calls, Drains, Flushes};
@@ -201,7 +202,7 @@ impl<'a, R: Wait, B: Acts> Desk for HallDesk<'a, R, B> {
     ghost goes_on_further = { goes_on_further };
 
     fn connect(&mut self, moment: Moment, user: &[u8], host: &[u8]) -> Result<u32, NotMade>
-        requires { length user.now ≤ 1024 }
+        requires { length user.now ≤ LONGEST_USER_NAME }
         ensures connects { Connects (desk_view self.old) moment user.now host.now result
             (desk_view self.new) }
         ensures on { GoesOn self.old self.new }

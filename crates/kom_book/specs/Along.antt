@@ -1,7 +1,6 @@
 -- What waits, and which rows stand, along a history that gets one record longer.
 use Rattle.std.proofs.Common.{◌≡◌, ◌≤◌, ◌<◌, ℕ, ◌+◌, Bool, true, false, cond, List, [], ◌∷◌, ◌++◌}
-use Rattle.std.proofs.Common.{length, take, drop, refl, sym, ap, ◌∙◌, subst, arith, append_assoc}
-use Rattle.std.proofs.Common.{length-append}
+use Rattle.std.proofs.Common.{length, take, drop, refl, sym, ap, ◌∙◌, arith, append_assoc}
 use Rattle.std.proofs.Math.Seq.{take-append_seam, drop-append_seam, take-length}
 use Rattle.std.proofs.lemmas.List.{append-nil, take-append-le, drop-append-le, take-append-drop}
 use Rattle.kom_types.specs.declared.acts.Record.{Record}
@@ -12,7 +11,7 @@ use Rattle.kom_model.specs.After.{after}
 use Rattle.kom_model.specs.Kept.{kept_of}
 use Rattle.kom_model.specs.Legal.{state_after}
 use Rattle.hall_desk.proofs.Histories.{state_after-append, entries-state_after}
-use Rattle.kom_book.specs.Stores.{IsFlush, is_taken, pending_after, base_after}
+use Rattle.kom_book.specs.Stores.{is_taken, pending_after, base_after}
 use Rattle.kom_book.specs.Stops.{rows_after, kept_along, pending_along}
 use Rattle.kom_book.specs.Records.{stable_after, taken_is, flush_keeps}
 

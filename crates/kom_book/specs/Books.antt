@@ -1,8 +1,7 @@
 -- What contracts see of a book, and how it goes on.
-use Rattle.std.specs.Prelude.{◌≡◌, ℕ, Bool, true, false, List, [], Option, Some, None, option_map}
+use Rattle.std.specs.Prelude.{◌≡◌, ℕ, Bool, false, List, [], Option, Some, None, option_map}
 use Rattle.std.specs.Prelude.{IfSome, is_some, IsTrue}
 use Rattle.std.specs.List.{AllByRecursion}
-use Rattle.kom_types.specs.declared.acts.Record.{Record}
 use Rattle.kom_model.specs.State.{State}
 use Rattle.kom_model.specs.After.{MayFollow, after}
 use Rattle.kom_model.specs.Legal.{IsByOwner}

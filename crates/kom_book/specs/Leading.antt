@@ -6,19 +6,17 @@ use Rattle.std.specs.List.{AllByRecursion}
 use Rattle.std.proofs.lemmas.List.{append-nil, map-append}
 use Rattle.kom_types.specs.declared.acts.Record.{Record}
 use Rattle.kom_types.specs.declared.effects.Effect.{Effect}
-use Rattle.kom_model.specs.Db.{Db}
-use Rattle.kom_model.specs.State.{State, opening as opening_state}
+use Rattle.kom_model.specs.State.{State}
 use Rattle.kom_model.specs.After.{MayFollow, after}
 use Rattle.kom_model.specs.Kept.{kept_of}
 use Rattle.kom_model.specs.Refusal.{refusal_of}
 use Rattle.kom_model.specs.Legal.{IsLegal, IsByOwner, AreByOwners, state_after}
 use Rattle.hall_desk.proofs.Histories.{legal-append, owners-append, state_after-append}
-use Rattle.hall_desk.specs.Acts.{IsLed}
 use Rattle.kom_disk.specs.Faults.{Rose}
 use Rattle.batch_log.specs.declared.errors.FlushFault.{FlushFault}
 use Rattle.batch_log.specs.declared.errors.FlushFault.TheVariants as fault
 use Rattle.kom_journal.specs.Journals.{JournalView, StaysAs, size_with}
-use Rattle.kom_book.specs.Stores.{IsFlush, IsNotRefused, IfBoth, StoreStays, StoreFollows}
+use Rattle.kom_book.specs.Stores.{IsNotRefused, IfBoth, StoreStays, StoreFollows}
 use Rattle.kom_book.specs.Stores.{IsFlushCause}
 use Rattle.kom_book.specs.Stores.{pending_after}
 use Rattle.kom_book.specs.Stops.{record_of, records_of, pending_along, StoreLeads}

@@ -1,6 +1,6 @@
 -- What a record does to what a store keeps of a server.
-use Rattle.std.proofs.Common.{◌≡◌, ◌≤◌, ◌⊎◌, inl, inr, ℕ, ◌+◌, Bool, true, false, cond, List, []}
-use Rattle.std.proofs.Common.{refl, sym, ap, ◌∙◌}
+use Rattle.std.proofs.Common.{◌≡◌, ◌≤◌, ◌⊎◌, inl, inr, ℕ, ◌+◌, Bool, true, false, cond, []}
+use Rattle.std.proofs.Common.{refl, ap, ◌∙◌}
 use Rattle.std.specs.Prelude.{Some, None}
 use Rattle.kom_types.specs.declared.acts.Act.{Act}
 use Rattle.kom_types.specs.declared.acts.Act.TheVariants as act
@@ -8,7 +8,6 @@ use Rattle.kom_types.specs.declared.acts.Record.{Record}
 use Rattle.kom_types.specs.declared.answers.NotMade.TheVariants.{Gone}
 use Rattle.kom_types.specs.declared.answers.Why.TheVariants.{Stopped}
 use Rattle.kom_types.specs.Sessions.{waiting_limits}
-use Rattle.kom_model.specs.Db.{Db}
 use Rattle.kom_model.specs.Effects.{apply_all}
 use Rattle.kom_model.specs.State.{State}
 use Rattle.kom_model.specs.After.{moment_of, deliveries, decision_at, acted, after}

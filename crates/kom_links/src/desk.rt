@@ -1,6 +1,7 @@
 ghost use Rattle.std.specs.Prelude.{◌≤◌, ◌<◌, length, IfSome};
 ghost use Rattle.kom_types.specs.declared.items.Item.{Item as Taken};
 ghost use Rattle.kom_types.specs.declared.acts.Act.TheVariants as act;
+ghost use Rattle.kom_types.specs.declared.limits.TheConstants.{LONGEST_USER_NAME};
 ghost use Rattle.kom_links.specs.Records.{IsOpen};
 ghost use Rattle.kom_links.specs.DeskCalls.{DeskView, Connects, Acts, Calls, Drains, Flushes};
 ghost use Rattle.kom_links.specs.DeskCalls.{Closes, AsksStopped, IsLookedAt};
@@ -19,7 +20,7 @@ pub trait Desk {
 
     /// Begins a session for the user of a greeting, and returns its number.
     fn connect(&mut self, moment: Moment, user: &[u8], host: &[u8]) -> Result<u32, NotMade>
-        requires { length user.now ≤ 1024 }
+        requires { length user.now ≤ LONGEST_USER_NAME }
         ensures connects { Connects (view self.old) moment user.now host.now result
             (view self.new) }
         ensures on { goes_on self.old self.new };

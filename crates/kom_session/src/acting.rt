@@ -1,6 +1,7 @@
 //! The acts of a machine, each made at a desk that it is handed.
 ghost use Rattle.std.specs.Prelude.{◌≡◌, ◌≢◌, ◌≤◌, ◌++◌, ℕ, List, [], length, Some, None};
 ghost use Rattle.kom_types.specs.declared.items.Item.TheVariants as item;
+ghost use Rattle.kom_types.specs.declared.limits.TheConstants.{LONGEST_USER_NAME};
 ghost use Rattle.kom_types.specs.Printing.{print_of};
 ghost use Rattle.kom_types.specs.Reading.{reading_of};
 ghost use Rattle.kom_types.specs.Stream.{Line as StreamLine};
@@ -52,7 +53,7 @@ impl Machine {
 
     /// Begins the session of a greeting's user.
     fn greet<K: Desk, C: Clock>(&mut self, desk: &mut K, user: &Bytes, host: &[u8], clock: &mut C)
-        requires short { length user.now ≤ 1024 }
+        requires short { length user.now ≤ LONGEST_USER_NAME }
         requires none { (known self.old).session ≡ 0 }
         ensures taken { IfHeld (IsGreeted host.now user.now)
             (λ link. state (known self.old) (seen (K.view desk.old) link (C.gave clock.old)))

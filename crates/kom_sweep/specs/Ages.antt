@@ -1,5 +1,5 @@
 -- What is known of the comments and footnotes to a text, and of the days of its recipients.
-use Rattle.std.specs.Prelude.{◌≡◌, ℕ, nat_lt, nat_eq, ◌&&◌, ◌||◌, Bool, true, false, is_some, List}
+use Rattle.std.specs.Prelude.{◌≡◌, ℕ, nat_lt, ◌&&◌, ◌||◌, Bool, true, false, List}
 use Rattle.std.specs.Prelude.{Option, Some, None, if◌then◌else◌}
 use Rattle.std.specs.List.{list_all}
 use Rattle.kom_types.specs.declared.replies.Reply.{Reply}

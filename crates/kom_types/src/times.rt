@@ -1,4 +1,5 @@
 ghost use Rattle.std.specs.Prelude.{◌≡◌, ℕ, ◌+◌, ◌≤◌, ◌<◌, ◌↔◌, min, Ok, IsSome, IfSome, pos, ◌≤ℤ◌};
+ghost use Rattle.kom_types.specs.declared.limits.TheConstants.{LAST_MOMENT};
 
 use crate::limits::LAST_MOMENT;
 use jiff_core::civil::Date;
@@ -13,7 +14,7 @@ impl Model for Moment {
 
     ghost view = { λ m. m.0 };
 
-    ghost invariant = { λ m. m.0 ≤ 253402300799 };
+    ghost invariant = { λ m. m.0 ≤ LAST_MOMENT };
 
     ghost inverse = { λ n. record { 0 = n } };
 }
@@ -31,14 +32,14 @@ impl Copy for Moment {}
 impl Moment {
     /// The moment of that many seconds, or the last moment where there are more.
     pub fn at_most(seconds: u64) -> Moment
-        ensures { result ≡ min seconds 253402300799 }
+        ensures { result ≡ min seconds LAST_MOMENT }
     {
         Moment(seconds.min(LAST_MOMENT))
     }
 
     /// The moment of that many seconds, where there is one.
     pub fn new(seconds: u64) -> Option<Moment>
-        ensures some { IsSome result ↔ (seconds ≤ 253402300799) }
+        ensures some { IsSome result ↔ (seconds ≤ LAST_MOMENT) }
         ensures value { IfSome result (λ m. m ≡ seconds) }
     {
         if seconds <= LAST_MOMENT {
@@ -51,7 +52,7 @@ impl Moment {
     /// The seconds since the beginning of 1970.
     pub fn seconds(self) -> u64
         ensures value { result ≡ self }
-        ensures bound { result ≤ 253402300799 }
+        ensures bound { result ≤ LAST_MOMENT }
     {
         self.0
     }

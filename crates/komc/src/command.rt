@@ -1,13 +1,11 @@
 use kom_types::Words;
+use kom_types::limits::LONGEST_USER_NAME;
 
 /// What the words of the command line say.
 pub(crate) struct Command<'a> {
     pub port: u16,
     pub user: &'a str,
 }
-
-/// How many bytes a user's name has at most.
-const LONGEST_USER: usize = 1024;
 
 /// The port and the user of the words `--port`, a number, `--user` and a name.
 pub(crate) fn command_of(words: &Words) -> Option<Command<'_>> {
@@ -16,7 +14,7 @@ pub(crate) fn command_of(words: &Words) -> Option<Command<'_>> {
     }
     let port = port_of(words.word(1).as_bytes())?;
     let user = words.word(3);
-    if LONGEST_USER < user.len() {
+    if LONGEST_USER_NAME < user.len() {
         return None;
     }
     Some(Command { port, user })

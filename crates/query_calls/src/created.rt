@@ -1,6 +1,5 @@
 //! The texts that a person made, of those that the caller reads.
 ghost use Rattle.std.specs.Prelude.{◌≡◌, filter, IfOk};
-ghost use Rattle.kom_types.specs.Mappings.{mapping_up};
 ghost use Rattle.kom_model.specs.Db.{created_by, next_created_of};
 ghost use Rattle.kom_model.specs.calls.Texts as Texts;
 

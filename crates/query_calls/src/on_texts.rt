@@ -1,5 +1,4 @@
 ghost use Rattle.std.specs.Prelude.{◌≡◌, IfOk};
-ghost use Rattle.kom_types.specs.Mappings.{mapping_up};
 ghost use Rattle.kom_model.specs.Db.{next_created_of};
 ghost use Rattle.kom_model.specs.calls.Call.{Meets, MeetsFirmly};
 ghost use Rattle.kom_model.specs.calls.Guards.{Guards};

@@ -2,6 +2,7 @@ ghost use Rattle.std.specs.Prelude.{◌≡◌, ◌≤◌, ◌<◌, ◌==◌, [],
 ghost use Rattle.std.specs.Prelude.{map, if◌then◌else◌};
 ghost use Rattle.row_table.specs.Tables.{row_of, with_row, without_row, changed_row};
 ghost use Rattle.kom_types.specs.tables.Texts.{number_of_text, fresh_text, with_created_local};
+ghost use Rattle.kom_types.specs.declared.limits.TheConstants.{LONGEST_BODY};
 ghost use Rattle.kom_types.specs.tables.Texts.{recipient_of, without_recipient, link_of};
 ghost use Rattle.kom_types.specs.tables.Texts.{without_link, with_mark, without_mark, locals_of};
 ghost use Rattle.kom_types.specs.tables.Texts.{created_by, with_item_drawn};
@@ -92,7 +93,7 @@ impl Texts {
 
     /// Adds a text. It takes no memory, as each change that follows.
     pub fn add(&mut self, number: u32, author: u32, at: Moment, body: Bytes)
-        requires size { length body ≤ 1048576 }
+        requires size { length body ≤ LONGEST_BODY }
         requires absent { row_of number_of_text number self.old.rows.texts ≡ None }
         requires room { HasRoom self.old.room text_needs }
         ensures rows { self.new.rows ≡ record self.old.rows {
