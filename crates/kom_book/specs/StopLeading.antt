@@ -1,11 +1,10 @@
 -- What a stop leaves along a history that leads from a book to the next.
-use Rattle.std.proofs.Common.{◌≡◌, ◌<◌, ◌≤◌, ◌⊎◌, inl, inr, ⊎_elim, ℕ, ◌+◌, true, List, [], ◌∷◌}
+use Rattle.std.proofs.Common.{◌≡◌, ◌<◌, ◌≤◌, ◌⊎◌, inl, inr, ⊎_elim, ℕ, ◌+◌, List, [], ◌∷◌}
 use Rattle.std.proofs.Common.{◌++◌, length, Option, Some, None, refl, sym, ap, ◌∙◌, subst, arith}
 use Rattle.std.proofs.Common.{length-append}
-use Rattle.std.specs.Prelude.{map, ◌↔◌, IfSome}
+use Rattle.std.specs.Prelude.{map, ◌↔◌}
 use Rattle.std.specs.List.{AllByRecursion}
 use Rattle.std.proofs.Math.Nat.{le_trans, le_refl}
-use Rattle.std.proofs.Math.Seq.{take-nil}
 use Rattle.std.proofs.lemmas.Bool.{cases_lt}
 use Rattle.std.proofs.lemmas.List.{length-map, map-append}
 use Rattle.kom_types.specs.declared.acts.Record.{Record}
@@ -17,15 +16,15 @@ use Rattle.hall_desk.proofs.Histories.{state_after-append}
 use Rattle.kom_disk.specs.Moments.{LeavesOnly}
 use Rattle.kom_journal.specs.Images.{Image, StandsFor, AreFor, IsKept}
 use Rattle.kom_journal.specs.Journals.{JournalView}
-use Rattle.kom_book.specs.Stores.{IfBoth, StoreStays, IsLeftNow, IsBase, MayLeave, StopFollows}
+use Rattle.kom_book.specs.Stores.{IfBoth, StoreStays, IsLeftNow, IsBase, StopFollows}
 use Rattle.kom_book.specs.Stores.{base_after}
 use Rattle.kom_book.specs.Stops.{record_of, records_of, rows_after, tick_of, stable_by, IsLeftBy}
-use Rattle.kom_book.specs.Stops.{StopLeads}
+use Rattle.kom_book.specs.Stops.{StopLeads, TicksNeverFall}
 use Rattle.kom_book.specs.Books.{BookView, Follows, Stays, Leads, IsPlain, StandsNow, StopsFollow}
 use Rattle.kom_book.specs.Books.{StopsLead, state_in}
 use Rattle.kom_book.specs.Along.{base_more, rows_more, rows_before, rows_all, stable_of}
 use Rattle.kom_book.specs.Ticks.{ticked_later, stable_all, stable_before}
-use Rattle.kom_book.specs.Leading.{all_then, both_then, both_same}
+use Rattle.kom_book.specs.Leading.{all_then, both_then}
 use Rattle.kom_book.specs.declared.ticked.Ticked.{Ticked}
 
 module _ {D : Type 0} (moment : D → ℕ) (images_at : D → ℕ → Image → Type 0) where
@@ -60,6 +59,7 @@ module _ {D : Type 0} (moment : D → ℕ) (images_at : D → ℕ → Image → 
     };
     since = tt;
     ticked = tt;
+    rise = tt;
     any_moment = nothing_passes store.disk (IsLeftBy moment start []) (λ at image left. record {
       count = 0;
       within = le_refl 0;
@@ -91,12 +91,24 @@ module _ {D : Type 0} (moment : D → ℕ) (images_at : D → ℕ → Image → 
     ticked = subst (λ (disk : D). AllByRecursion (λ entry. tick_of moment entry ≤ moment disk)
         history)
         (sym stays.0.disk) leads.ticked;
+    rise = leads.rise;
     any_moment = subst (λ (disk : D). LeavesOnly moment images_at first.disk disk
         (IsLeftBy moment start history))
         (sym stays.0.disk) leads.any_moment;
     kept = subst (λ (disk : D). IsKept (IsLeftNow moment images_at first.disk)
         → IsKept (IsLeftNow moment images_at disk)) (sym stays.0.disk) leads.kept;
   }
+
+  -- one more act, which ends no earlier than all those before it
+  ticks_then : (history : List (Ticked D)) (entry : Ticked D) → TicksNeverFall moment history →
+      AllByRecursion (λ one. tick_of moment one ≤ tick_of moment entry) history →
+      TicksNeverFall moment (history ++ entry ∷ [])
+  ticks_then [] entry rise all = (tt, tt)
+  ticks_then (first ∷ later) entry rise all = (
+    all_then (λ (one : Ticked D). tick_of moment first ≤ tick_of moment one) later entry rise.0
+        all.0,
+    ticks_then later entry rise.1 all.1,
+  )
 
   stop_follows : (start : State) (history : List (Ticked D)) (first old new : JournalView D)
       (state : State)
@@ -215,6 +227,9 @@ module _ {D : Type 0} (moment : D → ℕ) (images_at : D → ℕ → Image → 
             leads.since
             (omega (arith, ticks, leads.any_moment.forward, step.forward));
         ticked = ticked;
+        rise = ticks_then history entry leads.rise
+            (ticked_later moment history (moment old.disk) (tick_of moment entry)
+            (omega (arith, ticks, step.forward)) leads.ticked);
         any_moment = record {
           forward = le_trans leads.any_moment.forward step.forward;
           each = λ at image from to left. elim (cases_lt at (moment new.disk)) [

@@ -57,6 +57,12 @@ module _ {D : Type 0} (moment : D → ℕ) where
   abbrev pub tick_of : Ticked D → ℕ
   tick_of entry = elim entry.store.value [ None ↦ 0 | Some journal ↦ moment journal.disk ]
 
+  -- no act ended before one that is before it
+  pub TicksNeverFall : List (Ticked D) → Type 0
+  TicksNeverFall [] = Unit {0}
+  TicksNeverFall (entry ∷ later) =
+      AllByRecursion (λ one. tick_of entry ≤ tick_of one) later × TicksNeverFall later
+
   -- the stable number after the records of the acts that had ended by a moment
   abbrev pub stable_by : State → List (Ticked D) → ℕ → ℕ
   stable_by start history at =
@@ -72,15 +78,16 @@ module _ {D : Type 0} (moment : D → ℕ) where
     pub stands : StandsFor (rows_after start (records_of history) count) image
 
 module _ {D : Type 0} (moment : D → ℕ) (images_at : D → ℕ → Image → Type 0) where
-  -- What a stop leaves of a store since a plain opening. The base is the rows after as many records
-  -- as are stable. At each moment a stop leaves the rows after some of the records, all of those
-  -- among them that were stable by then.
+  -- What a stop leaves of a store since a plain opening, whose acts end in their order. The base
+  -- is the rows after as many records as are stable. At each moment a stop leaves the rows after
+  -- some of the records, all of those among them that were stable by then.
   pub record StopLeads (start : State) (history : List (Ticked D)) (old : JournalView D)
       (state : State) (new : JournalView D) : Type 0 where
     pub base : IsBase moment images_at state new
         (rows_after start (records_of history) state.stable)
     pub since : AllByRecursion (λ entry. moment old.disk ≤ tick_of moment entry) history
     pub ticked : AllByRecursion (λ entry. tick_of moment entry ≤ moment new.disk) history
+    pub rise : TicksNeverFall moment history
     pub any_moment : LeavesOnly moment images_at old.disk new.disk
         (IsLeftBy moment start history)
     pub kept : IsKept (IsLeftNow moment images_at old.disk)

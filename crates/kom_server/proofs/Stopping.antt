@@ -63,6 +63,7 @@ module _ {D : Type 0} (moment : D → ℕ) (images_at : D → ℕ → Image → 
     within = leads.any_moment.forward;
     since = leads.since;
     ticked = leads.ticked;
+    rise = leads.rise;
     any_moment = λ at image from to left. leads.any_moment.each at image from to left;
   }
 

@@ -5,7 +5,7 @@ use Rattle.kom_types.specs.declared.acts.Record.{Record}
 use Rattle.kom_model.specs.State.{State}
 use Rattle.kom_journal.specs.Files.{body_of}
 use Rattle.kom_journal.specs.Images.{Image}
-use Rattle.kom_book.specs.Stops.{IsLeftBy, tick_of, records_of, pending_along}
+use Rattle.kom_book.specs.Stops.{IsLeftBy, TicksNeverFall, tick_of, records_of, pending_along}
 use Rattle.kom_book.specs.declared.ticked.Ticked.{Ticked}
 use Rattle.kom_server.specs.Statuses.{HasRefused}
 
@@ -25,12 +25,13 @@ IsRefusalCause tells faults size start history disk =
 module _ {D : Type 0} (moment : D → ℕ) (images_at : D → ℕ → Image → Type 0) where
   -- At each moment of the disk since the end of opening, a stop leaves what stands for the rows
   -- after some of the records, all of those among them that were stable by then. Each act ended at
-  -- one of these moments.
+  -- one of these moments, in the order in which they were made.
   pub record IsKeptAlong (start : State) (history : List (Ticked D)) (disk : D) : Type 0 where
     pub opened : ℕ
     pub within : opened ≤ moment disk
     pub since : AllByRecursion (λ entry. opened ≤ tick_of moment entry) history
     pub ticked : AllByRecursion (λ entry. tick_of moment entry ≤ moment disk) history
+    pub rise : TicksNeverFall moment history
     pub any_moment : (at : ℕ) (image : Image) → opened ≤ at → at ≤ moment disk
         → images_at disk at image → IsLeftBy moment start history at image
 
