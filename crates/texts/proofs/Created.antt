@@ -5,13 +5,13 @@ use Rattle.std.proofs.lemmas.Bool.{cases_Bool, cases_eq, and_from, and_right, eq
 use Rattle.kom_types.specs.declared.texts.LocalText.{LocalText}
 use Rattle.kom_types.specs.declared.texts.TextRow.{TextRow}
 use Rattle.kom_types.specs.tables.Texts.{number_of_text, fresh_text, with_created_local, by_local, rising_locals}
-use Rattle.kom_types.specs.tables.Texts.{with_item_drawn}
 use Rattle.kom_types.specs.tables.Texts.{is_created_by, created_pair, created_by}
 use Rattle.row_table.specs.Tables.{row_of, with_row, without_row, changed_row, IsByNumber}
 use Rattle.row_table.specs.Tables as table
 use Rattle.row_table.proofs.Rows.{changed_row-absent}
 use Rattle.local_maps.specs.Pairs.{AllBelow, AllAbove, IsRising, without}
 use Rattle.local_maps.proofs.Shown.{filter-filter_comm}
+use Rattle.texts.specs.Keeping.{with_next_item}
 use Rattle.texts.proofs.Filters.{all_stay, all_stay-none_pass, filter-map}
 use Rattle.texts.proofs.Locals.{without_above}
 use Rattle.texts.proofs.Rising.{put_all, put_all-above, all-by_local, all-filter, all_of-rising_locals}
@@ -139,13 +139,13 @@ module _ (person local number : ℕ) (row : TextRow) (by : row.author ≡ person
   created_by-numbered_other other rows ne found rising =
       ap (λ l. rising_locals (map created_pair l)) (filter-numbered_other other rows ne found rising)
 
--- ---- an aux-item of a text gets its number
+-- ---- the next aux-item of a text gets another number
 
-pairs_by-item : (person number item : ℕ) (rows : List TextRow) →
-    pairs_by person (changed_row number_of_text number (with_item_drawn item) rows) ≡ pairs_by person rows
-pairs_by-item person number item [] = refl
-pairs_by-item person number item (row ∷ rows) =
-    let rest = pairs_by-item person number item rows in
+pairs_by-item : (person number next : ℕ) (rows : List TextRow) →
+    pairs_by person (changed_row number_of_text number (with_next_item next) rows) ≡ pairs_by person rows
+pairs_by-item person number next [] = refl
+pairs_by-item person number next (row ∷ rows) =
+    let rest = pairs_by-item person number next rows in
     elim (cases_Bool (eqb row.number number)) [
       | inl here ↦ elim (cases_Bool (is_created_by person row)) [
         | inl its ↦ rw (here, its) (ap (λ l. created_pair row ∷ l) rest)
@@ -157,9 +157,9 @@ pairs_by-item person number item (row ∷ rows) =
       ]
     ]
 
-pub created_by-item : (person number item : ℕ) (rows : List TextRow) →
-    created_by person (changed_row number_of_text number (with_item_drawn item) rows) ≡ created_by person rows
-created_by-item person number item rows = ap rising_locals (pairs_by-item person number item rows)
+pub created_by-item : (person number next : ℕ) (rows : List TextRow) →
+    created_by person (changed_row number_of_text number (with_next_item next) rows) ≡ created_by person rows
+created_by-item person number next rows = ap rising_locals (pairs_by-item person number next rows)
 
 -- ---- a text is taken out
 

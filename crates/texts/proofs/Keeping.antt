@@ -6,7 +6,6 @@ use Rattle.kom_types.specs.declared.texts.LocalText.{LocalText}
 use Rattle.kom_types.specs.declared.texts.Recipient.{Recipient}
 use Rattle.kom_types.specs.declared.texts.TextRow.{TextRow}
 use Rattle.kom_types.specs.tables.Texts.{number_of_text, fresh_text, with_created_local, created_by}
-use Rattle.kom_types.specs.tables.Texts.{with_item_drawn}
 use Rattle.kom_types.specs.tables.Texts.{locals_of, recipient_of, without_recipient}
 use Rattle.row_table.specs.Tables.{row_of, with_row, without_row, changed_row, IsByNumber}
 use Rattle.row_table.proofs.Rows.{IsByNumber-with_row, IsByNumber-without_row, IsByNumber-changed_row}
@@ -14,7 +13,7 @@ use Rattle.local_maps.specs.Maps.{Owned, pairs_of, HasOnlyChanged}
 use Rattle.local_maps.specs.Pairs.{AllBelow, AllAbove, IsRising, without}
 use Rattle.local_maps.proofs.Parts.{rising-filter}
 use Rattle.misc_links.specs.Received.{AreOnce}
-use Rattle.texts.specs.Keeping.{IsKept, IsUnnumbered}
+use Rattle.texts.specs.Keeping.{IsKept, IsUnnumbered, with_next_item}
 use Rattle.texts.proofs.Created.{created_by-added, created_by-numbered, created_by-numbered_other, created_by-left}
 use Rattle.texts.proofs.Created.{created_by-left_other, created_by-forgotten, created_by-item}
 use Rattle.texts.proofs.Locals.{locals_of-push, locals_of-push_other, locals_of-without, locals_of-without_other}
@@ -154,14 +153,14 @@ module _ (texts : List TextRow) (recipients : List Recipient) (locals created : 
       by None is facts = elim facts [ ]
       by (Some row) is facts = kept-numbered number row is new person local facts.0 facts.1 positive above given others
 
-  pub kept-item : (number item : ℕ) →
-      IsKept (changed_row number_of_text number (with_item_drawn item) texts) recipients locals created
-  kept-item number item =
+  pub kept-item : (number next : ℕ) →
+      IsKept (changed_row number_of_text number (with_next_item next) texts) recipients locals created
+  kept-item number next =
       as_kept _ recipients locals created
-      (IsByNumber-changed_row number_of_text (with_item_drawn item) (λ row. refl) number texts kept.by_number)
+      (IsByNumber-changed_row number_of_text (with_next_item next) (λ row. refl) number texts kept.by_number)
       locals_kept
       (none_changed created (λ p. created_by p texts) _ created_kept
-      (λ p. created_by-item p number item texts))
+      (λ p. created_by-item p number next texts))
 
   -- ---- recipients
 

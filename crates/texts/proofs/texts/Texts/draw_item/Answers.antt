@@ -1,6 +1,7 @@
+use Rattle.std.proofs.Common.{◌+◌}
 use Rattle.texts.proofs.Keeping.{kept-item}
 use Rattle.texts.proofs.texts.Texts.draw_item.Goals as goal
 
 pub invariant_of-self : goal.invariant_of-self
 invariant_of-self c =
-    rw c.draw_item.ensures.rows (kept-item _ _ _ _ c.self.invariant c.args.number c.args.item)
+    rw c.draw_item.ensures.rows (kept-item _ _ _ _ c.self.invariant c.args.number (c.args.item + 1))
