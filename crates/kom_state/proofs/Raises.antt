@@ -1,5 +1,6 @@
 -- What is kept of the rows stays so where a counter is raised that may be.
-use Rattle.std.proofs.Common.{◌≡◌, ℕ, ◌+◌, ◌<◌, ◌≤◌, ◌==◌, true, List, map, refl, ◌∙◌, sym, arith}
+use Rattle.std.proofs.Common.{◌≡◌, ℕ, ◌+◌, ◌<◌, ◌≤◌, ◌==◌, ◌&&◌, true, List, Option, Some, None}
+use Rattle.std.proofs.Common.{map, refl, ◌∙◌, sym, subst, arith}
 use Rattle.std.proofs.lemmas.Bool.{and_parts}
 use Rattle.row_table.specs.Tables.{row_of}
 use Rattle.kom_types.specs.declared.limits.TheConstants.{LAST_CONFERENCE, LAST_DRAWN}
@@ -10,7 +11,7 @@ use Rattle.kom_types.specs.declared.raised.RaisedCounter.TheVariants as counter
 use Rattle.kom_types.specs.declared.texts.TextRow.{TextRow}
 use Rattle.kom_types.specs.tables.Persons.{number_of_person, last_count}
 use Rattle.kom_model.specs.Db.{Db, conference_of, person_of, text_of}
-use Rattle.kom_model.specs.Raising.{may_raise_to, raised_to}
+use Rattle.kom_model.specs.Raising.{is_between, may_raise_to, raised_to}
 use Rattle.kom_model.proofs.whole.Raises.{bounds, found-bounds, is-within, raise-whole}
 use Rattle.name_lookup.specs.NamedRows.{Named}
 use Rattle.kom_state.specs.Keeping.{name_row, DrawFromOne, IsKept}
@@ -39,7 +40,9 @@ raise-from_one counter.Locals object next db may from = from
 raise-from_one counter.Created object next db may from =
     let found = found-bounds (λ (row : PersonRow). row.next_created) (row_of number_of_person object db.persons) next
     (LAST_DRAWN + 1) may in
-    let first = rw found.1.0 at positive_created object db.persons from in
+    let first : 0 < found.0.next_created =
+    subst (λ (o : Option PersonRow). 0 < (elim o [ None ↦ 1 | Some row ↦ row.next_created ])) found.1.0
+    (positive_created object db.persons from) in
     let positive : 0 < next = omega (arith, first, found.1.1.0) in
     all_changed_row number_of_person (λ row. 0 < row.next_created) object (λ row. record row { next_created = next })
     (λ row here. positive) db.persons from
@@ -49,13 +52,17 @@ raise-from_one counter.Sessions object next db may from =
     all_changed_row number_of_person (λ row. 0 < row.next_created) object (λ row. record row { sessions = next })
     (λ row here. here) db.persons from
 
+-- the next number of all conferences, or of all texts, is not above its bound
+pub next-bounded : (object least next most : ℕ) → (object == 0 && is_between least next most) ≡ true → next ≤ most
+next-bounded object least next most may = (bounds least next most (and_parts (object == 0) _ may).1).1
+
 -- the number fits four bytes
 pub next-fits : (what : RaisedCounter) (object next : ℕ) (db : Db) → may_raise_to what object next db ≡ true →
     next ≤ 4294967295
 next-fits counter.Conferences object next db may =
-    omega (arith, (bounds db.next_conference next (LAST_CONFERENCE + 1) (and_parts (object == 0) _ may).1).1)
+    omega (arith, next-bounded object db.next_conference next (LAST_CONFERENCE + 1) may)
 next-fits counter.Texts object next db may =
-    omega (arith, (bounds db.next_text next (LAST_DRAWN + 1) (and_parts (object == 0) _ may).1).1)
+    omega (arith, next-bounded object db.next_text next (LAST_DRAWN + 1) may)
 next-fits counter.Locals object next db may =
     (is-within (λ (row : ConferenceRow). row.next_local) (conference_of db object) next (LAST_DRAWN + 1) may).bounded
 next-fits counter.Created object next db may =

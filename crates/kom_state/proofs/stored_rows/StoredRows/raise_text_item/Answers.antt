@@ -8,7 +8,8 @@ overflow_cast-next c = omega (arith, next-fits counter.TextItems c.args.object c
 
 pub invariant_of-self : goal.invariant_of-self
 invariant_of-self c =
-    IsKept-raised counter.TextItems c.args.object c.args.next _ _ _ c.self.invariant (rw (← c.self.view_is) at c.requires)
+    IsKept-raised counter.TextItems c.args.object c.args.next _ _ _ c.self.invariant
+    (rw (← c.self.view_is) at c.requires)
     (rw c.set_next_item.ensures.rows refl)
 
 pub returns : goal.returns
