@@ -66,7 +66,7 @@ fn with_len(reference: u32, decision: Decision) -> Measured
     ensures decision { result.decision ≡ decision }
     ensures len { IsLong reference result.decision.reply result.len }
 {
-    let (len, reply) = measured(reference, decision.reply);
+    let (len, reply) = printed(reference, decision.reply);
     Measured {
         decision: Decision {
             reply,
@@ -78,7 +78,7 @@ fn with_len(reference: u32, decision: Decision) -> Measured
 }
 
 /// How many bytes the line of a reply has, as many as a `u64` holds at most, and the reply.
-fn measured(reference: u32, body: Reply) -> (u64, Reply)
+fn printed(reference: u32, body: Reply) -> (u64, Reply)
     ensures length { IsLong reference body result.0 }
     ensures reply { result.1 ≡ body }
 {

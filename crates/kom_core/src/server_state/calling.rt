@@ -11,7 +11,7 @@ ghost use Rattle.kom_core.specs.Steps.{CarriesOut, Answers, IsOf};
 
 use super::{ServerState, later};
 use crate::asking::Asking;
-use crate::decide::{Measured, decide};
+use crate::decide::decide;
 use async_fanout::{Delivery, fan_out};
 use kom_state::Keeper;
 use kom_types::{
@@ -94,9 +94,9 @@ impl ServerState {
         ensures firm { IsFirm self.now asking.now → IsOk result }
     {
         let asked = self.asked(asking);
-        let Measured { decision, len } = decide(&asked, asking.reference, asking.call)?;
-        let messages = fan_out(&asked, asking.call, &decision)?;
-        Ok((decision, len, messages))
+        let came = decide(&asked, asking.reference, asking.call)?;
+        let messages = fan_out(&asked, asking.call, &came.decision)?;
+        Ok((came.decision, came.len, messages))
     }
 
     /// Makes effects, of which each fits after those before it, on the stored rows, in order, and

@@ -10,7 +10,7 @@ apply-requires g c = record {
       IsOrderly-decided c.args.self.now c.args.asking.now c.in_ok-decision.decision
       c.in_ok-decision.ensures.comes_to.0;
   fit =
-      decided-fit c.args.self.now c.args.asking.now c.in_ok-decision.decision c.requires
+      decided-fit c.args.self.now c.args.asking.now c.in_ok-decision.decision c.requires.sound
       c.in_ok-decision.ensures.comes_to.0;
 }
 

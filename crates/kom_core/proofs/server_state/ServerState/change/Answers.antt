@@ -33,7 +33,7 @@ returns-in-Close-clause-step g c = (
 -- what is kept of the effects of a call
 pub returns-in-Call-clause-kept : goal.returns-in-Call-clause-kept
 returns-in-Call-clause-kept g c =
-    c.call.ensures.kept
+    c.call-short.ensures.kept
     ∙ ap (λ (effects : List Effect). appended effects (g.K.Keeper.pending c.args.keeper.now))
-    (sym (call_kept c.args.self.now c.args.entry.now c.call.result c.in-Call.session c.in-Call.reference
+    (sym (call_kept c.args.self.now c.args.entry.now c.call-short.result c.in-Call.session c.in-Call.reference
     c.in-Call.call c.requires.sound c.in-Call.is))
