@@ -1,39 +1,17 @@
 -- What holds of all rows holds of one that is found.
-use Rattle.std.proofs.Common.{
-  ◌≡◌,
-  ℕ,
-  ◌+◌,
-  ◌<◌,
-  ◌≤◌,
-  ◌*◌,
-  ◌^◌,
-  Bool,
-  true,
-  false,
-  List,
-  [],
-  ◌∷◌,
-  length,
-  Option,
-  option_map,
-  Some,
-  None,
-  find,
-  arith,
-}
-use Rattle.std.proofs.Common.{inl, inr}
+use Rattle.std.proofs.Common.{◌≡◌, ℕ, ◌+◌, ◌<◌, ◌≤◌, ◌*◌, ◌^◌, Bool, List, [], ◌∷◌, length, Option, option_map, Some}
+use Rattle.std.proofs.Common.{None, find, arith}
+use Rattle.std.proofs.Common.{inl, inr, refl}
 use Rattle.std.specs.List.{AllByRecursion}
 use Rattle.std.proofs.lemmas.Bool.{cases_Bool}
+use Rattle.kom_types.specs.Parts.{Part}
 use Rattle.kom_types.specs.declared.limits.TheConstants.{LONGEST_BODY, LONGEST_NAME, LONGEST_USER_NAME}
 use Rattle.kom_types.specs.declared.conferences.ConferenceRow.{ConferenceRow}
 use Rattle.kom_types.specs.declared.memberships.MembershipRow.{MembershipRow}
 use Rattle.kom_types.specs.declared.memberships.ReadRange.{ReadRange}
 use Rattle.kom_types.specs.declared.persons.PersonRow.{PersonRow}
 use Rattle.kom_types.specs.declared.texts.TextRow.{TextRow}
-use Rattle.kom_types.specs.tables.Conferences.{number_of_conference}
 use Rattle.kom_types.specs.tables.Memberships.{at_place}
-use Rattle.kom_types.specs.tables.Persons.{number_of_person}
-use Rattle.kom_types.specs.tables.Texts.{number_of_text}
 use Rattle.read_ranges.specs.Numbers.{RiseFrom, AreRanges, greatest}
 use Rattle.kom_model.specs.Db.{Db, conference_of, person_of, text_of}
 use Rattle.kom_model.specs.Whole.{IsWhole}
@@ -74,7 +52,7 @@ short-body db number row whole is =
 -- ranges are so few that four bytes tell how many: each has a number of its own, and one is after it
 rise-few : (least : ℕ) (ranges : List ReadRange) → least ≤ greatest + 2 → RiseFrom least ranges →
     2 * length ranges + least ≤ greatest + 2
-rise-few least [] within rise = within
+rise-few least [] within rise = omega (arith, within)
 rise-few least (one ∷ ranges) within rise =
     let rest = rise-few (one.last + 2) ranges (omega (arith, rise.2)) rise.3 in
     omega (arith, rise.0, rise.1, rest)
@@ -82,9 +60,11 @@ rise-few least (one ∷ ranges) within rise =
 pub few-ranges : (ranges : List ReadRange) → AreRanges ranges → length ranges < 2 ^ 32
 few-ranges ranges are = let few = rise-few 1 ranges (omega arith) are in omega (arith, few)
 
--- what is told of a membership does not depend on where it stands
+-- the parts of a membership that may be there do not depend on where it stands
+abbrev pub found_parts : Db → Joined → Option MembershipRow → List Part
+found_parts db one found = elim found [ None ↦ [] | Some row ↦ row_parts db one row ]
+
 pub unplaced-parts : (db : Db) (one : Joined) (found : Option MembershipRow) →
-    elim (option_map (at_place 0) found) [ None ↦ [] | Some row ↦ row_parts db one row ]
-    ≡ elim found [ None ↦ [] | Some row ↦ row_parts db one row ]
+    found_parts db one (option_map (at_place 0) found) ≡ found_parts db one found
 unplaced-parts db one None = refl
 unplaced-parts db one (Some row) = refl

@@ -1,24 +1,6 @@
 -- The memberships that are told are those of the snapshot.
-use Rattle.std.proofs.Common.{
-  ◌≡◌,
-  ℕ,
-  ◌==◌,
-  ◌&&◌,
-  ◌≤◌,
-  Bool,
-  true,
-  false,
-  cond,
-  List,
-  [],
-  ◌∷◌,
-  ◌++◌,
-  length,
-  map,
-  filter,
-}
+use Rattle.std.proofs.Common.{◌≡◌, ℕ, ◌≤◌, Bool, true, List, [], ◌∷◌, ◌++◌, length, map, filter}
 use Rattle.std.proofs.Common.{Option, Some, None, find, refl, sym, ap, subst, ◌∙◌, append_assoc, inl, inr}
-use Rattle.std.specs.Prelude.{nat_lt}
 use Rattle.std.specs.List.{AllByRecursion, flat_map}
 use Rattle.std.proofs.lemmas.Bool.{cases_Bool, and_from, eq-eqb}
 use Rattle.std.proofs.lemmas.List.{map-append}
@@ -47,7 +29,8 @@ module _ (db : Db) (whole : IsWhole db) where
       and_from _ _ (eq-eqb row.person row.person refl) (eq-eqb row.conference row.conference refl) in
       let none : find test front ≡ None =
       none-before test front row rest
-      (subst (λ l. length (filter test l) ≤ 1) (sym same) (whole.memberships.once row.person row.conference)) passes in (
+      (subst (λ l. length (filter test l) ≤ 1) (sym same) (whole.memberships.once row.person row.conference))
+      passes in (
         subst (λ l. find test l ≡ Some row) same (find-first test front row rest none passes),
         own (front ++ row ∷ []) rest (append_assoc front (row ∷ []) rest ∙ same),
       )

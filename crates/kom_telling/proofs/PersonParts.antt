@@ -13,6 +13,7 @@ person-parts added area password login counts =
     ∙ append_assoc (map Makes (added ∷ area)) (map Makes (password ∷ login)) (map Makes counts))
 
 pub count-parts : (a b c d e f g : List Effect) →
-    map Makes a ++ (map Makes b ++ (map Makes c ++ (map Makes d ++ (map Makes e ++ (map Makes f ++ (map Makes g ++ []))))))
+    map Makes a ++ (map Makes b ++ (map Makes c ++ (map Makes d ++ (map Makes e ++ (map Makes f ++
+    (map Makes g ++ []))))))
     ≡ map Makes (a ++ b ++ c ++ d ++ e ++ f ++ g)
 count-parts a b c d e f g = simp (map-append, append_assoc, append-nil)

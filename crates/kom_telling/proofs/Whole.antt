@@ -3,7 +3,6 @@ use Rattle.std.proofs.Common.{◌≡◌, ℕ, List, [], ◌∷◌, ◌++◌, map
 use Rattle.std.proofs.Common.{append-nil}
 use Rattle.std.specs.List.{AllByRecursion, flat_map}
 use Rattle.std.proofs.lemmas.List.{map-append}
-use Rattle.std.proofs.lemmas.List.Concat.{flat_map_single}
 use Rattle.row_table.specs.Tables.{row_of, IsByNumber}
 use Rattle.kom_types.specs.Parts.{Part, Makes, Raises}
 use Rattle.kom_types.specs.declared.conferences.ConferenceRow.{ConferenceRow}
@@ -23,7 +22,7 @@ use Rattle.kom_snapshot.specs.Snap.{snap, effects_of, raised_of, raised, confere
 use Rattle.kom_snapshot.specs.Snap.{created_effects, membership_list}
 use Rattle.kom_snapshot.specs.Snapshot.{parts_of}
 use Rattle.kom_snapshot.proofs.replay.Tables.{own-rows}
-use Rattle.kom_telling.specs.Sections.{numbered, section_parts, all_sections, by_conference, by_person, by_text}
+use Rattle.kom_telling.specs.Sections.{numbered, section_parts, all_sections, by_person}
 use Rattle.kom_telling.specs.Sections.{of_conference, of_person, of_text}
 use Rattle.kom_telling.specs.declared.section.Section.TheVariants as section
 use Rattle.kom_telling.proofs.Members.{members-told}

@@ -84,7 +84,8 @@ row_parts db one row =
 
 abbrev pub member_parts : Db → Joined → List Part
 member_parts db one =
-    elim (membership_of db one.person one.conference) [ None ↦ [] | Some row ↦ row_parts db one row ]
+    elim (membership_of db one.person one.conference)
+    [ None ↦ [] | Some row ↦ row_parts db one row ]
 
 -- the parts of a section
 abbrev pub by_conference : Section → Db → List Part

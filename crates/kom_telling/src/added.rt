@@ -15,7 +15,7 @@ pub(crate) fn tell_recipients<S: PartSink>(
 ) -> Result<(), S::Refusal>
     ensures told { OnOk result
         (Takes S.took sink.old sink.new (flat_map (λ row. Makes (Effect.RecipientAdded row) ∷ [])
-        walk)) }
+        walk.entry)) }
     ensures keeps { Keeps S.becomes sink.old sink.new }
 {
     while let Some(row) = walk.next_row() {
@@ -29,7 +29,8 @@ pub(crate) fn tell_links<S: PartSink>(
     sink: &mut S,
 ) -> Result<(), S::Refusal>
     ensures told { OnOk result
-        (Takes S.took sink.old sink.new (flat_map (λ row. Makes (Effect.LinkAdded row) ∷ []) walk)) }
+        (Takes S.took sink.old sink.new (flat_map (λ row. Makes (Effect.LinkAdded row) ∷ [])
+        walk.entry)) }
     ensures keeps { Keeps S.becomes sink.old sink.new }
 {
     while let Some(row) = walk.next_row() {
@@ -44,7 +45,7 @@ pub(crate) fn tell_marks<S: PartSink>(
 ) -> Result<(), S::Refusal>
     ensures told { OnOk result
         (Takes S.took sink.old sink.new (flat_map (λ row. Makes (Effect.MarkSet row.person row.text
-        row.kind) ∷ []) walk)) }
+        row.kind) ∷ []) walk.entry)) }
     ensures keeps { Keeps S.becomes sink.old sink.new }
 {
     while let Some(row) = walk.next_row() {
@@ -67,7 +68,7 @@ pub(crate) fn tell_items<S: PartSink>(
     requires { AllByRecursion (λ row. length row.item.content ≤ LONGEST_CONTENT) walk }
     ensures told { OnOk result
         (Takes S.took sink.old sink.new (flat_map (λ row. Makes (Effect.AuxAdded row.on_text
-        row.object row.item) ∷ []) walk)) }
+        row.object row.item) ∷ []) walk.entry)) }
     ensures keeps { Keeps S.becomes sink.old sink.new }
 {
     while let Some(row) = walk.next_row() {

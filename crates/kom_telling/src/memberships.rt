@@ -66,7 +66,10 @@ fn ranges_of(rows: &StoredRows, person: u32, conference: u32) -> &[ReadRange]
     ensures few { length result.now < 2 ^ 32 }
 {
     match rows.read(person, conference) {
-        Some(read) => read.ranges(),
+        Some(read) => {
+            let told = read.ranges();
+            told
+        }
         None => &[],
     }
 }

@@ -1,4 +1,4 @@
-use Rattle.std.proofs.Common.{[], ◌∷◌, ap, subst}
+use Rattle.std.proofs.Common.{[], ◌∷◌, ap}
 use Rattle.std.specs.List.{flat_map}
 use Rattle.kom_types.specs.Parts.{Makes}
 use Rattle.kom_types.specs.declared.effects.Effect.TheVariants as effect
@@ -7,7 +7,8 @@ use Rattle.kom_telling.proofs.added.tell_marks.Goals as goal
 
 pub loop-row-init : goal.loop-row-init
 loop-row-init g c = record {
-  told = going-first g.S.PartSink.took c.args.sink.now (flat_map (λ row. Makes (effect.MarkSet row.person row.text row.kind) ∷ []) c.args.walk);
+  told = going-first g.S.PartSink.took c.args.sink.now (flat_map (λ row. Makes
+      (effect.MarkSet row.person row.text row.kind) ∷ []) c.args.walk);
   keeps = λ first held. held;
 }
 
@@ -20,4 +21,5 @@ loop-row-preserved g c = record {
 
 pub returns-clause-told : goal.returns-clause-told
 returns-clause-told g c =
-    going-end g.S.PartSink.took _ _ _ _ c.loop-row.invariant.told (ap (flat_map (λ row. Makes (effect.MarkSet row.person row.text row.kind) ∷ [])) c.in_default.ensures.0)
+    going-end g.S.PartSink.took _ _ _ _ c.loop-row.invariant.told (ap (flat_map (λ row. Makes
+    (effect.MarkSet row.person row.text row.kind) ∷ [])) c.in_default.ensures.0)

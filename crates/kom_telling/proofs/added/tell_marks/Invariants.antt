@@ -1,8 +1,7 @@
-use Rattle.std.proofs.Common.{[], ◌∷◌, length, ◌≤◌}
-use Rattle.std.specs.List.{flat_map, AllByRecursion}
+use Rattle.std.proofs.Common.{[], ◌∷◌, length}
+use Rattle.std.specs.List.{flat_map}
 use Rattle.kom_types.specs.Parts.{Makes}
 use Rattle.kom_types.specs.declared.effects.Effect.TheVariants as effect
-use Rattle.kom_types.specs.declared.limits.TheConstants.{LONGEST_CONTENT}
 use Rattle.kom_telling.specs.Takes.{Keeps}
 use Rattle.kom_telling.proofs.Going.{Going}
 use Rattle.kom_telling.proofs.added.tell_marks.Given as goal

@@ -1,4 +1,4 @@
-use Rattle.std.proofs.Common.{sym}
+use Rattle.std.proofs.Common.{refl}
 use Rattle.kom_telling.specs.Sections.{member_parts}
 use Rattle.kom_telling.proofs.Going.{along-first, along-on, along-end}
 use Rattle.kom_telling.proofs.memberships.tell_memberships.Goals as goal
@@ -12,7 +12,8 @@ loop-one-init g c = record {
 pub loop-one-preserved : goal.loop-one-preserved
 loop-one-preserved g c = record {
   told = along-on g.S.PartSink.took (member_parts c.args.rows.now.db) c.args.joined.now
-      c.loop-one.one-index c.one-item.result c.one-item.result _ _ _ c.loop-one-test.true (sym c.one-item.is) c.loop-one.invariant.told c.in_ok-tell_membership.ensures.told;
+      c.loop-one.one-index _ _ _ _ _ c.loop-one-test.true refl c.loop-one.invariant.told
+      c.in_ok-tell_membership.ensures.told;
   keeps = λ first held. c.in_ok-tell_membership.ensures.keeps first (c.loop-one.invariant.keeps first held);
 }
 

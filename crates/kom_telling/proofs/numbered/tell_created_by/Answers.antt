@@ -15,7 +15,8 @@ returns-in_default-clause-told g c =
     let parts : LocalText → List Part =
     λ pair. Makes (effect.Created c.args.person pair.local pair.text) ∷ [] in
     let none : made ≡ [] = sym (from_on-zero made) ∙ c.in_default.ensures.pairs in
-    subst (λ (l : List LocalText). Takes g.S.PartSink.took c.args.sink.now c.args.sink.now (flat_map parts l)) (sym none)
+    subst (λ (l : List LocalText). Takes g.S.PartSink.took c.args.sink.now c.args.sink.now (flat_map parts l))
+    (sym none)
     (takes-none g.S.PartSink.took c.args.sink.now)
 
 pub loop-pair-init : goal.loop-pair-init

@@ -12,7 +12,8 @@ loop-number-init g c = record {
 pub loop-number-preserved : goal.loop-number-preserved
 loop-number-preserved g c = record {
   told = along-on g.S.PartSink.took (numbered c.args.section c.args.rows.now.db) c.args.numbers.now
-      c.loop-number.number-index 0 _ _ _ _ c.loop-number-test.true refl c.loop-number.invariant.told c.in_ok-tell_numbered.ensures.told;
+      c.loop-number.number-index 0 _ _ _ _ c.loop-number-test.true refl c.loop-number.invariant.told
+      c.in_ok-tell_numbered.ensures.told;
   keeps = λ first held. c.in_ok-tell_numbered.ensures.keeps first (c.loop-number.invariant.keeps first held);
 }
 

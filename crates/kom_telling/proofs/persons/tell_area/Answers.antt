@@ -3,11 +3,11 @@ use Rattle.std.proofs.lemmas.Bool.{ne_eqb}
 use Rattle.kom_telling.proofs.Going.{takes-none}
 use Rattle.kom_telling.proofs.persons.tell_area.Goals as goal
 
-pub returns-then-user_area-eq0-clause-told : goal.returns-then-user_area-eq0-clause-told
-returns-then-user_area-eq0-clause-told g c =
-    rw c.if-user_area-eq0.true (takes-none g.S.PartSink.took c.args.sink.now)
+pub returns-then-row-eq0-clause-told : goal.returns-then-row-eq0-clause-told
+returns-then-row-eq0-clause-told g c =
+    rw c.if-row-eq0.true (takes-none g.S.PartSink.took c.args.sink.now)
 
 pub returns-clause-told : goal.returns-clause-told
 returns-clause-told g c =
-    let other : (c.args.row.now.user_area == 0) ≡ false = ne_eqb _ _ c.if-user_area-eq0.false in
+    let other : (c.args.row.now.user_area == 0) ≡ false = ne_eqb _ _ c.if-row-eq0.false in
     rw other c.put_plain.ensures.told

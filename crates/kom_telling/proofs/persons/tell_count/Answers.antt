@@ -10,4 +10,4 @@ returns-then-count-eq0-clause-told g c =
 pub returns-clause-told : goal.returns-clause-told
 returns-clause-told g c =
     let other : (c.args.count == 0) ≡ false = ne_eqb _ _ c.if-count-eq0.false in
-    rw other c.put_plain.ensures.told
+    rw other (rw c.from.ensures at c.put_plain.ensures.told)

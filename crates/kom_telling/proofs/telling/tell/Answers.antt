@@ -4,7 +4,7 @@ use Rattle.kom_telling.specs.Takes.{Takes}
 use Rattle.kom_telling.proofs.Whole.{all-told}
 use Rattle.kom_telling.proofs.telling.tell.Goals as goal
 
-pub returns-in-Ok-Ok-clause-told : goal.returns-in-Ok-Ok-clause-told
-returns-in-Ok-Ok-clause-told g c =
+pub returns-in-Ok-tell_sections-clause-told : goal.returns-in-Ok-tell_sections-clause-told
+returns-in-Ok-tell_sections-clause-told g c =
     subst (λ (l : List Part). Takes g.S.PartSink.took c.args.sink.now c.tell_sections.new.sink l)
-    (all-told c.args.rows.now.db c.requires.whole) c.in-Ok-Ok.ensures.told
+    (all-told c.args.rows.now.db c.requires.whole) c.in-Ok-tell_sections.ensures.told
