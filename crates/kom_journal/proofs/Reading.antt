@@ -8,7 +8,6 @@ use Rattle.std.proofs.lemmas.List.{take-append-le, length-take-le}
 use Rattle.batch_log.specs.Walk.{HasFirst}
 use Rattle.batch_log.proofs.Parts.{rest_of}
 use Rattle.kom_types.specs.declared.effects.Effect.{Effect}
-use Rattle.kom_types.specs.declared.effects.Effect.TheVariants as effect
 use Rattle.read_ranges.specs.Changed.{rise_after}
 use Rattle.kom_model.specs.Db.{Db, membership_of}
 use Rattle.kom_model.specs.Effects.{fits, apply, apply_all}
