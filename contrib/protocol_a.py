@@ -2,14 +2,17 @@
 
 The tools beside this file share it. Strings are bytes, since the protocol has letters of no alphabet; moments are seconds since 1970."""
 import calendar
+import functools
 import re
 import socket
 from typing import NamedTuple
 
-# How long an answer may take, in seconds.
-PATIENCE = 120
+# How long an answer may take, in seconds, and how many bytes are read at once.
+PATIENCE, BLOCK = 120, 1 << 16
 STRING = re.compile(rb"(\d+)H")
 TOKEN = re.compile(rb" *(?:(\d+)H|([^ \n]+))")
+# The numbers of a clock by their words.
+SIXTY = {b"%d" % number: number for number in range(60)}
 # What a call is refused with, where a tool asks.
 UNDEFINED_CONFERENCE, UNDEFINED_PERSON, NO_SUCH_TEXT, NO_SUCH_LOCAL_TEXT, INDEX_OUT_OF_RANGE, LONG_ARRAY = 9, 10, 14, 16, 19, 46
 
@@ -40,6 +43,22 @@ def array(items):
 def spell(argument):
     """A number, or what is spelled already."""
     return b"%d" % argument if isinstance(argument, int) else argument
+
+
+@functools.lru_cache(1 << 14)
+def midnight(day, month, year):
+    """The moment at which a day began, by three words of a Time. (A server that has no moment tells that of the year 0 or 70.)"""
+    return calendar.timegm((int(year) + 1900, int(month) + 1, int(day), 0, 0, 0)) if int(year) else float("-inf")
+
+
+def moment_of(words):
+    """The moment that the first words of a Time tell."""
+    second, minute, hour, day, month, year = words[:6]
+    try:
+        since = SIXTY[second] + 60 * SIXTY[minute] + 3600 * SIXTY[hour]
+    except KeyError:
+        since = int(second) + 60 * int(minute) + 3600 * int(hour)
+    return max(midnight(day, month, year) + since, 0)
 
 
 class Reply:
@@ -73,10 +92,10 @@ class Reply:
             raise Broken("a reply has something else where bits should be") from None
 
     def moment(self):
-        second, minute, hour, day, month, year = (self.number() for _ in range(6))
-        self.number(), self.number(), self.number()
-        # (a server that has no moment tells that of the year 0 or 70)
-        return max(calendar.timegm((year + 1900, month + 1, day, hour, minute, second)), 0) if year else 0
+        try:
+            return moment_of([self.word() for _ in range(9)])
+        except ValueError:
+            raise Broken("a reply has something else where a moment should be") from None
 
     def many(self, element):
         """An array, each element of which is read so."""
@@ -272,7 +291,7 @@ class Session:
         self.socket = socket.create_connection((host, port), patience)
         self.socket.setsockopt(socket.IPPROTO_TCP, socket.TCP_NODELAY, 1)
         self.socket.setsockopt(socket.SOL_SOCKET, socket.SO_KEEPALIVE, 1)
-        self.file = self.socket.makefile("rb")
+        self.file = self.socket.makefile("rb", BLOCK)
         self.reference, self.messages = 0, []
         try:
             self.socket.sendall(b"A%b\n" % string(user))
@@ -294,8 +313,12 @@ class Session:
 
     def line(self):
         """The next line. A line feed in a string does not end it."""
-        line, place = self.file.readline(), 0
-        while found := STRING.search(line, place):
+        return self.whole(self.file.readline())
+
+    def whole(self, line):
+        """A line of which the bytes up to the first line feed were read."""
+        place = 0
+        while b"H" in line and (found := STRING.search(line, place)):
             place = found.end() + int(found[1])
             if len(line) <= place:
                 line += self.file.read(place - len(line)) + self.file.readline()
@@ -316,8 +339,13 @@ class Session:
 
     def reply(self, reference, call):
         """The reply to a call, or its refusal as a value."""
-        while (line := self.line()).startswith(b":"):
+        return self.reply_from(self.line(), reference, call)
+
+    def reply_from(self, line, reference, call):
+        """The same, where a line was read already."""
+        while line.startswith(b":"):
             self.messages.append(Reply(line[1:]))
+            line = self.line()
         reply = Reply(line[1:])
         if line[:1] not in (b"=", b"%") or reply.number() != reference:
             raise Broken(f"{line[:80]!r} came in place of a reply")
@@ -327,6 +355,26 @@ class Session:
         """The replies to calls that are sent together; a refusal stands in the place of its reply."""
         first = self.send_all(calls)
         return [self.reply(first + place, call[0]) for place, call in enumerate(calls)]
+
+    def told(self, calls):
+        """What the replies tell to calls for a number each, which are sent together, at once: the bytes after the reference, each as it is
+        taken. A refusal stands in the place of its reply. They are to be taken before anything else is asked."""
+        first = self.reference + 1
+        self.reference += len(calls)
+        self.socket.sendall(b"".join([b"%d %d %d\n" % (reference, *call) for reference, call in enumerate(calls, first)]))
+        return self.told_from(first, calls)
+
+    def told_from(self, first, calls):
+        """The same, of calls that were sent, the first one with this reference."""
+        readline = self.file.readline
+        for reference, (call, _) in enumerate(calls, first):
+            line, head = readline(), b"=%d " % reference
+            # (a good reply without strings, as nearly all are, is only cut)
+            if line.startswith(head) and b"H" not in line and line.endswith(b"\n"):
+                yield line[len(head) :]
+            else:
+                reply = self.reply_from(self.whole(line), reference, call)
+                yield reply if isinstance(reply, Refused) else reply.line[reply.place :].lstrip(b" ")
 
     def ask(self, call, *arguments):
         """The reply to a call, which is good."""

@@ -57,7 +57,8 @@ def words_of_server(description, page):
 
 def shown(name):
     """Bytes of a name or a text's first line as they are shown: letters of ISO 8859-1, and `?` for what steers a terminal."""
-    return "".join(letter if letter.isprintable() else "?" for letter in name.decode("latin-1"))
+    letters = name.decode("latin-1")
+    return letters if letters.isprintable() else "".join(letter if letter.isprintable() else "?" for letter in letters)
 
 
 def password(prompt):
