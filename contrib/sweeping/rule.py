@@ -51,5 +51,10 @@ def is_held(row):
 
 def lets_go(number, recipients, age, youngest, names):
     """Whether nobody names the text of this number, and every recipient lets it go. One of which nothing is told does not."""
-    days = [names.days.get(conference) for conference in recipients] or [WITHOUT_RECIPIENTS]
-    return number not in names.named and all(one is not None and releases(one, age, youngest) for one in days)
+    if number in names.named:
+        return False
+    for conference in recipients:
+        days = names.days.get(conference)
+        if days is None or not releases(days, age, youngest):
+            return False
+    return bool(recipients) or releases(WITHOUT_RECIPIENTS, age, youngest)

@@ -2,7 +2,8 @@
 from typing import NamedTuple
 
 from protocol_a import NO_SUCH_TEXT, UNDEFINED_CONFERENCE, Broken, Refused, Reply, conference, person, text
-from sweeping.rule import FOREVER, Days, Names, age_of, faq_texts, is_held, lets_go
+from sweeping.rule import FOREVER, Days, Names, age_of, faq_texts, lets_go
+from sweeping.seen import seen, without_links
 
 # How many calls are under way at a time.
 TOGETHER = 16
@@ -84,60 +85,92 @@ def names_of(session):
     return names
 
 
-def told(reply):
-    """What a reply tells, without its reference."""
-    return reply.line[reply.place :]
+def texts(session, last):
+    """The texts up to one: their numbers, rising, some at a time, each with what is told of it, or its refusal. Numbers are asked for one
+    after the other, and where few of them are texts, fewer together, and then what the next one is. While what is told of some is used,
+    the next ones are asked for."""
+    at, width, found = 0, 0, []
+    while at < last:
+        some = range(at + 1, min(at + width, last) + 1)
+        calls, at = [(90, number) for number in some], at + len(some)
+        if width < TOGETHER:
+            calls.append((60, at))
+        replies = session.told(calls)
+        yield found
+        replies = list(replies)
+        if width < TOGETHER:
+            at = next_text(replies.pop(), at) - 1
+        found = [both for both in zip(some, replies) if not isinstance(both[1], Refused) or is_there(session, *both)]
+        width = min(max(2 * width, 1), TOGETHER) if 2 * len(found) >= width else max(2 * len(found) - 1, 1)
+    yield found
+
+
+def next_text(told, number):
+    """The next text after a number, by what call 60 tells, or the number that no text reaches."""
+    if isinstance(told, Refused):
+        if told.code != NO_SUCH_TEXT:
+            raise told
+        return NUMBERS
+    found = Reply(told).number()
+    if found <= number:
+        raise Broken(f"call 60 of {number} is answered {found}")
+    return found
+
+
+def is_there(session, number, refusal):
+    """Whether there is a text although it was refused to tell of it."""
+    if refusal.code == NO_SUCH_TEXT:
+        return False
+    (told,) = session.told([(60, number - 1)])
+    return next_text(told, number - 1) == number
 
 
 def walk(session, moment, names, progress):
-    """The walk over the texts at a moment."""
+    """The walk over the texts at a moment. What is made after it began is as old as nothing that is due, and is not walked over."""
     last = session.ask(115).number() - 1
     old, ages, count = [], {}, 0
-    for found in numbers(session, 60, NO_SUCH_TEXT):
-        for number, reply in zip(found, session.ask_all([(90, number) for number in found])):
-            count += 1
-            if isinstance(reply, Refused):
+    for found in texts(session, last):
+        count += len(found)
+        for number, told in found:
+            if isinstance(told, Refused):
                 continue
-            line, row = told(reply), text(reply)
-            ages[number] = age_of(row.made, moment)
-            one = Due(number, line, [to.conference for to in row.recipients], [child for _, child in row.children], ages[number])
+            made, is_held, recipients, children = seen(told)
+            ages[number] = age = age_of(made, moment)
             # (whether its comments let it go can be said once all of them were met)
-            if not is_held(row) and lets_go(number, one.recipients, one.age, FOREVER, names):
-                old.append(one)
+            if not is_held and lets_go(number, recipients, age, FOREVER, names):
+                old.append(Due(number, told, recipients, children, age))
         progress.tell(count, last)
     progress.end()
     for some in parts(sorted({child for one in old for child in one.children if child not in ages})):
-        for number, reply in zip(some, session.ask_all([(90, number) for number in some])):
-            if not isinstance(reply, Refused):
-                ages[number] = age_of(text(reply).made, moment)
+        for number, told in zip(some, session.told([(90, number) for number in some])):
+            if not isinstance(told, Refused):
+                ages[number] = age_of(seen(told)[0], moment)
     return Walk(old, ages, count)
 
 
-def is_as_judged(one, reply, gone):
+def is_as_judged(one, told, gone):
     """Whether a text is told as when it was judged, but for its links to those that are gone since."""
-    if isinstance(reply, Refused):
+    if isinstance(told, Refused):
         return False
-    if told(reply) == one.told:
+    if told == one.told or told.split() == without_links(one.told, gone):
         return True
     row = one.row()
-    return text(reply) == row._replace(parents=[parent for parent in row.parents if parent.text not in gone],
-                                       children=[child for child in row.children if child[1] not in gone])
+    return text(Reply(told)) == row._replace(parents=[parent for parent in row.parents if parent.text not in gone],
+                                             children=[child for child in row.children if child[1] not in gone])
 
 
 def delete(session, due, gone, is_left, progress):
     """Deletes texts that are due, and adds to `gone` each one whose deletion was answered. `is_left` is told of each other one, and why."""
     for some in parts(due):
         same = []
-        for one, reply in zip(some, session.ask_all([(90, one.number) for one in some])):
-            if is_as_judged(one, reply, gone):
+        for one, told in zip(some, session.told([(90, one.number) for one in some])):
+            if is_as_judged(one, told, gone):
                 same.append(one.number)
             else:
-                is_left(one.number, reply if isinstance(reply, Refused) else "it changed meanwhile")
-        first = session.send_all([(29, number) for number in same])
-        for place, number in enumerate(same):
-            reply = session.reply(first + place, 29)
-            if isinstance(reply, Refused):
-                is_left(number, reply)
+                is_left(one.number, told if isinstance(told, Refused) else "it changed meanwhile")
+        for number, told in zip(same, session.told([(29, number) for number in same])):
+            if isinstance(told, Refused):
+                is_left(number, told)
             else:
                 gone.add(number)
         progress.tell(len(gone), len(due))
