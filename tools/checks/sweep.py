@@ -11,6 +11,9 @@
 4. A person who is not strong, other passwords and words; a store that is served is not copied, and of a copy nothing is left.
 5. A disk that gets full in the middle: the first ones are gone, and with room again the rest goes (as root).
 6. The statuses of `komd sweep`: other passwords and persons, a store that is served, what is no store, a report that cannot be written.
+7. Numbers of which few are texts, or none, in runs of each length: what is listed and swept, and how many calls that makes. Texts that
+   are told with strings in which there are line feeds and replies, in pieces of each size. What is split into words is read as what is
+   read as a record, of 1,000 random texts and of each beginning of some. Texts that are there and not told.
 
 It prints a line for each thing that is otherwise, and a count, and ends with 1 if there is one, else with 0. It takes some fifteen
 seconds, and needs a C compiler; where there is none it says so, and ends with 0. PROGRAM is the built `komd` unless it is named.
@@ -39,7 +42,11 @@ sys.path[:0] = [str(TOP / "tools" / "common"), str(TOP / "contrib")]
 from built import USAGE, make_store, program_of, script
 from clock import DAY, Clock
 from protocol import string
+from protocol_a import Broken, Reply, text
 from served import PATIENCE, Server, Session, folder_in_memory, limit_seconds
+from sweeping.rule import is_held
+from sweeping.seen import head_of, seen
+from sweeping.walks import Due, is_as_judged
 from tried import Tried
 
 SWEEP = TOP / "contrib" / "komd-sweep"
@@ -425,10 +432,11 @@ def try_random(tried, stores):
 
 class Relay:
     """A port that leads to a server. Each line that comes from the client is told to `hook` before it goes on; where that says False, the
-    connection ends. `most` is how many calls were under way at a time."""
+    connection ends. What comes back is what `answer` makes of each line, in pieces of so many bytes if there is a `size`. `most` is how
+    many calls were under way at a time."""
 
-    def __init__(self, port, hook):
-        self.port, self.hook, self.under_way, self.most = port, hook, 0, 0
+    def __init__(self, port, hook, answer=None, size=None):
+        self.port, self.hook, self.answer, self.size, self.under_way, self.most = port, hook, answer or bytes, size, 0, 0
         self.lock = threading.Lock()
         self.door = socket.create_server(("127.0.0.1", 0))
         self.thread = threading.Thread(target=self.work, daemon=True)
@@ -469,9 +477,12 @@ class Relay:
 
     def back(self, server, client):
         with contextlib.suppress(OSError), server.makefile("rb") as lines:
+            client.setsockopt(socket.IPPROTO_TCP, socket.TCP_NODELAY, 1)
             for line in lines:
                 self.count(-1)
-                client.sendall(line)
+                line = self.answer(line)
+                for place in range(0, len(line), self.size or len(line)):
+                    client.sendall(line[place : place + (self.size or len(line))])
 
 
 def at(number, call, work):
@@ -537,10 +548,10 @@ def try_changes(tried):
         session.ask(f"32 {made[25]} {made[0]}")
         with Relay(server.port, at(20, "90", lambda: [session.ask(f"29 {number}") for number in made[19:30]] and None)) as relay:
             listed = tried.said("--port", relay.number())
-        tried.same("texts that go in the middle of the walk, one a comment", (made[1:19] + made[30:], "due 28 kept 12"), listed)
+        tried.same("texts that go in the middle of the walk, one a comment", (made[1:19] + made[30:], "due 28 kept 1"), listed)
         for expire, wanted in ((0, made[:19] + made[30:-1]), (1, made[:19] + made[30:])):
             days_of(session, room, 1, 1, expire)
-            with Relay(server.port, at(29, "90", lambda: write(session, room, parents=[made[-1]]) and None)) as relay:
+            with Relay(server.port, at(1, f"90 {made[-1]}", lambda: write(session, room, parents=[made[-1]]) and None)) as relay:
                 listed = tried.said("--port", relay.number())
             tried.same(f"a comment to the last text at the end of the walk, with expire {expire}",
                        (wanted, f"due {len(wanted)} kept {29 - len(wanted)}"), listed)
@@ -724,6 +735,177 @@ def try_statuses(tried):
     tried.same("a second sweep by `komd sweep`", (0, "swept 0\nkept 0\n"), tried.swept(store))
 
 
+# Part 7.
+
+# Runs of numbers, each of which are texts or are not, and the most calls that a walk over them makes.
+RUNS = {
+    "no numbers": ([], 0),
+    "no text": ([(False, 100)], 1),
+    "the first text alone": ([(True, 1), (False, 500)], 4),
+    "the last text alone": ([(False, 500), (True, 1)], 4),
+    "all texts": ([(True, 600)], 610),
+    "full parts, and more or less than that": ([(True, 31), (False, 1), (True, 15), (False, 2), (True, 17), (False, 16)], 95),
+    "each second one": ([(True, 1), (False, 1)] * 100, 210),
+    "each fifth one": ([(True, 1), (False, 4)] * 40, 165),
+    "each hundredth one": ([(False, 99), (True, 1)] * 8, 34),
+    "few, then many, then few": ([(False, 300), (True, 2), (False, 50), (True, 200), (False, 400), (True, 3), (False, 7)], 250),
+}
+
+
+def random_runs(draw):
+    """Runs of some 400 numbers."""
+    lengths = [draw.randint(1, draw.choice((1, 3, 20, 60))) for _ in range(30)]
+    return [(bool(place % 2), length) for place, length in enumerate(lengths)], sum(lengths) + 60
+
+
+def try_numbers(tried):
+    """Part 7: numbers of which few are texts."""
+    draw = random.Random(1)
+    for what, (runs, most) in {**RUNS, **{f"runs {seed}": random_runs(draw) for seed in range(6)}}.items():
+        with tried.served() as (server, session):
+            kept, short = conference(session, "kept", FOR_EVER, FOR_EVER), conference(session, "short", 1, 1)
+            are = [is_text for is_text, length in runs for _ in range(length)]
+            session.ask_all([f"86 1Hx 1 {{ 0 {draw.choice((kept, short, short))} }} 0 {{ }}" for _ in are])
+            session.ask_all([f"29 {number}" for number, is_text in enumerate(are, 1) if not is_text])
+            tried.clock.go_on(5 * DAY)
+            due, texts = model(session, tried.clock.moment), stats(session)
+            calls = collections.Counter()
+            with Relay(server.port, lambda line: calls.update(line.split()[1:2])) as relay:
+                tried.same(f"what is listed of {what}", (due, f"due {len(due)} kept {sum(are) - len(due)}"), tried.said("--port", relay.number()))
+            tried.same(f"whether the walk over {what} makes too many calls", (False, False),
+                       (calls["60"] + calls["90"] > most, relay.most > UNDER_WAY))
+            said = f"swept {len(due)} kept {sum(are) - len(due)}"
+            tried.same(f"what is swept of {what}", ([], said), tried.said("--port", server.port, "--delete"))
+            tried.same(f"what is left of {what}", without(texts, due), stats(session))
+
+
+def try_strings(tried):
+    """Part 7: texts that are told with strings."""
+    draw = random.Random(2)
+    pieces = ("\n", "H", "9H", "12H", " } 0 *\n", "=1 2 3\n", "%3 14 1\n", ":1 5", "ordinary", " ")
+    with tried.served() as (server, session):
+        short = conference(session, "short", 1, 1)
+        for number in range(120):
+            content = "".join(draw.choices(pieces, k=draw.randint(0, 6)))
+            write(session, short, items=item(2, draw.choice((SECRET, DONT_GARB)), content) if number % 3 else "0 { }",
+                  parents=[number] if number % 5 == 4 else [])
+        tried.clock.go_on(5 * DAY)
+        due, texts = model(session, tried.clock.moment), stats(session)
+        tried.same("whether some texts with strings are due, and some are not", True, 40 < len(due) < 110)
+        for size in (1, 2, 7, 100, 5000):
+            with Relay(server.port, lambda line: None, size=size) as relay:
+                tried.same(f"what is listed in pieces of {size} bytes", (due, f"due {len(due)} kept {120 - len(due)}"),
+                           tried.said("--port", relay.number()))
+        with Relay(server.port, lambda line: None, size=3) as relay:
+            tried.same("what is swept in pieces", ([], f"swept {len(due)} kept {120 - len(due)}"), tried.said("--port", relay.number(), "--delete"))
+        tried.same("what that leaves", without(texts, due), stats(session))
+
+
+def random_told(draw):
+    """What may be told of a text."""
+
+    def moment():
+        year = draw.choice((0, 69, 70, 70, 100, 124, 124, 124))
+        return f"{draw.randrange(60)} {draw.randrange(60)} {draw.randrange(24)} {draw.randint(1, 28)} {draw.randrange(12)} {year} 1 2 0"
+
+    def array(rows):
+        return f"{len(rows)} {{ {' '.join(rows)} }}" if rows else "0 *"
+
+    misc, is_later = [], draw.random() < 0.2
+    for _ in range(draw.choice((0, 1, 1, 1, 2))):
+        misc += [f"{draw.choice((0, 0, 1, 15))} {draw.randint(1, 9)}", f"6 {draw.randint(1, 99)}"]
+        misc += [f"7 {moment()}", f"8 {draw.randint(1, 9)}", f"9 {moment()}"] if is_later and draw.random() < 0.5 else []
+    for _ in range(draw.choice((0, 0, 1, 2))):
+        misc.append(f"{draw.choice((2, 2, 4))} {draw.randint(1, 9)}")
+        misc += [f"8 {draw.randint(1, 9)}", f"9 {moment()}"][: draw.randint(0, 2)] if is_later else []
+    misc += [f"{draw.choice((3, 3, 5))} {draw.randint(1, 9)}" for _ in range(draw.choice((0, 0, 1, 3)))]
+    items = [f"{number} 2 5 {moment()} {draw.choice((DONT_GARB, SECRET))} 0 {string(draw.choice(('x', ' } 0 *', '3H', '')))}"
+             for number in range(draw.choice((0, 0, 0, 1, 2)))]
+    return f"{moment()} 5 1 {draw.randrange(99)} {draw.choice((0, 0, 0, 1))} {array(misc)} {array(items)}\n".encode()
+
+
+def outcome(work, *given):
+    """What a work comes to, or that it finds a fault."""
+    try:
+        return work(*given)
+    except (Broken, ValueError, IndexError):
+        return "a fault"
+
+
+def seen_in_record(told):
+    """What is seen of a text, and its head, as it is read as a record."""
+    row = text(Reply(told))
+    return (row.made, is_held(row), [to.conference for to in row.recipients], [child for _, child in row.children]), (row.made, row.author, row.length)
+
+
+def try_seen(tried):
+    """Part 7: what is split into words, and what is read as a record."""
+    draw = random.Random(3)
+    for _ in range(1000):
+        told, gone = random_told(draw), set(draw.sample(range(1, 10), 3))
+        tried.same(f"what is seen of {told}", seen_in_record(told), (seen(told), head_of(told)))
+        row, words = text(Reply(told)), told.decode().split()
+        # (a number of another text now and then, so that many differ in that alone)
+        other = " ".join(draw.choice((word, "7")) if word.isdigit() and draw.random() < 0.05 else word for word in words).encode() + b"\n"
+        for now in (told, other, random_told(draw), told_without(told, gone)):
+            wanted = outcome(lambda line: text(Reply(line)) == row._replace(
+                parents=[one for one in row.parents if one.text not in gone], children=[one for one in row.children if one[1] not in gone]), now)
+            tried.same(f"whether {told} is told as {now} without {gone}", wanted or now == told, outcome(is_as_judged, Due(1, told, [], [], 0), now, gone))
+    for _ in range(20):
+        told = random_told(draw)
+        for end in range(len(told)):
+            tried.same(f"what is seen of {told[:end]}", outcome(lambda line: seen_in_record(line)[0], told[:end]), outcome(seen, told[:end]))
+
+
+def told_without(told, gone):
+    """What is told of a text once its links to texts are gone, if these are told by numbers alone."""
+    head, brace, rest = told.partition(b" { ")
+    head, count = head.rsplit(b" ", 1)
+    misc, brace_too, rest = rest.partition(b" }")
+    words = misc.split()
+    pairs = [pair for pair in zip(words[::2], words[1::2]) if pair[0] not in (b"2", b"3", b"4", b"5") or int(pair[1]) not in gone]
+    if not brace or 2 * int(count) != len(words):
+        return told
+    array = b"%d { %b }" % (len(pairs), b" ".join(b" ".join(pair) for pair in pairs)) if pairs else b"0 *"
+    return b"%b %b%b" % (head, array, rest)
+
+
+def refusing(numbers, code, calls=("90",)):
+    """A hook and an answer by which calls for these numbers are refused."""
+    references = set()
+
+    def hook(line):
+        words = line.split()
+        if words[1:] and words[1] in calls and words[2] in numbers:
+            references.add(words[0].encode())
+
+    def answer(line):
+        reference = line[1:].split()[0] if line[1:].split() else b""
+        return b"%%%b %d 0\n" % (reference, code) if line.startswith(b"=") and reference in references else line
+
+    return hook, answer
+
+
+def try_untold(tried):
+    """Part 7: texts that are there and not told."""
+    with tried.served() as (server, session):
+        room, made = old_texts(tried, session, 40)
+        write(session, room, parents=[made[4]])
+        session.ask(f"29 {made[20]}")
+        hook, answer = refusing({"7", "20", "41"}, 46)
+        wanted = [number for number in made if number not in (5, 7, 20, 21)]
+        with Relay(server.port, hook, answer) as relay:
+            tried.same("what is listed where three texts are not told, one a comment", (wanted, f"due {len(wanted)} kept 4"),
+                       tried.said("--port", relay.number()))
+        left = stats(session)
+        for what, given in (("a refusal of a text and of its number", refusing({"7", "6"}, 6, ("90", "60"))),
+                            ("a refusal of all texts", refusing(set(map(str, range(99))), 6, ("90", "60"))),
+                            ("a refusal of the number after a gap", refusing({"0"}, 6, ("60",)))):
+            with Relay(server.port, *given) as relay:
+                tried.refused_at(relay, what, "nothing is due")
+        tried.same("what these leave", left, stats(session))
+
+
 def main(words):
     program = program_of(words)
     stores = int(words[1]) if words[1:] else STORES
@@ -742,6 +924,10 @@ def main(words):
         try_full_disk(tried)
         try_own_full_disk(tried)
         try_statuses(tried)
+        try_numbers(tried)
+        try_strings(tried)
+        try_seen(tried)
+        try_untold(tried)
     print(f"{tried.count} things looked at, {tried.failed} are otherwise")
     return 1 if tried.failed else 0
 
