@@ -58,7 +58,7 @@ module _ {D : Type 0} (moment : D → ℕ) where
   tick_of entry = elim entry.store.value [ None ↦ 0 | Some journal ↦ moment journal.disk ]
 
   -- no act ended before one that is before it
-  pub TicksNeverFall : List (Ticked D) → Type 0
+  abbrev pub TicksNeverFall : List (Ticked D) → Type 0
   TicksNeverFall [] = Unit {0}
   TicksNeverFall (entry ∷ later) =
       AllByRecursion (λ one. tick_of entry ≤ tick_of one) later × TicksNeverFall later
