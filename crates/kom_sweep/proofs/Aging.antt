@@ -65,13 +65,14 @@ pub ages_step : (session moment : ℕ) (infos : List MiscInfo) (i : ℕ) (d : Mi
     × ((before : List (ℕ × Option Reply)) → TellsOf moment before ages → TellsOf moment (before ++ children) new)) →
     ((children : List (ℕ × Option Reply)) × (map (λ child. child.0) children ≡ filter_map child_in (take (i + 1) infos))
     × Goes session x y (map told_child children) × TellsOf moment children new)
-ages_step session moment infos i d ages new x m y less (before, names, goes, tells) (more, one, then_goes, then_tells) = (
-  before ++ more,
-  named_more child_in infos i d before more less names one,
-  subst (λ (calls : List Told). Goes session x y calls) (sym (map-append told_child before more))
-      (goes_on x m y goes then_goes),
-  then_tells before tells,
-)
+ages_step session moment infos i d ages new x m y less (before, names, goes, tells)
+    (more, one, then_goes, then_tells) = (
+      before ++ more,
+      named_more child_in infos i d before more less names one,
+      subst (λ (calls : List Told). Goes session x y calls) (sym (map-append told_child before more))
+          (goes_on x m y goes then_goes),
+      then_tells before tells,
+    )
 
 -- all were asked about
 pub ages_end : (session moment : ℕ) (infos : List MiscInfo) (i : ℕ) (ages : Ages) (x y : Seen) → length infos ≤ i →

@@ -29,7 +29,8 @@ use Rattle.kom_sweep.proofs.Times.{timed_none, timed_one}
 use Rattle.kom_sweep.proofs.Going.{acted_on}
 
 -- a desk on which nothing was given stays so
-pub stays : (session : ℕ) (old new : ℕ → List (List Item)) → StaysForAll old new → ChangesAt session (old session ++ []) old new
+pub stays : (session : ℕ) (old new : ℕ → List (List Item)) → StaysForAll old new →
+    ChangesAt session (old session ++ []) old new
 stays session old new same = (same session ∙ sym (append-nil (old session)), λ number other. same number)
 
 -- an act that was made
@@ -80,8 +81,8 @@ called session reference call moment x y value gains calls =
     (stays session x.desk.gave_to y.desk.gave_to calls.given) calls.rest.tells gains refl calls.rest.pass
 
 pub not_called : {X : Type 0} (session reference : ℕ) (call : Call) (moment : ℕ) (x y : Seen) (reason : NotMade) →
-    Gains x.gave moment y.gave → Calls {X = X} x.desk moment (act.Call session reference call) session (Err reason) y.desk →
-    Acted session [] [] (reason ∷ []) x y
+    Gains x.gave moment y.gave → Calls {X = X} x.desk moment (act.Call session reference call) session (Err reason)
+    y.desk → Acted session [] [] (reason ∷ []) x y
 not_called session reference call moment x y reason gains calls =
     no_act session moment x y (deed.Call session) reason calls.rest.none_added calls.given calls.rest.tells gains
     calls.rest.pass

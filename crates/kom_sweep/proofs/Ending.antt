@@ -81,14 +81,16 @@ may_leave (one ∷ faults) more last left = tt
 may_leave [] [] last left = left
 may_leave [] (one ∷ more) last left = tt
 
-pub session_of : {X : Type 0} {calls : List Told} {faults : List NotMade} (moment session person : ℕ) (password : List ℕ)
+pub session_of : {X : Type 0} {calls : List Told} {faults : List NotMade} (moment session person : ℕ)
+    (password : List ℕ)
     (old : Seen) (v1 v2 v3 : DeskView) (g1 g2 g3 : Option (List ℕ)) (next later : ℕ) (closed : Result X NotMade)
     (ending : SweepEnd) → Gains old.gave moment g1 → Connects old.desk moment user host (Ok session) v1 →
-    Stops session (seen v1 g1 1) (seen v2 g2 next) calls faults → Gains g2 later g3 → Closes v2 later session closed v3 →
+    Stops session (seen v1 g1 1) (seen v2 g2 next) calls faults → Gains g2 later g3 →
+    Closes v2 later session closed v3 →
     AtEnd moment person password calls (first_of (faults ++ closed_faults closed)) ending →
     IsSession moment session person password old v3 g3 ending
-session_of {X} {calls} {faults} moment session person password old v1 v2 v3 g1 g2 g3 next later closed ending gains connects stops
-    gains_later closes ends =
+session_of {X} {calls} {faults} moment session person password old v1 v2 v3 g1 g2 g3 next later closed ending gains
+    connects stops gains_later closes ends =
     let x : Seen = seen v1 g1 1 in
     let y : Seen = seen v2 g2 next in
     let z : Seen = seen v3 g3 next in

@@ -60,13 +60,13 @@ numbered_on : (from mid to : ℕ) (one two : List Exchange) → AreNumbered from
 numbered_on from mid to [] two a b = subst (λ (from : ℕ). AreNumbered from two to) a b
 numbered_on from mid to (e ∷ one) two a b = (a.0, numbered_on (next_reference from) mid to one two a.1 b)
 
-pub goes_on : {session : ℕ} {calls calls' : List Told} (x y z : Seen) → Goes session x y calls → Goes session y z calls' →
-    Goes session x z (calls ++ calls')
+pub goes_on : {session : ℕ} {calls calls' : List Told} (x y z : Seen) → Goes session x y calls →
+    Goes session y z calls' → Goes session x z (calls ++ calls')
 goes_on {session} {calls} {calls'} x y z one two = record {
   exchanges = one.exchanges ++ two.exchanges;
   acted =
-      subst (λ (acts : List Act). Acted session acts (map (λ (e : Exchange). e.items) (one.exchanges ++ two.exchanges)) [] x z)
-      (sym (flat_map-append (acts_of session) one.exchanges two.exchanges))
+      subst (λ (acts : List Act). Acted session acts (map (λ (e : Exchange). e.items) (one.exchanges ++ two.exchanges))
+      [] x z) (sym (flat_map-append (acts_of session) one.exchanges two.exchanges))
       (subst (λ (given : List (List Item)). Acted session (flat_map (acts_of session) one.exchanges
       ++ flat_map (acts_of session) two.exchanges) given [] x z)
       (sym (map-append (λ (e : Exchange). e.items) one.exchanges two.exchanges))
@@ -85,14 +85,15 @@ goes_none session x = record {
   sound = tt;
 }
 
-pub stops_on : {session : ℕ} {calls calls' : List Told} {faults : List NotMade} (x y z : Seen) → Goes session x y calls →
-    Stops session y z calls' faults → Stops session x z (calls ++ calls') faults
+pub stops_on : {session : ℕ} {calls calls' : List Told} {faults : List NotMade} (x y z : Seen) →
+    Goes session x y calls → Stops session y z calls' faults → Stops session x z (calls ++ calls') faults
 stops_on {session} {calls} {calls'} {faults} x y z one two = record {
   exchanges = one.exchanges ++ two.exchanges;
   last = two.last;
   next = two.next;
   acted =
-      subst (λ (acts : List Act). Acted session acts (map (λ (e : Exchange). e.items) (one.exchanges ++ two.exchanges)) faults x z)
+      subst (λ (acts : List Act). Acted session acts (map (λ (e : Exchange). e.items) (one.exchanges ++ two.exchanges))
+      faults x z)
       (sym (append_assoc (flat_map (acts_of session) one.exchanges) (flat_map (acts_of session) two.exchanges)
       (acts_last session two.last))
       ∙ ap (λ (acts : List Act). acts ++ acts_last session two.last)

@@ -33,11 +33,13 @@ least-lt : (days age youngest : ℕ) → nat_lt days (if nat_lt age youngest the
     ≡ (nat_lt days youngest && (nat_lt days age && true))
 least-lt days age youngest = grind arith
 
-above-least : (days age : ℕ) (o : Option ℕ) → is_above days (Some (least age o)) ≡ (is_above days o && (nat_lt days age && true))
+above-least : (days age : ℕ) (o : Option ℕ) →
+    is_above days (Some (least age o)) ≡ (is_above days o && (nat_lt days age && true))
 above-least days age None = and-true (nat_lt days age)
 above-least days age (Some youngest) = least-lt days age youngest
 
-all-more : {X : Type 0} (test : X → Bool) (xs : List X) (x : X) → list_all test (xs ++ x ∷ []) ≡ (list_all test xs && (test x && true))
+all-more : {X : Type 0} (test : X → Bool) (xs : List X) (x : X) →
+    list_all test (xs ++ x ∷ []) ≡ (list_all test xs && (test x && true))
 all-more test xs x = list_all-append test xs (x ∷ [])
 
 -- of nothing
@@ -55,7 +57,8 @@ is-older-untold moment days child reply e = rw (e, is_older) refl
 -- with one more
 pub tells-more : (moment : ℕ) (before : List (ℕ × Option Reply)) (ages : Ages) (child : ℕ) (reply : Option Reply) →
     TellsOf moment before ages →
-    TellsOf moment (before ++ (child, reply) ∷ []) (with_age ages (option_map (λ stat. age moment stat) (stat_in reply)))
+    TellsOf moment (before ++ (child, reply) ∷ []) (with_age ages
+    (option_map (λ stat. age moment stat) (stat_in reply)))
 tells-more moment before ages child reply tells = by (stat_in reply) refl
   where
     by : (o : Option TextStat) → stat_in reply ≡ o →
@@ -124,7 +127,8 @@ all_let_go-same rooms all kept moment stat children ages knows tells =
 
 pub judged : (rooms : Walk Room) (kept : Names) (moment text : ℕ) (stat : TextStat)
     (children : List (ℕ × Option Reply)) (ages : Ages) → text < 2 ^ 32 → Knows rooms.steps (is_whole rooms) kept →
-    TellsOf moment children ages → is_due_at kept moment text stat ages ≡ is_due_by moment rooms text (Some stat) children
+    TellsOf moment children ages → is_due_at kept moment text stat ages
+    ≡ is_due_by moment rooms text (Some stat) children
 judged rooms kept moment text stat children ages small knows tells =
     ap₂ (λ a b. a && ((stat.marks == 0) && (not (is_held stat.aux_items) && b))) knows.whole
     (ap₂ (λ a b. a && b) tells.all

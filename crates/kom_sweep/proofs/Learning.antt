@@ -80,7 +80,8 @@ pub learns_as : {days days' : ℕ → Option Days} {texts texts' : ℕ → Bool}
     ((one : ℕ) → days one ≡ days' one) → ((text : ℕ) → texts text ≡ texts' text) → all ≡ all' →
     Learns days texts all x y → Learns days' texts' all' x y
 learns_as x y same_days same_texts same_all one = record {
-  days = λ conference. one.days conference ∙ ap (λ o. option_or o (get nat_eq x.days conference)) (same_days conference);
+  days = λ conference. one.days conference ∙ ap (λ o. option_or o (get nat_eq x.days conference))
+      (same_days conference);
   named = λ text small. one.named text small ∙ ap (λ b. contains nat_eq x.named text || b) (same_texts text);
   whole = one.whole ∙ same_all;
 }
@@ -98,7 +99,8 @@ pub knows_none : (kept : Names) → ((conference : ℕ) → get nat_eq kept.days
     ((text : ℕ) → contains nat_eq kept.named text ≡ false) → kept.whole ≡ true → Knows [] true kept
 knows_none kept days named whole = record { days = days; named = λ text small. named text; whole = whole }
 
-knows_more : (rooms : List (Step Room)) (step : Step Room) (old new : Names) → Knows rooms (list_all is_told_room rooms) old →
+knows_more : (rooms : List (Step Room)) (step : Step Room) (old new : Names) →
+    Knows rooms (list_all is_told_room rooms) old →
     Learns (days_at step) (λ text. names text step) (old.whole && is_told_room step) old new →
     Knows (rooms ++ step ∷ []) (list_all is_told_room (rooms ++ step ∷ [])) new
 knows_more rooms step old new knows learns = record {
@@ -143,10 +145,19 @@ knows_untold number reply old new e days named whole rooms after knows =
         by true p = sym p
         by false p = refl
 
-    same_texts : (text : ℕ) → false ≡ names text (record { after = after; number = number; told = record { conference = reply; owner = None } })
+    same_texts : (text : ℕ) →
+        false ≡ names text (record {
+          after = after;
+          number = number;
+          told = record { conference = reply; owner = None };
+        })
     same_texts text = rw (e) refl
 
-    same_all : (old.whole && is_told_room (record { after = after; number = number; told = record { conference = reply; owner = None } })) ≡ false
+    same_all : (old.whole && is_told_room (record {
+      after = after;
+      number = number;
+      told = record { conference = reply; owner = None };
+    })) ≡ false
     same_all = rw (e, is_told_room) (by old.whole)
       where
         by : (b : Bool) → (b && false) ≡ false
@@ -171,7 +182,11 @@ knows_told number reply conference old new e letter learns rooms after knows =
         ≡ names text (record { after = after; number = number; told = record { conference = reply; owner = None } })
     same_texts text = rw (e, letter) (sym (or-false (conference_names text (Some conference))))
 
-    same_all : (old.whole && is_told_room (record { after = after; number = number; told = record { conference = reply; owner = None } })) ≡ old.whole
+    same_all : (old.whole && is_told_room (record {
+      after = after;
+      number = number;
+      told = record { conference = reply; owner = None };
+    })) ≡ old.whole
     same_all = rw (e, is_told_room, letter) (by old.whole)
       where
         by : (b : Bool) → (b && true) ≡ b
@@ -197,7 +212,11 @@ knows_owned number reply owner conference old mid new e letter learns owned room
     same_texts text = rw (e, letter) refl
 
     same_all : (mid.whole && is_some (person_in owner))
-        ≡ (old.whole && is_told_room (record { after = after; number = number; told = record { conference = reply; owner = owner } }))
+        ≡ (old.whole && is_told_room (record {
+          after = after;
+          number = number;
+          told = record { conference = reply; owner = owner };
+        }))
     same_all = rw (e, is_told_room, letter) (ap (λ b. b && is_some (person_in owner)) learns.whole)
 
 -- ---- one thing that is learned
@@ -271,8 +290,8 @@ pub learns_conference : (number : ℕ) (conference : Conference) (days : Days) (
 learns_conference number conference days items a b c d e is same one two three four =
     learns_as a e (λ one. ap (λ days. if number == one then Some days else None) is)
     (λ text. or-assoc (conference.presentation == text) (conference.motd == text) (list_any (is_faq text) items)
-    ∙ ap (λ items. (conference.presentation == text) || ((conference.motd == text) || list_any (is_faq text) items)) same)
-    (three.whole ∙ two.whole ∙ one.whole)
+    ∙ ap (λ items. (conference.presentation == text) || ((conference.motd == text) || list_any (is_faq text) items))
+    same) (three.whole ∙ two.whole ∙ one.whole)
     (learns_on a d e (learns_on a c d (learns_on a b c one two) three) four)
 
 -- what a letterbox's person tells

@@ -21,8 +21,8 @@ names_more {X} numbers i d xs x less before =
     ∙ ap (λ (all : List ℕ). all ++ get_or numbers i d ∷ []) before ∙ sym (take_more numbers i d less)
 
 -- the numbers that one element more names
-pub named_more : {X Y : Type 0} (f : Y → Option ℕ) (ys : List Y) (i : ℕ) (d : Y) (xs more : List (ℕ × X)) → i < length ys →
-    map (λ one. one.0) xs ≡ filter_map f (take i ys) →
+pub named_more : {X Y : Type 0} (f : Y → Option ℕ) (ys : List Y) (i : ℕ) (d : Y) (xs more : List (ℕ × X)) →
+    i < length ys → map (λ one. one.0) xs ≡ filter_map f (take i ys) →
     map (λ one. one.0) more ≡ filter_map f (get_or ys i d ∷ []) →
     map (λ one. one.0) (xs ++ more) ≡ filter_map f (take (i + 1) ys)
 named_more {X} {Y} f ys i d xs more less before one =

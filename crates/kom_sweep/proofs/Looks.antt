@@ -33,16 +33,17 @@ look_untold session text moment answer x y kept goes e = (
   λ rooms knows. ap (λ stat. is_due_by moment rooms text stat []) (sym e),
 )
 
-pub look_told : (session text moment : ℕ) (answer : Option Reply) (stat : TextStat) (infos : List MiscInfo) (ages : Ages)
-    (is_now : Bool) (x m y : Seen) (kept : Names) → text < 2 ^ 32 →
+pub look_told : (session text moment : ℕ) (answer : Option Reply) (stat : TextStat) (infos : List MiscInfo)
+    (ages : Ages) (is_now : Bool) (x m y : Seen) (kept : Names) → text < 2 ^ 32 →
     Goes session x m (told (call.GetTextStat text) answer ∷ []) → stat_in answer ≡ Some stat → infos ≡ stat.misc_infos →
     ((children : List (ℕ × Option Reply)) × (map (λ child. child.0) children ≡ filter_map child_in infos)
     × Goes session m y (map told_child children) × TellsOf moment children ages) →
     is_now ≡ is_due_at kept moment text stat ages → LooksAt session text moment x y kept is_now
-look_told session text moment answer stat infos ages is_now x m y kept small goes e same (children, names, then_goes, tells) is = (
-  record { stat = answer; children = children },
-  names ∙ ap (filter_map child_in) same ∙ ap children_of (sym e),
-  goes_on x m y goes then_goes,
-  λ rooms knows. is ∙ judged rooms kept moment text stat children ages small knows tells
-      ∙ ap (λ stat. is_due_by moment rooms text stat children) (sym e),
-)
+look_told session text moment answer stat infos ages is_now x m y kept small goes e same
+    (children, names, then_goes, tells) is = (
+      record { stat = answer; children = children },
+      names ∙ ap (filter_map child_in) same ∙ ap children_of (sym e),
+      goes_on x m y goes then_goes,
+      λ rooms knows. is ∙ judged rooms kept moment text stat children ages small knows tells
+          ∙ ap (λ stat. is_due_by moment rooms text stat children) (sym e),
+    )

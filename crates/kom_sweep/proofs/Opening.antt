@@ -44,7 +44,8 @@ open_called session reference call x y moment (Ok value) calls h = opens session
 open_called session reference call x y moment (Err fault) calls h = keeps session x.mine y.mine calls.rest.none_added h
 
 pub open_drained : {X : Type 0} (session : ℕ) (items : List Item) (x y : DeskView) (moment : ℕ)
-    (answer : Result X NotMade) → Drains x moment session items answer y → IsOpen session x.mine → IsOpen session y.mine
+    (answer : Result X NotMade) → Drains x moment session items answer y → IsOpen session x.mine →
+    IsOpen session y.mine
 open_drained session items x y moment (Ok value) drains h = opens session x.mine y.mine _ refl drains.added h
 open_drained session items x y moment (Err fault) drains h = keeps session x.mine y.mine drains.rest.none_added h
 
@@ -77,7 +78,8 @@ none_closed session (made ∷ mine) e =
     both (is_close made.entry.act) (made.session == session) (has_session session mine) (has_close session mine) e
     (none_closed session mine)
   where
-    both : (a b rest closed : Bool) → (b || rest) ≡ false → (rest ≡ false → closed ≡ false) → ((a && b) || closed) ≡ false
+    both : (a b rest closed : Bool) → (b || rest) ≡ false → (rest ≡ false → closed ≡ false) →
+        ((a && b) || closed) ≡ false
     both true true rest closed e f = cc
     both true false rest closed e f = f e
     both false true rest closed e f = cc

@@ -18,7 +18,8 @@ capped : (n d m : ℕ) → min (min n m * 10 + d) m ≡ min (n * 10 + d) m
 capped n d m = omega arith
 
 -- one digit more, up to a number that no text has
-pub spelled_more : (content : List ℕ) (i d number : ℕ) → i < length content → number ≡ min (spelled (take i content)) (2 ^ 32) →
+pub spelled_more : (content : List ℕ) (i d number : ℕ) → i < length content →
+    number ≡ min (spelled (take i content)) (2 ^ 32) →
     min (number * 10 + (get_or content i d - 48)) (2 ^ 32) ≡ min (spelled (take (i + 1) content)) (2 ^ 32)
 spelled_more content i d number less is =
     ap (λ n. min (n * 10 + (get_or content i d - 48)) (2 ^ 32)) is
@@ -52,7 +53,8 @@ number_read content number text all is less =
     ap (λ b. b && (spelled content == text)) (sym (ap (list_all is_digit) whole) ∙ all)
     ∙ ap (λ n. n == text) (sym (omega (arith, is ∙ ap (λ digits. min (spelled digits) (2 ^ 32)) whole)))
 
-pub number_past : (content : List ℕ) (number text : ℕ) → number ≡ min (spelled (take (length content) content)) (2 ^ 32) →
+pub number_past : (content : List ℕ) (number text : ℕ) →
+    number ≡ min (spelled (take (length content) content)) (2 ^ 32) →
     2 ^ 32 ≤ number → text < 2 ^ 32 → (list_all is_digit content && (spelled content == text)) ≡ false
 number_past content number text is past less =
     let whole = take_all (length content) content (omega arith) in

@@ -54,7 +54,8 @@ pub rooms_end : (session at : ℕ) (answer : Option Reply) (x m y : Seen) (old n
     Visited session x m at old → Goes session m y (told (call.FindNextConfNo at) answer ∷ []) →
     number_above at (number_in answer) ≡ None → new.days ≡ old.days → new.named ≡ old.named →
     new.whole ≡ (old.whole && is_last_conference answer) →
-    ((rooms : Walk Room) × IsRoomWalk rooms × Goes session x y (told_rooms rooms) × Knows rooms.steps (is_whole rooms) new)
+    ((rooms : Walk Room) × IsRoomWalk rooms × Goes session x y (told_rooms rooms)
+    × Knows rooms.steps (is_whole rooms) new)
 rooms_end session at answer x m y old new (steps, leads, goes, knows) asked above days named whole = (
   record { steps = steps; at = at; last = answer },
   record { leads = leads; end = end_told at answer above },
@@ -127,21 +128,23 @@ abbrev pub Deleted : ℕ → Seen → Seen → List ℕ → ℕ → Type 0
 Deleted session x y due swept = (gone : List (ℕ × Option Reply)) × (map (λ one. one.0) gone ≡ due)
     × (swept ≡ swept_in gone) × Goes session x y (told_deletions gone)
 
-pub deletes_step : (session i d swept later : ℕ) (due : List ℕ) (answer : Option Reply) (refused : Bool) (x m y : Seen) →
-    i < length due → Deleted session x m (take i due) swept →
+pub deletes_step : (session i d swept later : ℕ) (due : List ℕ) (answer : Option Reply) (refused : Bool)
+    (x m y : Seen) → i < length due → Deleted session x m (take i due) swept →
     Goes session m y (told (call.DeleteText (get_or due i d)) answer ∷ []) → refused ≡ is_refused answer →
     later ≡ swept + (if refused then 0 else 1) → Deleted session x y (take (i + 1) due) later
 deletes_step session i d swept later due answer refused x m y less (gone, names, counted, goes) asked is_refusal is = (
   gone ++ (get_or due i d, answer) ∷ [],
   names_more due i d gone answer less names,
-  is ∙ ap (λ n. n + (if refused then 0 else 1)) counted ∙ sym (swept_push gone (get_or due i d) answer refused is_refusal),
-  subst (λ (calls : List Told). Goes session x y calls) (sym (map-append told_gone gone ((get_or due i d, answer) ∷ [])))
+  is ∙ ap (λ n. n + (if refused then 0 else 1)) counted
+      ∙ sym (swept_push gone (get_or due i d) answer refused is_refusal),
+  subst (λ (calls : List Told). Goes session x y calls)
+      (sym (map-append told_gone gone ((get_or due i d, answer) ∷ [])))
       (goes_on x m y goes asked),
 )
 
 -- the next deletion is not made, or not answered
-pub deletes_end : {faults : List NotMade} (session i d : ℕ) (due : List ℕ) (swept : ℕ) (x m y : Seen) → i < length due →
-    Deleted session x m (take i due) swept →
+pub deletes_end : {faults : List NotMade} (session i d : ℕ) (due : List ℕ) (swept : ℕ) (x m y : Seen) →
+    i < length due → Deleted session x m (take i due) swept →
     ((calls : List Told) × IsAbout (call.DeleteText (get_or due i d)) calls × Stops session m y calls faults) →
     ((gone : List (ℕ × Option Reply)) × (rest : List ℕ) × (map (λ one. one.0) gone ++ rest ≡ due)
     × Stops session x y (told_deletions gone) faults)
@@ -175,8 +178,8 @@ plain_room : (number : ℕ) (answer : Option Reply) (conference : Conference) �
     told_room number (record { conference = answer; owner = None }) ≡ told (call.GetConfStat number) answer ∷ []
 plain_room number answer conference e letter = rw (e, letter) refl
 
-owned_room : (number : ℕ) (answer owner : Option Reply) (conference : Conference) → conference_in answer ≡ Some conference →
-    is_letterbox conference.kind ≡ true →
+owned_room : (number : ℕ) (answer owner : Option Reply) (conference : Conference) →
+    conference_in answer ≡ Some conference → is_letterbox conference.kind ≡ true →
     told_room number (record { conference = answer; owner = owner })
     ≡ told (call.GetConfStat number) answer ∷ told (call.GetPersonStat number) owner ∷ []
 owned_room number answer owner conference e letter = rw (e, letter) refl
@@ -210,8 +213,8 @@ pub room_owned : (session number : ℕ) (answer : Option Reply) (conference : Co
     conference_in answer ≡ Some conference → is_letterbox conference.kind ≡ true →
     Learns (λ one. if number == one then Some (days_of conference) else None)
     (λ text. conference_names text (Some conference)) old.whole old mid →
-    ((owner : Option Reply) × Goes session m y (told (call.GetPersonStat number) owner ∷ []) × LearnsOwner owner mid new) →
-    AsksRoom session x y number old new
+    ((owner : Option Reply) × Goes session m y (told (call.GetPersonStat number) owner ∷ [])
+    × LearnsOwner owner mid new) → AsksRoom session x y number old new
 room_owned session number answer conference x m y old mid new goes e letter learns (owner, goes_owner, owned) = (
   record { conference = answer; owner = owner },
   subst (λ (calls : List Told). Goes session x y calls) (sym (owned_room number answer owner conference e letter))
@@ -226,7 +229,8 @@ pub deletes_all : (session i : ℕ) (due : List ℕ) (swept : ℕ) (x y : Seen) 
 deletes_all session i due swept x y past (gone, names, counted, goes) =
     (gone, names ∙ take_all i due past, counted, goes)
 
-pub counts : (swept later i : ℕ) (refused : Bool) → swept ≤ i → later ≡ swept + (if refused then 0 else 1) → later ≤ i + 1
+pub counts : (swept later i : ℕ) (refused : Bool) → swept ≤ i → later ≡ swept + (if refused then 0 else 1) →
+    later ≤ i + 1
 counts swept later i true less is = omega (arith, is)
 counts swept later i false less is = omega (arith, is)
 
@@ -238,8 +242,8 @@ pub looked_stop : (session moment at number count : ℕ) (answer : Option Reply)
     × ((rooms : Walk Room) → Knows rooms.steps (is_whole rooms) kept →
     is_now ≡ is_due_by moment rooms number (stat_in look.stat) look.children)) →
     ((calls : List Told) × (only_asks calls ≡ true) × Stops session x y calls [])
-looked_stop session moment at number count answer x m n y kept before is_now (steps, leads, looks, goes, counted, all_due)
-    asked (look, is_look, then_goes, judged) = (
+looked_stop session moment at number count answer x m n y kept before is_now
+    (steps, leads, looks, goes, counted, all_due) asked (look, is_look, then_goes, judged) = (
       flat_map told_at_text steps ++ told (call.FindNextTextNo at) answer ∷ [] ++ told_look number look,
       none_on (flat_map told_at_text steps ++ told (call.FindNextTextNo at) answer ∷ []) (told_look number look)
           (none_on (flat_map told_at_text steps) (told (call.FindNextTextNo at) answer ∷ []) (none_texts steps) refl)

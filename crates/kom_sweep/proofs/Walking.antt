@@ -95,7 +95,8 @@ goes_step {session = session} told_at steps step one rest x m n y e before first
 
 -- ---- numbers that were told
 
-number_reply : (answer : Option Reply) (number : ℕ) → number_in answer ≡ Some number → answer ≡ Some (reply.Number number)
+number_reply : (answer : Option Reply) (number : ℕ) → number_in answer ≡ Some number →
+    answer ≡ Some (reply.Number number)
 number_reply (Some (reply.Number told)) number e = ap (λ n. Some (reply.Number n)) (cc e)
 number_reply _ number e = cc
 
@@ -132,7 +133,8 @@ due-one : (moment : ℕ) (rooms : Walk Room) (step : Step Look) →
     due_in moment rooms (step ∷ []) ≡ (if is_due moment rooms step then step.number ∷ [] else [])
 due-one moment rooms step = by (is_due moment rooms step) refl
   where
-    by : (b : Bool) → is_due moment rooms step ≡ b → due_in moment rooms (step ∷ []) ≡ (if b then step.number ∷ [] else [])
+    by : (b : Bool) → is_due moment rooms step ≡ b →
+        due_in moment rooms (step ∷ []) ≡ (if b then step.number ∷ [] else [])
     by true e = rw (e) refl
     by false e = rw (e) refl
 

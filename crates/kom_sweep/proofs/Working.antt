@@ -28,8 +28,8 @@ refusal_reply (Some (reply.Refused told with_status)) code status e =
     ap (λ (p : ℕ × ℕ). Some (reply.Refused p.0 p.1)) pair
 refusal_reply _ code status e = cc
 
-not_short : (answer : Option Reply) (code status : ℕ) → refusal_in answer ≡ Some (code, status) → is_short answer ≡ false →
-    code ≢ OUT_OF_MEMORY
+not_short : (answer : Option Reply) (code status : ℕ) → refusal_in answer ≡ Some (code, status) →
+    is_short answer ≡ false → code ≢ OUT_OF_MEMORY
 not_short answer code status e long same =
     let short : is_short answer ≡ true = ap (has_code OUT_OF_MEMORY) e ∙ eq-eqb code OUT_OF_MEMORY same in
     cc
@@ -44,7 +44,8 @@ logs_in_not person password answer code status e long = (
 
 pub logs_in : (person : ℕ) (password : List ℕ) (login rights stable : Option Reply) (refusal : Option (ℕ × ℕ)) →
     refusal_in login ≡ None → is_short stable ≡ false → refusal ≡ refusal_in stable →
-    LogsIn person password (told_entry person password (record { login = login; rights = rights; stable = stable })) refusal
+    LogsIn person password (told_entry person password (record { login = login; rights = rights; stable = stable }))
+    refusal
 logs_in person password login rights stable None e long is =
     (record { login = login; rights = rights; stable = stable }, refl, ap is_some e, ap is_some (sym is))
 logs_in person password login rights stable (Some (code, status)) e long is = (
@@ -107,7 +108,8 @@ finds session moment person password calls rooms texts count texts_due x m n y g
     goes_rooms is_texts goes_texts counted are = (
       record { entry = entry; rooms = rooms; texts = texts },
       record { login = login; stable = stable; rooms = is_rooms; texts = is_texts },
-      goes_on x n y (goes_on x m n (subst (λ (calls : List Told). Goes session x m calls) is goes) goes_rooms) goes_texts,
+      goes_on x n y (goes_on x m n (subst (λ (calls : List Told). Goes session x m calls) is goes) goes_rooms)
+          goes_texts,
       counted,
       are,
     )
@@ -143,8 +145,8 @@ pub broken_first : {faults : List NotMade} (moment person session : ℕ) (passwo
 broken_first moment person session password x y (more, asked, stops) = (more, inl asked, stops)
 
 -- while texts are deleted
-pub broken_then : {faults : List NotMade} (session moment person : ℕ) (password : List ℕ) (count : ℕ) (texts_due : List ℕ)
-    (x m y : Seen) → FindsDue session moment person password x m count texts_due →
+pub broken_then : {faults : List NotMade} (session moment person : ℕ) (password : List ℕ) (count : ℕ)
+    (texts_due : List ℕ) (x m y : Seen) → FindsDue session moment person password x m count texts_due →
     ((gone : List (ℕ × Option Reply)) × (rest : List ℕ) × (map (λ one. one.0) gone ++ rest ≡ texts_due)
     × Stops session m y (told_deletions gone) faults) →
     ((all : List Told) × IsBrokenOff moment person password all × Stops session x y all faults)
@@ -156,7 +158,8 @@ broken_then session moment person password count texts_due x m y (found, is_foun
     )
 
 -- when all are
-pub broken_last : {faults : List NotMade} (session moment person : ℕ) (password : List ℕ) (count : ℕ) (texts_due : List ℕ)
+pub broken_last : {faults : List NotMade} (session moment person : ℕ) (password : List ℕ) (count : ℕ)
+    (texts_due : List ℕ)
     (gone : List (ℕ × Option Reply)) (x m n y : Seen) → FindsDue session moment person password x m count texts_due →
     map (λ one. one.0) gone ≡ texts_due → Goes session m n (told_deletions gone) →
     ((calls : List Told) × IsAbout call.Logout calls × Stops session n y calls faults) →

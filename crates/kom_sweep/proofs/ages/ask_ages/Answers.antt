@@ -21,7 +21,8 @@ pub loop-info-preserved : goal.loop-info-preserved
 loop-info-preserved g c =
     let x : Seen = seen (g.K.Desk.view c.args.desk.now) (g.C.Clock.gave c.args.clock.now) c.args.talk.now.next in
     let m : Seen = seen (g.K.Desk.view c.loop-info.desk) (g.C.Clock.gave c.loop-info.clock) c.loop-info.talk.next in
-    let y : Seen = seen (g.K.Desk.view c.ask_age.new.desk) (g.C.Clock.gave c.ask_age.new.clock) c.ask_age.new.talk.next in
+    let y : Seen =
+    seen (g.K.Desk.view c.ask_age.new.desk) (g.C.Clock.gave c.ask_age.new.clock) c.ask_age.new.talk.next in
     record {
       asked = ages_step c.args.session c.args.moment c.args.infos.now c.loop-info.info-index c.info-item.result
           c.loop-info.ages
@@ -36,7 +37,8 @@ pub returns-in_err-ages-clause-err : goal.returns-in_err-ages-clause-err
 returns-in_err-ages-clause-err g c =
     let x : Seen = seen (g.K.Desk.view c.args.desk.now) (g.C.Clock.gave c.args.clock.now) c.args.talk.now.next in
     let m : Seen = seen (g.K.Desk.view c.loop-info.desk) (g.C.Clock.gave c.loop-info.clock) c.loop-info.talk.next in
-    let y : Seen = seen (g.K.Desk.view c.ask_age.new.desk) (g.C.Clock.gave c.ask_age.new.clock) c.ask_age.new.talk.next in
+    let y : Seen =
+    seen (g.K.Desk.view c.ask_age.new.desk) (g.C.Clock.gave c.ask_age.new.clock) c.ask_age.new.talk.next in
     let asked = c.loop-info.invariant.asked in
     let p = err_from_is_err_and c.from_residual.result c.from_residual.ensures.1 in
     rw (p.1, p.2) (breaks_on x m y asked.2 (none_children asked.0) c.in_err-ages.ensures.err)

@@ -60,7 +60,8 @@ returns-in_err-note-clause-err g c =
     let y : Seen = seen (g.K.Desk.view c.look.new.desk) (g.C.Clock.gave c.look.new.clock) c.look.new.talk.next in
     let p = err_from_is_err_and c.from_residual-in_err-note.result c.from_residual-in_err-note.ensures.1 in
     rw (p.1, p.2)
-    (looked_stop c.args.session c.args.judge.now.moment c.texts.at c.in-Some.text c.texts.found.count c.in_ok-ask.field-0
+    (looked_stop c.args.session c.args.judge.now.moment c.texts.at c.in-Some.text c.texts.found.count
+    c.in_ok-ask.field-0
     x m n y c.args.judge.now.names.now c.texts.found.due.items c.in_ok-is_due.is_due c.texts.invariant.asked
     c.in_ok-ask.ensures.ok c.in_ok-is_due.ensures.ok)
 
@@ -109,13 +110,16 @@ returns-in_default-clause-on g c = g.met.K.Desk.goes_on_further _ _ _ c.texts.in
 
 pub returns-in_err-is_due-clause-ok : goal.returns-in_err-is_due-clause-ok
 returns-in_err-is_due-clause-ok g c =
-    let p = err_from_is_err_and c.from_residual-in_err-is_due.result c.from_residual-in_err-is_due.ensures.1 in rw (p.1) tt
+    let p = err_from_is_err_and c.from_residual-in_err-is_due.result c.from_residual-in_err-is_due.ensures.1 in
+    rw (p.1) tt
 
 pub returns-in_err-is_due-clause-open : goal.returns-in_err-is_due-clause-open
 returns-in_err-is_due-clause-open g c = c.look.ensures.open
 
 pub returns-in_err-is_due-clause-on : goal.returns-in_err-is_due-clause-on
-returns-in_err-is_due-clause-on g c = g.met.K.Desk.goes_on_further _ _ _ (g.met.K.Desk.goes_on_further _ _ _ c.texts.invariant.on c.ask.ensures.on) c.look.ensures.on
+returns-in_err-is_due-clause-on g c =
+    g.met.K.Desk.goes_on_further _ _ _ (g.met.K.Desk.goes_on_further _ _ _ c.texts.invariant.on c.ask.ensures.on)
+    c.look.ensures.on
 
 pub returns-in_err-note-clause-ok : goal.returns-in_err-note-clause-ok
 returns-in_err-note-clause-ok g c =
@@ -125,4 +129,6 @@ pub returns-in_err-note-clause-open : goal.returns-in_err-note-clause-open
 returns-in_err-note-clause-open g c = c.look.ensures.open
 
 pub returns-in_err-note-clause-on : goal.returns-in_err-note-clause-on
-returns-in_err-note-clause-on g c = g.met.K.Desk.goes_on_further _ _ _ (g.met.K.Desk.goes_on_further _ _ _ c.texts.invariant.on c.ask.ensures.on) c.look.ensures.on
+returns-in_err-note-clause-on g c =
+    g.met.K.Desk.goes_on_further _ _ _ (g.met.K.Desk.goes_on_further _ _ _ c.texts.invariant.on c.ask.ensures.on)
+    c.look.ensures.on

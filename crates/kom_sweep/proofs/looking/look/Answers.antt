@@ -26,7 +26,8 @@ pub returns-in_err-ages-clause-err : goal.returns-in_err-ages-clause-err
 returns-in_err-ages-clause-err g c =
     let x : Seen = seen (g.K.Desk.view c.args.desk.now) (g.C.Clock.gave c.args.clock.now) c.args.talk.now.next in
     let m : Seen = seen (g.K.Desk.view c.ask.new.desk) (g.C.Clock.gave c.ask.new.clock) c.ask.new.self.next in
-    let y : Seen = seen (g.K.Desk.view c.ask_ages.new.desk) (g.C.Clock.gave c.ask_ages.new.clock) c.ask_ages.new.talk.next in
+    let y : Seen =
+    seen (g.K.Desk.view c.ask_ages.new.desk) (g.C.Clock.gave c.ask_ages.new.clock) c.ask_ages.new.talk.next in
     let p = err_from_is_err_and c.from_residual-in_err-ages.result c.from_residual-in_err-ages.ensures.1 in
     rw (p.1, p.2) (breaks_on x m y c.in_ok-ask.ensures.ok refl c.in_err-ages.ensures.err)
 
@@ -34,7 +35,8 @@ pub returns-clause-ok : goal.returns-clause-ok
 returns-clause-ok g c =
     let x : Seen = seen (g.K.Desk.view c.args.desk.now) (g.C.Clock.gave c.args.clock.now) c.args.talk.now.next in
     let m : Seen = seen (g.K.Desk.view c.ask.new.desk) (g.C.Clock.gave c.ask.new.clock) c.ask.new.self.next in
-    let y : Seen = seen (g.K.Desk.view c.ask_ages.new.desk) (g.C.Clock.gave c.ask_ages.new.clock) c.ask_ages.new.talk.next in
+    let y : Seen =
+    seen (g.K.Desk.view c.ask_ages.new.desk) (g.C.Clock.gave c.ask_ages.new.clock) c.ask_ages.new.talk.next in
     look_told c.args.session c.args.text c.args.judge.now.moment c.in_ok-ask.field-0 c.in-Some.stat
     c.as_slice-infos.result.now c.in_ok-ages.ages
     c.is_due.result x m y c.args.judge.now.names.now c.ranges.text.fits c.in_ok-ask.ensures.ok

@@ -21,7 +21,8 @@ loop-text-preserved g c =
     let m : Seen = seen (g.K.Desk.view c.loop-text.desk) (g.C.Clock.gave c.loop-text.clock) c.loop-text.talk.next in
     let y : Seen = seen (g.K.Desk.view c.ask.new.desk) (g.C.Clock.gave c.ask.new.clock) c.ask.new.self.next in
     record {
-      asked = deletes_step c.args.session c.loop-text.text-index _ c.loop-text.swept c.counted-swept.result c.args.due.now
+      asked = deletes_step c.args.session c.loop-text.text-index _ c.loop-text.swept c.counted-swept.result
+          c.args.due.now
           c.in_ok-ask.field-0 c.is_refused-refused.result x m y c.loop-text-test.true c.loop-text.invariant.asked
           c.in_ok-ask.ensures.ok c.is_refused-refused.ensures c.counted-swept.ensures;
       counted = counts _ _ _ c.is_refused-refused.result c.loop-text.invariant.counted c.counted-swept.ensures;

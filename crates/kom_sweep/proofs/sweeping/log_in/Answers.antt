@@ -76,7 +76,8 @@ returns-in_err-call-clause-on g c = g.met.K.Desk.goes_on_itself _
 
 pub returns-in_err-login-clause-ok : goal.returns-in_err-login-clause-ok
 returns-in_err-login-clause-ok g c =
-    let p = err_from_is_err_and c.from_residual-in_err-login.result c.from_residual-in_err-login.ensures.1 in rw (p.1) tt
+    let p = err_from_is_err_and c.from_residual-in_err-login.result c.from_residual-in_err-login.ensures.1 in
+    rw (p.1) tt
 
 pub returns-in_err-login-clause-open : goal.returns-in_err-login-clause-open
 returns-in_err-login-clause-open g c = c.ask.ensures.open
@@ -95,7 +96,8 @@ returns-in-Some-clause-on g c = c.ask.ensures.on
 
 pub returns-in_err-rights-clause-ok : goal.returns-in_err-rights-clause-ok
 returns-in_err-rights-clause-ok g c =
-    let p = err_from_is_err_and c.from_residual-in_err-rights.result c.from_residual-in_err-rights.ensures.1 in rw (p.1) tt
+    let p = err_from_is_err_and c.from_residual-in_err-rights.result c.from_residual-in_err-rights.ensures.1 in
+    rw (p.1) tt
 
 pub returns-in_err-rights-clause-open : goal.returns-in_err-rights-clause-open
 returns-in_err-rights-clause-open g c = c.ask-2.ensures.open
@@ -105,13 +107,16 @@ returns-in_err-rights-clause-on g c = g.met.K.Desk.goes_on_further _ _ _ c.ask.e
 
 pub returns-in_err-stable-clause-ok : goal.returns-in_err-stable-clause-ok
 returns-in_err-stable-clause-ok g c =
-    let p = err_from_is_err_and c.from_residual-in_err-stable.result c.from_residual-in_err-stable.ensures.1 in rw (p.1) tt
+    let p = err_from_is_err_and c.from_residual-in_err-stable.result c.from_residual-in_err-stable.ensures.1 in
+    rw (p.1) tt
 
 pub returns-in_err-stable-clause-open : goal.returns-in_err-stable-clause-open
 returns-in_err-stable-clause-open g c = c.ask-3.ensures.open
 
 pub returns-in_err-stable-clause-on : goal.returns-in_err-stable-clause-on
-returns-in_err-stable-clause-on g c = g.met.K.Desk.goes_on_further _ _ _ (g.met.K.Desk.goes_on_further _ _ _ c.ask.ensures.on c.ask-2.ensures.on) c.ask-3.ensures.on
+returns-in_err-stable-clause-on g c =
+    g.met.K.Desk.goes_on_further _ _ _ (g.met.K.Desk.goes_on_further _ _ _ c.ask.ensures.on c.ask-2.ensures.on)
+    c.ask-3.ensures.on
 
 pub returns-clause-err : goal.returns-clause-err
 returns-clause-err g c = tt
@@ -120,4 +125,6 @@ pub returns-clause-open : goal.returns-clause-open
 returns-clause-open g c = c.ask-3.ensures.open
 
 pub returns-clause-on : goal.returns-clause-on
-returns-clause-on g c = g.met.K.Desk.goes_on_further _ _ _ (g.met.K.Desk.goes_on_further _ _ _ c.ask.ensures.on c.ask-2.ensures.on) c.ask-3.ensures.on
+returns-clause-on g c =
+    g.met.K.Desk.goes_on_further _ _ _ (g.met.K.Desk.goes_on_further _ _ _ c.ask.ensures.on c.ask-2.ensures.on)
+    c.ask-3.ensures.on

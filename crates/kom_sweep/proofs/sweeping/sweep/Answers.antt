@@ -22,7 +22,8 @@ returns-in-Ok-clause-sweeps g c =
       inr (
         c.in-Ok.session,
         swept c.now-moment.result c.in-Ok.session c.args.person c.args.password.now x
-            (g.K.Desk.view c.connect.new.self) (g.K.Desk.view c.work-outcome.new.desk) (g.K.Desk.view c.close-closed.new.self)
+            (g.K.Desk.view c.connect.new.self) (g.K.Desk.view c.work-outcome.new.desk)
+            (g.K.Desk.view c.close-closed.new.self)
             (g.C.Clock.gave c.now-moment.new.self) (g.C.Clock.gave c.work-outcome.new.clock)
             (g.C.Clock.gave c.now.new.self) c.now.result c.work-outcome.result c.close-closed.result c.then.result
             c.now-moment.ensures.gains c.in-Ok.ensures.connects c.work-outcome.ensures.ok c.work-outcome.ensures.err
@@ -35,8 +36,8 @@ returns-in-Err-clause-on g c = c.connect.ensures.on
 
 pub returns-in-Ok-clause-on : goal.returns-in-Ok-clause-on
 returns-in-Ok-clause-on g c =
-    g.met.K.Desk.goes_on_further _ _ _ (g.met.K.Desk.goes_on_further _ _ _ c.connect.ensures.on c.work-outcome.ensures.on)
-    c.close-closed.ensures.on
+    g.met.K.Desk.goes_on_further _ _ _ (g.met.K.Desk.goes_on_further _ _ _ c.connect.ensures.on
+    c.work-outcome.ensures.on) c.close-closed.ensures.on
 
 pub work-outcome-requires : goal.work-outcome-requires
 work-outcome-requires g c =

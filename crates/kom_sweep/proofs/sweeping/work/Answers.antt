@@ -29,7 +29,8 @@ pub returns-in_err-names-clause-err : goal.returns-in_err-names-clause-err
 returns-in_err-names-clause-err g c =
     let x : Seen = seen (g.K.Desk.view c.args.desk.now) (g.C.Clock.gave c.args.clock.now) 1 in
     let m : Seen = seen (g.K.Desk.view c.log_in.new.desk) (g.C.Clock.gave c.log_in.new.clock) c.log_in.new.talk.next in
-    let y : Seen = seen (g.K.Desk.view c.ask_names.new.desk) (g.C.Clock.gave c.ask_names.new.clock) c.ask_names.new.talk.next in
+    let y : Seen =
+    seen (g.K.Desk.view c.ask_names.new.desk) (g.C.Clock.gave c.ask_names.new.clock) c.ask_names.new.talk.next in
     let p = err_from_is_err_and c.from_residual-in_err-names.result c.from_residual-in_err-names.ensures.1 in
     let logged = rw (c.new-talk.ensures, c.in_default.is) at c.in_ok-code.ensures.ok in
     let broken = broken_names c.args.session c.args.moment c.args.person c.args.password.now x m y logged
@@ -40,22 +41,27 @@ pub returns-in_err-found-clause-err : goal.returns-in_err-found-clause-err
 returns-in_err-found-clause-err g c =
     let x : Seen = seen (g.K.Desk.view c.args.desk.now) (g.C.Clock.gave c.args.clock.now) 1 in
     let m : Seen = seen (g.K.Desk.view c.log_in.new.desk) (g.C.Clock.gave c.log_in.new.clock) c.log_in.new.talk.next in
-    let n : Seen = seen (g.K.Desk.view c.ask_names.new.desk) (g.C.Clock.gave c.ask_names.new.clock) c.ask_names.new.talk.next in
-    let y : Seen = seen (g.K.Desk.view c.find_due.new.desk) (g.C.Clock.gave c.find_due.new.clock) c.find_due.new.talk.next in
+    let n : Seen =
+    seen (g.K.Desk.view c.ask_names.new.desk) (g.C.Clock.gave c.ask_names.new.clock) c.ask_names.new.talk.next in
+    let y : Seen =
+    seen (g.K.Desk.view c.find_due.new.desk) (g.C.Clock.gave c.find_due.new.clock) c.find_due.new.talk.next in
     let p = err_from_is_err_and c.from_residual-in_err-found.result c.from_residual-in_err-found.ensures.1 in
     let logged = rw (c.new-talk.ensures, c.in_default.is) at c.in_ok-code.ensures.ok in
     let rooms = c.in_ok-names.ensures.ok in
-    let broken = broken_texts c.args.session c.args.moment c.args.person c.args.password.now x m n y logged rooms.0 rooms.2
-    c.in_err-found.ensures.err in
+    let broken = broken_texts c.args.session c.args.moment c.args.person c.args.password.now x m n y logged rooms.0
+    rooms.2 c.in_err-found.ensures.err in
     rw (p.1, p.2) (broken.0, c.find_due.new.talk.next, broken.1, broken.2)
 
 pub returns-in_err-swept-clause-err : goal.returns-in_err-swept-clause-err
 returns-in_err-swept-clause-err g c =
     let x : Seen = seen (g.K.Desk.view c.args.desk.now) (g.C.Clock.gave c.args.clock.now) 1 in
     let m : Seen = seen (g.K.Desk.view c.log_in.new.desk) (g.C.Clock.gave c.log_in.new.clock) c.log_in.new.talk.next in
-    let n : Seen = seen (g.K.Desk.view c.ask_names.new.desk) (g.C.Clock.gave c.ask_names.new.clock) c.ask_names.new.talk.next in
-    let o : Seen = seen (g.K.Desk.view c.find_due.new.desk) (g.C.Clock.gave c.find_due.new.clock) c.find_due.new.talk.next in
-    let y : Seen = seen (g.K.Desk.view c.delete_all.new.desk) (g.C.Clock.gave c.delete_all.new.clock) c.delete_all.new.talk.next in
+    let n : Seen =
+    seen (g.K.Desk.view c.ask_names.new.desk) (g.C.Clock.gave c.ask_names.new.clock) c.ask_names.new.talk.next in
+    let o : Seen =
+    seen (g.K.Desk.view c.find_due.new.desk) (g.C.Clock.gave c.find_due.new.clock) c.find_due.new.talk.next in
+    let y : Seen =
+    seen (g.K.Desk.view c.delete_all.new.desk) (g.C.Clock.gave c.delete_all.new.clock) c.delete_all.new.talk.next in
     let p = err_from_is_err_and c.from_residual-in_err-swept.result c.from_residual-in_err-swept.ensures.1 in
     let logged = rw (c.new-talk.ensures, c.in_default.is) at c.in_ok-code.ensures.ok in
     let rooms = c.in_ok-names.ensures.ok in
@@ -71,9 +77,12 @@ pub returns-in_err-logout-clause-err : goal.returns-in_err-logout-clause-err
 returns-in_err-logout-clause-err g c =
     let x : Seen = seen (g.K.Desk.view c.args.desk.now) (g.C.Clock.gave c.args.clock.now) 1 in
     let m : Seen = seen (g.K.Desk.view c.log_in.new.desk) (g.C.Clock.gave c.log_in.new.clock) c.log_in.new.talk.next in
-    let n : Seen = seen (g.K.Desk.view c.ask_names.new.desk) (g.C.Clock.gave c.ask_names.new.clock) c.ask_names.new.talk.next in
-    let o : Seen = seen (g.K.Desk.view c.find_due.new.desk) (g.C.Clock.gave c.find_due.new.clock) c.find_due.new.talk.next in
-    let q : Seen = seen (g.K.Desk.view c.delete_all.new.desk) (g.C.Clock.gave c.delete_all.new.clock) c.delete_all.new.talk.next in
+    let n : Seen =
+    seen (g.K.Desk.view c.ask_names.new.desk) (g.C.Clock.gave c.ask_names.new.clock) c.ask_names.new.talk.next in
+    let o : Seen =
+    seen (g.K.Desk.view c.find_due.new.desk) (g.C.Clock.gave c.find_due.new.clock) c.find_due.new.talk.next in
+    let q : Seen =
+    seen (g.K.Desk.view c.delete_all.new.desk) (g.C.Clock.gave c.delete_all.new.clock) c.delete_all.new.talk.next in
     let y : Seen = seen (g.K.Desk.view c.ask.new.desk) (g.C.Clock.gave c.ask.new.clock) c.ask.new.self.next in
     let p = err_from_is_err_and c.from_residual-in_err-logout.result c.from_residual-in_err-logout.ensures.1 in
     let logged = rw (c.new-talk.ensures, c.in_default.is) at c.in_ok-code.ensures.ok in
@@ -91,9 +100,12 @@ pub returns-clause-ok : goal.returns-clause-ok
 returns-clause-ok g c =
     let x : Seen = seen (g.K.Desk.view c.args.desk.now) (g.C.Clock.gave c.args.clock.now) 1 in
     let m : Seen = seen (g.K.Desk.view c.log_in.new.desk) (g.C.Clock.gave c.log_in.new.clock) c.log_in.new.talk.next in
-    let n : Seen = seen (g.K.Desk.view c.ask_names.new.desk) (g.C.Clock.gave c.ask_names.new.clock) c.ask_names.new.talk.next in
-    let o : Seen = seen (g.K.Desk.view c.find_due.new.desk) (g.C.Clock.gave c.find_due.new.clock) c.find_due.new.talk.next in
-    let q : Seen = seen (g.K.Desk.view c.delete_all.new.desk) (g.C.Clock.gave c.delete_all.new.clock) c.delete_all.new.talk.next in
+    let n : Seen =
+    seen (g.K.Desk.view c.ask_names.new.desk) (g.C.Clock.gave c.ask_names.new.clock) c.ask_names.new.talk.next in
+    let o : Seen =
+    seen (g.K.Desk.view c.find_due.new.desk) (g.C.Clock.gave c.find_due.new.clock) c.find_due.new.talk.next in
+    let q : Seen =
+    seen (g.K.Desk.view c.delete_all.new.desk) (g.C.Clock.gave c.delete_all.new.clock) c.delete_all.new.talk.next in
     let y : Seen = seen (g.K.Desk.view c.ask.new.desk) (g.C.Clock.gave c.ask.new.clock) c.ask.new.self.next in
     let logged = rw (c.new-talk.ensures, c.in_default.is) at c.in_ok-code.ensures.ok in
     let rooms = c.in_ok-names.ensures.ok in
@@ -130,7 +142,8 @@ returns-in-Some-clause-on g c = c.log_in.ensures.on
 
 pub returns-in_err-names-clause-ok : goal.returns-in_err-names-clause-ok
 returns-in_err-names-clause-ok g c =
-    let p = err_from_is_err_and c.from_residual-in_err-names.result c.from_residual-in_err-names.ensures.1 in rw (p.1) tt
+    let p = err_from_is_err_and c.from_residual-in_err-names.result c.from_residual-in_err-names.ensures.1 in
+    rw (p.1) tt
 
 pub returns-in_err-names-clause-open : goal.returns-in_err-names-clause-open
 returns-in_err-names-clause-open g c = c.ask_names.ensures.open
@@ -140,33 +153,44 @@ returns-in_err-names-clause-on g c = g.met.K.Desk.goes_on_further _ _ _ c.log_in
 
 pub returns-in_err-found-clause-ok : goal.returns-in_err-found-clause-ok
 returns-in_err-found-clause-ok g c =
-    let p = err_from_is_err_and c.from_residual-in_err-found.result c.from_residual-in_err-found.ensures.1 in rw (p.1) tt
+    let p = err_from_is_err_and c.from_residual-in_err-found.result c.from_residual-in_err-found.ensures.1 in
+    rw (p.1) tt
 
 pub returns-in_err-found-clause-open : goal.returns-in_err-found-clause-open
 returns-in_err-found-clause-open g c = c.find_due.ensures.open
 
 pub returns-in_err-found-clause-on : goal.returns-in_err-found-clause-on
-returns-in_err-found-clause-on g c = g.met.K.Desk.goes_on_further _ _ _ (g.met.K.Desk.goes_on_further _ _ _ c.log_in.ensures.on c.ask_names.ensures.on) c.find_due.ensures.on
+returns-in_err-found-clause-on g c =
+    g.met.K.Desk.goes_on_further _ _ _ (g.met.K.Desk.goes_on_further _ _ _ c.log_in.ensures.on c.ask_names.ensures.on)
+    c.find_due.ensures.on
 
 pub returns-in_err-swept-clause-ok : goal.returns-in_err-swept-clause-ok
 returns-in_err-swept-clause-ok g c =
-    let p = err_from_is_err_and c.from_residual-in_err-swept.result c.from_residual-in_err-swept.ensures.1 in rw (p.1) tt
+    let p = err_from_is_err_and c.from_residual-in_err-swept.result c.from_residual-in_err-swept.ensures.1 in
+    rw (p.1) tt
 
 pub returns-in_err-swept-clause-open : goal.returns-in_err-swept-clause-open
 returns-in_err-swept-clause-open g c = c.delete_all.ensures.open
 
 pub returns-in_err-swept-clause-on : goal.returns-in_err-swept-clause-on
-returns-in_err-swept-clause-on g c = g.met.K.Desk.goes_on_further _ _ _ (g.met.K.Desk.goes_on_further _ _ _ (g.met.K.Desk.goes_on_further _ _ _ c.log_in.ensures.on c.ask_names.ensures.on) c.find_due.ensures.on) c.delete_all.ensures.on
+returns-in_err-swept-clause-on g c =
+    g.met.K.Desk.goes_on_further _ _ _ (g.met.K.Desk.goes_on_further _ _ _
+    (g.met.K.Desk.goes_on_further _ _ _ c.log_in.ensures.on c.ask_names.ensures.on) c.find_due.ensures.on)
+    c.delete_all.ensures.on
 
 pub returns-in_err-logout-clause-ok : goal.returns-in_err-logout-clause-ok
 returns-in_err-logout-clause-ok g c =
-    let p = err_from_is_err_and c.from_residual-in_err-logout.result c.from_residual-in_err-logout.ensures.1 in rw (p.1) tt
+    let p = err_from_is_err_and c.from_residual-in_err-logout.result c.from_residual-in_err-logout.ensures.1 in
+    rw (p.1) tt
 
 pub returns-in_err-logout-clause-open : goal.returns-in_err-logout-clause-open
 returns-in_err-logout-clause-open g c = c.ask.ensures.open
 
 pub returns-in_err-logout-clause-on : goal.returns-in_err-logout-clause-on
-returns-in_err-logout-clause-on g c = g.met.K.Desk.goes_on_further _ _ _ (g.met.K.Desk.goes_on_further _ _ _ (g.met.K.Desk.goes_on_further _ _ _ (g.met.K.Desk.goes_on_further _ _ _ c.log_in.ensures.on c.ask_names.ensures.on) c.find_due.ensures.on) c.delete_all.ensures.on) c.ask.ensures.on
+returns-in_err-logout-clause-on g c =
+    g.met.K.Desk.goes_on_further _ _ _
+    (g.met.K.Desk.goes_on_further _ _ _ (g.met.K.Desk.goes_on_further _ _ _ (g.met.K.Desk.goes_on_further _ _ _
+    c.log_in.ensures.on c.ask_names.ensures.on) c.find_due.ensures.on) c.delete_all.ensures.on) c.ask.ensures.on
 
 pub returns-clause-err : goal.returns-clause-err
 returns-clause-err g c = tt
@@ -175,4 +199,7 @@ pub returns-clause-open : goal.returns-clause-open
 returns-clause-open g c = c.ask.ensures.open
 
 pub returns-clause-on : goal.returns-clause-on
-returns-clause-on g c = g.met.K.Desk.goes_on_further _ _ _ (g.met.K.Desk.goes_on_further _ _ _ (g.met.K.Desk.goes_on_further _ _ _ (g.met.K.Desk.goes_on_further _ _ _ c.log_in.ensures.on c.ask_names.ensures.on) c.find_due.ensures.on) c.delete_all.ensures.on) c.ask.ensures.on
+returns-clause-on g c =
+    g.met.K.Desk.goes_on_further _ _ _
+    (g.met.K.Desk.goes_on_further _ _ _ (g.met.K.Desk.goes_on_further _ _ _ (g.met.K.Desk.goes_on_further _ _ _
+    c.log_in.ensures.on c.ask_names.ensures.on) c.find_due.ensures.on) c.delete_all.ensures.on) c.ask.ensures.on

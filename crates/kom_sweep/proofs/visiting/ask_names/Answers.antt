@@ -44,7 +44,8 @@ returns-in_err-ask_room-clause-err g c =
     let x : Seen = seen (g.K.Desk.view c.args.desk.now) (g.C.Clock.gave c.args.clock.now) c.args.talk.now.next in
     let m : Seen = seen (g.K.Desk.view c.rooms.desk) (g.C.Clock.gave c.rooms.clock) c.rooms.talk.next in
     let n : Seen = seen (g.K.Desk.view c.ask.new.desk) (g.C.Clock.gave c.ask.new.clock) c.ask.new.self.next in
-    let y : Seen = seen (g.K.Desk.view c.ask_room.new.desk) (g.C.Clock.gave c.ask_room.new.clock) c.ask_room.new.talk.next in
+    let y : Seen =
+    seen (g.K.Desk.view c.ask_room.new.desk) (g.C.Clock.gave c.ask_room.new.clock) c.ask_room.new.talk.next in
     let asked = c.rooms.invariant.asked in
     let p = err_from_is_err_and c.from_residual-in_err-ask_room.result c.from_residual-in_err-ask_room.ensures.1 in
     rw (p.1, p.2)
@@ -57,7 +58,8 @@ rooms-preserved g c =
     let x : Seen = seen (g.K.Desk.view c.args.desk.now) (g.C.Clock.gave c.args.clock.now) c.args.talk.now.next in
     let m : Seen = seen (g.K.Desk.view c.rooms.desk) (g.C.Clock.gave c.rooms.clock) c.rooms.talk.next in
     let n : Seen = seen (g.K.Desk.view c.ask.new.desk) (g.C.Clock.gave c.ask.new.clock) c.ask.new.self.next in
-    let y : Seen = seen (g.K.Desk.view c.ask_room.new.desk) (g.C.Clock.gave c.ask_room.new.clock) c.ask_room.new.talk.next in
+    let y : Seen =
+    seen (g.K.Desk.view c.ask_room.new.desk) (g.C.Clock.gave c.ask_room.new.clock) c.ask_room.new.talk.next in
     record {
       asked = rooms_step c.args.session c.rooms.at c.in-Some.number c.in_ok-ask.field-0 x m n y c.rooms.names
           c.ask_room.new.names c.rooms.invariant.asked c.in_ok-ask.ensures.ok
@@ -90,10 +92,13 @@ returns-in_default-clause-on g c = g.met.K.Desk.goes_on_further _ _ _ c.rooms.in
 
 pub returns-in_err-ask_room-clause-ok : goal.returns-in_err-ask_room-clause-ok
 returns-in_err-ask_room-clause-ok g c =
-    let p = err_from_is_err_and c.from_residual-in_err-ask_room.result c.from_residual-in_err-ask_room.ensures.1 in rw (p.1) tt
+    let p = err_from_is_err_and c.from_residual-in_err-ask_room.result c.from_residual-in_err-ask_room.ensures.1 in
+    rw (p.1) tt
 
 pub returns-in_err-ask_room-clause-open : goal.returns-in_err-ask_room-clause-open
 returns-in_err-ask_room-clause-open g c = c.ask_room.ensures.open
 
 pub returns-in_err-ask_room-clause-on : goal.returns-in_err-ask_room-clause-on
-returns-in_err-ask_room-clause-on g c = g.met.K.Desk.goes_on_further _ _ _ (g.met.K.Desk.goes_on_further _ _ _ c.rooms.invariant.on c.ask.ensures.on) c.ask_room.ensures.on
+returns-in_err-ask_room-clause-on g c =
+    g.met.K.Desk.goes_on_further _ _ _ (g.met.K.Desk.goes_on_further _ _ _ c.rooms.invariant.on c.ask.ensures.on)
+    c.ask_room.ensures.on

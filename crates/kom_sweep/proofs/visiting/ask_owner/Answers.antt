@@ -67,7 +67,9 @@ returns-in_default-clause-on g c = c.ask.ensures.on
 
 pub returns-in_err-note_person-clause-ok : goal.returns-in_err-note_person-clause-ok
 returns-in_err-note_person-clause-ok g c =
-    let p = err_from_is_err_and c.from_residual-in_err-note_person.result c.from_residual-in_err-note_person.ensures.1 in rw (p.1) tt
+    let p = err_from_is_err_and c.from_residual-in_err-note_person.result
+    c.from_residual-in_err-note_person.ensures.1 in
+    rw (p.1) tt
 
 pub returns-in_err-note_person-clause-open : goal.returns-in_err-note_person-clause-open
 returns-in_err-note_person-clause-open g c = c.ask.ensures.open

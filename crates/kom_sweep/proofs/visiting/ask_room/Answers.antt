@@ -39,7 +39,8 @@ pub returns-in_err-ask_owner-clause-err : goal.returns-in_err-ask_owner-clause-e
 returns-in_err-ask_owner-clause-err g c =
     let x : Seen = seen (g.K.Desk.view c.args.desk.now) (g.C.Clock.gave c.args.clock.now) c.args.talk.now.next in
     let m : Seen = seen (g.K.Desk.view c.ask.new.desk) (g.C.Clock.gave c.ask.new.clock) c.ask.new.self.next in
-    let y : Seen = seen (g.K.Desk.view c.ask_owner.new.desk) (g.C.Clock.gave c.ask_owner.new.clock) c.ask_owner.new.talk.next in
+    let y : Seen =
+    seen (g.K.Desk.view c.ask_owner.new.desk) (g.C.Clock.gave c.ask_owner.new.clock) c.ask_owner.new.talk.next in
     let p = err_from_is_err_and c.from_residual-in_err-ask_owner.result c.from_residual-in_err-ask_owner.ensures.1 in
     rw (p.1, p.2) (breaks_on x m y c.in_ok-ask.ensures.ok refl c.in_err-ask_owner.ensures.err)
 
@@ -47,14 +48,16 @@ pub returns-then-is_letterbox-clause-ok : goal.returns-then-is_letterbox-clause-
 returns-then-is_letterbox-clause-ok g c =
     let x : Seen = seen (g.K.Desk.view c.args.desk.now) (g.C.Clock.gave c.args.clock.now) c.args.talk.now.next in
     let m : Seen = seen (g.K.Desk.view c.ask.new.desk) (g.C.Clock.gave c.ask.new.clock) c.ask.new.self.next in
-    let y : Seen = seen (g.K.Desk.view c.ask_owner.new.desk) (g.C.Clock.gave c.ask_owner.new.clock) c.ask_owner.new.talk.next in
+    let y : Seen =
+    seen (g.K.Desk.view c.ask_owner.new.desk) (g.C.Clock.gave c.ask_owner.new.clock) c.ask_owner.new.talk.next in
     room_owned c.args.session c.args.number c.in_ok-ask.field-0 c.in-Some.conference x m y c.args.names.now
     c.note_conference.new.self c.ask_owner.new.names c.in_ok-ask.ensures.ok (sym c.conference_in.ensures ∙ c.in-Some.is)
     (ap (λ (conference : Conference). is_letterbox conference.kind) (sym c.get-2.ensures) ∙ sym c.is_letterbox.ensures
     ∙ c.if-is_letterbox.true)
-    (subst (λ (conference : Conference). Learns (λ one. if c.args.number == one then Some (days_of conference) else None)
-    (λ text. conference_names text (Some conference)) c.args.names.now.whole c.args.names.now c.note_conference.new.self)
-    c.get.ensures c.in_ok-note_conference.ensures) c.in_ok-ask_owner.ensures.ok
+    (subst (λ (conference : Conference). Learns
+    (λ one. if c.args.number == one then Some (days_of conference) else None)
+    (λ text. conference_names text (Some conference)) c.args.names.now.whole c.args.names.now
+    c.note_conference.new.self) c.get.ensures c.in_ok-note_conference.ensures) c.in_ok-ask_owner.ensures.ok
 
 pub returns-clause-ok : goal.returns-clause-ok
 returns-clause-ok g c =
@@ -64,9 +67,10 @@ returns-clause-ok g c =
     c.note_conference.new.self c.in_ok-ask.ensures.ok (sym c.conference_in.ensures ∙ c.in-Some.is)
     (ap (λ (conference : Conference). is_letterbox conference.kind) (sym c.get-2.ensures) ∙ sym c.is_letterbox.ensures
     ∙ c.if-is_letterbox.false)
-    (subst (λ (conference : Conference). Learns (λ one. if c.args.number == one then Some (days_of conference) else None)
-    (λ text. conference_names text (Some conference)) c.args.names.now.whole c.args.names.now c.note_conference.new.self)
-    c.get.ensures c.in_ok-note_conference.ensures)
+    (subst (λ (conference : Conference). Learns
+    (λ one. if c.args.number == one then Some (days_of conference) else None)
+    (λ text. conference_names text (Some conference)) c.args.names.now.whole c.args.names.now
+    c.note_conference.new.self) c.get.ensures c.in_ok-note_conference.ensures)
 
 -- ---- the session stays open, and the desk is the same
 
@@ -91,7 +95,9 @@ returns-in_default-clause-on g c = c.ask.ensures.on
 
 pub returns-in_err-note_conference-clause-ok : goal.returns-in_err-note_conference-clause-ok
 returns-in_err-note_conference-clause-ok g c =
-    let p = err_from_is_err_and c.from_residual-in_err-note_conference.result c.from_residual-in_err-note_conference.ensures.1 in rw (p.1) tt
+    let p = err_from_is_err_and c.from_residual-in_err-note_conference.result
+    c.from_residual-in_err-note_conference.ensures.1 in
+    rw (p.1) tt
 
 pub returns-in_err-note_conference-clause-open : goal.returns-in_err-note_conference-clause-open
 returns-in_err-note_conference-clause-open g c = c.ask.ensures.open
@@ -101,7 +107,8 @@ returns-in_err-note_conference-clause-on g c = c.ask.ensures.on
 
 pub returns-in_err-ask_owner-clause-ok : goal.returns-in_err-ask_owner-clause-ok
 returns-in_err-ask_owner-clause-ok g c =
-    let p = err_from_is_err_and c.from_residual-in_err-ask_owner.result c.from_residual-in_err-ask_owner.ensures.1 in rw (p.1) tt
+    let p = err_from_is_err_and c.from_residual-in_err-ask_owner.result c.from_residual-in_err-ask_owner.ensures.1 in
+    rw (p.1) tt
 
 pub returns-in_err-ask_owner-clause-open : goal.returns-in_err-ask_owner-clause-open
 returns-in_err-ask_owner-clause-open g c = c.ask_owner.ensures.open

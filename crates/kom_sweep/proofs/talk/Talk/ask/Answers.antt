@@ -38,7 +38,8 @@ returns-in-Err-drain_into-clause-err g c =
     let x : Seen = seen (g.K.Desk.view c.args.desk.now) (g.C.Clock.gave c.args.clock.now) next in
     let m : Seen = seen (g.K.Desk.view c.call.new.self) (g.C.Clock.gave c.now.new.self) c.following-self.result in
     let n : Seen = seen (g.K.Desk.view c.flush.new.self) (g.C.Clock.gave c.now-2.new.self) c.following-self.result in
-    let y : Seen = seen (g.K.Desk.view c.drain_into.new.self) (g.C.Clock.gave c.now-3.new.self) c.following-self.result in (
+    let y : Seen =
+    seen (g.K.Desk.view c.drain_into.new.self) (g.C.Clock.gave c.now-3.new.self) c.following-self.result in (
       told c.args.call None ∷ [],
       inr (None, refl),
       stops_undrained c.args.session c.args.call x m n y c.in-Err-drain_into.fault
@@ -56,7 +57,8 @@ returns-clause-ok g c =
     let x : Seen = seen (g.K.Desk.view c.args.desk.now) (g.C.Clock.gave c.args.clock.now) next in
     let m : Seen = seen (g.K.Desk.view c.call.new.self) (g.C.Clock.gave c.now.new.self) c.following-self.result in
     let n : Seen = seen (g.K.Desk.view c.flush.new.self) (g.C.Clock.gave c.now-2.new.self) c.following-self.result in
-    let y : Seen = seen (g.K.Desk.view c.drain_into.new.self) (g.C.Clock.gave c.now-3.new.self) c.following-self.result in
+    let y : Seen =
+    seen (g.K.Desk.view c.drain_into.new.self) (g.C.Clock.gave c.now-3.new.self) c.following-self.result in
     asked_ok c.args.session c.args.call x m n y c.drain_into.new.into.items c.take_reply.result c.unless_short.result
     (called c.args.session next c.args.call c.now.result x m c.in_default.field-0 c.now.ensures.gains
     c.in_default.ensures.calls)
@@ -72,7 +74,8 @@ returns-clause-err g c =
     let x : Seen = seen (g.K.Desk.view c.args.desk.now) (g.C.Clock.gave c.args.clock.now) next in
     let m : Seen = seen (g.K.Desk.view c.call.new.self) (g.C.Clock.gave c.now.new.self) c.following-self.result in
     let n : Seen = seen (g.K.Desk.view c.flush.new.self) (g.C.Clock.gave c.now-2.new.self) c.following-self.result in
-    let y : Seen = seen (g.K.Desk.view c.drain_into.new.self) (g.C.Clock.gave c.now-3.new.self) c.following-self.result in
+    let y : Seen =
+    seen (g.K.Desk.view c.drain_into.new.self) (g.C.Clock.gave c.now-3.new.self) c.following-self.result in
     asked_err c.args.session c.args.call x m n y c.drain_into.new.into.items c.take_reply.result c.unless_short.result
     (called c.args.session next c.args.call c.now.result x m c.in_default.field-0 c.now.ensures.gains
     c.in_default.ensures.calls)
