@@ -1,7 +1,10 @@
 //! Tells the rows of a store as a snapshot, reads it again, and tells what was read: `retell again
-//! STORE` says whether both are the same. `retell open STORE` only opens it, and `retell tell STORE`
-//! tells it once, so that both can be measured.
+//! STORE` says whether both are the same. `retell open STORE` only opens it, and `retell tell
+//! STORE` tells it once, so that both can be measured.
 #![tactic(auto)]
+
+ghost use Rattle.kom_model.specs.Whole.{IsWhole};
+ghost use Rattle.kom_snapshot.specs.Listed.{IsListed};
 
 mod coder;
 mod reading;
@@ -47,12 +50,18 @@ fn main(rt: HostRuntime) -> io::Result<ExitCode> {
     })
 }
 
-fn told_once(alloc: Global, rows: &StoredRows) -> bool {
+fn told_once(alloc: Global, rows: &StoredRows) -> bool
+    requires whole { IsWhole rows.now.db }
+    requires listed { IsListed rows.now.db }
+{
     let mut coder = Coder::forgetting(alloc);
     tell(alloc, rows, &mut coder).is_ok()
 }
 
-fn told_again(rt: &HostRuntime, alloc: Global, rows: &StoredRows) -> io::Result<bool> {
+fn told_again(rt: &HostRuntime, alloc: Global, rows: &StoredRows) -> io::Result<bool>
+    requires whole { IsWhole rows.now.db }
+    requires listed { IsListed rows.now.db }
+{
     let mut first = Coder::keeping(alloc);
     if tell(alloc, rows, &mut first).is_err() {
         return Ok(false);
