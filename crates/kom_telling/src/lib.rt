@@ -2,11 +2,11 @@
 #![tactic(auto)]
 
 mod added;
-mod conferences;
 mod keys;
-mod memberships;
 mod numbered;
-mod persons;
+mod on_conferences;
+mod on_memberships;
+mod on_persons;
 mod section;
 mod sections;
 mod sink;

@@ -8,8 +8,8 @@ ghost use Rattle.kom_snapshot.specs.Snap.{raised};
 ghost use Rattle.kom_telling.specs.Sections.{numbered};
 ghost use Rattle.kom_telling.specs.Takes.{Keeps, Takes};
 
-use crate::conferences::tell_conference;
-use crate::persons::tell_person;
+use crate::on_conferences::tell_conference;
+use crate::on_persons::tell_person;
 use crate::section::Section;
 use crate::sink::{PartSink, put_plain};
 use kom_state::StoredRows;

@@ -9,8 +9,8 @@ ghost use Rattle.kom_telling.specs.Takes.{Keeps, Takes};
 
 use crate::added::{tell_items, tell_links, tell_marks, tell_recipients};
 use crate::keys::Keys;
-use crate::memberships::tell_memberships;
 use crate::numbered::{put_raised, tell_each};
+use crate::on_memberships::tell_memberships;
 use crate::section::Section;
 use crate::sink::PartSink;
 use kom_state::StoredRows;

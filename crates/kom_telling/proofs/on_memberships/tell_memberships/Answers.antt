@@ -1,7 +1,7 @@
 use Rattle.std.proofs.Common.{refl}
 use Rattle.kom_telling.specs.Sections.{member_parts}
 use Rattle.kom_telling.proofs.Going.{along-first, along-on, along-end}
-use Rattle.kom_telling.proofs.memberships.tell_memberships.Goals as goal
+use Rattle.kom_telling.proofs.on_memberships.tell_memberships.Goals as goal
 
 pub loop-one-init : goal.loop-one-init
 loop-one-init g c = record {

@@ -3,7 +3,7 @@ use Rattle.kom_types.specs.Parts.{Makes}
 use Rattle.kom_snapshot.specs.Snap.{count_effect}
 use Rattle.kom_telling.specs.Takes.{Keeps}
 use Rattle.kom_telling.proofs.Going.{Along}
-use Rattle.kom_telling.proofs.persons.tell_each_count.Given as goal
+use Rattle.kom_telling.proofs.on_persons.tell_each_count.Given as goal
 
 abbrev pub invariant-loop-one : goal.invariant-loop-one
 invariant-loop-one g l = record {

@@ -2,7 +2,7 @@ use Rattle.std.proofs.Common.{[], ◌∷◌, sym}
 use Rattle.kom_types.specs.Parts.{Makes}
 use Rattle.kom_types.specs.declared.effects.Effect.TheVariants as effect
 use Rattle.kom_telling.proofs.Going.{along-first, along-on, along-end}
-use Rattle.kom_telling.proofs.conferences.tell_fields.Goals as goal
+use Rattle.kom_telling.proofs.on_conferences.tell_fields.Goals as goal
 
 pub loop-field-init : goal.loop-field-init
 loop-field-init g c = record {

@@ -7,7 +7,7 @@ use Rattle.kom_snapshot.specs.Snap.{unless_zero, count_effects}
 use Rattle.kom_telling.specs.Takes.{Takes}
 use Rattle.kom_telling.proofs.Going.{takes-then}
 use Rattle.kom_telling.proofs.PersonParts.{person-parts}
-use Rattle.kom_telling.proofs.persons.tell_person.Goals as goal
+use Rattle.kom_telling.proofs.on_persons.tell_person.Goals as goal
 
 pub returns-clause-told : goal.returns-clause-told
 returns-clause-told g c =

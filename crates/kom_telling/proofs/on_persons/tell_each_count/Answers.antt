@@ -2,7 +2,7 @@ use Rattle.std.proofs.Common.{map, refl}
 use Rattle.kom_types.specs.Parts.{Makes}
 use Rattle.kom_snapshot.specs.Snap.{count_effect}
 use Rattle.kom_telling.proofs.Going.{along-first, along-on, along-end}
-use Rattle.kom_telling.proofs.persons.tell_each_count.Goals as goal
+use Rattle.kom_telling.proofs.on_persons.tell_each_count.Goals as goal
 
 pub loop-one-init : goal.loop-one-init
 loop-one-init g c = record {

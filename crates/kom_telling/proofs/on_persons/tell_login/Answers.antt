@@ -1,7 +1,7 @@
 use Rattle.std.proofs.Common.{◌≡◌, ◌==◌, false}
 use Rattle.std.proofs.lemmas.Bool.{ne_eqb}
 use Rattle.kom_telling.proofs.Going.{takes-none}
-use Rattle.kom_telling.proofs.persons.tell_login.Goals as goal
+use Rattle.kom_telling.proofs.on_persons.tell_login.Goals as goal
 
 pub returns-then-row-eq0-clause-told : goal.returns-then-row-eq0-clause-told
 returns-then-row-eq0-clause-told g c =

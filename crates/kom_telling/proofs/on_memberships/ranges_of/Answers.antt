@@ -1,6 +1,6 @@
 use Rattle.std.proofs.Common.{◌∙◌}
 use Rattle.kom_telling.proofs.Found.{few-ranges}
-use Rattle.kom_telling.proofs.memberships.ranges_of.Goals as goal
+use Rattle.kom_telling.proofs.on_memberships.ranges_of.Goals as goal
 
 pub returns-in-Some-clause-ranges : goal.returns-in-Some-clause-ranges
 returns-in-Some-clause-ranges c = c.ranges-told.ensures.ranges ∙ c.in-Some.ensures.ranges

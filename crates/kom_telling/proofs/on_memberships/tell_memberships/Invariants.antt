@@ -1,7 +1,7 @@
 use Rattle.kom_telling.specs.Sections.{member_parts}
 use Rattle.kom_telling.specs.Takes.{Keeps}
 use Rattle.kom_telling.proofs.Going.{Along}
-use Rattle.kom_telling.proofs.memberships.tell_memberships.Given as goal
+use Rattle.kom_telling.proofs.on_memberships.tell_memberships.Given as goal
 
 abbrev pub invariant-loop-one : goal.invariant-loop-one
 invariant-loop-one g l = record {

@@ -7,7 +7,7 @@ use Rattle.kom_telling.specs.Sections.{row_parts}
 use Rattle.kom_telling.specs.Takes.{Takes}
 use Rattle.kom_telling.proofs.Found.{unplaced-parts}
 use Rattle.kom_telling.proofs.Going.{found-none, found-some, takes-then}
-use Rattle.kom_telling.proofs.memberships.tell_membership.Goals as goal
+use Rattle.kom_telling.proofs.on_memberships.tell_membership.Goals as goal
 
 pub put-requires : goal.put-requires
 put-requires g c = (tt, (tt, (tt, ((λ all. c.ranges_of.ensures.few), tt))))

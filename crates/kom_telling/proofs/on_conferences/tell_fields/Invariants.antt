@@ -3,7 +3,7 @@ use Rattle.kom_types.specs.Parts.{Makes}
 use Rattle.kom_types.specs.declared.effects.Effect.TheVariants as effect
 use Rattle.kom_telling.specs.Takes.{Keeps}
 use Rattle.kom_telling.proofs.Going.{Along}
-use Rattle.kom_telling.proofs.conferences.tell_fields.Given as goal
+use Rattle.kom_telling.proofs.on_conferences.tell_fields.Given as goal
 
 abbrev pub invariant-loop-field : goal.invariant-loop-field
 invariant-loop-field g l = record {

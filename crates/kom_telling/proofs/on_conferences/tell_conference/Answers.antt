@@ -1,5 +1,5 @@
 use Rattle.kom_telling.proofs.Going.{takes-then}
-use Rattle.kom_telling.proofs.conferences.tell_conference.Goals as goal
+use Rattle.kom_telling.proofs.on_conferences.tell_conference.Goals as goal
 
 pub returns-clause-told : goal.returns-clause-told
 returns-clause-told g c =

@@ -5,7 +5,7 @@ use Rattle.kom_types.specs.declared.effects.Counter.TheVariants as counted
 use Rattle.kom_snapshot.specs.Snap.{count_effect}
 use Rattle.kom_telling.specs.Takes.{Takes}
 use Rattle.kom_telling.proofs.PersonParts.{count-parts}
-use Rattle.kom_telling.proofs.persons.tell_counts.Goals as goal
+use Rattle.kom_telling.proofs.on_persons.tell_counts.Goals as goal
 
 pub returns-clause-told : goal.returns-clause-told
 returns-clause-told g c =
