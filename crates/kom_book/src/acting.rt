@@ -27,13 +27,12 @@ impl<D: Disk + Drop> Acts for Book<D> {
             Stays record_of state_in self.old entry.now self.new result }
         ensures taken { items.new.items ≡ taken_by (state_in self.old) entry.now.act }
     {
-        match self.inner.make(entry, items) {
-            Ok(made) => {
-                let store = self.inner.store();
-                Ok(Ticked { made, store })
-            }
-            Err(why) => Err(why),
-        }
+        let made = match self.inner.make(entry, items) {
+            Ok(made) => made,
+            Err(why) => return Err(why),
+        };
+        let store = self.inner.store();
+        Ok(Ticked { made, store })
     }
 
     fn stopped(&self) -> bool
