@@ -11,7 +11,7 @@ fn a_keeper_gets_the_effects_of_accepted_calls(rt: HostRuntime) -> Result<(), Fa
 }
 
 fn keep_logins(rt: &impl Abort, alloc: Global, tried: &mut Tried) -> Result<(), Fail> {
-    tried.connect(alloc)?;
+    assert_eq!(rt; tried.connect(alloc)?, Ok(1));
     let mut keeper = Counter {
         kept: 0,
         is_full: false,

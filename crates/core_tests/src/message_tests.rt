@@ -177,7 +177,7 @@ fn a_drain_takes_64_items_at_most(rt: HostRuntime) -> Result<(), Fail> {
 
 /// The answer to the greeting and to 66 calls waits, and is stable.
 fn drain_in_turn(rt: &impl Abort, alloc: Global, tried: &mut Tried) -> Result<(), Fail> {
-    tried.connect(alloc)?;
+    assert_eq!(rt; tried.connect(alloc)?, Ok(1));
     for _ in 0..66 {
         check_asked(rt, alloc, tried, 1, Ok(1))?;
     }
