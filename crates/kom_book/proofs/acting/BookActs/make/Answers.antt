@@ -12,8 +12,8 @@ make-requires-clause-room g c =
     let same : c.args.self.now ≡ c.deref_mut.result.now = sym (c.deref_mut.ensures.value ∙ c.self.view_is) in
     subst (λ (book : BookView g.row.D.Denot). (state_in book).entries < 2 ^ 62) same c.requires.room
 
-pub returns-in-Ok-clause-comes : goal.returns-in-Ok-clause-comes
-returns-in-Ok-clause-comes g c =
+pub returns-clause-comes : goal.returns-clause-comes
+returns-clause-comes g c =
     let new : BookView g.row.D.Denot = c.make.new.self in
     let same : c.deref_mut.result.now ≡ c.args.self.now = c.deref_mut.ensures.value ∙ c.self.view_is in
     made_comes (moment g.D.Disk.moment) (images_at g.D.Disk.images_at) g.D.Disk.tells g.D.Disk.faults
@@ -25,8 +25,8 @@ returns-in-Ok-clause-comes g c =
     (c.in-Ok.ensures.stops told))
     (c.store-store.ensures ∙ ap (λ (book : BookView g.row.D.Denot). book.journal) c.deref.ensures)
 
-pub returns-in-Ok-clause-taken : goal.returns-in-Ok-clause-taken
-returns-in-Ok-clause-taken g c =
+pub returns-clause-taken : goal.returns-clause-taken
+returns-clause-taken g c =
     c.make.ensures.taken ∙ ap (λ (book : BookView g.row.D.Denot). taken_by (state_in book) c.args.entry.now.act)
     (c.deref_mut.ensures.value ∙ c.self.view_is)
 
