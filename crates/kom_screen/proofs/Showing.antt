@@ -8,7 +8,7 @@ use Rattle.std.proofs.lemmas.List.Elements.{All-nil, All-cons, All-append}
 use Rattle.std.proofs.lemmas.List.Folds.{concat-append}
 use Rattle.std.proofs.Math.Logic.{∥∥₁_map}
 use Rattle.kom_links.specs.Outside.{grown, IsNothing}
-use Rattle.kom_screen.specs.Screens.{IsPut, IsScreen, Seen, Puts, put_on, line_feed_if}
+use Rattle.kom_screen.specs.Screens.{Grows, IsPut, IsScreen, Seen, Puts, put_on, line_feed_if}
 
 true_false : true ≡ false → ⊥
 true_false e = cc
@@ -130,3 +130,13 @@ pub puts_as : (old new : Seen) (letters other behind : List ℕ) → Puts old le
     Puts old other behind new
 puts_as old new letters other behind puts same =
     subst (λ (cs : List ℕ). Puts old cs behind new) same puts
+
+-- what is told grows
+pub grows_none : (o : Option (List ℕ)) → Grows o o
+grows_none o = ([], sym (grown_none o))
+
+pub grows_by : (bytes : List ℕ) (old new : Option (List ℕ)) → new ≡ grown bytes old → Grows old new
+grows_by bytes old new e = (bytes, e)
+
+pub grows_trans : (a b c : Option (List ℕ)) → Grows a b → Grows b c → Grows a c
+grows_trans a b c p q = (p.0 ++ q.0, q.1 ∙ ap (grown q.0) p.1 ∙ grown_twice p.0 q.0 a)

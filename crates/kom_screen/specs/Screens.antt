@@ -80,6 +80,10 @@ line_feed_if is_open = if is_open then 10 ∷ [] else []
 abbrev pub put_on : Seen → List ℕ → Option (List ℕ)
 put_on seen bytes = grown bytes (grown (line_feed_if seen.is_open) seen.sink.put)
 
+-- where it is told, it has some bytes more at its end
+abbrev pub Grows : Option (List ℕ) → Option (List ℕ) → Type 0
+Grows old new = (more : List ℕ) × (new ≡ grown more old)
+
 -- A text is put to a screen on a line of its own, and what is put behind it.
 pub record Puts (old : Seen) (letters behind : List ℕ) (new : Seen) : Type 0 where
   pub text : List ℕ

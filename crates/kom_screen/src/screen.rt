@@ -2,7 +2,7 @@ ghost use Rattle.std.specs.Prelude.{◌≡◌, ◌∷◌, [], IfOk, OnOk, string
 ghost use Rattle.std.specs.Str.{chars};
 ghost use Rattle.kom_links.specs.Doors.{IsNewSink};
 ghost use Rattle.kom_links.specs.Outside.{grown};
-ghost use Rattle.kom_screen.specs.Screens.{IsPiece, IsScreenOf, Puts, letters_behind};
+ghost use Rattle.kom_screen.specs.Screens.{Grows, IsPiece, IsScreenOf, Puts, letters_behind};
 ghost use Rattle.kom_screen.specs.Screens.{line_feed_if};
 
 use crate::fronts::Front;
@@ -97,7 +97,7 @@ impl<S: Sink> Screen<S> {
     }
 
     /// Shows a line.
-    #[tactic(auto, using(crate::proofs::Showing::puts_as))]
+    #[tactic(auto, using(crate::proofs::Showing::puts_as, crate::proofs::Showing::grows_none))]
     pub fn line(
         &mut self,
         alloc: Global,
@@ -106,6 +106,7 @@ impl<S: Sink> Screen<S> {
         charset: Charset,
     ) -> Result<(), ScreenFault>
         ensures columns { self.new.columns ≡ self.old.columns }
+        ensures grows { Grows self.old.sink.put self.new.sink.put }
         ensures shows { OnOk result (Puts self.old
             (letters_behind self.old.columns front charset bytes.now) (10 ∷ []) self.new) }
     {
@@ -114,9 +115,10 @@ impl<S: Sink> Screen<S> {
     }
 
     /// Shows a prompt, behind which something is typed.
-    #[tactic(auto, using(crate::proofs::Showing::puts_prompt))]
+    #[tactic(auto, using(crate::proofs::Showing::puts_prompt, crate::proofs::Showing::grows_none))]
     pub fn prompt(&mut self, alloc: Global, front: Front, bytes: &[u8]) -> Result<(), ScreenFault>
         ensures columns { self.new.columns ≡ self.old.columns }
+        ensures grows { Grows self.old.sink.put self.new.sink.put }
         ensures shows { OnOk result (Puts self.old
             (letters_behind self.old.columns front Charset.Utf8 bytes.now) [] self.new) }
         ensures open { OnOk result (self.new.is_open ≡ true) }
@@ -133,6 +135,7 @@ impl<S: Sink> Screen<S> {
     pub fn take(&mut self, line: &str) -> Result<(), ScreenFault>
         requires { IsPiece self.old.columns (chars line.now) }
         ensures columns { self.new.columns ≡ self.old.columns }
+        ensures grows { Grows self.old.sink.put self.new.sink.put }
         ensures shows { OnOk result (Puts self.old (chars line.now) (10 ∷ []) self.new) }
     {
         self.begin()?;
@@ -144,9 +147,10 @@ impl<S: Sink> Screen<S> {
     }
 
     /// Ends the line of a prompt behind which nothing was typed.
-    #[tactic(auto, using(crate::proofs::Showing::grown_none))]
+    #[tactic(auto, using(crate::proofs::Showing::grown_none, crate::proofs::Showing::grows_none))]
     fn begin(&mut self) -> Result<(), ScreenFault>
         ensures columns { self.new.columns ≡ self.old.columns }
+        ensures grows { Grows self.old.sink.put self.new.sink.put }
         ensures closed { self.new.is_open ≡ false }
         ensures puts { OnOk result
             (self.new.sink.put ≡ grown (line_feed_if self.old.is_open) self.old.sink.put) }

@@ -1,7 +1,7 @@
 ghost use Rattle.std.specs.Prelude.{◌≡◌, OnOk, false};
 ghost use Rattle.kom_links.specs.Doors.{IsNewSink};
 ghost use Rattle.kom_links.specs.Outside.{grown};
-ghost use Rattle.kom_screen.specs.Screens.{IsPut, IsScreenOf};
+ghost use Rattle.kom_screen.specs.Screens.{Grows, IsPut, IsScreenOf};
 
 use crate::screen_fault::ScreenFault;
 use kom_links::{Failed, Sink};
@@ -52,11 +52,12 @@ impl<S: Sink> Surface<S> {
     }
 
     /// Shows a piece, or ends a line.
-    #[tactic(auto, using(crate::proofs::Showing::kept_more, crate::proofs::Showing::kept_part))]
+    #[tactic(auto, using(crate::proofs::Showing::kept_more, crate::proofs::Showing::kept_part, crate::proofs::Showing::grows_none))]
     pub(crate) fn put(&mut self, bytes: &[u8]) -> Result<(), ScreenFault>
         requires { IsPut self.old.columns bytes.now }
         ensures columns { self.new.columns ≡ self.old.columns }
         ensures puts { OnOk result (self.new.sink.put ≡ grown bytes.now self.old.sink.put) }
+        ensures grows { Grows self.old.sink.put self.new.sink.put }
     {
         if self.has_failed {
             return Err(ScreenFault::Failed);
