@@ -27,7 +27,7 @@ sys.path[:0] = [str(TOP / "tools" / "common"), str(TOP / "contrib")]
 import rescue
 from built import ROOT, Wrong, check_store, make_store, program_of, script
 from protocol import string
-from served import PATIENCE, Server, Session, folder_in_memory, has_ipv6
+from served import PATIENCE, Server, Session, folder_in_memory, has_ipv6, hear_signals
 from tried import Tried
 
 CONTRIB = ROOT / "contrib"
@@ -307,17 +307,12 @@ def try_probe(tried):
     tried.same("a probe with other words", 3, tried.run(probe[0], "a", "b")[0])
 
 
-def hear_hangups():
-    """Whoever has this run on after a hangup (nohup) would have the server ignore it too."""
-    signal.signal(signal.SIGHUP, signal.SIG_DFL)
-
-
 def try_stops(tried):
     """Signals after an answer, and call 44."""
     store = tried.made("stopped")
     answered = {}
     for number in [signal.SIGHUP, signal.SIGINT, signal.SIGTERM, signal.SIGKILL]:
-        server = Server(tried.program, store, 2, begin=hear_hangups)
+        server = Server(tried.program, store, 2, begin=hear_signals)
         session = login(server.port, 5, "")
         answered[int(session.ask(f"86 {string(number.name)} 0 {{ }} 0 {{ }}"))] = number.name
         server.process.send_signal(number)

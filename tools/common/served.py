@@ -81,6 +81,12 @@ class Ended(Wrong):
         self.status = status
 
 
+def hear_signals():
+    """Before a program begins: who is run by a shell in the background, or after a hangup, would have it ignore these signals too."""
+    for number in (signal.SIGHUP, signal.SIGINT):
+        signal.signal(number, signal.SIG_DFL)
+
+
 class Server:
     """A store that is served by so many workers, at the first of the ports that is free, or at one that is drawn: with more in the
     environment than this process has, if it is given, with what the process is to do before the program begins, and by another
