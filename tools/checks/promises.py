@@ -1,9 +1,9 @@
 #!/usr/bin/env python3
-"""Checks docs/promises.md and docs/theorem.md against the sources: promises.py [--mend]
+"""Checks docs/promises.md, docs/theorem.md and docs/sweep.md against the sources: promises.py [--mend]
 
 Of the tables of promises each function stands in the file that is named, its contract has each clause that is named, and each edit lies
-in must-fail/ or tests/edits. Of the tables of the theorem each definition stands at its line; with --mend those that stand at another
-line of their file get that one. Prints what is wrong, and ends with 1 if anything is, else with 0."""
+in must-fail/ or tests/edits. Of the tables of the theorem and of a sweep each definition stands at its line; with --mend those that stand
+at another line of their file get that one. Prints what is wrong, and ends with 1 if anything is, else with 0."""
 import glob
 import os
 import pathlib
@@ -20,7 +20,7 @@ CLAUSE = re.compile(r"^\s*ensures (\w+ )?\{")
 # A definition or a type, where it is cited, and where it stands.
 CITED = re.compile(r"`(\w+)` \(`([\w/.]+):(\d+)`\)")
 DEFINES = r"\s*(?:(?:abbrev|unfoldable) pub|pub (?:record|data|struct|enum)) %s\b"
-THEOREM = pathlib.Path("docs/theorem.md")
+PAGES = (pathlib.Path("docs/theorem.md"), pathlib.Path("docs/sweep.md"))
 
 
 def contracts_of(path):
@@ -77,18 +77,18 @@ def place_of(name, path):
     return next((number for number, line in enumerate(lines, 1) if re.match(DEFINES % name, line)), None)
 
 
-def look_at_theorem(mends):
-    """How many definitions the theorem cites, and how many of them stand elsewhere than it says."""
-    text, wrong = THEOREM.read_text(encoding="utf-8"), 0
+def look_at(page, mends):
+    """How many definitions a page cites, and how many of them stand elsewhere than it says."""
+    text, wrong = page.read_text(encoding="utf-8"), 0
     for name, path, line in CITED.findall(text):
         place = place_of(name, path)
         if place and mends:
             text = text.replace(f"`{name}` (`{path}:{line}`)", f"`{name}` (`{path}:{place}`)")
         elif place != int(line):
             wrong += 1
-            print(f"{THEOREM}: {name} is not defined at line {line} of {path}" + (f", but at {place}" if place else ""))
+            print(f"{page}: {name} is not defined at line {line} of {path}" + (f", but at {place}" if place else ""))
     if mends:
-        THEOREM.write_text(text, encoding="utf-8")
+        page.write_text(text, encoding="utf-8")
     return len(CITED.findall(text)), wrong
 
 
@@ -103,8 +103,8 @@ def main(words):
         for fault in faults_of(cells):
             wrong += 1
             print(f"docs/promises.md:{number}: {fault}")
-    cited, misplaced = look_at_theorem(bool(words))
-    print(f"{count} promises, {wrong} faults; {cited} definitions of the theorem, {misplaced} elsewhere")
+    cited, misplaced = (sum(numbers) for numbers in zip(*(look_at(page, bool(words)) for page in PAGES)))
+    print(f"{count} promises, {wrong} faults; {cited} definitions of the theorem and of a sweep, {misplaced} elsewhere")
     return 1 if wrong or misplaced or not count or not cited else 0
 
 
