@@ -356,25 +356,46 @@ class Session:
         first = self.send_all(calls)
         return [self.reply(first + place, call[0]) for place, call in enumerate(calls)]
 
-    def told(self, calls):
+    def told(self, calls, form=None):
         """What the replies tell to calls for a number each, which are sent together, at once: the bytes after the reference, each as it is
-        taken. A refusal stands in the place of its reply. They are to be taken before anything else is asked."""
+        taken. A refusal stands in the place of its reply, and what a form finds in that of one that has it: the reference, those bytes,
+        and more. They are to be taken before anything else is asked."""
         first = self.reference + 1
         self.reference += len(calls)
-        self.socket.sendall(b"".join([b"%d %d %d\n" % (reference, *call) for reference, call in enumerate(calls, first)]))
-        return self.told_from(first, calls)
+        lines = [f"{reference} {call} {number}\n" for reference, (call, number) in enumerate(calls, first)]
+        self.socket.sendall("".join(lines).encode())
+        return self.told_from(first, calls, form)
 
-    def told_from(self, first, calls):
+    def told_from(self, first, calls, form):
         """The same, of calls that were sent, the first one with this reference."""
-        readline = self.file.readline
-        for reference, (call, _) in enumerate(calls, first):
-            line, head = readline(), b"=%d " % reference
-            # (a good reply without strings, as nearly all are, is only cut)
-            if line.startswith(head) and b"H" not in line and line.endswith(b"\n"):
-                yield line[len(head) :]
-            else:
-                reply = self.reply_from(self.whole(line), reference, call)
-                yield reply if isinstance(reply, Refused) else reply.line[reply.place :].lstrip(b" ")
+        place = 0
+        while place < len(calls):
+            rows = self.formed(form, first + place, len(calls) - place) if form else []
+            yield from rows
+            place += len(rows)
+            if place < len(calls):
+                yield self.told_in_line(first + place, calls[place][0])
+                place += 1
+
+    def formed(self, form, first, most):
+        """What a form finds in the good replies that have come, the first one with this reference, and so many at most: in those before
+        the first that it is not the form of. They are taken. (A form finds all else up to the end at once, so it finds nothing in that.)"""
+        rows = form.findall(self.file.peek())[:most]
+        wanted = [f"{reference}".encode() for reference in range(first, first + len(rows))]
+        while [row[0] for row in rows] != wanted:
+            rows.pop(), wanted.pop()
+        # (each has a sign and a space beside)
+        self.file.read(sum([len(row[0]) + len(row[1]) + 2 for row in rows]))
+        return rows
+
+    def told_in_line(self, reference, call):
+        """What the next line tells, if it is the reply to a call, or its refusal as a value."""
+        line, head = self.file.readline(), b"=%d " % reference
+        # (a good reply without strings, as nearly all are, is only cut)
+        if line.startswith(head) and b"H" not in line and line.endswith(b"\n"):
+            return line[len(head) :]
+        reply = self.reply_from(self.whole(line), reference, call)
+        return reply if isinstance(reply, Refused) else reply.line[reply.place :].lstrip(b" ")
 
     def ask(self, call, *arguments):
         """The reply to a call, which is good."""

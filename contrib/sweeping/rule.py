@@ -1,5 +1,6 @@
 """Which text is due to be deleted, by what the server tells of it, of its comments and footnotes, and of conferences. A text that is not
 told of enough is not due. docs/operating.md says the rule in words."""
+import functools
 from typing import NamedTuple
 
 DAY = 86_400
@@ -49,12 +50,17 @@ def is_held(row):
     return row.marks > 0 or any(item.flags & DONT_GARB for item in row.items)
 
 
-def lets_go(number, recipients, age, youngest, names):
-    """Whether nobody names the text of this number, and every recipient lets it go. One of which nothing is told does not."""
-    if number in names.named:
-        return False
+def let_go(recipients, age, youngest, names):
+    """Whether every recipient lets a text go, or there is none and those without go. One of which nothing is told does not."""
     for conference in recipients:
         days = names.days.get(conference)
         if days is None or not releases(days, age, youngest):
             return False
     return bool(recipients) or releases(WITHOUT_RECIPIENTS, age, youngest)
+
+
+def rule_by(names):
+    """The rule by what conferences tell: of a text's number, its recipients, its age and that of its youngest comment or footnote, whether
+    nobody names it, and its recipients let it go. What was said of the same recipients and ages is said again."""
+    let = functools.lru_cache(1 << 14)(lambda recipients, age, youngest: let_go(recipients, age, youngest, names))
+    return lambda number, recipients, age, youngest: let(recipients, age, youngest) and number not in names.named

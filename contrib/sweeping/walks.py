@@ -2,8 +2,9 @@
 from typing import NamedTuple
 
 from protocol_a import NO_SUCH_TEXT, UNDEFINED_CONFERENCE, Broken, Refused, Reply, conference, person, text
-from sweeping.rule import FOREVER, Days, Names, age_of, faq_texts, lets_go
-from sweeping.seen import seen, without_links
+from sweeping.plain import FORM, Plain, judged_of
+from sweeping.rule import FOREVER, Days, Names, faq_texts, rule_by
+from sweeping.seen import without_links
 
 # How many calls are under way at a time.
 TOGETHER = 16
@@ -15,8 +16,8 @@ class Due(NamedTuple):
     """A text that may be due, with what the server told of it: all, and what is judged of that."""
     number: int
     told: bytes
-    recipients: list
-    children: list
+    recipients: tuple
+    children: tuple
     age: int
 
     def row(self):
@@ -31,8 +32,16 @@ class Walk(NamedTuple):
 
     def due(self, names):
         """Those that are due by what the conferences tell. One is not of which a comment or a footnote was not told."""
-        return [one for one in self.old if all(child in self.ages for child in one.children)
-                and lets_go(one.number, one.recipients, one.age, min(map(self.ages.get, one.children), default=FOREVER), names)]
+        lets_go = rule_by(names)
+        return [one for one in self.old if (youngest := self.youngest(one.children)) is not None
+                and lets_go(one.number, one.recipients, one.age, youngest)]
+
+    def youngest(self, children):
+        """The age of the youngest of some comments and footnotes, or None if one of them was not told."""
+        if not children:
+            return FOREVER
+        ages = [self.ages.get(child) for child in children]
+        return None if None in ages else min(ages)
 
 
 def parts(rows):
@@ -95,12 +104,12 @@ def texts(session, last):
         calls, at = [(90, number) for number in some], at + len(some)
         if width < TOGETHER:
             calls.append((60, at))
-        replies = session.told(calls)
+        replies = session.told(calls, FORM)
         yield found
         replies = list(replies)
         if width < TOGETHER:
             at = next_text(replies.pop(), at) - 1
-        found = [both for both in zip(some, replies) if not isinstance(both[1], Refused) or is_there(session, *both)]
+        found = [both for both in zip(some, replies) if type(both[1]) is not Refused or is_there(session, *both)]
         width = min(max(2 * width, 1), TOGETHER) if 2 * len(found) >= width else max(2 * len(found) - 1, 1)
     yield found
 
@@ -129,22 +138,26 @@ def walk(session, moment, names, progress):
     """The walk over the texts at a moment. What is made after it began is as old as nothing that is due, and is not walked over."""
     last = session.ask(115).number() - 1
     old, ages, count = [], {}, 0
+    plain, lets_go = Plain(moment), rule_by(names)
     for found in texts(session, last):
         count += len(found)
         for number, told in found:
-            if isinstance(told, Refused):
+            judged = None
+            if type(told) is tuple:
+                judged, told = plain.judged(told), told[1]
+            elif isinstance(told, Refused):
                 continue
-            made, is_held, recipients, children = seen(told)
-            ages[number] = age = age_of(made, moment)
+            is_held, recipients, children, age = judged or judged_of(told, moment)
+            ages[number] = age
             # (whether its comments let it go can be said once all of them were met)
-            if not is_held and lets_go(number, recipients, age, FOREVER, names):
+            if not is_held and lets_go(number, recipients, age, FOREVER):
                 old.append(Due(number, told, recipients, children, age))
         progress.tell(count, last)
     progress.end()
     for some in parts(sorted({child for one in old for child in one.children if child not in ages})):
         for number, told in zip(some, session.told([(90, number) for number in some])):
             if not isinstance(told, Refused):
-                ages[number] = age_of(seen(told)[0], moment)
+                ages[number] = judged_of(told, moment)[3]
     return Walk(old, ages, count)
 
 

@@ -13,7 +13,9 @@
 6. The statuses of `komd sweep`: other passwords and persons, a store that is served, what is no store, a report that cannot be written.
 7. Numbers of which few are texts, or none, in runs of each length: what is listed and swept, and how many calls that makes. Texts that
    are told with strings in which there are line feeds and replies, in pieces of each size. What is split into words is read as what is
-   read as a record, of 1,000 random texts and of each beginning of some. Texts that are there and not told.
+   read as a record, of 1,000 random texts and of each beginning of some; and so is what is found by a form, of 4,000 that have it or
+   nearly so, from moments before and after a change of their age; and replies are taken by a form as they are line by line, whatever
+   is between them. Texts that are there and not told.
 
 It prints a line for each thing that is otherwise, and a count, and ends with 1 if there is one, else with 0. It takes some fifteen
 seconds, and needs a C compiler; where there is none it says so, and ends with 0. PROGRAM is the built `komd` unless it is named.
@@ -41,9 +43,12 @@ TOP = pathlib.Path(__file__).resolve().parents[2]
 sys.path[:0] = [str(TOP / "tools" / "common"), str(TOP / "contrib")]
 from built import USAGE, make_store, program_of, script
 from clock import DAY, Clock
+import protocol_a
 from protocol import string
-from protocol_a import Broken, Reply, text
+
+from protocol_a import Broken, Refused, Reply, text
 from served import PATIENCE, Server, Session, folder_in_memory, limit_seconds
+from sweeping.plain import FORM, Plain
 from sweeping.rule import is_held
 from sweeping.seen import head_of, seen
 from sweeping.walks import Due, is_as_judged
@@ -857,6 +862,75 @@ def try_seen(tried):
             tried.same(f"what is seen of {told[:end]}", outcome(lambda line: seen_in_record(line)[0], told[:end]), outcome(seen, told[:end]))
 
 
+def plain_told(draw, now):
+    """What is told of a text as nearly all are, made some days before a moment or near that, or long ago; now and then with a fault."""
+    made = max(now - draw.choice((0, 1, 2, 77, 1000)) * DAY + draw.choice((0, -1, 1, -3600, 3600, draw.randint(-DAY, DAY))), 0)
+    clock = time.gmtime(draw.choice((made, made, made, made % DAY)))
+    words = [clock.tm_sec, clock.tm_min, clock.tm_hour, clock.tm_mday, clock.tm_mon - 1, clock.tm_year - 1900, 1, 2, 0, 5, 1, 20, 0]
+    misc = [(0, draw.randint(1, 9)), (6, draw.randint(1, 99)), *((draw.choice((2, 2, 4)), draw.randint(1, 9)) for _ in range(draw.choice((0, 1, 2))))]
+    misc += [(draw.choice((3, 3, 5)), draw.randint(1, 9)) for _ in range(draw.choice((0, 0, 1, 3)))]
+    words += [len(misc), "{", *(word for pair in misc for word in pair), "}", 0, "*"]
+    place = draw.randrange(len(words))
+    if draw.random() < 0.5:
+        change = draw.choice(("", 0, 1, 3, 7, 14, 23, 24, 59, 60, 69, 70, "01", "x", "{", "-1", "5 5", "+3", "1_0", "9" * 12))
+        words[draw.choice((place, draw.randrange(6), 13))] = change
+    return " ".join(map(str, words)).encode() + draw.choice((b"\n",) * 8 + (b" \n",))
+
+
+def try_plain(tried):
+    """Part 7: what is found by a form, and what is read as a record."""
+    draw, plain = random.Random(5), 0
+    for _ in range(4000):
+        now = draw.choice((FIRST, FIRST - FIRST % DAY, FIRST - FIRST % 3600 - 1, draw.randrange(FIRST), draw.randrange(DAY)))
+        told = plain_told(draw, now)
+        found = FORM.findall(b"=7 " + told)
+        judged = Plain(now).judged(found[0]) if found[0][0] else None
+        if judged is None:
+            continue
+        (made, held, recipients, children), _ = seen_in_record(told)
+        tried.same(f"what is judged of {told} at {now}", (told, held, recipients, children, max(now - made, 0) // DAY),
+                   (found[0][1], judged[0], [*judged[1]], [*judged[2]], judged[3]))
+        plain += 1
+    tried.same("whether some were found so, and some were not", True, 1500 < plain < 3500)
+
+
+def random_replies(draw, count):
+    """What may be told of the first texts, with what is no reply to that between, and what departs."""
+    for reference in range(1, count + 1):
+        told = plain_told(draw, FIRST)
+        after = b"".join(b"\n=%d %b" % (reference + more, plain_told(draw, FIRST)) for more in range(draw.randint(0, 4)))
+        item = b"50 4 5 1 1 100 1 2 0 5 1 20 0 0 * 1 { 1 2 5 50 4 5 1 1 100 1 2 0 00000000 0 %dH%b }" % (len(after), after)
+        if draw.random() < 0.1:
+            yield b":2 9 5 %dH%b\n" % (len(after), after)
+        yield b"=%d %b" % (reference if draw.random() < 0.98 else draw.randint(1, count), told if draw.random() < 0.7 else item + b"\n")
+        if draw.random() < 0.1:
+            yield b"%%%d 14 %d\n" % (reference, reference)
+
+
+def told_by(form, data, count, block):
+    """What a session makes of bytes as the replies to calls, how many messages it keeps, and the bytes that it leaves."""
+    session = protocol_a.Session.__new__(protocol_a.Session)
+    session.socket, server = socket.socketpair()
+    with session.socket, server, session.socket.makefile("rb", block) as session.file:
+        session.reference, session.messages, told = 0, [], []
+        server.sendall(data)
+        server.shutdown(socket.SHUT_WR)
+        with contextlib.suppress(Broken):
+            for reply in session.told([(90, number) for number in range(count)], form):
+                told.append(reply[1] if isinstance(reply, tuple) else str(reply) if isinstance(reply, Refused) else reply)
+        return told, len(session.messages), server.recv(1 << 16), session.file.read() if len(told) == count else b""
+
+
+def try_replies(tried):
+    """Part 7: replies that are taken by a form, and line by line."""
+    draw = random.Random(6)
+    for _ in range(300):
+        data = b"".join(random_replies(draw, 16))
+        data = data[: draw.choice((len(data), len(data), draw.randrange(len(data))))]
+        block = draw.choice((8, 100, 1000, 1 << 16))
+        tried.same(f"what is told of {data} in blocks of {block}", told_by(None, data, 16, block), told_by(FORM, data, 16, block))
+
+
 def told_without(told, gone):
     """What is told of a text once its links to texts are gone, if these are told by numbers alone."""
     head, brace, rest = told.partition(b" { ")
@@ -927,6 +1001,8 @@ def main(words):
         try_numbers(tried)
         try_strings(tried)
         try_seen(tried)
+        try_plain(tried)
+        try_replies(tried)
         try_untold(tried)
     print(f"{tried.count} things looked at, {tried.failed} are otherwise")
     return 1 if tried.failed else 0
