@@ -125,18 +125,22 @@ def try_refusals(tried, old, _wanted):
 
 
 def try_interrupts(tried, old, wanted):
-    """Signals at random moments, after each of which the same words go on."""
+    """Signals at random moments, after each of which the same words go on. A signal may come when the store is there already."""
     store, draw = tried.path("interrupted"), random.Random(2)
     for number in range(KILLS):
-        process = tried.begin(b"\n", old.port, store)
+        process, killed = tried.begin(b"\n", old.port, store), number % 2 == 1
         time.sleep(draw.uniform(0.1, 0.4))
-        process.send_signal(signal.SIGKILL if number % 2 else signal.SIGINT)
+        process.send_signal(signal.SIGKILL if killed else signal.SIGINT)
         process.communicate(timeout=PATIENCE)
-        if process.returncode == 0:
+        if store.exists():
+            tried.same(f"interrupt {number} of a store that is there", True, killed or process.returncode == 0)
             break
-        tried.same(f"interrupt {number}", False, store.exists())
-    status = 0 if store.exists() else tried.bring(old.port, store)[0]
-    tried.same("bringing over after interrupts", (0, ["interrupted"]), (status, [name for name in tried.files() if name.startswith("interrupted")]))
+        tried.same(f"interrupt {number}", True, process.returncode != 0)
+    found = store.exists()
+    if not found:
+        tried.same("bringing over after interrupts", 0, tried.bring(old.port, store)[0])
+    left = [name for name in tried.files() if name.startswith("interrupted")]
+    tried.same("what is left after interrupts", [], [name for name in left if not (name == store.name or found and ".import" in name)])
     tried.same_club("the club after interrupts", store, wanted)
 
 
