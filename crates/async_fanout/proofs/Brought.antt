@@ -1,6 +1,6 @@
 -- What messages bring, one after the other.
 use Rattle.std.proofs.Common.{◌≡◌, ℕ, ◌≤◌, Bool, true, false, cond, not, ◌||◌, ◌&&◌, List, [], ◌∷◌, ◌++◌}
-use Rattle.std.proofs.Common.{length, map, Option, Some, None, Result, Ok, Err, refl, sym, ap, ap₂, ◌∙◌, inl, inr}
+use Rattle.std.proofs.Common.{length, map, Option, Some, None, refl, sym, ap, ap₂, ◌∙◌, inl, inr}
 use Rattle.std.proofs.Common.{arith, append_assoc}
 use Rattle.std.specs.List.{filter, filter_map, flat_map, cons_option}
 use Rattle.std.proofs.Common.{eqb}
@@ -15,15 +15,14 @@ use Rattle.kom_types.specs.declared.messages.Message.{Message}
 use Rattle.kom_types.specs.declared.seats.Seat.{Seat}
 use Rattle.kom_types.specs.declared.session_changes.SessionChange.{SessionChange}
 use Rattle.kom_types.specs.declared.session_changes.SessionChange.TheVariants as change
-use Rattle.std.specs.Result.{IfOk}
 use Rattle.kom_model.specs.calls.Call.{Asked}
 use Rattle.kom_model.specs.calls.Guards.{seat_at}
 use Rattle.kom_model.specs.Messages.{logout}
 use Rattle.kom_model.specs.Db.{Db}
-use Rattle.kom_model.specs.Sending.{Delivery, Sending, accepts, delivered, delivered_to}
+use Rattle.kom_model.specs.Sending.{Delivery, Sending, accepts, delivery_to, delivered_to}
 use Rattle.kom_model.specs.ToWhom.{sent_by, messages_of, is_refused, logged_out, logged_in}
 use Rattle.kom_model.specs.Viewers.{viewer_of}
-use Rattle.async_fanout.specs.Delivered.{all_brought, brings, listed}
+use Rattle.async_fanout.specs.Delivered.{all_brought, brings, as_list}
 use Rattle.async_fanout.specs.Silent.{may_send, is_silent}
 
 pub none : (asked : Asked) (old : List Delivery) → old ++ all_brought asked [] ≡ old
@@ -45,18 +44,18 @@ pub brought-append : (asked : Asked) (one other : List Sending) →
 brought-append asked one other = flat_map-append (delivered_to asked.db asked.seats) one other
 
 filter_map-first : {A B : Type 0} (pick : A → Option B) (x : A) (xs : List A) →
-    filter_map pick (x ∷ xs) ≡ listed (pick x) ++ filter_map pick xs
+    filter_map pick (x ∷ xs) ≡ as_list (pick x) ++ filter_map pick xs
 filter_map-first pick x xs =
-    elim (pick x) as (λ found. cons_option found (filter_map pick xs) ≡ listed found ++ filter_map pick xs)
+    elim (pick x) as (λ found. cons_option found (filter_map pick xs) ≡ as_list found ++ filter_map pick xs)
     [ None ↦ refl | Some one ↦ refl ]
 
 -- element by element of a list, each of which sends something or nothing
 pub brought-each : {A : Type 0} (asked : Asked) (pick : A → Option Sending) (xs : List A) →
-    flat_map (λ x. all_brought asked (listed (pick x))) xs ≡ all_brought asked (filter_map pick xs)
+    flat_map (λ x. all_brought asked (as_list (pick x))) xs ≡ all_brought asked (filter_map pick xs)
 brought-each asked pick [] = refl
 brought-each asked pick (x ∷ xs) =
-    ap (λ rest. all_brought asked (listed (pick x)) ++ rest) (brought-each asked pick xs)
-    ∙ sym (brought-append asked (listed (pick x)) (filter_map pick xs))
+    ap (λ rest. all_brought asked (as_list (pick x)) ++ rest) (brought-each asked pick xs)
+    ∙ sym (brought-append asked (as_list (pick x)) (filter_map pick xs))
     ∙ ap (all_brought asked) (sym (filter_map-first pick x xs))
 
 -- a call of no kind that sends something sends nothing
@@ -109,16 +108,16 @@ message_for seat message = record { session = seat.number; item = item.Message m
 
 -- what a message brings to a session that accepts it
 pub delivered-accepted : (db : Db) (sending : Sending) (seat : Seat) → accepts sending.number seat ≡ true →
-    listed (delivered db sending seat) ≡ brings db sending seat
+    as_list (delivery_to db sending seat) ≡ brings db sending seat
 delivered-accepted db sending seat accepted =
-    rw accepted (elim (eqb seat.person 0) as (λ b. listed (cond (b || false) None
+    rw accepted (elim (eqb seat.person 0) as (λ b. as_list (cond (b || false) None
     (option_map (message_for seat) (sending.told (viewer_of db seat))))
     ≡ cond b [] (elim (sending.told (viewer_of db seat)) [
       | None ↦ []
       | Some message ↦ message_for seat message ∷ []
     ])) [
       | true ↦ refl
-      | false ↦ elim (sending.told (viewer_of db seat)) as (λ told. listed (option_map (message_for seat) told)
+      | false ↦ elim (sending.told (viewer_of db seat)) as (λ told. as_list (option_map (message_for seat) told)
           ≡ elim told [ None ↦ [] | Some message ↦ message_for seat message ∷ [] ]) [
             | None ↦ refl
             | Some message ↦ refl
@@ -127,7 +126,7 @@ delivered-accepted db sending seat accepted =
 
 -- and to one that does not
 delivered-silent : (db : Db) (sending : Sending) (seat : Seat) → accepts sending.number seat ≡ false →
-    delivered db sending seat ≡ None
+    delivery_to db sending seat ≡ None
 delivered-silent db sending seat silent =
     rw silent (elim (eqb seat.person 0) as (λ b. cond (b || true) None
     (option_map (message_for seat) (sending.told (viewer_of db seat))) ≡ None) [ true ↦ refl | false ↦ refl ])
@@ -144,7 +143,7 @@ delivered-accepting db sending (seat ∷ seats) =
           rw accepted refl in
           ap (flat_map (brings db sending)) kept
           ∙ ap₂ (λ (one other : List Delivery). one ++ other) (sym (delivered-accepted db sending seat accepted)) rest
-          ∙ sym (filter_map-first (delivered db sending) seat seats)
+          ∙ sym (filter_map-first (delivery_to db sending) seat seats)
       | inr silent ↦
           let kept : filter (accepts sending.number) (seat ∷ seats) ≡ filter (accepts sending.number) seats =
           rw silent refl in

@@ -9,8 +9,8 @@ use Rattle.kom_model.specs.Sending.{Delivery, Sending, delivered_to}
 use Rattle.kom_model.specs.Viewers.{viewer_of}
 
 -- what may be there, as a list
-abbrev pub listed : {A : Type 0} → Option A → List A
-listed found = elim found [ None ↦ [] | Some one ↦ one ∷ [] ]
+abbrev pub as_list : {A : Type 0} → Option A → List A
+as_list found = elim found [ None ↦ [] | Some one ↦ one ∷ [] ]
 
 -- what is sent of a row that may be there
 abbrev pub of_row : {A : Type 0} → (A → Sending) → Option A → List Sending

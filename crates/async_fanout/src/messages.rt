@@ -2,7 +2,7 @@ ghost use Rattle.std.specs.Prelude.{◌≡◌, ◌++◌, true, IfOk, IsOk};
 ghost use Rattle.std.specs.List.{filter_map};
 ghost use Rattle.kom_model.specs.ToWhom.{messages_of, sent_by, logged_out, logged_in};
 ghost use Rattle.kom_model.specs.ToWhom.{is_refused as is_refused_reply};
-ghost use Rattle.async_fanout.specs.Delivered.{all_brought, listed};
+ghost use Rattle.async_fanout.specs.Delivered.{all_brought, as_list};
 ghost use Rattle.async_fanout.specs.Silent.{may_send as may_send_call, is_silent as is_silent_call};
 
 use crate::deliveries::{Delivery, deliver};
@@ -71,7 +71,7 @@ fn push_logout(
     sent: &mut Vec<Delivery>,
 ) -> Result<(), Memory>
     ensures { IfOk result (λ done. sent.new.items ≡ sent.old.items
-        ++ all_brought asked.now (listed (logged_out asked.now change.now))) }
+        ++ all_brought asked.now (as_list (logged_out asked.now change.now))) }
 {
     match change {
         SessionChange::Person(session, person, _) => match asked.sessions().seat(*session) {
@@ -113,7 +113,7 @@ fn push_login(
     sent: &mut Vec<Delivery>,
 ) -> Result<(), Memory>
     ensures { IfOk result (λ done. sent.new.items ≡ sent.old.items
-        ++ all_brought asked.now (listed (logged_in change.now))) }
+        ++ all_brought asked.now (as_list (logged_in change.now))) }
 {
     match change {
         SessionChange::Person(session, person, invisible) => {

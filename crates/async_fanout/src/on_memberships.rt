@@ -3,8 +3,8 @@ ghost use Rattle.std.specs.Prelude.{◌≡◌, [], ◌∷◌, ◌++◌, is_some,
 ghost use Rattle.std.specs.List.{filter_map};
 ghost use Rattle.kom_model.specs.Db.{membership_of};
 ghost use Rattle.kom_model.specs.Messages as Messages;
-ghost use Rattle.kom_model.specs.ToWhom.{left};
-ghost use Rattle.async_fanout.specs.Delivered.{all_brought, listed};
+ghost use Rattle.kom_model.specs.ToWhom.{left_conference};
+ghost use Rattle.async_fanout.specs.Delivered.{all_brought, as_list};
 
 use crate::deliveries::{Delivery, Tells, deliver};
 use kom_model::Viewer;
@@ -72,7 +72,7 @@ pub(crate) fn leave(
     sent: &mut Vec<Delivery>,
 ) -> Result<(), Memory>
     ensures { IfOk result (λ done. sent.new.items
-        ≡ sent.old.items ++ all_brought asked.now (filter_map left effects.now)) }
+        ≡ sent.old.items ++ all_brought asked.now (filter_map left_conference effects.now)) }
 {
     for effect in effects {
         push_left(asked, effect, sent)?;
@@ -83,7 +83,7 @@ pub(crate) fn leave(
 #[tactic(auto, using(crate::proofs::Brought::none, crate::proofs::Brought::one))]
 fn push_left(asked: &Asked<'_>, effect: &Effect, sent: &mut Vec<Delivery>) -> Result<(), Memory>
     ensures { IfOk result (λ done. sent.new.items
-        ≡ sent.old.items ++ all_brought asked.now (listed (left effect.now))) }
+        ≡ sent.old.items ++ all_brought asked.now (as_list (left_conference effect.now))) }
 {
     match effect {
         Effect::MemberGone { person, conference } => {

@@ -4,7 +4,7 @@ ghost use Rattle.kom_model.specs.Db.{recipient_of};
 ghost use Rattle.kom_model.specs.Messages as Messages;
 ghost use Rattle.kom_model.specs.ToWhom.{of_deleted, of_made};
 ghost use Rattle.async_fanout.specs.Added.{made_by};
-ghost use Rattle.async_fanout.specs.Delivered.{all_brought, listed, of_row};
+ghost use Rattle.async_fanout.specs.Delivered.{all_brought, as_list, of_row};
 
 use crate::added::Added;
 use crate::deliveries::{Delivery, Tells, deliver};
@@ -222,7 +222,7 @@ fn push_made(
     sent: &mut Vec<Delivery>,
 ) -> Result<(), Memory>
     ensures { IfOk result (λ done. sent.new.items ≡ sent.old.items
-        ++ all_brought asked.now (listed (made_by effects.now asked.now.db effect.now))) }
+        ++ all_brought asked.now (as_list (made_by effects.now asked.now.db effect.now))) }
 {
     match effect {
         Effect::TextAdded {

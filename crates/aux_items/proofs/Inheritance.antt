@@ -6,7 +6,7 @@ use Rattle.std.specs.List.{slice_get}
 use Rattle.std.proofs.lemmas.List.{drop_all, length-take, take-append-le}
 use Rattle.kom_types.specs.declared.aux_items.AuxRow.{AuxRow}
 use Rattle.aux_items.proofs.Scanning.{left_at}
-use Rattle.kom_types.specs.AuxItems.{AuxKind, inherited, kind_of, may_stand, passes_on, with_inherited}
+use Rattle.kom_types.specs.AuxItems.{AuxKind, inherit, kind_of, may_stand, passes_on, with_inherited}
 
 -- the items begin with those that the text was given
 abbrev pub Begins : List AuxRow → List AuxRow → Type 0
@@ -45,11 +45,11 @@ module _ (own items : List AuxRow) (begins : Begins own items) where
 
 -- one more of the parent's items is inherited
 pub inherited-more : (items parent : List AuxRow) (place : ℕ) (item : AuxRow) → slice_get parent place ≡ Some item →
-    inherited items (drop place parent) ≡ inherited (with_inherited items item) (drop (place + 1) parent)
-unfolding inherited
-inherited-more items parent place item here = ap (inherited items) (left_at parent place item here)
+    inherit items (drop place parent) ≡ inherit (with_inherited items item) (drop (place + 1) parent)
+unfolding inherit
+inherited-more items parent place item here = ap (inherit items) (left_at parent place item here)
 
 pub inherited-all : (items parent : List AuxRow) (place : ℕ) → length parent ≤ place →
-    inherited items (drop place parent) ≡ items
-unfolding inherited
-inherited-all items parent place past = ap (inherited items) (drop_all place parent past)
+    inherit items (drop place parent) ≡ items
+unfolding inherit
+inherited-all items parent place past = ap (inherit items) (drop_all place parent past)

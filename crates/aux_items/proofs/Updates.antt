@@ -6,7 +6,7 @@ use Rattle.std.proofs.lemmas.Bool.{and_parts}
 use Rattle.kom_types.specs.Bits.{alike}
 use Rattle.kom_types.specs.declared.aux_items.ItemRow.{ItemRow}
 use Rattle.kom_types.specs.tables.AuxItems.{is_item, is_item_of, without_item}
-use Rattle.row_slots.specs.Slots.{rows_in, emptied}
+use Rattle.row_slots.specs.Slots.{rows_in, empty_slot}
 use Rattle.row_slots.proofs.Places.{row_at, places_of-push, places_of-emptied, is_member-places_of, rows_in-emptied}
 use Rattle.row_slots.proofs.Rows.{rows_in-push}
 use Rattle.row_slots.proofs.Passing.{none_pass, all_stay, fewer_pass, one_passes}
@@ -56,7 +56,7 @@ module _ (slots : List (Option ItemRow)) (of_objects : Bool → ℕ → List ℕ
         ∙ is_member-places_of (is_item_of on_text object) place slots row there
         (and_parts (is_item_of on_text object row) (eqb row.item.number number) is).0
 
-    pub rows_left : rows_in (emptied place slots) ≡ without_item on_text object number (rows_in slots)
+    pub rows_left : rows_in (empty_slot place slots) ≡ without_item on_text object number (rows_in slots)
     rows_left =
         rows_in-emptied (is_item on_text object number) place slots row there is (kept.once on_text object number)
 
@@ -64,7 +64,7 @@ module _ (slots : List (Option ItemRow)) (of_objects : Bool → ℕ → List ℕ
         (takes : (kind : Bool) (other : ℕ) → new kind other
         ≡ cond (is_same on_text object kind other) (remove_key (nat_eq place) (of_objects kind other))
         (of_objects kind other)) where
-      pub IsKept-left : IsKept (emptied place slots) new
+      pub IsKept-left : IsKept (empty_slot place slots) new
       IsKept-left =
           let parts = item_parts on_text object number row is in
           let same_kind = sym parts.0 in

@@ -13,7 +13,7 @@ use std::mem;
 /// Puts what a new text inherits from one that it comments after the items that it has: a copy of
 /// each, with its contents. (Protocol A, "Auxiliary Information".)
 pub fn inherit<R: ItemList>(alloc: Global, rows: &mut AuxRows, parent: &R) -> Result<(), Memory>
-    ensures ok { OnOk result (rows.new ≡ Items.inherited rows.old (R.items parent.now)) }
+    ensures ok { OnOk result (rows.new ≡ Items.inherit rows.old (R.items parent.now)) }
     ensures err { OnErr result (rows.new ≡ rows.old) }
 {
     let own = rows.len();
@@ -35,7 +35,7 @@ fn keep_first(alloc: Global, rows: &mut AuxRows, count: usize)
 
 /// Out of memory, some items may have been added.
 fn inherit_all<R: ItemList>(alloc: Global, rows: &mut AuxRows, parent: &R) -> Result<(), Memory>
-    ensures ok { OnOk result (rows.new ≡ Items.inherited rows.old (R.items parent.now)) }
+    ensures ok { OnOk result (rows.new ≡ Items.inherit rows.old (R.items parent.now)) }
     ensures own { take (length rows.old) rows.new ≡ rows.old }
 {
     for place in 0..parent.count() {

@@ -2,26 +2,27 @@
 use Rattle.std.proofs.Common.{◌≡◌, ◌<◌, ◌≤◌, ◌+◌, ◌-◌, ℕ, List, [], ◌∷◌, ◌++◌, length, take, drop, refl, sym, ◌∙◌, ap}
 use Rattle.std.proofs.Common.{arith, append_assoc, length-append}
 use Rattle.std.proofs.lemmas.List.{take_at, append-nil, length-take-le}
-use Rattle.batch_log.specs.Batches.{sized, batch, batches}
+use Rattle.batch_log.specs.Batches.{with_length, batch, batches}
 use Rattle.batch_log.specs.Gates.{IsAtRest, IsStable, chunk_of}
-use Rattle.batch_log.specs.Log.{flushed}
+use Rattle.batch_log.specs.Log.{flush_of}
 use Rattle.batch_log.proofs.Parts.{length-sized, rest_of}
 
 -- without the gate after it, and its length, it is the body
 pub unsealed : (items body : List ℕ) (n : ℕ) → items ≡ chunk_of body → n ≡ length items
     → drop 8 (take (n - 1) items) ≡ body
 unsealed items body n is counts =
-    let long : length (sized body) ≡ n - 1 = omega (arith, counts, ap length is, length-append (sized body) (0 ∷ [])) in
-    ap (λ (l : List ℕ). drop 8 (take (n - 1) l)) is ∙ ap (drop 8) (take_at (sized body) (0 ∷ []) (n - 1) long)
-    ∙ ap (drop 8) (sym (append-nil (sized body))) ∙ rest_of body [] ∙ append-nil body
+    let long : length (with_length body) ≡ n - 1 =
+    omega (arith, counts, ap length is, length-append (with_length body) (0 ∷ [])) in
+    ap (λ (l : List ℕ). drop 8 (take (n - 1) l)) is ∙ ap (drop 8) (take_at (with_length body) (0 ∷ []) (n - 1) long)
+    ∙ ap (drop 8) (sym (append-nil (with_length body))) ∙ rest_of body [] ∙ append-nil body
 
 -- what a flush of some body appends
-pub length-flushed : (body : List ℕ) → 0 < length body → length (batches (flushed body)) ≡ 9 + length body
+pub length-flushed : (body : List ℕ) → 0 < length body → length (batches (flush_of body)) ≡ 9 + length body
 length-flushed [] some = absurd (omega (arith, some))
 length-flushed (byte ∷ bytes) some =
     ap length (append-nil (batch (byte ∷ bytes))) ∙ omega (arith, length-sized (byte ∷ bytes))
 
-pub one_flushed : (body : List ℕ) → 0 < length body → length (flushed body) ≡ 1
+pub one_flushed : (body : List ℕ) → 0 < length body → length (flush_of body) ≡ 1
 one_flushed [] some = absurd (omega (arith, some))
 one_flushed (byte ∷ bytes) some = refl
 

@@ -4,9 +4,9 @@ use Rattle.std.proofs.Common.{sym, ◌∙◌, ap, subst, arith, append_assoc, le
 use Rattle.std.proofs.lemmas.Bool.{cases_eq}
 use Rattle.std.proofs.lemmas.List.{take_at, drop_at, drop-drop, append-nil, length-take-le}
 use Rattle.std.proofs.lemmas.Grind.{flat_map-append}
-use Rattle.batch_log.specs.Batches.{sized, batch, batches, AreShort, IsEnd, HasBatches, IsBroken, IsBrokenAt}
+use Rattle.batch_log.specs.Batches.{with_length, batch, batches, AreShort, IsEnd, HasBatches, IsBroken, IsBrokenAt}
 use Rattle.batch_log.specs.Gates.{IsShut, IsGated, IsShutOrWhole, chunk_of}
-use Rattle.batch_log.specs.Log.{flushed}
+use Rattle.batch_log.specs.Log.{flush_of}
 use Rattle.batch_log.specs.Repair.{IsWholeAfter, Mends}
 use Rattle.batch_log.specs.Walk.{IsReadTo, HasFirst, IsWalked}
 use Rattle.batch_log.proofs.Parts.{length-sized}
@@ -48,20 +48,20 @@ module _ (start : List ℕ) (bodies : List (List ℕ)) (place : ℕ) (file : Lis
 
   -- some gate there, before a whole batch and an end, ends them or opens one more
   pub gated_has : (body end : List ℕ) → length body < 2 ^ 64 → IsEnd end → (at : ℕ) (image : List ℕ)
-      → IsGated (take place file) (sized body ++ end) at image
+      → IsGated (take place file) (with_length body ++ end) at image
       → HasBatches start bodies image ⊎ HasBatches start (bodies ++ body ∷ []) image
   gated_has body end fits ended at image (gate, is) =
       elim (cases_eq gate 1) [
         | inr shut ↦ inl (record {
-          end = gate ∷ (sized body ++ end);
-          whole = is ∙ ap (λ (l : List ℕ). l ++ gate ∷ (sized body ++ end)) before_is;
+          end = gate ∷ (with_length body ++ end);
+          whole = is ∙ ap (λ (l : List ℕ). l ++ gate ∷ (with_length body ++ end)) before_is;
           ended = shut;
           short = read.short;
         })
         | inl opens ↦ inr (record {
           end = end;
-          whole = is ∙ ap (λ (l : List ℕ). l ++ gate ∷ (sized body ++ end)) before_is
-              ∙ ap (λ (g : ℕ). start ++ batches bodies ++ g ∷ (sized body ++ end)) opens
+          whole = is ∙ ap (λ (l : List ℕ). l ++ gate ∷ (with_length body ++ end)) before_is
+              ∙ ap (λ (g : ℕ). start ++ batches bodies ++ g ∷ (with_length body ++ end)) opens
               ∙ sym (append_assoc (start ++ batches bodies) (batch body) end)
               ∙ ap (λ (l : List ℕ). l ++ end)
               (append_assoc start (batches bodies) (batch body)
@@ -137,35 +137,35 @@ module _ (start : List ℕ) (bodies : List (List ℕ)) (place : ℕ) (file : Lis
 
   -- after a flush its batch is read too, and ends the file
   flush_is : (body : List ℕ)
-      → start ++ batches (bodies ++ flushed body) ≡ take place file ++ batches (flushed body)
+      → start ++ batches (bodies ++ flush_of body) ≡ take place file ++ batches (flush_of body)
   flush_is body =
-      ap (λ (l : List ℕ). start ++ l) (flat_map-append batch bodies (flushed body))
-      ∙ sym (append_assoc start (batches bodies) (batches (flushed body)))
-      ∙ ap (λ (l : List ℕ). l ++ batches (flushed body)) (sym before_is)
+      ap (λ (l : List ℕ). start ++ l) (flat_map-append batch bodies (flush_of body))
+      ∙ sym (append_assoc start (batches bodies) (batches (flush_of body)))
+      ∙ ap (λ (l : List ℕ). l ++ batches (flush_of body)) (sym before_is)
 
-  flushed_short : (body : List ℕ) → length body < 2 ^ 64 → AreShort (bodies ++ flushed body)
+  flushed_short : (body : List ℕ) → length body < 2 ^ 64 → AreShort (bodies ++ flush_of body)
   flushed_short [] fits = subst AreShort (sym (append-nil bodies)) read.short
   flushed_short (byte ∷ bytes) fits = short_more bodies (byte ∷ bytes) read.short fits
 
   pub flush_reads : (body new : List ℕ) → length body < 2 ^ 64
-      → new ≡ take place file ++ batches (flushed body) ++ 0 ∷ []
-      → IsReadTo start (bodies ++ flushed body) (place + length (batches (flushed body))) new
+      → new ≡ take place file ++ batches (flush_of body) ++ 0 ∷ []
+      → IsReadTo start (bodies ++ flush_of body) (place + length (batches (flush_of body))) new
   flush_reads body new fits is =
       let more = flush_is body in
-      let long : length (take place file ++ batches (flushed body)) ≡ place + length (batches (flushed body)) =
-      omega (arith, length-append (take place file) (batches (flushed body)), ap length before_is, read.at) in
-      let after : drop (place + length (batches (flushed body))) new ≡ 0 ∷ [] =
-      ap (drop (place + length (batches (flushed body)))) is
-      ∙ drop_at (take place file ++ batches (flushed body)) (0 ∷ []) (place + length (batches (flushed body))) long in
+      let long : length (take place file ++ batches (flush_of body)) ≡ place + length (batches (flush_of body)) =
+      omega (arith, length-append (take place file) (batches (flush_of body)), ap length before_is, read.at) in
+      let after : drop (place + length (batches (flush_of body))) new ≡ 0 ∷ [] =
+      ap (drop (place + length (batches (flush_of body)))) is
+      ∙ drop_at (take place file ++ batches (flush_of body)) (0 ∷ []) (place + length (batches (flush_of body))) long in
       record {
         whole = is ∙ ap (λ (l : List ℕ). l ++ 0 ∷ []) (sym more)
-            ∙ ap (λ (l : List ℕ). start ++ batches (bodies ++ flushed body) ++ l) (sym after);
+            ∙ ap (λ (l : List ℕ). start ++ batches (bodies ++ flush_of body) ++ l) (sym after);
         at = sym long ∙ ap length (sym more);
         short = flushed_short body fits;
       }
 
   pub flush_ends : (body new : List ℕ) → length body < 2 ^ 64
-      → new ≡ take place file ++ batches (flushed body) ++ 0 ∷ [] → HasBatches start (bodies ++ flushed body) new
+      → new ≡ take place file ++ batches (flush_of body) ++ 0 ∷ [] → HasBatches start (bodies ++ flush_of body) new
   flush_ends body new fits is = record {
     end = 0 ∷ [];
     whole = is ∙ ap (λ (l : List ℕ). l ++ 0 ∷ []) (sym (flush_is body));

@@ -5,7 +5,7 @@ use Rattle.std.specs.Prelude.{nat_le, if◌then◌else◌}
 use Rattle.std.specs.Int.{w64, from_le_bytes}
 use Rattle.std.proofs.lemmas.Bool.Decides.{eqb_tells, leb_tells}
 use Rattle.std.proofs.lemmas.List.{length-take-le, length-drop, get_or-drop, drop_more}
-use Rattle.batch_log.specs.Batches.{sized, AreBytes, IsBroken}
+use Rattle.batch_log.specs.Batches.{with_length, AreBytes, IsBroken}
 use Rattle.batch_log.specs.Walk.{found_by, HasFirst, Stands}
 use Rattle.batch_log.specs.declared.walks.Found.{Found}
 use Rattle.batch_log.specs.declared.walks.Found.TheVariants.{Batch, End, Broken}
@@ -63,7 +63,7 @@ module _ (rest more : List ℕ) (gate size : ℕ) (is : rest ≡ gate ∷ more) 
         whole = is ∙ ap (λ (g : ℕ). g ∷ more) opens
             ∙ ap (λ (l : List ℕ). 1 ∷ l)
             (sized_is more size are counts (omega (arith, enough))
-            ∙ ap (λ (l : List ℕ). sized body ++ l) next);
+            ∙ ap (λ (l : List ℕ). with_length body ++ l) next);
         counts = length-take-le size (drop 8 more) (omega (arith, length-drop 8 more, enough));
         short = omega (arith, counts, length_fits (take 8 more) are);
       }

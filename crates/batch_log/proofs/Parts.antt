@@ -4,7 +4,7 @@ use Rattle.std.proofs.Common.{ap, subst, arith, append_assoc, length-append}
 use Rattle.std.specs.Int.{w64, to_le_bytes, from_le_bytes}
 use Rattle.std.proofs.lemmas.Nat.{from_le_bytes-to_le_bytes_8}
 use Rattle.std.proofs.lemmas.List.{take_at, drop_at, append_cancel_left}
-use Rattle.batch_log.specs.Batches.{sized, batch, batches, AreShort, IsEnd, HasBatches, IsBroken, IsBrokenAt}
+use Rattle.batch_log.specs.Batches.{with_length, batch, batches, AreShort, IsEnd, HasBatches, IsBroken, IsBrokenAt}
 
 -- the bytes after those of a list, and those of the list
 same_parts : (xs ys x y : List ℕ) → length xs ≡ length ys → xs ++ x ≡ ys ++ y → (xs ≡ ys) × (x ≡ y)
@@ -16,15 +16,15 @@ same_parts xs ys x y long same = (
 length-to_le_bytes : (n : ℕ) → length (to_le_bytes w64 n) ≡ 8
 length-to_le_bytes n = refl
 
-pub length-sized : (body : List ℕ) → length (sized body) ≡ 8 + length body
-unfolding sized
+pub length-sized : (body : List ℕ) → length (with_length body) ≡ 8 + length body
+unfolding with_length
 length-sized body =
     length-append (to_le_bytes w64 (length body)) body
 
 -- the length is read from its eight bytes
 pub length_of : (body rest : List ℕ) → length body < 2 ^ 64
-    → from_le_bytes w64 (take 8 (sized body ++ rest)) ≡ length body
-unfolding sized
+    → from_le_bytes w64 (take 8 (with_length body ++ rest)) ≡ length body
+unfolding with_length
 length_of body rest short =
     ap (from_le_bytes w64)
     (ap (take 8) (append_assoc (to_le_bytes w64 (length body)) body rest)
@@ -32,13 +32,13 @@ length_of body rest short =
     ∙ from_le_bytes-to_le_bytes_8 (length body) short
 
 -- the body is what follows it
-pub rest_of : (body rest : List ℕ) → drop 8 (sized body ++ rest) ≡ body ++ rest
-unfolding sized
+pub rest_of : (body rest : List ℕ) → drop 8 (with_length body ++ rest) ≡ body ++ rest
+unfolding with_length
 rest_of body rest =
     ap (drop 8) (append_assoc (to_le_bytes w64 (length body)) body rest)
     ∙ drop_at (to_le_bytes w64 (length body)) (body ++ rest) 8 (length-to_le_bytes (length body))
 
-pub same_sized : (a b x y : List ℕ) → length a < 2 ^ 64 → length b < 2 ^ 64 → sized a ++ x ≡ sized b ++ y
+pub same_sized : (a b x y : List ℕ) → length a < 2 ^ 64 → length b < 2 ^ 64 → with_length a ++ x ≡ with_length b ++ y
     → (a ≡ b) × (x ≡ y)
 same_sized a b x y short_a short_b same =
     same_parts a b x y
@@ -55,12 +55,12 @@ tail_is x xs = refl
 
 -- what stands after the gate of a first batch
 pub after_gate : (body : List ℕ) (bodies : List (List ℕ)) (end : List ℕ)
-    → batches (body ∷ bodies) ++ end ≡ 1 ∷ (sized body ++ (batches bodies ++ end))
+    → batches (body ∷ bodies) ++ end ≡ 1 ∷ (with_length body ++ (batches bodies ++ end))
 after_gate body bodies end = append_assoc (batch body) (batches bodies) end
 
 pub same_tails : (a b : List ℕ) (ones twos : List (List ℕ)) (x y : List ℕ)
     → batches (a ∷ ones) ++ x ≡ batches (b ∷ twos) ++ y
-    → sized a ++ (batches ones ++ x) ≡ sized b ++ (batches twos ++ y)
+    → with_length a ++ (batches ones ++ x) ≡ with_length b ++ (batches twos ++ y)
 same_tails a b ones twos x y same =
     sym (tail_is 1 _) ∙ ap tail_of (sym (after_gate a ones x) ∙ same ∙ after_gate b twos y) ∙ tail_is 1 _
 
@@ -86,10 +86,11 @@ some_end [] ended = absurd ended
 some_end (gate ∷ rest) ended = omega arith
 
 -- a whole batch with something after it is not broken
-pub not_broken : (body after : List ℕ) → length body < 2 ^ 64 → 0 < length after → IsBroken (sized body ++ after) → ⊥
+pub not_broken : (body after : List ℕ) → length body < 2 ^ 64 → 0 < length after →
+    IsBroken (with_length body ++ after) → ⊥
 not_broken body after short some broken =
-    let long : length (sized body ++ after) ≡ 8 + length body + length after =
-    omega (arith, length-append (sized body) after, length-sized body) in
+    let long : length (with_length body ++ after) ≡ 8 + length body + length after =
+    omega (arith, length-append (with_length body) after, length-sized body) in
     elim broken [
       | inl few ↦ omega (arith, few)
       | inr ends ↦ omega (arith, ends, length_of body after short)
@@ -99,7 +100,7 @@ not_broken body after short some broken =
 broken_tail : (a : List ℕ) (ones : List (List ℕ)) (x rest : List ℕ) → length a < 2 ^ 64 → 0 < length x
     → IsBroken rest → batches (a ∷ ones) ++ x ≡ 1 ∷ rest → ⊥
 broken_tail a ones x rest short some broken same =
-    let tails : rest ≡ sized a ++ (batches ones ++ x) =
+    let tails : rest ≡ with_length a ++ (batches ones ++ x) =
     sym (tail_is 1 rest) ∙ ap tail_of (sym same ∙ after_gate a ones x) ∙ tail_is 1 _ in
     not_broken a (batches ones ++ x) short (omega (arith, length-append (batches ones) x)) (subst IsBroken tails broken)
 

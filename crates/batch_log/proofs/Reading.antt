@@ -7,7 +7,7 @@ use Rattle.std.proofs.lemmas.Nat.{le_bytes_8}
 use Rattle.std.proofs.lemmas.Bool.{cases_eq, cases_lt}
 use Rattle.std.proofs.lemmas.List.{length-take, length-take-le, length-drop, get_or-take, get_or-drop, get_or_past}
 use Rattle.std.proofs.lemmas.List.{drop_more, drop-drop}
-use Rattle.batch_log.specs.Batches.{sized, batch, batches, AreBytes, HasBatches, IsBroken, IsBrokenAt}
+use Rattle.batch_log.specs.Batches.{with_length, batch, batches, AreBytes, HasBatches, IsBroken, IsBrokenAt}
 
 -- a length that eight bytes spell can be written
 pub length_fits : (bytes : List ℕ) → AreBytes bytes → from_le_bytes w64 bytes < 2 ^ 64
@@ -24,8 +24,8 @@ first_bytes n bytes are i =
 -- The body that these bytes have after its length, where they are that long.
 pub sized_is : (rest : List ℕ) (n : ℕ) → ((i : ℕ) → get_or (take 8 rest) i 0 < 256)
     → n ≡ from_le_bytes w64 (take 8 rest) → 8 + n ≤ length rest
-    → rest ≡ sized (take n (drop 8 rest)) ++ drop (8 + n) rest
-unfolding sized
+    → rest ≡ with_length (take n (drop 8 rest)) ++ drop (8 + n) rest
+unfolding with_length
 sized_is rest n are is long =
     let body = take n (drop 8 rest) in
     let counts : length body ≡ n = length-take-le n (drop 8 rest) (omega (arith, length-drop 8 rest)) in
@@ -104,7 +104,7 @@ module _ (rest : List ℕ) (are : AreBytes rest)
       let is : 1 ∷ rest ≡ batch body ++ next ∷ after =
       ap (λ (l : List ℕ). 1 ∷ l)
       (sized_is rest n (first_bytes 8 rest are) refl (omega (arith, long))
-      ∙ ap (λ (l : List ℕ). sized body ++ l) more) in
+      ∙ ap (λ (l : List ℕ). with_length body ++ l) more) in
       subst Parts (sym is)
       (one_more body (next ∷ after) short
       (again next after (omega (arith, long, length-drop (8 + n + 1) rest))

@@ -3,7 +3,7 @@ use Rattle.std.proofs.Common.{◌≡◌, ◌<◌, ◌≤◌, ◌+◌, ℕ, List,
 use Rattle.std.proofs.Common.{OnOk, sym, ◌∙◌, ap, subst, arith, append_assoc, length-append, take-append-drop}
 use Rattle.std.proofs.lemmas.List.{drop_more, length-take, length-take-le, take_at, drop_at, take_all, drop_all}
 use Rattle.std.proofs.lemmas.List.{append-nil, take-append-le, take-take}
-use Rattle.kom_disk.specs.Disk.{overwritten, Torn, Shortened, ComesBy, Only}
+use Rattle.kom_disk.specs.Disk.{overwritten, IsTorn, IsShortened, ComesBy, Only}
 use Rattle.batch_log.specs.Gates.{IsStable, IsShut, IsGated}
 
 -- a file at rest is one longer than its gate's place
@@ -24,7 +24,7 @@ begins_shut place bytes image closed same =
     )
 
 -- a torn write of the gate leaves what stands before it and after it
-pub torn_gate : (place : ℕ) (bytes image : List ℕ) → place < length bytes → Torn place 1 bytes image
+pub torn_gate : (place : ℕ) (bytes image : List ℕ) → place < length bytes → IsTorn place 1 bytes image
     → IsGated (take place bytes) (drop (place + 1) bytes) 0 image
 torn_gate place bytes image within torn = (
   get_or image place 0,
@@ -44,7 +44,7 @@ has_gate place bytes within = (
 
 -- what is left of a cut after a closed gate has that gate
 pub cut_shut : (place : ℕ) (bytes image : List ℕ) → place < length bytes → IsShut (take place bytes) 0 bytes
-    → Shortened (place + 1) bytes image → IsShut (take place bytes) 0 image
+    → IsShortened (place + 1) bytes image → IsShut (take place bytes) 0 image
 cut_shut place bytes image within shut cut =
     let before = take place bytes in
     let n : place + 1 ≤ length image = omega (arith, cut.no_shorter, within) in
@@ -72,25 +72,25 @@ cut_rest place bytes within shut =
 
 -- what a stop leaves after a call to a stable file
 module _ (bytes : List ℕ) (old new : List ℕ → Type 0) (stable : Only bytes old) where
-  pub left_shut : (place n : ℕ) → bytes ≡ take place bytes ++ 0 ∷ [] → ComesBy (Torn (place + 1) n) old new
+  pub left_shut : (place n : ℕ) → bytes ≡ take place bytes ++ 0 ∷ [] → ComesBy (IsTorn (place + 1) n) old new
       → (image : List ℕ) → new image → IsShut (take place bytes) 0 image
   left_shut place n closed comes image left =
       let from = comes image left in
-      let torn = subst (λ (was : List ℕ). Torn (place + 1) n was image) (stable from.0 from.1) from.2 in
+      let torn = subst (λ (was : List ℕ). IsTorn (place + 1) n was image) (stable from.0 from.1) from.2 in
       begins_shut place bytes image closed torn.prefix
 
-  pub left_gated : (place n : ℕ) → place < length bytes → n ≡ 1 → ComesBy (Torn place n) old new
+  pub left_gated : (place n : ℕ) → place < length bytes → n ≡ 1 → ComesBy (IsTorn place n) old new
       → (image : List ℕ) → new image → IsGated (take place bytes) (drop (place + 1) bytes) 0 image
   left_gated place n within one comes image left =
       let from = comes image left in
-      let torn = subst (λ (was : List ℕ). Torn place n was image) (stable from.0 from.1) from.2 in
-      torn_gate place bytes image within (subst (λ (m : ℕ). Torn place m bytes image) one torn)
+      let torn = subst (λ (was : List ℕ). IsTorn place n was image) (stable from.0 from.1) from.2 in
+      torn_gate place bytes image within (subst (λ (m : ℕ). IsTorn place m bytes image) one torn)
 
   pub left_cut : (place : ℕ) → place < length bytes → IsShut (take place bytes) 0 bytes
-      → ComesBy (Shortened (place + 1)) old new → (image : List ℕ) → new image → IsShut (take place bytes) 0 image
+      → ComesBy (IsShortened (place + 1)) old new → (image : List ℕ) → new image → IsShut (take place bytes) 0 image
   left_cut place within shut comes image left =
       let from = comes image left in
-      let cut = subst (λ (was : List ℕ). Shortened (place + 1) was image) (stable from.0 from.1) from.2 in
+      let cut = subst (λ (was : List ℕ). IsShortened (place + 1) was image) (stable from.0 from.1) from.2 in
       cut_shut place bytes image within shut cut
 
 pub stable_as : {E : Type 0} (synced content : List ℕ) → synced ≡ content → (images : List ℕ → Type 0)

@@ -6,12 +6,12 @@ use Rattle.std.specs.List.{flat_map, AllByRecursion}
 use Rattle.std.specs.Int.{w64, to_le_bytes, from_le_bytes}
 
 -- a body after its length in eight bytes, the lowest of them first
-unfoldable pub sized : List ℕ → List ℕ
-sized body = to_le_bytes w64 (length body) ++ body
+unfoldable pub with_length : List ℕ → List ℕ
+with_length body = to_le_bytes w64 (length body) ++ body
 
 -- a batch: an open gate, which is 1, and a body after its length
 abbrev pub batch : List ℕ → List ℕ
-batch body = 1 ∷ sized body
+batch body = 1 ∷ with_length body
 
 -- the batches of these bodies, the first of them first
 abbrev pub batches : List (List ℕ) → List ℕ

@@ -1,7 +1,7 @@
 -- What stands at the gate after the last batch of a log, and what a stop leaves there.
 use Rattle.std.specs.Prelude.{◌≡◌, ◌⊎◌, ℕ, List, [], ◌∷◌, ◌++◌, take}
 use Rattle.kom_disk.specs.Disk.{Only}
-use Rattle.batch_log.specs.Batches.{sized}
+use Rattle.batch_log.specs.Batches.{with_length}
 
 -- the file ends with a closed gate at this place, all of it stable
 pub record IsAtRest (place : ℕ) (bytes : List ℕ) (images : List ℕ → Type 0) : Type 0 where
@@ -15,7 +15,7 @@ pub record IsStable (content bytes : List ℕ) (images : List ℕ → Type 0) : 
 
 -- what is written after a closed gate: a body after its length, and the closed gate after it
 abbrev pub chunk_of : List ℕ → List ℕ
-chunk_of body = sized body ++ 0 ∷ []
+chunk_of body = with_length body ++ 0 ∷ []
 
 -- the image has a closed gate after these bytes, whatever follows it
 abbrev pub IsShut : List ℕ → ℕ → List ℕ → Type 0

@@ -3,7 +3,7 @@ use Rattle.std.specs.Prelude.{◌≡◌, ◌≢◌, ◌<◌, ◌+◌, ◌^◌, �
 use Rattle.std.specs.Prelude.{Some}
 use Rattle.batch_log.specs.Batches.{AreBytes, batches, HasBatches, IsBrokenAt}
 use Rattle.batch_log.specs.Gates.{IsShutOrWhole, chunk_of}
-use Rattle.batch_log.specs.Log.{flushed}
+use Rattle.batch_log.specs.Log.{flush_of}
 use Rattle.batch_log.specs.Repair.{IsWholeAfter, Mends}
 use Rattle.batch_log.specs.Walk.{IsReadTo, IsWalked}
 
@@ -56,9 +56,9 @@ abbrev pub FlushReads : Type 0
 FlushReads =
     (start file body new : List ℕ) (bodies : List (List ℕ)) (place : ℕ)
     → IsReadTo start bodies place file → length body < 2 ^ 64
-    → new ≡ take place file ++ batches (flushed body) ++ 0 ∷ []
-    → IsReadTo start (bodies ++ flushed body) (place + length (batches (flushed body))) new
-    × HasBatches start (bodies ++ flushed body) new
+    → new ≡ take place file ++ batches (flush_of body) ++ 0 ∷ []
+    → IsReadTo start (bodies ++ flush_of body) (place + length (batches (flush_of body))) new
+    × HasBatches start (bodies ++ flush_of body) new
 
 -- what a stop leaves of a repair has the batches from before it, or one that stood after a gate
 -- that was neither closed nor open too

@@ -21,9 +21,9 @@ pub record IsKept (size place batches len capacity : ℕ) : Type 0 where
   pub counted : batches ≤ place
 
 -- the bodies that a flush of this body appends: none of an empty one
-abbrev pub flushed : List ℕ → List (List ℕ)
-flushed [] = []
-flushed (byte ∷ bytes) = (byte ∷ bytes) ∷ []
+abbrev pub flush_of : List ℕ → List (List ℕ)
+flush_of [] = []
+flush_of (byte ∷ bytes) = (byte ∷ bytes) ∷ []
 
 -- the length of the file with one batch more, or the end of its type
 abbrev pub size_after : ℕ → List ℕ → ℕ

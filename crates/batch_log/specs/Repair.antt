@@ -1,6 +1,6 @@
 -- What the repair of a file's end leaves.
 use Rattle.std.specs.Prelude.{◌≡◌, ◌≢◌, ◌<◌, ◌^◌, ◌⊎◌, ℕ, List, ◌∷◌, ◌++◌, length}
-use Rattle.batch_log.specs.Batches.{sized, IsEnd}
+use Rattle.batch_log.specs.Batches.{with_length, IsEnd}
 use Rattle.batch_log.specs.Gates.{IsShut, IsGated}
 
 -- the bytes have this gate after these, and then the rest
@@ -15,6 +15,6 @@ Mends before gate rest moment image =
 -- the bytes after a gate are this body after its length, and an end
 pub record IsWholeAfter (body rest : List ℕ) : Type 0 where
   pub end : List ℕ
-  pub whole : rest ≡ sized body ++ end
+  pub whole : rest ≡ with_length body ++ end
   pub ended : IsEnd end
   pub short : length body < 2 ^ 64

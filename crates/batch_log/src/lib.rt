@@ -12,6 +12,7 @@ mod walks;
 
 pub use encode::Encode;
 pub use errors::FlushFault;
+pub use gates::set_gate;
 pub use laws::{batches_are_kept, batches_are_whole};
 pub use log::{Buffer, Log};
 pub use repairs::repair;

@@ -4,9 +4,9 @@ ghost use Rattle.std.specs.Prelude.{drop, length, vec_len, vec_capacity, IsTrue,
 ghost use Rattle.std.specs.Prelude.{IfErr, Ok, Err};
 ghost use Rattle.kom_disk.specs.Faults.{CountsFault, Rose};
 ghost use Rattle.kom_disk.specs.Moments.{LeavesOnly};
-ghost use Rattle.batch_log.specs.Batches.{sized, batches};
+ghost use Rattle.batch_log.specs.Batches.{with_length, batches};
 ghost use Rattle.batch_log.specs.Gates.{IsAtRest, IsStable, IsShutOrWhole, chunk_of};
-ghost use Rattle.batch_log.specs.Log.{flushed, size_after};
+ghost use Rattle.batch_log.specs.Log.{flush_of, size_after};
 
 use crate::encode::Encode;
 use crate::errors::FlushFault;
@@ -152,15 +152,15 @@ impl<D: Disk> Log<D> {
 
         // What is there after it.
         ensures appended { IsTrue D.tells → OnOk result (D.bytes self.new.disk
-            ≡ take self.old.place (D.bytes self.old.disk) ++ batches (flushed self.old.body)
+            ≡ take self.old.place (D.bytes self.old.disk) ++ batches (flush_of self.old.body)
             ++ 0 ∷ []) }
         ensures at_rest { IsTrue D.tells → OnOk result
             (IsAtRest self.new.place (D.bytes self.new.disk) (D.images self.new.disk)) }
         ensures place { OnOk result
-            (self.new.place ≡ self.old.place + length (batches (flushed self.old.body))) }
+            (self.new.place ≡ self.old.place + length (batches (flush_of self.old.body))) }
         ensures emptied { OnOk result (self.new.body ≡ []) }
         ensures counted { OnOk result
-            (self.new.batches ≡ self.old.batches + length (flushed self.old.body)) }
+            (self.new.batches ≡ self.old.batches + length (flush_of self.old.body)) }
 
         // What a stop leaves.
         ensures any_moment { IsTrue D.tells

@@ -1,7 +1,7 @@
 //! The calls by which a field of a conference is set.
 ghost use Rattle.std.specs.Prelude.{◌≡◌, ◌∷◌, []};
 ghost use Rattle.kom_types.specs.declared.effects.Effect.TheVariants as effect;
-ghost use Rattle.kom_model.specs.calls.Call.{Meets, done, unguarded};
+ghost use Rattle.kom_model.specs.calls.Call.{Meets, done_with, without_guard};
 ghost use Rattle.kom_model.specs.calls.Conferences as Calls;
 
 use crate::owning::owner_guards;
@@ -133,7 +133,7 @@ pub fn set_keep_commented(
 
 /// What each of them comes to once its guards have let it pass.
 fn set_field(asked: &Asked<'_>, conference: u32, field: ConfField) -> Result<Decision, CallError>
-    ensures { Meets (unguarded (done (effect.ConfField conference field ∷ []) [])) result }
+    ensures { Meets (without_guard (done_with (effect.ConfField conference field ∷ []) [])) result }
 {
     Ok(asked.with_effect(Effect::ConfField {
         number: conference,

@@ -7,7 +7,7 @@ use Rattle.std.proofs.lemmas.List.{length-map}
 use Rattle.row_table.specs.Tables.{row_of, without_row, changed_row, AllAbove, IsByNumber}
 use Rattle.row_table.proofs.Rows.{same_rows, row_of-with_row, IsByNumber-with_row, row_of-without_row}
 use Rattle.row_table.proofs.Rows.{IsByNumber-without_row}
-use Rattle.conferences.specs.Secret.{IsRising, listed}
+use Rattle.conferences.specs.Secret.{IsRising, with_if}
 use Rattle.conferences.proofs.Rows.{length-filter_le, row_of-above}
 
 -- numbers are rows that are numbered by themselves
@@ -16,13 +16,13 @@ itself number = number
 
 -- numbers rise still when one is put in its place or taken out
 pub IsRising-listed : (is_in : Bool) (number : ℕ) (numbers : List ℕ) → IsRising numbers →
-    IsRising (listed is_in number numbers)
+    IsRising (with_if is_in number numbers)
 IsRising-listed true number numbers rising = IsByNumber-with_row itself number numbers rising
 IsRising-listed false number numbers rising = IsByNumber-without_row itself number numbers rising
 
 -- of a number that is put in its place or taken out, and of the others, whether it is there
 row_of-listed : (is_in : Bool) (other number : ℕ) (numbers : List ℕ) →
-    row_of itself other (listed is_in number numbers)
+    row_of itself other (with_if is_in number numbers)
     ≡ cond (eqb number other) (cond is_in (Some number) None) (row_of itself other numbers)
 row_of-listed true other number numbers = row_of-with_row itself other number numbers
 row_of-listed false other number numbers = row_of-without_row itself other number numbers
@@ -89,9 +89,9 @@ module _ {R : Type 0} (number_of : R → ℕ) (passes : R → Bool) where
   pub chosen-updated : (old new : List R) (number : ℕ) (row : Option R) (is_in : Bool) →
       IsByNumber number_of old → IsByNumber number_of new →
       ((other : ℕ) → row_of number_of other new ≡ cond (eqb number other) row (row_of number_of other old)) →
-      number_if row ≡ cond is_in (Some number) None → chosen new ≡ listed is_in number (chosen old)
+      number_if row ≡ cond is_in (Some number) None → chosen new ≡ with_if is_in number (chosen old)
   chosen-updated old new number row is_in rising rising' changes is =
-      same_rows itself (chosen new) (listed is_in number (chosen old)) (IsRising-chosen new rising')
+      same_rows itself (chosen new) (with_if is_in number (chosen old)) (IsRising-chosen new rising')
       (IsRising-listed is_in number (chosen old) (IsRising-chosen old rising))
       (λ other.
       row_of-chosen other new rising' ∙ ap number_if (changes other)
@@ -102,15 +102,15 @@ module _ {R : Type 0} (number_of : R → ℕ) (passes : R → Bool) where
 
   -- a row that is taken out
   pub chosen-without_row : (number : ℕ) (rows : List R) →
-      chosen (without_row number_of number rows) ≡ listed false number (chosen rows)
+      chosen (without_row number_of number rows) ≡ with_if false number (chosen rows)
   chosen-without_row number [] = refl
   chosen-without_row number (row ∷ rows) =
       by (chosen-without_row number rows) (cases_Bool (eqb (number_of row) number)) (cases_Bool (passes row))
     where
-      by : chosen (without_row number_of number rows) ≡ listed false number (chosen rows) →
+      by : chosen (without_row number_of number rows) ≡ with_if false number (chosen rows) →
           (eqb (number_of row) number ≡ true) ⊎ (eqb (number_of row) number ≡ false) →
           (passes row ≡ true) ⊎ (passes row ≡ false) →
-          chosen (without_row number_of number (row ∷ rows)) ≡ listed false number (chosen (row ∷ rows))
+          chosen (without_row number_of number (row ∷ rows)) ≡ with_if false number (chosen (row ∷ rows))
       by later (inl at) (inl hit) = rw (at, hit, at) later
       by later (inl at) (inr miss) = rw (at, miss) later
       by later (inr other) (inl hit) = rw (other, hit, other) (ap (λ rest. number_of row ∷ rest) later)

@@ -9,7 +9,7 @@ use Rattle.kom_types.specs.tables.Conferences.{number_of_conference, is_secret_c
 use Rattle.row_table.specs.Tables.{row_of, with_row, without_row, changed_row, IsByNumber}
 use Rattle.row_table.proofs.Rows.{row_of-with_row, IsByNumber-with_row, row_of-changed_row}
 use Rattle.row_table.proofs.Rows.{IsByNumber-changed_row}
-use Rattle.conferences.specs.Secret.{Listed, IsListed, listed, secret_numbers}
+use Rattle.conferences.specs.Secret.{Listed, IsListed, with_if, secret_numbers}
 use Rattle.conferences.proofs.Rows.{length-put, length-changed_row, number-row_of}
 use Rattle.conferences.proofs.Chosen.{chosen-updated, chosen-without_row, chosen-changed_row, length-chosen}
 
@@ -23,7 +23,7 @@ length-secret rows = length-chosen number_of_conference is_secret rows
 
 -- a conference that is put in is listed if it is secret, and else is not
 pub secret-with_row : (row : ConferenceRow) (rows : List ConferenceRow) → IsByNumber number_of_conference rows →
-    secret_numbers (with_row number_of_conference row rows) ≡ listed (is_secret row) row.number (secret_numbers rows)
+    secret_numbers (with_row number_of_conference row rows) ≡ with_if (is_secret row) row.number (secret_numbers rows)
 secret-with_row row rows rising =
     chosen-updated number_of_conference is_secret rows (with_row number_of_conference row rows) row.number (Some row)
     (is_secret row) rising (IsByNumber-with_row number_of_conference row rows rising)
@@ -34,7 +34,7 @@ module _ (row : ConferenceRow) (rows : List ConferenceRow) (is_new : Bool) (room
     (is : is_some (row_of number_of_conference row.number rows) ≡ not is_new)
     (enough : length rows + from_bool is_new ≤ room) where
   -- room for one more conference, if this one is new, is room to list it
-  pub put_fits : length (listed (is_secret row) row.number (secret_numbers rows)) ≤ room
+  pub put_fits : length (with_if (is_secret row) row.number (secret_numbers rows)) ≤ room
   put_fits =
       rw (← secret-with_row row rows rising)
       (omega (
@@ -44,7 +44,7 @@ module _ (row : ConferenceRow) (rows : List ConferenceRow) (is_new : Bool) (room
       ))
 
   pub IsListed-put : (new : List ConferenceRow) (list : Listed) → new ≡ with_row number_of_conference row rows →
-      list.numbers ≡ listed (is_secret row) row.number (secret_numbers rows) → list.room ≡ room → IsListed new list
+      list.numbers ≡ with_if (is_secret row) row.number (secret_numbers rows) → list.room ≡ room → IsListed new list
   IsListed-put new list becomes numbers same =
       rw becomes (record {
         numbers = numbers ∙ sym (secret-with_row row rows rising);
@@ -53,7 +53,7 @@ module _ (row : ConferenceRow) (rows : List ConferenceRow) (is_new : Bool) (room
 
 -- one that is taken out is listed no more
 pub secret-without_row : (number : ℕ) (rows : List ConferenceRow) →
-    secret_numbers (without_row number_of_conference number rows) ≡ listed false number (secret_numbers rows)
+    secret_numbers (without_row number_of_conference number rows) ≡ with_if false number (secret_numbers rows)
 secret-without_row number rows = chosen-without_row number_of_conference is_secret number rows
 
 -- a type that is set tells whether the conference is secret now, and any other field leaves that
@@ -80,7 +80,7 @@ module _ (change : ConferenceRow → ConferenceRow)
   secret-changed_row : (is_in : Bool) (number : ℕ) (rows : List ConferenceRow) (row : ConferenceRow) →
       IsByNumber number_of_conference rows → row_of number_of_conference number rows ≡ Some row →
       is_secret (change row) ≡ is_in →
-      secret_numbers (changed_row number_of_conference number change rows) ≡ listed is_in number (secret_numbers rows)
+      secret_numbers (changed_row number_of_conference number change rows) ≡ with_if is_in number (secret_numbers rows)
   secret-changed_row is_in number rows row rising there is =
       let number_is : (change row).number ≡ number =
       keeps row ∙ number-row_of number_of_conference number rows row there in
@@ -94,7 +94,7 @@ module _ (change : ConferenceRow → ConferenceRow)
       (rising : IsByNumber number_of_conference old) (there : row_of number_of_conference number old ≡ Some row)
       (is : is_secret (change row) ≡ is_in) (room : ℕ) (enough : length old ≤ room) where
     -- the list has room for that
-    pub changed_fits : length (listed is_in number (secret_numbers old)) ≤ room
+    pub changed_fits : length (with_if is_in number (secret_numbers old)) ≤ room
     changed_fits =
         rw (← secret-changed_row is_in number old row rising there is)
         (omega (
@@ -105,7 +105,7 @@ module _ (change : ConferenceRow → ConferenceRow)
 
     pub IsListed-set : (new : List ConferenceRow) (list : Listed) →
         new ≡ changed_row number_of_conference number change old →
-        list.numbers ≡ listed is_in number (secret_numbers old) → list.room ≡ room → IsListed new list
+        list.numbers ≡ with_if is_in number (secret_numbers old) → list.room ≡ room → IsListed new list
     IsListed-set new list becomes numbers same =
         rw becomes (record {
           numbers = numbers ∙ sym (secret-changed_row is_in number old row rising there is);

@@ -7,7 +7,7 @@ use Rattle.std.specs.Ordering.{nat_cmp}
 use Rattle.std.proofs.lemmas.List.Sorted.{searched}
 use Rattle.std.proofs.lemmas.Bool.{cases_lt, ne_eqb, eq-eqb, lt-ltb, le-ltb}
 use Rattle.row_table.specs.Tables.{AllAbove}
-use Rattle.conferences.specs.Secret.{IsRising, listed}
+use Rattle.conferences.specs.Secret.{IsRising, with_if}
 
 -- all numbers of the list are greater than this one
 abbrev IsBelow : ℕ → List ℕ → Type 0
@@ -32,21 +32,21 @@ rises (first ∷ rest) rising (suc i) (suc j) le within = rises rest rising.1 i 
 
 -- a number that is nowhere is taken out already
 taken_out : (number : ℕ) (numbers : List ℕ) →
-    ((k : ℕ) → k < length numbers → get_or numbers k 0 ≡ number → ⊥) → listed false number numbers ≡ numbers
+    ((k : ℕ) → k < length numbers → get_or numbers k 0 ≡ number → ⊥) → with_if false number numbers ≡ numbers
 taken_out number [] absent = refl
 taken_out number (first ∷ rest) absent =
     let other : eqb first number ≡ false = ne_eqb _ _ (absent 0 (omega arith)) in
     rw other (ap (λ later. first ∷ later) (taken_out number rest (λ k within. absent (suc k) (omega arith))))
 
 -- nor is there anything to take out of greater numbers
-taken_above : (number : ℕ) (numbers : List ℕ) → IsBelow number numbers → listed false number numbers ≡ numbers
+taken_above : (number : ℕ) (numbers : List ℕ) → IsBelow number numbers → with_if false number numbers ≡ numbers
 taken_above number numbers above =
     taken_out number numbers (λ k within is.
     let greater : number < get_or numbers k 0 = above_at number numbers k above within in omega arith)
 
 -- what stands at the place of a number is taken out
 pub removed_at : (numbers : List ℕ) (number i : ℕ) → IsRising numbers → i < length numbers →
-    get_or numbers i 0 ≡ number → remove numbers i ≡ listed false number numbers
+    get_or numbers i 0 ≡ number → remove numbers i ≡ with_if false number numbers
 removed_at [] number i rising within at = absurd (omega arith)
 removed_at (first ∷ rest) number zero rising within at =
     let here : eqb first number ≡ true = eq-eqb _ _ at in
@@ -58,7 +58,7 @@ removed_at (first ∷ rest) number (suc i) rising within at =
 
 -- a number that is there is in its place already
 pub there_at : (numbers : List ℕ) (number i : ℕ) → IsRising numbers → i < length numbers →
-    get_or numbers i 0 ≡ number → numbers ≡ listed true number numbers
+    get_or numbers i 0 ≡ number → numbers ≡ with_if true number numbers
 there_at [] number i rising within at = absurd (omega arith)
 there_at (first ∷ rest) number zero rising within at =
     let here : eqb number first ≡ true = eq-eqb _ _ (sym at) in rw here (ap (λ one. one ∷ rest) at)
@@ -97,7 +97,7 @@ later_place first rest number i place = record {
 
 -- a number that is inserted at its place
 pub inserted_at : (numbers : List ℕ) (number i : ℕ) → IsPlace numbers number i →
-    insert numbers i number ≡ listed true number numbers
+    insert numbers i number ≡ with_if true number numbers
 inserted_at [] number zero place = refl
 inserted_at [] number (suc i) place = let within = place.within in absurd (omega arith)
 inserted_at (first ∷ rest) number zero place =
@@ -113,7 +113,7 @@ inserted_at (first ∷ rest) number (suc i) place =
 
 -- a number that has no place is taken out already
 pub absent_at : (numbers : List ℕ) (number i : ℕ) → IsPlace numbers number i →
-    numbers ≡ listed false number numbers
+    numbers ≡ with_if false number numbers
 absent_at numbers number i place =
     sym (taken_out number numbers (λ k within is.
     ⊎_elim (λ low. let smaller : get_or numbers k 0 < number = place.smaller k low in omega arith)

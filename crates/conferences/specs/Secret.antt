@@ -14,8 +14,8 @@ abbrev pub IsRising : List ℕ → Type 0
 IsRising numbers = IsByNumber (λ number. number) numbers
 
 -- rising numbers, with a number in its place or without it
-abbrev pub listed : Bool → ℕ → List ℕ → List ℕ
-listed is_in number numbers =
+abbrev pub with_if : Bool → ℕ → List ℕ → List ℕ
+with_if is_in number numbers =
     if is_in then with_row (λ other. other) number numbers
     else without_row (λ other. other) number numbers
 

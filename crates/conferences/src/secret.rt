@@ -1,6 +1,6 @@
 //! The numbers of the secret conferences, which are kept beside the rows.
 ghost use Rattle.std.specs.Prelude.{◌≡◌, ◌+◌, ◌<◌, ◌≤◌, [], length, OnOk, OnErr};
-ghost use Rattle.conferences.specs.Secret.{listed};
+ghost use Rattle.conferences.specs.Secret.{with_if};
 
 use kom_types::Memory;
 use std::alloc::Global;
@@ -57,8 +57,8 @@ impl SecretNumbers {
 
     /// Puts a number in its place, or takes it out. Takes no memory.
     pub(crate) fn set(&mut self, number: u32, is_in: bool)
-        requires { length (listed is_in number self.old.numbers) ≤ self.old.room }
-        ensures numbers { self.new.numbers ≡ listed is_in number self.old.numbers }
+        requires { length (with_if is_in number self.old.numbers) ≤ self.old.room }
+        ensures numbers { self.new.numbers ≡ with_if is_in number self.old.numbers }
         ensures room { self.new.room ≡ self.old.room }
     {
         match self.numbers.binary_search(&number) {

@@ -2,7 +2,7 @@
 use Rattle.std.proofs.Common.{◌≡◌, ◌<◌, ◌⊎◌, ◌==◌, inl, inr, ℕ, Bool, true, false, List, length, get_or, take, drop}
 use Rattle.std.proofs.Common.{Result, Ok, Err, OnOk, if◌then◌else◌, refl, sym, ◌∙◌, ap, subst, arith}
 use Rattle.std.proofs.lemmas.List.{get_or-take, drop-take, drop-drop}
-use Rattle.kom_disk.specs.Disk.{Torn, ComesBy, Only}
+use Rattle.kom_disk.specs.Disk.{IsTorn, ComesBy, Only}
 use Rattle.disk_example.specs.Cell.{content_of, other_of, IsEither, IsSettled}
 
 -- the slot of this name
@@ -15,7 +15,7 @@ same_name n image file some same =
 
 module _ (file image : List ℕ) where
   -- a write into the other slot changes neither the name nor the slot
-  torn_other : (is_second : Bool) → is_second ≡ (get_or file 0 0 == 1) → Torn (if is_second then 1 else 9) 8 file image
+  torn_other : (is_second : Bool) → is_second ≡ (get_or file 0 0 == 1) → IsTorn (if is_second then 1 else 9) 8 file image
       → content_of image ≡ content_of file
   torn_other true named torn =
       let same : get_or image 0 0 ≡ get_or file 0 0 = same_name 1 image file (omega arith) torn.prefix in
@@ -38,7 +38,7 @@ module _ (file image : List ℕ) where
   either false false = inl refl
 
   -- whatever byte a write of the name leaves, it names one of the slots
-  torn_name : Torn 0 1 file image → IsEither (content_of file) (other_of file) 0 image
+  torn_name : IsTorn 0 1 file image → IsEither (content_of file) (other_of file) 0 image
   torn_name torn =
       let P : List ℕ → Type 0 = λ (l : List ℕ). (l ≡ content_of file) ⊎ (l ≡ other_of file) in
       subst P (sym (same_slots torn.suffix (get_or image 0 0 == 1)))
@@ -48,23 +48,23 @@ module _ (file image : List ℕ) where
 module _ (file : List ℕ) (old new : List ℕ → Type 0) (stable : Only file old) where
   pub left_of_other : (is_second : Bool) (at : ℕ) (content : List ℕ) → is_second ≡ (get_or file 0 0 == 1)
       → at ≡ (if is_second then 1 else 9) → length content ≡ 8
-      → ComesBy (Torn at (length content)) old new → (image : List ℕ) → new image → content_of image ≡ content_of file
+      → ComesBy (IsTorn at (length content)) old new → (image : List ℕ) → new image → content_of image ≡ content_of file
   left_of_other is_second at content named place long comes image left =
       let from = comes image left in
-      let P : ℕ → ℕ → List ℕ → Type 0 = λ at n was. Torn at n was image in
+      let P : ℕ → ℕ → List ℕ → Type 0 = λ at n was. IsTorn at n was image in
       torn_other file image is_second named
       (subst (λ (m : ℕ). P m 8 file) place
       (subst (λ (n : ℕ). P at n file) long (subst (P at (length content)) (stable from.0 from.1) from.2)))
 
-  pub left_of_name : ComesBy (Torn 0 1) old new → (image : List ℕ) → new image
+  pub left_of_name : ComesBy (IsTorn 0 1) old new → (image : List ℕ) → new image
       → IsEither (content_of file) (other_of file) 0 image
   left_of_name comes image left =
       let from = comes image left in
-      torn_name file image (subst (λ (was : List ℕ). Torn 0 1 was image) (stable from.0 from.1) from.2)
+      torn_name file image (subst (λ (was : List ℕ). IsTorn 0 1 was image) (stable from.0 from.1) from.2)
 
 -- what a file holds whose other slot was written, and then synced
 module _ (file written content : List ℕ) (is_second : Bool) (at : ℕ) (named : is_second ≡ (get_or file 0 0 == 1))
-    (place : at ≡ (if is_second then 1 else 9)) (torn : Torn at 8 file written)
+    (place : at ≡ (if is_second then 1 else 9)) (torn : IsTorn at 8 file written)
     (given : take 8 (drop at written) ≡ content) where
   still_named : is_second ≡ (get_or written 0 0 == 1)
   still_named =
@@ -90,6 +90,6 @@ module _ (file written content : List ℕ) (is_second : Bool) (at : ℕ) (named 
   written_other synced same images (Err error) stable = tt
   written_other synced same images (Ok done) stable = (
     record { named = still_named ∙ ap (λ (l : List ℕ). get_or l 0 0 == 1) (sym same); stable = stable },
-    ap content_of same ∙ torn_other file written is_second named (subst (λ (m : ℕ). Torn m 8 file written) place torn),
+    ap content_of same ∙ torn_other file written is_second named (subst (λ (m : ℕ). IsTorn m 8 file written) place torn),
     ap other_of same ∙ other is_second place still_named,
   )

@@ -13,7 +13,8 @@ use Rattle.effect_codec.specs.Fields.{Field, Byte, Half, Flag, Number, Small, Mo
 use Rattle.effect_codec.specs.Fields.{Setting, IsIn, IsAtMost, IsRange, coded_value, coded_range, coded_ranges, Read}
 use Rattle.effect_codec.specs.Fields.{Whole, Short, Wrong, and_then, bytes_at, number_at, half_at, limited_at}
 use Rattle.effect_codec.specs.Fields.{ranges_of}
-use Rattle.effect_codec.specs.Fields.{so_many_ranges_at, set_at, greatest_of, value_at, Values, AreIn, coded, Makes}
+use Rattle.effect_codec.specs.Fields.{so_many_ranges_at, set_at, greatest_of, value_at, Values, AreIn, coded_fields}
+use Rattle.effect_codec.specs.Fields.{Makes}
 use Rattle.effect_codec.specs.Fields.{made_of}
 use Rattle.effect_codec.specs.Fields.{made_at}
 
@@ -135,11 +136,13 @@ value_again (OneOf greatest) set rest is = one_of_again greatest set rest is
 
 -- what stands in fields is read again, and the same is made of it
 pub made_again : {X : Type 0} → (fields : List Field) (make : Makes fields X) (values : Values fields) (rest : List ℕ)
-    → AreIn fields values → made_at fields make (coded fields values ++ rest) ≡ Whole (made_of fields make values) rest
+    → AreIn fields values →
+    made_at fields make (coded_fields fields values ++ rest) ≡ Whole (made_of fields make values) rest
 made_again [] make values rest are = refl
 made_again {X} (field ∷ fields) make values rest are =
     let next : Of field → List ℕ → Read X = λ value after. made_at fields (make value) after in
     ap (λ (l : List ℕ). and_then (value_at field l) next)
-    (append_assoc (coded_value field values.0) (coded fields values.1) rest)
-    ∙ ap (λ (r : Read (Of field)). and_then r next) (value_again field values.0 (coded fields values.1 ++ rest) are.0)
+    (append_assoc (coded_value field values.0) (coded_fields fields values.1) rest)
+    ∙ ap (λ (r : Read (Of field)). and_then r next)
+    (value_again field values.0 (coded_fields fields values.1 ++ rest) are.0)
     ∙ made_again fields (make values.0) values.1 rest are.1

@@ -9,10 +9,10 @@ use Rattle.kom_types.specs.declared.effects.Effect.{Effect}
 use Rattle.kom_types.specs.declared.effects.Effect.TheVariants as effect
 use Rattle.kom_types.specs.declared.memberships.ReadRange.{ReadRange}
 use Rattle.read_ranges.specs.Changed.{rise_after}
-use Rattle.effect_codec.specs.Fields.{Read, Whole, Number, Moment, Ranges, number_at, limited_at, ranges_of}
-use Rattle.effect_codec.specs.Fields.{so_many_ranges_at, and_then, value_at, made_at}
+use Rattle.effect_codec.specs.Fields.{Whole, number_at, limited_at, ranges_of}
+use Rattle.effect_codec.specs.Fields.{so_many_ranges_at, and_then, value_at}
 use Rattle.effect_codec.specs.Table.{read_set}
-use Rattle.effect_codec.specs.Coding.{coded_effect, effect_at, row_at, IsInRange}
+use Rattle.effect_codec.specs.Coding.{effect_at, row_at}
 use Rattle.effect_codec.specs.Faulty.{has_faulty_range, ranges_there, SetsFaulty, BeginsFaulty}
 use Rattle.effect_codec.proofs.Effects.{effect_again}
 use Rattle.effect_codec.proofs.Spelled.{and_then_whole, read_whole, limited_whole}

@@ -1,5 +1,5 @@
 -- The bytes of a counter that is raised, read and written.
-use Rattle.std.proofs.Common.{◌≡◌, ◌≢◌, ℕ, zero, suc, ◌+◌, ◌*◌, ◌<◌, ◌≤◌, ◌^◌, ◌==◌, Bool, true, false, List, [], ◌∷◌}
+use Rattle.std.proofs.Common.{◌≡◌, ◌≢◌, ℕ, suc, ◌+◌, ◌<◌, ◌≤◌, ◌==◌, Bool, true, false, List, [], ◌∷◌}
 use Rattle.std.proofs.Common.{◌++◌, length, drop, refl, sym, ap, ◌∙◌, subst, arith, ltb, get_or, length-append}
 use Rattle.std.proofs.Common.{append_assoc, append-nil, Option, Some, None, inl, inr, cond}
 use Rattle.std.specs.Int.{w32, w64, to_le_bytes, from_le_bytes}

@@ -8,8 +8,8 @@ use Rattle.kom_types.specs.declared.effects.Effect.{Effect}
 use Rattle.kom_types.specs.declared.effects.Effect.TheVariants as effect
 use Rattle.kom_types.specs.declared.effects.PersonField.{PersonField}
 use Rattle.kom_types.specs.declared.effects.PersonField.TheVariants as person
-use Rattle.effect_codec.specs.Fields.{Whole, Values, AreIn, coded, made_of}
-use Rattle.effect_codec.specs.Table.{Row, row_of, told, conf_field, conf_setting, person_field, person_setting}
+use Rattle.effect_codec.specs.Fields.{Whole, Values, AreIn, coded_fields, made_of}
+use Rattle.effect_codec.specs.Table.{Row, row_of, tell_row, conf_field, conf_setting, person_field, person_setting}
 use Rattle.effect_codec.specs.Table.{counter_of, counter_number}
 use Rattle.effect_codec.specs.Coding.{coded_row, effect_at, kind_at, IsInRange}
 use Rattle.effect_codec.specs.Laws.{ReadsAgain, BeginsNoOther}
@@ -47,11 +47,11 @@ pub record Filled : Type 0 where
   pub values : Values row.fields
 
 abbrev pub filled_by : Effect → Filled
-filled_by one = told (λ row values. record { row = row; values = values }) one
+filled_by one = tell_row (λ row values. record { row = row; values = values }) one
 
 -- what is told is told of these
 pub told_is {ℓ} : {X : Type ℓ} → (tell : (row : Row) → Values row.fields → X) (one : Effect)
-    → told tell one ≡ tell (filled_by one).row (filled_by one).values
+    → tell_row tell one ≡ tell (filled_by one).row (filled_by one).values
 told_is tell (effect.ConfAdded number name kind at creator supervisor) = refl
 told_is tell (effect.ConfGone number) = refl
 told_is tell (effect.ConfNamed number name) = refl
@@ -144,7 +144,7 @@ pub effect_again : ReadsAgain
 effect_again one rest is =
     let at = filled_by one in
     ap (λ (l : List ℕ). effect_at (l ++ rest)) (told_is coded_row one)
-    ∙ ap (λ (o : Option Row). kind_at o (coded at.row.fields at.values ++ rest)) (row_again one)
+    ∙ ap (λ (o : Option Row). kind_at o (coded_fields at.row.fields at.values ++ rest)) (row_again one)
     ∙ made_again at.row.fields at.row.make at.values rest (values_in one is)
     ∙ ap (λ (e : Effect). Whole e rest) (effect_made one)
 

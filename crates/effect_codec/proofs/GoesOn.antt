@@ -17,8 +17,8 @@ use Rattle.effect_codec.specs.Fields.{IsIn, IsAtMost, IsRange, coded_value, code
 use Rattle.effect_codec.specs.Fields.{Whole, Short, Wrong, and_then, bytes_at, number_at, byte_at, limited_at}
 use Rattle.effect_codec.specs.Fields.{flag_of, ranges_of, so_many_ranges_at, set_at, greatest_of, value_at, Values}
 use Rattle.effect_codec.specs.Fields.{AreIn}
-use Rattle.effect_codec.specs.Fields.{coded, Makes, made_of, made_at}
-use Rattle.effect_codec.specs.Table.{Row, rows, row_of, set}
+use Rattle.effect_codec.specs.Fields.{coded_fields, Makes, made_of, made_at}
+use Rattle.effect_codec.specs.Table.{Row, rows, row_of, set_part}
 use Rattle.effect_codec.specs.Coding.{coded_effect, effect_at, kind_at, IsInRange}
 use Rattle.effect_codec.specs.Laws.{AreBytes, GoesOn}
 use Rattle.effect_codec.proofs.Stays.{read_of, le_same}
@@ -150,7 +150,7 @@ any_value Ranges has =
     record { value = []; missing = to_le_bytes w32 0; allowed = (omega arith, tt); spelled = refl }
 any_value (OneOf []) has = absurd (cc has)
 any_value (OneOf (first ∷ greatest)) has = record {
-  value = set 1 0;
+  value = set_part 1 0;
   missing = 1 ∷ to_le_bytes w64 0;
   allowed = (omega arith, omega arith);
   spelled = refl;
@@ -325,12 +325,12 @@ set_goes_on greatest part (Some last) between found_is are is = by_rule
   where
     by_rule : (limited_at w64 last between ≡ Short)
         ⊎ ((value : ℕ) × (rest : List ℕ) × (limited_at w64 last between ≡ Whole value rest)
-        × (Whole (set part value) rest ≡ Short)) → FieldCompletes (OneOf greatest) (part ∷ between)
+        × (Whole (set_part part value) rest ≡ Short)) → FieldCompletes (OneOf greatest) (part ∷ between)
     by_rule (inl size) =
         let short = limited_short w64 last between size in
         let both = filled_8 between are short.0 in
         record {
-          value = set part (from_le_bytes w64 between);
+          value = set_part part (from_le_bytes w64 between);
           missing = zeros (8 - length between);
           allowed = subst (λ (o : Option ℕ). IsAtMost o (from_le_bytes w64 between)) (sym found_is) (short.1, both.1);
           spelled = ap (λ (l : List ℕ). part ∷ l) both.0;
@@ -379,7 +379,7 @@ any_values (field ∷ fields) has =
 -- what is too short for fields goes on to values that may stand in them
 values_go_on : {X : Type 0} (fields : List Field) (make : Makes fields X) (bytes : List ℕ)
     → list_all has_value fields ≡ true → AreBytes bytes → made_at fields make bytes ≡ Short
-    → Completes (coded fields) (AreIn fields) bytes
+    → Completes (coded_fields fields) (AreIn fields) bytes
 values_go_on [] make bytes has are is = absurd (cc is)
 values_go_on {X} (field ∷ fields) make bytes has are is =
     let both = both_true (has_value field) (list_all has_value fields) has in
@@ -387,20 +387,20 @@ values_go_on {X} (field ∷ fields) make bytes has are is =
     (and_then_short (value_at field bytes) (λ value after. made_at fields (make value) after) is) where
       by_rule : has_value field ≡ true → list_all has_value fields ≡ true
           → ((value : Of field) (between : List ℕ) → AreBytes between → made_at fields (make value) between ≡ Short
-          → Completes (coded fields) (AreIn fields) between)
+          → Completes (coded_fields fields) (AreIn fields) between)
           → (value_at field bytes ≡ Short)
           ⊎ ((value : Of field) × (between : List ℕ) × (value_at field bytes ≡ Whole value between)
           × (made_at fields (make value) between ≡ Short))
-          → Completes (coded (field ∷ fields)) (AreIn (field ∷ fields)) bytes
+          → Completes (coded_fields (field ∷ fields)) (AreIn (field ∷ fields)) bytes
       by_rule has_first has_others next (inl short) =
           let first = value_goes_on field bytes has_first are short in
           let others = any_values fields has_others in
           record {
             value = (first.value, others.0);
-            missing = first.missing ++ coded fields others.0;
+            missing = first.missing ++ coded_fields fields others.0;
             allowed = (first.allowed, others.1);
-            spelled = ap (λ (l : List ℕ). l ++ coded fields others.0) first.spelled
-                ∙ append_assoc bytes first.missing (coded fields others.0);
+            spelled = ap (λ (l : List ℕ). l ++ coded_fields fields others.0) first.spelled
+                ∙ append_assoc bytes first.missing (coded_fields fields others.0);
           }
       by_rule has_first has_others next (inr (value, between, whole, short)) =
           let first = value_spelled field bytes value between are whole in
@@ -478,7 +478,7 @@ kind_goes_on kind (Some row) bytes are found_is is =
       value = made_of row.fields row.make values.value;
       missing = values.missing;
       allowed = made.1;
-      spelled = made.0 ∙ ap (λ (n : ℕ). n ∷ coded row.fields values.value) spells.1
+      spelled = made.0 ∙ ap (λ (n : ℕ). n ∷ coded_fields row.fields values.value) spells.1
           ∙ ap (λ (l : List ℕ). kind ∷ l) values.spelled;
     }
 

@@ -14,7 +14,7 @@ use Rattle.effect_codec.specs.Fields.{Setting, IsIn, IsAtMost, IsRange, bit, cod
 use Rattle.effect_codec.specs.Fields.{Whole, Short, Wrong, and_then, bytes_at, number_at, half_at, byte_at, limited_at}
 use Rattle.effect_codec.specs.Fields.{flag_of, ranges_of, so_many_ranges_at, set_at, greatest_of, value_at, Values}
 use Rattle.effect_codec.specs.Fields.{AreIn}
-use Rattle.effect_codec.specs.Fields.{coded, Makes, made_of, made_at}
+use Rattle.effect_codec.specs.Fields.{coded_fields, Makes, made_of, made_at}
 use Rattle.effect_codec.specs.Laws.{AreBytes}
 use Rattle.effect_codec.proofs.Stays.{read_of, le_same, be_same}
 
@@ -360,7 +360,7 @@ value_spelled (OneOf greatest) bytes found rest are is = one_of_spelled greatest
 pub record MadeOf {X : Type 0} (fields : List Field) (make : Makes fields X) (bytes : List ℕ) (made : X) (rest : List ℕ)
     : Type 0 where
   pub values : Values fields
-  pub spells : Spells (coded fields values) (AreIn fields values) bytes rest
+  pub spells : Spells (coded_fields fields values) (AreIn fields values) bytes rest
   pub made_is : made_of fields make values ≡ made
 
 pub made_spelled : {X : Type 0} (fields : List Field) (make : Makes fields X) (bytes : List ℕ) (made : X)
@@ -382,7 +382,7 @@ made_spelled {X} (field ∷ fields) make bytes made rest are is =
     made_spelled fields (make both.0) both.1 made rest first.left both.3 in
     record {
       values = (both.0, others.values);
-      spells = spells_both (coded_value field both.0) (coded fields others.values) (IsIn field both.0)
+      spells = spells_both (coded_value field both.0) (coded_fields fields others.values) (IsIn field both.0)
           (AreIn fields others.values) bytes both.1 rest first others.spells;
       made_is = others.made_is;
     }

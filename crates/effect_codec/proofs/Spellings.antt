@@ -10,7 +10,7 @@ use Rattle.effect_codec.specs.Fields.{OneOf, Setting, IsIn, IsAtMost, greatest_o
 use Rattle.effect_codec.specs.Fields.{AreIn, made_of}
 use Rattle.effect_codec.specs.Table.{Row, rows, row_of, conf_parts, conf_field, conf_setting, person_parts}
 use Rattle.effect_codec.specs.Table.{person_field}
-use Rattle.effect_codec.specs.Table.{person_setting, counters, counter_of, counter_number, set}
+use Rattle.effect_codec.specs.Table.{person_setting, counters, counter_of, counter_number, set_part}
 use Rattle.effect_codec.specs.Table as table
 use Rattle.effect_codec.specs.Coding.{coded_effect, coded_row, kind_at, IsInRange}
 use Rattle.effect_codec.specs.Laws.{AreBytes, IsSpelled}
@@ -20,7 +20,7 @@ use Rattle.effect_codec.proofs.Spelled.{MadeOf, made_spelled}
 conf_setting_again : (given : Setting) → IsIn (OneOf conf_parts) given → conf_setting (conf_field given) ≡ given
 conf_setting_again given is = by_part given.part given.value is where
   by_part : (part value : ℕ) → IsAtMost (greatest_of part conf_parts) value
-      → conf_setting (conf_field (set part value)) ≡ set part value
+      → conf_setting (conf_field (set_part part value)) ≡ set_part part value
   by_part zero value is = absurd is
   by_part (suc zero) value is = refl
   by_part (suc (suc zero)) value is = refl
@@ -38,7 +38,7 @@ person_setting_again : (given : Setting) → IsIn (OneOf person_parts) given
     → person_setting (person_field given) ≡ given
 person_setting_again given is = by_part given.part given.value is where
   by_part : (part value : ℕ) → IsAtMost (greatest_of part person_parts) value
-      → person_setting (person_field (set part value)) ≡ set part value
+      → person_setting (person_field (set_part part value)) ≡ set_part part value
   by_part zero value is = absurd is
   by_part (suc zero) value is = refl
   by_part (suc (suc zero)) value is = refl
@@ -46,10 +46,10 @@ person_setting_again given is = by_part given.part given.value is where
   by_part (suc (suc (suc (suc part)))) value is = absurd is
 
 counter_again : (given : Setting) → IsIn (OneOf counters) given
-    → set (counter_number (counter_of given.part)) given.value ≡ given
+    → set_part (counter_number (counter_of given.part)) given.value ≡ given
 counter_again given is = by_part given.part given.value is where
   by_part : (part value : ℕ) → IsAtMost (greatest_of part counters) value
-      → set (counter_number (counter_of part)) value ≡ set part value
+      → set_part (counter_number (counter_of part)) value ≡ set_part part value
   by_part zero value is = absurd is
   by_part (suc zero) value is = refl
   by_part (suc (suc zero)) value is = refl
@@ -106,9 +106,9 @@ password_spells values are = (refl, are)
 logged_in_spells : RowSpells table.logged_in
 logged_in_spells values are = (refl, are)
 
-counted_spells : RowSpells table.counted
-counted_spells values are = row_spells table.counted values
-    (values.0, (set (counter_number (counter_of values.1.0.part)) values.1.0.value, tt))
+counted_spells : RowSpells table.counter_raised
+counted_spells values are = row_spells table.counter_raised values
+    (values.0, (set_part (counter_number (counter_of values.1.0.part)) values.1.0.value, tt))
     (ap (λ (s : Setting). (values.0, (s, tt))) (counter_again values.1.0 are.1.0)) are
 
 text_added_spells : RowSpells table.text_added
@@ -152,7 +152,7 @@ aux_gone_spells : RowSpells table.aux_gone
 aux_gone_spells values are = row_spells table.aux_gone values (not (not values.0), values.1)
     (ap (λ (b : Bool). (b, values.1)) (not_again values.0)) are
 
-created_spells : RowSpells table.created
+created_spells : RowSpells table.text_numbered
 created_spells values are = (refl, are)
 
 pub rows_spell : AllByRecursion RowSpells rows

@@ -2,24 +2,24 @@
 use Rattle.std.specs.Prelude.{ℕ, List, ◌∷◌, Option, Some}
 use Rattle.std.specs.Prelude.{None}
 use Rattle.kom_types.specs.declared.effects.Effect.{Effect}
-use Rattle.effect_codec.specs.Fields.{Read, Wrong, Values, AreIn, AreShort, coded, made_at}
+use Rattle.effect_codec.specs.Fields.{Read, Wrong, Values, AreIn, AreShort, coded_fields, made_at}
 use Rattle.effect_codec.specs.Fields.{and_then, byte_at}
-use Rattle.effect_codec.specs.Table.{Row, row_of, told}
+use Rattle.effect_codec.specs.Table.{Row, row_of, tell_row}
 
 -- the bytes of an effect: its kind, and its fields one after the other
 abbrev pub coded_row : (row : Row) → Values row.fields → List ℕ
-coded_row row values = row.kind ∷ coded row.fields values
+coded_row row values = row.kind ∷ coded_fields row.fields values
 
 abbrev pub coded_effect : Effect → List ℕ
-coded_effect effect = told coded_row effect
+coded_effect effect = tell_row coded_row effect
 
 -- its numbers, moments and lengths are those that its fields may have
 abbrev pub IsInRange : Effect → Type 0
-IsInRange effect = told (λ row values. AreIn row.fields values) effect
+IsInRange effect = tell_row (λ row values. AreIn row.fields values) effect
 
 -- its lengths are
 abbrev pub IsShortEnough : Effect → Type 0
-IsShortEnough effect = told (λ row values. AreShort row.fields values) effect
+IsShortEnough effect = tell_row (λ row values. AreShort row.fields values) effect
 
 -- what bytes are to a row
 abbrev pub row_at : Row → List ℕ → Read Effect

@@ -204,9 +204,9 @@ AreShort [] values = Unit {0}
 AreShort (field ∷ fields) values = IsShort field values.0 × AreShort fields values.1
 
 -- the bytes of all fields, one after the other
-abbrev pub coded : (fields : List Field) → Values fields → List ℕ
-coded [] values = []
-coded (field ∷ fields) values = coded_value field values.0 ++ coded fields values.1
+abbrev pub coded_fields : (fields : List Field) → Values fields → List ℕ
+coded_fields [] values = []
+coded_fields (field ∷ fields) values = coded_value field values.0 ++ coded_fields fields values.1
 
 -- what makes something of what stands in the fields
 abbrev pub Makes : List Field → Type 0 → Type 0

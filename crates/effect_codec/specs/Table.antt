@@ -31,20 +31,20 @@ conf_parts =
     last_number ∷ last_number ∷ last_number ∷ last_number ∷ last_number ∷ 255 ∷ last_number
     ∷ last_number ∷ last_number ∷ LAST_MOMENT ∷ []
 
-abbrev pub set : ℕ → ℕ → Setting
-set part value = record { part = part; value = value }
+abbrev pub set_part : ℕ → ℕ → Setting
+set_part part value = record { part = part; value = value }
 
 abbrev pub conf_setting : ConfField → Setting
-conf_setting (field.Presentation text) = set 1 text
-conf_setting (field.Motd text) = set 2 text
-conf_setting (field.Supervisor conference) = set 3 conference
-conf_setting (field.PermittedSubmitters conference) = set 4 conference
-conf_setting (field.SuperConference conference) = set 5 conference
-conf_setting (field.Kind kind) = set 6 kind
-conf_setting (field.Nice days) = set 7 days
-conf_setting (field.KeepCommented days) = set 8 days
-conf_setting (field.Expire days) = set 9 days
-conf_setting (field.LastWritten at) = set 10 at
+conf_setting (field.Presentation text) = set_part 1 text
+conf_setting (field.Motd text) = set_part 2 text
+conf_setting (field.Supervisor conference) = set_part 3 conference
+conf_setting (field.PermittedSubmitters conference) = set_part 4 conference
+conf_setting (field.SuperConference conference) = set_part 5 conference
+conf_setting (field.Kind kind) = set_part 6 kind
+conf_setting (field.Nice days) = set_part 7 days
+conf_setting (field.KeepCommented days) = set_part 8 days
+conf_setting (field.Expire days) = set_part 9 days
+conf_setting (field.LastWritten at) = set_part 10 at
 
 abbrev pub conf_field : Setting → ConfField
 conf_field set =
@@ -64,9 +64,9 @@ abbrev pub person_parts : List ℕ
 person_parts = last_half ∷ 255 ∷ last_number ∷ []
 
 abbrev pub person_setting : PersonField → Setting
-person_setting (person.Privileges privileges) = set 1 privileges
-person_setting (person.Flags flags) = set 2 flags
-person_setting (person.UserArea text) = set 3 text
+person_setting (person.Privileges privileges) = set_part 1 privileges
+person_setting (person.Flags flags) = set_part 2 flags
+person_setting (person.UserArea text) = set_part 3 text
 
 abbrev pub person_field : Setting → PersonField
 person_field set =
@@ -141,8 +141,8 @@ password = row 8 (Number ∷ Fixed 32 ∷ []) effect.Password
 abbrev pub logged_in : Row
 logged_in = row 9 (Number ∷ Moment ∷ Text LONGEST_USER_NAME ∷ []) effect.LoggedIn
 
-abbrev pub counted : Row
-counted = row 10 (Number ∷ OneOf counters ∷ [])
+abbrev pub counter_raised : Row
+counter_raised = row 10 (Number ∷ OneOf counters ∷ [])
     (λ number set. effect.Counted number (counter_of set.part) set.value)
 
 -- number, author, moment and body
@@ -225,57 +225,58 @@ aux_gone = row 23 (Flag ∷ Number ∷ Number ∷ [])
     (λ on_conference object number. effect.AuxGone (not on_conference) object number)
 
 -- person, local number and text
-abbrev pub created : Row
-created = row 24 (Number ∷ Number ∷ Number ∷ []) effect.Created
+abbrev pub text_numbered : Row
+text_numbered = row 24 (Number ∷ Number ∷ Number ∷ []) effect.Created
 
 abbrev pub rows : List Row
 rows =
     conf_added ∷ conf_gone ∷ conf_named ∷ conf_set ∷ person_added ∷ person_gone ∷ person_set
-    ∷ password ∷ logged_in ∷ counted ∷ text_added ∷ text_gone ∷ recipient_added ∷ recipient_gone
+    ∷ password ∷ logged_in ∷ counter_raised ∷ text_added ∷ text_gone ∷ recipient_added
+    ∷ recipient_gone
     ∷ link_added ∷ link_gone ∷ member_set ∷ member_gone ∷ read_set ∷ mark_set ∷ mark_gone
-    ∷ aux_added ∷ aux_gone ∷ created ∷ []
+    ∷ aux_added ∷ aux_gone ∷ text_numbered ∷ []
 
 abbrev pub row_of : ℕ → Option Row
 row_of kind = find (λ row. row.kind == kind) rows
 
 -- what is told of the row of an effect, and of what stands in the row's fields
-abbrev pub told {ℓ} : {X : Type ℓ} → ((row : Row) → Values row.fields → X) → Effect → X
-told tell (effect.ConfAdded number name kind at creator supervisor) =
+abbrev pub tell_row {ℓ} : {X : Type ℓ} → ((row : Row) → Values row.fields → X) → Effect → X
+tell_row tell (effect.ConfAdded number name kind at creator supervisor) =
     tell conf_added (number ▸ name ▸ kind ▸ at ▸ creator ▸ supervisor ▸ tt)
-told tell (effect.ConfGone number) = tell conf_gone (number ▸ tt)
-told tell (effect.ConfNamed number name) = tell conf_named (number ▸ name ▸ tt)
-told tell (effect.ConfField number what) = tell conf_set (number ▸ conf_setting what ▸ tt)
-told tell (effect.PersonAdded number privileges flags last_login) =
+tell_row tell (effect.ConfGone number) = tell conf_gone (number ▸ tt)
+tell_row tell (effect.ConfNamed number name) = tell conf_named (number ▸ name ▸ tt)
+tell_row tell (effect.ConfField number what) = tell conf_set (number ▸ conf_setting what ▸ tt)
+tell_row tell (effect.PersonAdded number privileges flags last_login) =
     tell person_added (number ▸ privileges ▸ flags ▸ last_login ▸ tt)
-told tell (effect.PersonGone number) = tell person_gone (number ▸ tt)
-told tell (effect.PersonField number what) =
+tell_row tell (effect.PersonGone number) = tell person_gone (number ▸ tt)
+tell_row tell (effect.PersonField number what) =
     tell person_set (number ▸ person_setting what ▸ tt)
-told tell (effect.Password number hash) = tell password (number ▸ hash ▸ tt)
-told tell (effect.LoggedIn number at user) = tell logged_in (number ▸ at ▸ user ▸ tt)
-told tell (effect.Counted number what by) =
-    tell counted (number ▸ set (counter_number what) by ▸ tt)
-told tell (effect.TextAdded number author at body) =
+tell_row tell (effect.Password number hash) = tell password (number ▸ hash ▸ tt)
+tell_row tell (effect.LoggedIn number at user) = tell logged_in (number ▸ at ▸ user ▸ tt)
+tell_row tell (effect.Counted number what by) =
+    tell counter_raised (number ▸ set_part (counter_number what) by ▸ tt)
+tell_row tell (effect.TextAdded number author at body) =
     tell text_added (number ▸ author ▸ at ▸ body ▸ tt)
-told tell (effect.TextGone number) = tell text_gone (number ▸ tt)
-told tell (effect.RecipientAdded given) = tell recipient_added
+tell_row tell (effect.TextGone number) = tell text_gone (number ▸ tt)
+tell_row tell (effect.RecipientAdded given) = tell recipient_added
     (given.text ▸ given.conference ▸ given.tag ▸ given.local ▸ given.sender ▸ given.at ▸ tt)
-told tell (effect.RecipientGone text conference) =
+tell_row tell (effect.RecipientGone text conference) =
     tell recipient_gone (text ▸ conference ▸ tt)
-told tell (effect.LinkAdded link) = tell link_added
+tell_row tell (effect.LinkAdded link) = tell link_added
     (link.child ▸ link.parent ▸ link.footnote ▸ link.sender ▸ link.at ▸ tt)
-told tell (effect.LinkGone child parent footnote) =
+tell_row tell (effect.LinkGone child parent footnote) =
     tell link_gone (child ▸ parent ▸ footnote ▸ tt)
-told tell (effect.MemberSet member conference position priority added_by added_at kind) =
+tell_row tell (effect.MemberSet member conference position priority added_by added_at kind) =
     tell member_set
     (member ▸ conference ▸ position ▸ priority ▸ added_by ▸ added_at ▸ kind ▸ tt)
-told tell (effect.MemberGone member conference) = tell member_gone (member ▸ conference ▸ tt)
-told tell (effect.ReadSet reader conference at ranges) =
+tell_row tell (effect.MemberGone member conference) = tell member_gone (member ▸ conference ▸ tt)
+tell_row tell (effect.ReadSet reader conference at ranges) =
     tell read_set (reader ▸ conference ▸ at ▸ ranges ▸ tt)
-told tell (effect.MarkSet reader text kind) = tell mark_set (reader ▸ text ▸ kind ▸ tt)
-told tell (effect.MarkGone reader text) = tell mark_gone (reader ▸ text ▸ tt)
-told tell (effect.AuxAdded on_text object item) = tell aux_added
+tell_row tell (effect.MarkSet reader text kind) = tell mark_set (reader ▸ text ▸ kind ▸ tt)
+tell_row tell (effect.MarkGone reader text) = tell mark_gone (reader ▸ text ▸ tt)
+tell_row tell (effect.AuxAdded on_text object item) = tell aux_added
     (not on_text ▸ object ▸ item.number ▸ item.tag ▸ item.creator ▸ item.at ▸ item.flags
     ▸ item.limit ▸ item.content ▸ tt)
-told tell (effect.AuxGone on_text object number) =
+tell_row tell (effect.AuxGone on_text object number) =
     tell aux_gone (not on_text ▸ object ▸ number ▸ tt)
-told tell (effect.Created author local text) = tell created (author ▸ local ▸ text ▸ tt)
+tell_row tell (effect.Created author local text) = tell text_numbered (author ▸ local ▸ text ▸ tt)

@@ -5,7 +5,7 @@ ghost use Rattle.std.specs.Int.{w16, w32, w64, from_le_bytes, from_be_bytes};
 ghost use Rattle.effect_codec.specs.Fields as field;
 ghost use Rattle.effect_codec.specs.Fields.{value_at, limited_at, ranges_of};
 ghost use Rattle.effect_codec.specs.Giving.{Gives};
-ghost use Rattle.effect_codec.specs.Table.{set};
+ghost use Rattle.effect_codec.specs.Table.{set_part};
 
 use crate::stop::Stop;
 use kom_types::limits::LAST_MOMENT;
@@ -173,9 +173,10 @@ impl<'a> Reader<'a> {
 
     /// The number of a part, and what it is set to: each part has a greatest value.
     pub(crate) fn setting(&mut self, greatest: &[u64]) -> Result<(u8, u64), Stop>
-        ensures gives { Gives (λ x. set x.0 x.1) (value_at (field.OneOf greatest.now) self.old)
+        ensures gives { Gives (λ x. set_part x.0 x.1) (value_at (field.OneOf greatest.now) self.old)
             result self.new }
-        ensures range { IfOk result (λ x. field.IsIn (field.OneOf greatest.now) (set x.0 x.1)) }
+        ensures range { IfOk result
+            (λ x. field.IsIn (field.OneOf greatest.now) (set_part x.0 x.1)) }
     {
         let part = self.byte()?;
         if part == 0 {

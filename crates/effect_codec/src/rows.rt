@@ -133,7 +133,7 @@ fn logged_in(from: &mut Reader<'_>) -> Result<Effect, Stop>
 }
 
 fn counted(from: &mut Reader<'_>) -> Result<Effect, Stop>
-    ensures { Gives (λ x. x) (row_at table.counted from.old) result from.new }
+    ensures { Gives (λ x. x) (row_at table.counter_raised from.old) result from.new }
 {
     let number = from.number()?;
     let (part, by) = from.setting(&COUNTERS)?;
@@ -292,7 +292,7 @@ fn aux_gone(from: &mut Reader<'_>) -> Result<Effect, Stop>
 }
 
 fn created(from: &mut Reader<'_>) -> Result<Effect, Stop>
-    ensures { Gives (λ x. x) (row_at table.created from.old) result from.new }
+    ensures { Gives (λ x. x) (row_at table.text_numbered from.old) result from.new }
 {
     Ok(Effect::Created {
         person: from.number()?,

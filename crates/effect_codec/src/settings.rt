@@ -76,8 +76,8 @@ pub(crate) fn counter_number(counter: Counter) -> u8
 }
 
 pub(crate) fn conf_field(part: u8, value: u64) -> ConfField
-    requires { IsIn (OneOf table.conf_parts) (table.set part value) }
-    ensures { result ≡ table.conf_field (table.set part value) }
+    requires { IsIn (OneOf table.conf_parts) (table.set_part part value) }
+    ensures { result ≡ table.conf_field (table.set_part part value) }
 {
     match part {
         1 => ConfField::Presentation(value as u32),
@@ -94,8 +94,8 @@ pub(crate) fn conf_field(part: u8, value: u64) -> ConfField
 }
 
 pub(crate) fn person_field(part: u8, value: u64) -> PersonField
-    requires { IsIn (OneOf table.person_parts) (table.set part value) }
-    ensures { result ≡ table.person_field (table.set part value) }
+    requires { IsIn (OneOf table.person_parts) (table.set_part part value) }
+    ensures { result ≡ table.person_field (table.set_part part value) }
 {
     match part {
         1 => PersonField::Privileges(value as u16),

@@ -12,7 +12,7 @@ use Rattle.kom_types.specs.declared.answers.Why.TheVariants as why
 use Rattle.kom_types.specs.declared.items.Item.{Item}
 use Rattle.kom_links.specs.declared.deeds.Deed.TheVariants as deed
 use Rattle.kom_types.specs.declared.answers.NotMade.TheVariants as fault
-use Rattle.kom_links.specs.Answers.{said}
+use Rattle.kom_links.specs.Answers.{without_value}
 use Rattle.kom_model.specs.State.{State}
 use Rattle.kom_model.specs.Refusal.{refusal_of}
 use Rattle.kom_model.specs.Legal.{state_after}
@@ -64,7 +64,7 @@ refused_is X start old new what entry items (fault.Full number) is (inr was) =
 answers_turn : (start : State) (old new : PassView) (pass moment : ℕ) (what : Act) (items : List Item)
     (made : Result Record NotMade) →
     Ends start old new (record { pass = pass; moment = moment; act = what }) items made → (what ≡ act.Flush → ⊥) →
-    IsAnswer {X = ⊤} start new what (said made)
+    IsAnswer {X = ⊤} start new what (without_value made)
 answers_turn start old new pass moment what items (Ok made) ends other =
     possible_made start old new _ items made false ends (λ flush. absurd (other flush))
 answers_turn start old new pass moment what items (Err one) ends other =
@@ -72,7 +72,7 @@ answers_turn start old new pass moment what items (Err one) ends other =
 
 pub answers_told : (old new : Kept) (moment : ℕ) (what : Act) (items : List Item) (made : Result Record NotMade)
     (answer : Result ⊤ NotMade) → HadTurn old moment what items made new → (what ≡ act.Flush → ⊥) →
-    answer ≡ said made → IsAnswer old.start new.pass what answer
+    answer ≡ without_value made → IsAnswer old.start new.pass what answer
 answers_told old new moment what items made answer turn other is =
     subst (λ (answer : Result ⊤ NotMade). IsAnswer old.start new.pass what answer) (sym is)
     (answers_turn old.start old.pass new.pass old.pass.number moment what items made turn.ends other)

@@ -17,7 +17,7 @@ use Rattle.kom_links.specs.declared.deeds.Deed.{Deed}
 use Rattle.kom_links.specs.declared.deeds.Deed.TheVariants as deed
 use Rattle.kom_types.specs.declared.answers.NotMade.{NotMade}
 use Rattle.kom_types.specs.declared.answers.NotMade.TheVariants as fault
-use Rattle.kom_links.specs.Answers.{Answer, said_stopped, deed_of, concerns, refused, sends, HasRefused}
+use Rattle.kom_links.specs.Answers.{Answer, said_stopped, deed_of, concerns, first_fault_of, sends, HasRefused}
 use Rattle.kom_links.specs.DeskCalls.{record_of}
 use Rattle.kom_links.specs.Records.{IsOpen}
 use Rattle.kom_model.specs.State.{State}
@@ -282,7 +282,7 @@ module _ (start : State) where
 
     -- the first fault that concerns a session has its cause
     pub refused_known : (answers : List Answer) (one : NotMade) →
-        AllByRecursion (IsKnownAnswer start pass) answers → refused session answers ≡ Some one →
+        AllByRecursion (IsKnownAnswer start pass) answers → first_fault_of session answers ≡ Some one →
         IsKnown start pass.seen pass.drawn session (Some one)
     refused_known [] one known is = cc
     refused_known ((what, Ok done) ∷ answers) one known is = elim (cases_Bool (concerns session what)) [

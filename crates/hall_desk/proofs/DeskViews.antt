@@ -13,7 +13,7 @@ use Rattle.kom_links.specs.declared.deeds.Deed.{Deed}
 use Rattle.kom_links.specs.declared.deeds.Deed.TheVariants as deed
 use Rattle.kom_types.specs.declared.answers.NotMade.{NotMade}
 use Rattle.kom_types.specs.declared.answers.NotMade.TheVariants as fault
-use Rattle.kom_links.specs.Answers.{Answer, said, said_stopped, deed_of, is_nothing}
+use Rattle.kom_links.specs.Answers.{Answer, without_value, said_stopped, deed_of, is_nothing}
 use Rattle.kom_links.specs.DeskCalls.{DeskView, StaysForAll, record_of, is_lock_full, IsTold, Connects, Acts, Calls}
 use Rattle.kom_links.specs.DeskCalls.{Drains, AddsNoneOrShort, Flushes, Closes, AsksStopped, IsLookedAt}
 use Rattle.kom_links.specs.Records.{IsOpen, has_session}
@@ -74,7 +74,7 @@ logged_after old mid new what answer same is = ap (λ (kept : Kept). kept.answer
 
 pub acted_told : (old mid new : Kept) (moment : ℕ) (what : Act) (items : List Item) (made : Result Record NotMade)
     (done : Deed) (answer : Result ⊤ NotMade) → HadTurn old moment what items made mid → done ≡ deed_of what →
-    answer ≡ said made → mid.answers ≡ old.answers →
+    answer ≡ without_value made → mid.answers ≡ old.answers →
     new ≡ record mid { answers = mid.answers ++ (done, answer) ∷ [] } → IsActed old moment what made new
 acted_told old mid new moment what items made done answer turn of_act is same told = record {
   items = items;
@@ -107,7 +107,7 @@ known_start old mid done answer told same is known =
 
 pub act_known : (old mid : Kept) (moment : ℕ) (what : Act) (items : List Item) (made : Result Record NotMade)
     (done : Deed) (answer : Result ⊤ NotMade) → IsOfOpen old.pass.mine what →
-    HadTurn old moment what items made mid → done ≡ deed_of what → answer ≡ said made →
+    HadTurn old moment what items made mid → done ≡ deed_of what → answer ≡ without_value made →
     IsKnownAnswer mid.start mid.pass (done, answer)
 act_known old mid moment what items (Ok made) done answer open' turn of_act is =
     known_start old mid done (Ok tt) answer turn.start is tt
@@ -117,7 +117,7 @@ act_known old mid moment what items (Err one) done answer open' turn of_act is =
 
 pub drain_known : (old mid : Kept) (moment session : ℕ) (items : List Item) (made : Result Record NotMade)
     (answer : Result ⊤ NotMade) (is_empty : Bool) → IsOpen session old.pass.mine →
-    HadTurn old moment (act.Drain session) items made mid → OnErr made (items ≡ []) → answer ≡ said made →
+    HadTurn old moment (act.Drain session) items made mid → OnErr made (items ≡ []) → answer ≡ without_value made →
     is_empty ≡ (length items == 0) → IsKnownAnswer mid.start mid.pass (deed.Drain session is_empty, answer)
 drain_known old mid moment session items (Ok made) answer is_empty is_open turn nothing is empty =
     known_start old mid (deed.Drain session is_empty) (Ok tt) answer turn.start is tt
@@ -247,8 +247,8 @@ err_told old new what one left tells = record {
 calls_turn : (old new : Kept) (moment session reference : ℕ) (call : Call) (items : List Item)
     (made : Result Record NotMade) → IsOpen session old.pass.mine →
     HadTurn old moment (act.Call session reference call) items made new →
-    Logged old (deed.Call session) (said made) new →
-    Calls {X = ⊤} (desk_view old) moment (act.Call session reference call) session (said made) (desk_view new)
+    Logged old (deed.Call session) (without_value made) new →
+    Calls {X = ⊤} (desk_view old) moment (act.Call session reference call) session (without_value made) (desk_view new)
 calls_turn old new moment session reference call items (Ok made) is_open turn tells =
     let what : Act = act.Call session reference call in
     let adds = adds_of old new moment what items made turn in
@@ -270,7 +270,7 @@ calls_turn old new moment session reference call items (Err one) is_open turn te
 
 pub calls_acted : (old new : Kept) (moment session reference : ℕ) (call : Call) (made : Result Record NotMade)
     (answer : Result ⊤ NotMade) → IsOpen session old.pass.mine →
-    IsActed old moment (act.Call session reference call) made new → answer ≡ said made →
+    IsActed old moment (act.Call session reference call) made new → answer ≡ without_value made →
     Calls (desk_view old) moment (act.Call session reference call) session answer (desk_view new)
 calls_acted old new moment session reference call made answer is_open acted is =
     subst (λ (answer : Result ⊤ NotMade).
@@ -286,8 +286,8 @@ broken_whole state pass moment number session false may = refl
 
 broken_turn : (old new : Kept) (moment session : ℕ) (items : List Item) (made : Result Record NotMade) →
     IsOpen session old.pass.mine → HadTurn old moment (act.Broken session) items made new →
-    Logged old (deed.Broken session) (said made) new →
-    Acts {X = ⊤} (desk_view old) moment (act.Broken session) session (said made) (desk_view new)
+    Logged old (deed.Broken session) (without_value made) new →
+    Acts {X = ⊤} (desk_view old) moment (act.Broken session) session (without_value made) (desk_view new)
 broken_turn old new moment session items (Ok made) is_open turn tells =
     let what : Act = act.Broken session in
     let adds = adds_of old new moment what items made turn in
@@ -310,7 +310,7 @@ broken_turn old new moment session items (Err one) is_open turn tells =
 
 pub broken_acted : (old new : Kept) (moment session : ℕ) (made : Result Record NotMade)
     (answer : Result ⊤ NotMade) → IsOpen session old.pass.mine → IsActed old moment (act.Broken session) made new →
-    answer ≡ said made → Acts (desk_view old) moment (act.Broken session) session answer (desk_view new)
+    answer ≡ without_value made → Acts (desk_view old) moment (act.Broken session) session answer (desk_view new)
 broken_acted old new moment session made answer is_open acted is =
     subst (λ (answer : Result ⊤ NotMade).
     Acts (desk_view old) moment (act.Broken session) session answer (desk_view new)) (sym is)
@@ -332,8 +332,8 @@ drained_items state session made may is =
 
 drains_turn : (old new : Kept) (moment session : ℕ) (items : List Item) (made : Result Record NotMade) →
     IsOpen session old.pass.mine → HadTurn old moment (act.Drain session) items made new →
-    OnErr made (items ≡ []) → Logged old (deed.Drain session (is_nothing items)) (said made) new →
-    Drains {X = ⊤} (desk_view old) moment session items (said made) (desk_view new)
+    OnErr made (items ≡ []) → Logged old (deed.Drain session (is_nothing items)) (without_value made) new →
+    Drains {X = ⊤} (desk_view old) moment session items (without_value made) (desk_view new)
 drains_turn old new moment session items (Ok made) is_open turn nothing tells =
     let what : Act = act.Drain session in
     let both = adds_all old new moment what items made turn in
@@ -370,7 +370,7 @@ drains_turn old new moment session items (Err one) is_open turn nothing tells =
 
 pub drains_told : (old mid new : Kept) (moment session : ℕ) (items : List Item) (made : Result Record NotMade)
     (answer : Result ⊤ NotMade) (is_empty : Bool) → IsOpen session old.pass.mine →
-    HadTurn old moment (act.Drain session) items made mid → OnErr made (items ≡ []) → answer ≡ said made →
+    HadTurn old moment (act.Drain session) items made mid → OnErr made (items ≡ []) → answer ≡ without_value made →
     is_empty ≡ (length items == 0) → mid.answers ≡ old.answers →
     new ≡ record mid { answers = mid.answers ++ (deed.Drain session is_empty, answer) ∷ [] } →
     Drains (desk_view old) moment session items answer (desk_view new)
@@ -391,8 +391,8 @@ close_whole state pass moment number session false may = refl
 
 closes_turn : (old new : Kept) (moment session : ℕ) (items : List Item) (made : Result Record NotMade) →
     IsOpen session old.pass.mine → HadTurn old moment (act.Close session) items made new →
-    Logged old (deed.Close session) (said made) new →
-    Closes {X = ⊤} (desk_view old) moment session (said made) (desk_view new)
+    Logged old (deed.Close session) (without_value made) new →
+    Closes {X = ⊤} (desk_view old) moment session (without_value made) (desk_view new)
 closes_turn old new moment session items (Ok made) is_open turn tells =
     let what : Act = act.Close session in
     let adds = adds_of old new moment what items made turn in
@@ -415,7 +415,7 @@ closes_turn old new moment session items (Err one) is_open turn tells =
 
 pub closes_acted : (old new : Kept) (moment session : ℕ) (made : Result Record NotMade)
     (answer : Result ⊤ NotMade) → IsOpen session old.pass.mine → IsActed old moment (act.Close session) made new →
-    answer ≡ said made → Closes (desk_view old) moment session answer (desk_view new)
+    answer ≡ without_value made → Closes (desk_view old) moment session answer (desk_view new)
 closes_acted old new moment session made answer is_open acted is =
     subst (λ (answer : Result ⊤ NotMade). Closes (desk_view old) moment session answer (desk_view new)) (sym is)
     (closes_turn old new moment session acted.items made is_open acted.turn acted.tells)

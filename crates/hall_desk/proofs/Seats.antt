@@ -7,7 +7,8 @@ use Rattle.kom_types.specs.declared.items.Item.{Item}
 use Rattle.kom_types.specs.declared.seats.Seat.{Seat}
 use Rattle.kom_types.specs.declared.session_changes.SessionChange.{SessionChange}
 use Rattle.kom_types.specs.declared.session_changes.SessionChange.TheVariants as change
-use Rattle.kom_types.specs.Sessions.{Session, Limits, is_session, fits, queued, changed_session, changed_seat, changed}
+use Rattle.kom_types.specs.Sessions.{Session, Limits, is_session, fits, queue, changed_session, changed_seat}
+use Rattle.kom_types.specs.Sessions.{after_change}
 use Rattle.kom_types.specs.Sessions.{with_invisible}
 use Rattle.kom_model.specs.State.{State}
 use Rattle.kom_model.specs.Sending.{Delivery}
@@ -56,7 +57,7 @@ seats-changed number change keeps (row ∷ rows) = (
 -- ---- what an act sends, and the changes of a call
 
 seat-queued : (limits : Limits) (place : ℕ) (item : Item) (row : Session) →
-    KeepsSeat row (queued limits place item row)
+    KeepsSeat row (queue limits place item row)
 seat-queued limits place item row =
     elim row.overrun as (λ b. KeepsSeat row (cond b row
     (cond (fits limits row.waiting item)
@@ -75,9 +76,9 @@ pub seats-queued : (limits : Limits) (deliveries : List Delivery) (state : State
     KeepsSeats state.sessions (queue_all limits deliveries state).sessions
 seats-queued limits [] state = seats-same state.sessions
 seats-queued limits (delivery ∷ deliveries) state =
-    let next : State = with_session delivery.session (queued limits state.entries delivery.item) state in
+    let next : State = with_session delivery.session (queue limits state.entries delivery.item) state in
     seats-then state.sessions next.sessions (queue_all limits deliveries next).sessions
-    (seats-changed delivery.session (queued limits state.entries delivery.item)
+    (seats-changed delivery.session (queue limits state.entries delivery.item)
     (seat-queued limits state.entries delivery.item) state.sessions)
     (seats-queued limits deliveries next)
 
@@ -113,7 +114,7 @@ seats-changes moment [] state = seats-same state.sessions
 seats-changes moment (what ∷ changes) state =
     let next : State = make_change moment what state in
     seats-then state.sessions next.sessions (make_changes moment changes next).sessions
-    (seats-changed (changed_session what) (changed what moment) (λ row. seat-changed what moment row.seat)
+    (seats-changed (changed_session what) (after_change what moment) (λ row. seat-changed what moment row.seat)
     state.sessions)
     (seats-changes moment changes next)
 

@@ -1,7 +1,7 @@
 -- In which state a history begins.
 use Rattle.std.proofs.Common.{◌≡◌, [], refl, sym, subst}
 use Rattle.kom_model.specs.Db.{Db}
-use Rattle.kom_model.specs.State.{State, IsSound, opening}
+use Rattle.kom_model.specs.State.{State, IsSound, opening_state}
 use Rattle.hall_desk.specs.Acts.{IsOpening}
 use Rattle.hall_desk.proofs.Stepping.{AreDrawn}
 
@@ -14,7 +14,7 @@ pub record IsStart (start : State) : Type 0 where
   pub entries : start.entries ≡ 0
   pub sound : IsSound start
 
-opens : (db : Db) → IsSound (opening db) → IsStart (opening db)
+opens : (db : Db) → IsSound (opening_state db) → IsStart (opening_state db)
 opens db sound = record { drawn = tt; sessions = refl; connects = refl; entries = refl; sound = sound }
 
 -- a server before its first entry is such a state

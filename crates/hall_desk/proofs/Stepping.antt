@@ -11,13 +11,13 @@ use Rattle.kom_types.specs.declared.acts.Act.TheVariants as act
 use Rattle.kom_types.specs.declared.acts.Record.{Record}
 use Rattle.kom_types.specs.declared.answers.NotMade.TheVariants.{Full}
 use Rattle.kom_types.specs.declared.decisions.Decision.{Decision}
-use Rattle.kom_types.specs.Sessions.{Session, waiting_limits, is_session, drained, fresh_session}
+use Rattle.kom_types.specs.Sessions.{Session, waiting_limits, is_session, after_drain, fresh_session}
 use Rattle.kom_links.specs.DeskCalls.{record_of}
 use Rattle.kom_links.specs.Records.{is_connect, is_close}
 use Rattle.kom_model.specs.State.{State, session_of}
 use Rattle.kom_model.specs.Refusal.{call_refused, drain_refused, close_refused, connect_refused}
 use Rattle.kom_model.specs.Refusal.{unless_store_refused}
-use Rattle.kom_model.specs.After.{MayFollow, moment_of, decision_at, deliveries, acted, after}
+use Rattle.kom_model.specs.After.{MayFollow, moment_of, decision_at, deliveries, after_act, after}
 use Rattle.kom_model.specs.Effects.{apply_all}
 use Rattle.kom_model.specs.Legal.{IsByOwner}
 use Rattle.kom_model.proofs.Finding.{find-added_same, find-added_other, find-removed_other, find-undrawn, drawn-found}
@@ -68,11 +68,12 @@ IsBetween act.Flush = Unit {0}
 IsBetween (act.Close session) = ⊥
 
 -- what an act sends
-pub sent-seats : (state : State) (made : Record) → KeepsSeats (acted state made).sessions (after state made).sessions
-sent-seats state made = seats-queued waiting_limits (deliveries state made) (acted state made)
+pub sent-seats : (state : State) (made : Record) →
+    KeepsSeats (after_act state made).sessions (after state made).sessions
+sent-seats state made = seats-queued waiting_limits (deliveries state made) (after_act state made)
 
 pub acted-seats : (state : State) (pass moment : ℕ) (what : Act) (session : ℕ) (short : Bool) → IsBetween what →
-    KeepsSeats state.sessions (acted state (record_of pass moment what session short)).sessions
+    KeepsSeats state.sessions (after_act state (record_of pass moment what session short)).sessions
 acted-seats state pass moment (act.Connect user host) session short between = absurd between
 acted-seats state pass moment (act.Call number reference call) session true between = seats-same state.sessions
 acted-seats state pass moment (act.Call number reference call) session false between =
@@ -81,7 +82,7 @@ acted-seats state pass moment (act.Call number reference call) session false bet
     (record state { db = apply_all decision.effects state.db })
 acted-seats state pass moment (act.Broken number) session short between = seats-same state.sessions
 acted-seats state pass moment (act.Drain number) session short between =
-    seats-changed number (drained state.stable) (λ row. (refl, refl, λ ended. ended)) state.sessions
+    seats-changed number (after_drain state.stable) (λ row. (refl, refl, λ ended. ended)) state.sessions
 acted-seats state pass moment act.Flush session true between = seats-same state.sessions
 acted-seats state pass moment act.Flush session false between = seats-same state.sessions
 acted-seats state pass moment (act.Close number) session short between = absurd between
@@ -91,12 +92,12 @@ acted-seats state pass moment (act.Close number) session short between = absurd 
 abbrev connecting : Record → ℕ
 connecting made = cond (is_connect made.entry.act) 1 0
 
-connects-sent : (state : State) (made : Record) → (after state made).connects ≡ (acted state made).connects
+connects-sent : (state : State) (made : Record) → (after state made).connects ≡ (after_act state made).connects
 connects-sent state made =
-    ap (λ s. s.connects) (queue_all-rows waiting_limits (deliveries state made) (acted state made))
+    ap (λ s. s.connects) (queue_all-rows waiting_limits (deliveries state made) (after_act state made))
 
 connects-acted : (state : State) (pass moment : ℕ) (what : Act) (session : ℕ) (short : Bool) →
-    (acted state (record_of pass moment what session short)).connects
+    (after_act state (record_of pass moment what session short)).connects
     ≡ state.connects + connecting (record_of pass moment what session short)
 connects-acted state pass moment (act.Connect user host) session short = omega arith
 connects-acted state pass moment (act.Call number reference call) session true = omega arith
@@ -150,26 +151,26 @@ AreDrawn state = AllDrawn state.connects state.sessions
 drawn_between : (state : State) (pass moment : ℕ) (what : Act) (session : ℕ) (short : Bool) → IsBetween what →
     is_connect what ≡ false → AreDrawn state →
     AllDrawn (after state (record_of pass moment what session short)).connects
-    (acted state (record_of pass moment what session short)).sessions
+    (after_act state (record_of pass moment what session short)).sessions
 drawn_between state pass moment what session short between none drawn =
     let made : Record = record_of pass moment what session short in
     let more : (after state made).connects ≡ state.connects + connects_in (made ∷ []) = connects-after state made in
     let one : connects_in (made ∷ []) ≡ connecting made = omega arith in
     let zero : connecting made ≡ 0 = rw none refl in
     let same : (after state made).connects ≡ state.connects = omega arith in
-    subst (λ (bound : ℕ). AllDrawn bound (acted state made).sessions) (sym same)
+    subst (λ (bound : ℕ). AllDrawn bound (after_act state made).sessions) (sym same)
     (drawn-seats state.connects _ _ (acted-seats state pass moment what session short between) drawn)
 
 acted-drawn : (state : State) (pass moment : ℕ) (what : Act) (session : ℕ) (short : Bool) → AreDrawn state →
     AllDrawn (after state (record_of pass moment what session short)).connects
-    (acted state (record_of pass moment what session short)).sessions
+    (after_act state (record_of pass moment what session short)).sessions
 acted-drawn state pass moment (act.Connect user host) session short drawn =
     let made : Record = record_of pass moment (act.Connect user host) session short in
-    subst (λ (bound : ℕ). AllDrawn bound (acted state made).sessions) (sym (connects-sent state made))
+    subst (λ (bound : ℕ). AllDrawn bound (after_act state made).sessions) (sym (connects-sent state made))
     (drawn-added state.connects _ refl state.sessions drawn)
 acted-drawn state pass moment (act.Close number) session short drawn =
     let made : Record = record_of pass moment (act.Close number) session short in
-    subst (λ (bound : ℕ). AllDrawn bound (acted state made).sessions) (sym (connects-sent state made))
+    subst (λ (bound : ℕ). AllDrawn bound (after_act state made).sessions) (sym (connects-sent state made))
     (drawn-filtered state.connects _ state.sessions drawn)
 acted-drawn state pass moment (act.Call number reference call) session short drawn =
     drawn_between state pass moment (act.Call number reference call) session short tt refl drawn
@@ -214,7 +215,7 @@ pub has_before : (n pass : ℕ) (state : State) → HasOr n pass state false →
 has_before n pass state (inl has) = has
 has_before n pass state (inr now) = cc
 
-sent_has : (n pass : ℕ) (state : State) (made : Record) → Has n pass (acted state made) →
+sent_has : (n pass : ℕ) (state : State) (made : Record) → Has n pass (after_act state made) →
     Has n pass (after state made)
 sent_has n pass state made has = owned-seats n pass _ _ (sent-seats state made) has
 

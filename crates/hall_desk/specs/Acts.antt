@@ -3,7 +3,7 @@ use Rattle.std.specs.Prelude.{◌≡◌, List, map, Result, Ok, Err}
 use Rattle.kom_types.specs.declared.acts.Entry.{Entry}
 use Rattle.kom_types.specs.declared.acts.Record.{Record}
 use Rattle.kom_types.specs.declared.answers.NotMade.{NotMade}
-use Rattle.kom_model.specs.State.{State, IsSound, opening as opening_state}
+use Rattle.kom_model.specs.State.{State, IsSound, opening_state}
 use Rattle.kom_model.specs.Db.{Db}
 use Rattle.kom_model.specs.Making.{IsMadeBy, IsNotMade}
 use Rattle.kom_model.specs.Legal.{IsLegal, AreByOwners, state_after}

@@ -9,7 +9,7 @@ use Rattle.kom_types.specs.declared.answers.NotMade.{NotMade}
 use Rattle.kom_types.specs.declared.answers.Why.TheVariants as why
 use Rattle.kom_types.specs.declared.items.Item.{Item}
 use Rattle.kom_types.specs.declared.answers.NotMade.TheVariants as fault
-use Rattle.kom_links.specs.Answers.{said, deed_of}
+use Rattle.kom_links.specs.Answers.{without_value, deed_of}
 use Rattle.kom_links.specs.Records.{IsOpen}
 use Rattle.kom_model.specs.State.{State}
 use Rattle.kom_model.specs.Refusal.{refusal_of}
@@ -108,7 +108,7 @@ pub record IsActed (old : Kept) (moment : ℕ) (what : Act) (made : Result Recor
     (new : Kept) : Type 0 where
   pub items : List Item
   pub turn : HadTurn old moment what items made new
-  pub tells : new.answers ≡ old.answers ++ (deed_of what, said made) ∷ []
+  pub tells : new.answers ≡ old.answers ++ (deed_of what, without_value made) ∷ []
 
 -- what a flush is answered: the desk is stopped where the store refused it
 abbrev pub said_flush : Result Record NotMade → Result ⊤ NotMade

@@ -1,13 +1,13 @@
 // What the calls of a desk answer where a turn ended so.
 ghost use Rattle.std.specs.Prelude.{◌≡◌};
-ghost use Rattle.kom_links.specs.Answers.{said, said_stopped};
+ghost use Rattle.kom_links.specs.Answers.{without_value, said_stopped};
 ghost use Rattle.hall_desk.specs.Turns.{said_flush};
 
 use kom_types::{Made, NotMade, Why};
 
 /// The answer to an act.
 pub(crate) fn answer_of(made: &Result<Made, NotMade>) -> Result<(), NotMade>
-    ensures { result ≡ said made.now }
+    ensures { result ≡ without_value made.now }
 {
     match made {
         Ok(_made) => Ok(()),

@@ -1,6 +1,6 @@
 -- What the making of an act comes to, beside its store or without one.
-use Rattle.std.proofs.Common.{◌≡◌, ◌≢◌, ◌<◌, ◌^◌, ◌⊎◌, inl, inr, ℕ, Bool, true, false, List, [], ◌∷◌, ◌++◌, Option}
-use Rattle.std.proofs.Common.{Some, None, Result, Ok, Err, refl, sym, ap, ◌∙◌, subst, IsTrue}
+use Rattle.std.proofs.Common.{◌≡◌, inl, inr, ℕ, false, List, [], ◌++◌, Option}
+use Rattle.std.proofs.Common.{Some, None, Result, Ok, Err, refl, sym, ap, ◌∙◌, subst}
 use Rattle.std.specs.Prelude.{is_some, IfSome}
 use Rattle.std.proofs.lemmas.List.{append-nil}
 use Rattle.kom_types.specs.declared.acts.Act.TheVariants as act
@@ -10,15 +10,14 @@ use Rattle.kom_types.specs.declared.answers.NotMade.{NotMade}
 use Rattle.kom_types.specs.declared.effects.Effect.{Effect}
 use Rattle.kom_model.specs.Kept.{kept_of}
 use Rattle.kom_model.specs.State.{State}
-use Rattle.kom_model.specs.After.{after}
 use Rattle.kom_core.specs.Acts.{Held, CoreComes}
 use Rattle.kom_core.specs.Keeping.{kept_by}
-use Rattle.kom_state.specs.Keepers.{appended}
+use Rattle.kom_state.specs.Keepers.{append_pending}
 use Rattle.batch_log.specs.declared.errors.FlushFault.{FlushFault}
 use Rattle.kom_model.specs.Making.{IsMadeBy}
 use Rattle.kom_journal.specs.Images.{Image}
 use Rattle.kom_journal.specs.Journals.{JournalView, StaysAs}
-use Rattle.kom_book.specs.Stores.{IsFlush, IsNotRefused, IfBoth, StoreStays, StoreFollows, StopFollows}
+use Rattle.kom_book.specs.Stores.{IsNotRefused, IfBoth, StoreStays, StoreFollows}
 use Rattle.kom_book.specs.Books.{BookView, Stays, IsMarked, state_in}
 use Rattle.kom_book.specs.Making.{BookComes, StopsCome, Advances, book_of}
 use Rattle.kom_book.specs.Records.{refused_or_not, marked_same, marked_refused}
@@ -51,13 +50,13 @@ module _ {D : Type 0} (faults : D → ℕ) where
 
   -- ---- an act that is no flush, beside its store
 
-  some_appended : (kept waited now : List Effect) → Some now ≡ appended kept (Some waited) → now ≡ waited ++ kept
+  some_appended : (kept waited now : List Effect) → Some now ≡ append_pending kept (Some waited) → now ≡ waited ++ kept
   some_appended kept waited now is = cc
 
   pub kept_comes : (came : Result Record NotMade) (old new : Held) (one other : JournalView D)
       (refused : Option FlushFault) (entry : Entry) → (entry.act ≡ act.Flush → ⊥) →
       CoreComes old.state entry new.state came →
-      Some other.pending ≡ appended (kept_by old.state came) (Some one.pending) → StaysAs one other →
+      Some other.pending ≡ append_pending (kept_by old.state came) (Some one.pending) → StaysAs one other →
       BookComes faults (book_of old one refused) entry (book_of new other refused) came
   kept_comes (Ok made) old new one other refused entry unflushed comes kept stays = (
     comes.0,
@@ -80,7 +79,7 @@ module _ {D : Type 0} (faults : D → ℕ) where
 pub kept_leaves : {D : Type 0} (moment : D → ℕ) (images_at : D → ℕ → Image → Type 0) (came : Result Record NotMade)
     (old new : Held) (one other : JournalView D) (refused : Option FlushFault) (entry : Entry) →
     (entry.act ≡ act.Flush → ⊥) → CoreComes old.state entry new.state came →
-    Some other.pending ≡ appended (kept_by old.state came) (Some one.pending) → StaysAs one other →
+    Some other.pending ≡ append_pending (kept_by old.state came) (Some one.pending) → StaysAs one other →
     StopsCome moment images_at (book_of old one refused) (book_of new other refused) came
 kept_leaves moment images_at (Ok made) old new one other refused entry unflushed comes kept stays =
     kept_stops moment images_at old.state new.state one other made

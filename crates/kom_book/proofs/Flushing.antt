@@ -1,5 +1,5 @@
 -- What a flush of a stored book comes to.
-use Rattle.std.proofs.Common.{◌≡◌, ◌≢◌, ◌<◌, ◌≤◌, ◌^◌, ◌⊎◌, inl, inr, ℕ, Bool, true, false, List, [], ◌∷◌, Option, Some}
+use Rattle.std.proofs.Common.{◌≡◌, ◌≢◌, ◌<◌, ◌≤◌, ◌^◌, ◌⊎◌, inl, inr, ℕ, Bool, true, false, List, [], Option, Some}
 use Rattle.std.proofs.Common.{None, Result, Ok, Err, refl, sym, ap, ◌∙◌, subst}
 use Rattle.std.specs.Prelude.{◌↔◌, IsTrue, is_some}
 use Rattle.kom_types.specs.declared.acts.Act.{Act}
@@ -23,8 +23,7 @@ use Rattle.batch_log.specs.declared.errors.FlushFault.{FlushFault}
 use Rattle.batch_log.specs.declared.errors.FlushFault.TheVariants as fault
 use Rattle.kom_journal.specs.Images.{Image, AreFor}
 use Rattle.kom_journal.specs.Journals.{JournalView, size_with}
-use Rattle.kom_book.specs.Stores.{IsFlush, StoreStays, StoreFollows, IsFlushCause, StopFollows}
-use Rattle.kom_book.specs.Books.{Stays}
+use Rattle.kom_book.specs.Stores.{IsFlush, IsFlushCause}
 use Rattle.kom_book.specs.Making.{BookComes, StopsCome, book_of}
 use Rattle.kom_book.specs.Records.{is_refused, marked_refused}
 use Rattle.kom_book.proofs.StoreSteps.{taken_follows, refused_follows, taken_stops, refused_stops, SaysNow, Flushes}

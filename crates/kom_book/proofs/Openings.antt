@@ -1,15 +1,14 @@
 -- What a book that is made or opened comes to.
-use Rattle.std.proofs.Common.{◌≡◌, ℕ, Bool, true, false, List, [], ◌++◌, Option, Some, None, Result, Ok, Err, refl, sym}
+use Rattle.std.proofs.Common.{◌≡◌, ℕ, true, false, List, [], ◌++◌, Option, Some, None, Result, Ok, Err, refl, sym}
 use Rattle.std.proofs.Common.{ap, ◌∙◌, subst}
-use Rattle.std.specs.Prelude.{IfOk, IfErr, IfSome, OnOk, MatchResult, IsTrue}
-use Rattle.std.proofs.lemmas.List.{append-nil}
+use Rattle.std.specs.Prelude.{IfOk, IfErr, IfSome, MatchResult}
 use Rattle.kom_types.specs.declared.effects.Effect.{Effect}
 use Rattle.kom_model.specs.Db.{Db, empty_db}
-use Rattle.kom_model.specs.Effects.{apply_all, all_fit, fitting}
+use Rattle.kom_model.specs.Effects.{apply_all, all_fit, fitting_effects}
 use Rattle.kom_model.specs.Initial.{initial, initial_effects}
 use Rattle.kom_model.proofs.Kept.{all_fitted, apply_all-fitting}
-use Rattle.kom_model.specs.State.{IsSound, opening}
-use Rattle.kom_state.specs.Keepers.{appended}
+use Rattle.kom_model.specs.State.{IsSound, opening_state}
+use Rattle.kom_state.specs.Keepers.{append_pending}
 use Rattle.kom_journal.specs.Journals.{JournalView}
 use Rattle.kom_book.specs.Books.{BookView, IsPlain}
 use Rattle.kom_journal.specs.Images.{Image, AreFor}
@@ -34,22 +33,22 @@ match_of (Err e) value error P Q ok err first second = subst Q (sym err) second
 
 -- ---- the first batch
 
-some_after : (kept waited now : List Effect) → Some now ≡ appended kept (Some waited) → now ≡ waited ++ kept
+some_after : (kept waited now : List Effect) → Some now ≡ append_pending kept (Some waited) → now ≡ waited ++ kept
 some_after kept waited now is = cc
 
 -- what waits for the first flush of a store
 pub first_pending : (effects waited now : List Effect) → waited ≡ [] →
-    Some now ≡ appended (fitting effects empty_db) (Some waited) → now ≡ fitting effects empty_db
+    Some now ≡ append_pending (fitting_effects effects empty_db) (Some waited) → now ≡ fitting_effects effects empty_db
 first_pending effects waited now none kept =
-    some_after (fitting effects empty_db) waited now kept
-    ∙ ap (λ (list : List Effect). list ++ fitting effects empty_db) none
+    some_after (fitting_effects effects empty_db) waited now kept
+    ∙ ap (λ (list : List Effect). list ++ fitting_effects effects empty_db) none
 
-pub first_fits : (effects now : List Effect) → now ≡ fitting effects empty_db → all_fit now empty_db ≡ true
+pub first_fits : (effects now : List Effect) → now ≡ fitting_effects effects empty_db → all_fit now empty_db ≡ true
 first_fits effects now is =
     ap (λ (list : List Effect). all_fit list empty_db) is ∙ all_fitted effects empty_db
 
 pub first_rows : (password : List ℕ) (moment : ℕ) (now : List Effect) →
-    now ≡ fitting (initial_effects password moment) empty_db → apply_all now empty_db ≡ initial password moment
+    now ≡ fitting_effects (initial_effects password moment) empty_db → apply_all now empty_db ≡ initial password moment
 unfolding initial
 first_rows password moment now is =
     ap (λ (list : List Effect). apply_all list empty_db) is
@@ -68,7 +67,7 @@ module _ {D : Type 0} (moment : D → ℕ) (images_at : D → ℕ → Image → 
   stands_now disk db says stands image left = stands image ((says disk image).0 left)
 
 -- a book without a store, before its first act
-pub plain_unstored : {D : Type 0} (book : BookView D) (db : Db) → book.core.state ≡ opening db →
+pub plain_unstored : {D : Type 0} (book : BookView D) (db : Db) → book.core.state ≡ opening_state db →
     IsSound book.core.state → book.journal ≡ None → book.refused ≡ None → IsPlain book
 plain_unstored {D} book db state sound none calm = record {
   opening = (db, state, sound);

@@ -1,12 +1,11 @@
 -- How a store goes on by an act.
 use Rattle.std.proofs.Common.{◌≡◌, ◌≢◌, ◌<◌, ◌≤◌, ◌^◌, ◌⊎◌, inl, inr, ℕ, Bool, true, false, cond, List, [], ◌∷◌, ◌++◌}
 use Rattle.std.proofs.Common.{Option, Some, None, Result, Ok, Err, refl, sym, ap, ◌∙◌, subst}
-use Rattle.std.specs.Prelude.{◌↔◌, is_some}
+use Rattle.std.specs.Prelude.{◌↔◌}
 use Rattle.std.proofs.Math.Nat.{le_refl}
 use Rattle.std.proofs.lemmas.Bool.{cases_lt}
 use Rattle.std.proofs.lemmas.List.{append-nil}
 use Rattle.kom_types.specs.declared.acts.Act.TheVariants as act
-use Rattle.kom_types.specs.declared.acts.Entry.{Entry}
 use Rattle.kom_types.specs.declared.acts.Record.{Record}
 use Rattle.kom_types.specs.declared.effects.Effect.{Effect}
 use Rattle.kom_model.specs.Db.{Db}
@@ -16,7 +15,6 @@ use Rattle.kom_model.specs.State.{State}
 use Rattle.kom_model.specs.After.{after}
 use Rattle.kom_model.specs.Refusal.{refusal_of}
 use Rattle.kom_model.proofs.Kept.{kept_fits, kept_makes}
-use Rattle.kom_disk.specs.Faults.{Rose}
 use Rattle.kom_disk.specs.Moments.{LeavesOnly}
 use Rattle.kom_disk.proofs.Moments.{wider}
 use Rattle.batch_log.specs.declared.errors.FlushFault.{FlushFault}
@@ -24,9 +22,9 @@ use Rattle.batch_log.specs.declared.errors.FlushFault.TheVariants as fault
 use Rattle.kom_journal.specs.Images.{Image, StandsFor, AreFor, IsKept, IsForEither}
 use Rattle.kom_journal.specs.Journals.{JournalView, StaysAs, size_with}
 use Rattle.kom_journal.proofs.Sound.{apply_all-append, all_fit-append}
-use Rattle.kom_book.specs.Stores.{IsFlush, IsNotRefused, is_taken, pending_after, base_after, StoreStays, StoreFollows}
+use Rattle.kom_book.specs.Stores.{IsFlush, base_after, StoreFollows}
 use Rattle.kom_book.specs.Stores.{IsFlushCause, IsLeftNow, IsBase, MayLeave, StopFollows}
-use Rattle.kom_book.specs.Records.{taken_is, is_of_taken, not_taken, short_taken, marked_same, marked_refused}
+use Rattle.kom_book.specs.Records.{taken_is, is_of_taken, not_taken, short_taken, marked_same}
 use Rattle.kom_book.specs.Records.{flush_keeps, flush_unmarked, only_closes}
 use Rattle.kom_book.specs.StopLeading.{nothing_passes}
 

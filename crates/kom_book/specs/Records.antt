@@ -10,7 +10,7 @@ use Rattle.kom_types.specs.declared.answers.Why.TheVariants.{Stopped}
 use Rattle.kom_types.specs.Sessions.{waiting_limits}
 use Rattle.kom_model.specs.Effects.{apply_all}
 use Rattle.kom_model.specs.State.{State}
-use Rattle.kom_model.specs.After.{moment_of, deliveries, decision_at, acted, after}
+use Rattle.kom_model.specs.After.{moment_of, deliveries, decision_at, after_act, after}
 use Rattle.kom_model.specs.Kept.{kept_of}
 use Rattle.kom_model.specs.Refusal.{refusal_of}
 use Rattle.kom_model.proofs.Queueing.{queue_all-rows}
@@ -39,7 +39,7 @@ is_refused made = elim made.entry.act [
 -- what an act changes, beside what it sends, of the mark and of the stable number
 marked_acted : (state : State) (pass moment : ℕ) (what : Act) (session : ℕ) (short : Bool) →
     let made : Record = record_with pass moment what session short in
-    (acted state made).store_refused ≡ cond (is_refused made) true state.store_refused
+    (after_act state made).store_refused ≡ cond (is_refused made) true state.store_refused
 marked_acted state pass moment (act.Connect user host) session short = refl
 marked_acted state pass moment (act.Call number reference call) session true = refl
 marked_acted state pass moment (act.Call number reference call) session false =
@@ -54,7 +54,7 @@ marked_acted state pass moment (act.Close number) session short = refl
 
 stable_acted : (state : State) (pass moment : ℕ) (what : Act) (session : ℕ) (short : Bool) →
     let made : Record = record_with pass moment what session short in
-    (acted state made).stable ≡ cond (is_taken made) state.entries state.stable
+    (after_act state made).stable ≡ cond (is_taken made) state.entries state.stable
 stable_acted state pass moment (act.Connect user host) session short = refl
 stable_acted state pass moment (act.Call number reference call) session true = refl
 stable_acted state pass moment (act.Call number reference call) session false =
@@ -72,7 +72,7 @@ pub marked_after : (state : State) (made : Record) →
     (after state made).store_refused ≡ cond (is_refused made) true state.store_refused
 marked_after state made =
     ap (λ (s : State). s.store_refused)
-    (queue_all-rows waiting_limits (deliveries state made) (acted state made))
+    (queue_all-rows waiting_limits (deliveries state made) (after_act state made))
     ∙ marked_acted state made.entry.pass made.entry.moment made.entry.act made.session made.short
 
 -- the stable number after it
@@ -80,7 +80,7 @@ pub stable_after : (state : State) (made : Record) →
     (after state made).stable ≡ cond (is_taken made) state.entries state.stable
 stable_after state made =
     ap (λ (s : State). s.stable)
-    (queue_all-rows waiting_limits (deliveries state made) (acted state made))
+    (queue_all-rows waiting_limits (deliveries state made) (after_act state made))
     ∙ stable_acted state made.entry.pass made.entry.moment made.entry.act made.session made.short
 
 -- ---- what a record is

@@ -4,7 +4,7 @@ ghost use Rattle.std.specs.Prelude.{MatchResult, false, is_some};
 ghost use Rattle.kom_disk.specs.Faults.{Rose};
 ghost use Rattle.kom_model.specs.Db.{Db};
 ghost use Rattle.kom_model.specs.Initial.{initial};
-ghost use Rattle.kom_model.specs.State.{opening};
+ghost use Rattle.kom_model.specs.State.{opening_state};
 ghost use Rattle.kom_journal.specs.Images.{StandsFor, AreFor, IsKept, IsCause, IsLeftOf, HasCount};
 ghost use Rattle.kom_journal.specs.Images.{as_read, images, images_at, moment as moment_on};
 ghost use Rattle.kom_journal.specs.Journals.{EndsAtGate};
@@ -41,7 +41,7 @@ impl<D: Disk + Drop> Book<D> {
     /// The book of a new server, whose administrator has this password, without a store.
     pub fn fresh(alloc: Global, password: &[u8], moment: Moment) -> Result<Book<D>, Memory>
         ensures state { IfOk result (λ book.
-            book.core.state ≡ opening (initial password.now moment)) }
+            book.core.state ≡ opening_state (initial password.now moment)) }
         ensures store { IfOk result (λ book. book.journal ≡ None) }
         ensures plain { IfOk result IsPlain }
     {
@@ -59,7 +59,7 @@ impl<D: Disk + Drop> Book<D> {
         moment: Moment,
     ) -> Result<Book<D>, (D, OpenFault)>
         ensures state { IfOk result (λ book.
-            book.core.state ≡ opening (initial password.now moment)) }
+            book.core.state ≡ opening_state (initial password.now moment)) }
         ensures store { IfOk result (λ book. IsSome book.journal) }
         ensures plain { IfOk result IsPlain }
 

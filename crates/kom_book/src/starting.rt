@@ -3,10 +3,10 @@ ghost use Rattle.std.specs.Prelude.{◌≡◌, ◌≢◌, ◌∷◌, [], ℕ, fa
 ghost use Rattle.std.specs.Prelude.{OnOk};
 ghost use Rattle.kom_disk.specs.Faults.{Rose};
 ghost use Rattle.kom_model.specs.Db.{empty_db};
-ghost use Rattle.kom_model.specs.Effects.{apply, apply_all, fitting};
+ghost use Rattle.kom_model.specs.Effects.{apply, apply_all, fitting_effects};
 ghost use Rattle.kom_model.specs.Initial.{initial, initial_effects as effects_at_first};
-ghost use Rattle.kom_model.specs.State.{IsSound, opening};
-ghost use Rattle.kom_state.specs.Keepers.{appended};
+ghost use Rattle.kom_model.specs.State.{IsSound, opening_state};
+ghost use Rattle.kom_state.specs.Keepers.{append_pending};
 ghost use Rattle.kom_journal.specs.Images.{AreFor, IsKept, images};
 ghost use Rattle.kom_journal.specs.Opening.{IsMakeFault};
 
@@ -30,7 +30,7 @@ pub(crate) fn store_initial<D: Disk>(
     requires waits { store.old.pending ≡ [] }
     requires calm { store.old.refused ≡ false }
     ensures core { IfOk result (λ core. core
-        ≡ record { state = opening (initial password.now moment); last = None }) }
+        ≡ record { state = opening_state (initial password.now moment); last = None }) }
     ensures sound { IfOk result (λ core. IsSound core.state) }
     ensures emptied { OnOk result (store.new.pending ≡ []) }
     ensures unfailed { OnOk result (store.new.refused ≡ false) }
@@ -67,7 +67,7 @@ fn initial_rows<K: Keeper>(
     ensures rows { IfOk result (λ rows. rows.db
         ≡ apply_all (effects_at_first password.now moment) empty_db) }
     ensures kept { OnOk result (K.pending keeper.new
-        ≡ appended (fitting (effects_at_first password.now moment) empty_db)
+        ≡ append_pending (fitting_effects (effects_at_first password.now moment) empty_db)
         (K.pending keeper.old)) }
     ensures rest { K.stays keeper.old keeper.new }
 {
@@ -87,7 +87,7 @@ fn make_all<K: Keeper>(
 ) -> Result<(), Memory>
     ensures rows { OnOk result (rows.new.db ≡ apply_all effects rows.old.db) }
     ensures kept { OnOk result (K.pending keeper.new
-        ≡ appended (fitting effects rows.old.db) (K.pending keeper.old)) }
+        ≡ append_pending (fitting_effects effects rows.old.db) (K.pending keeper.old)) }
     ensures rest { K.stays keeper.old keeper.new }
 {
     for effect in effects.into_vec() {
@@ -100,7 +100,7 @@ fn make_all<K: Keeper>(
 fn make_one<K: Keeper>(rows: &mut StoredRows, effect: Effect, keeper: &mut K) -> Result<(), Memory>
     ensures rows { OnOk result (rows.new.db ≡ apply effect rows.old.db) }
     ensures kept { OnOk result (K.pending keeper.new
-        ≡ appended (fitting (effect ∷ []) rows.old.db) (K.pending keeper.old)) }
+        ≡ append_pending (fitting_effects (effect ∷ []) rows.old.db) (K.pending keeper.old)) }
     ensures rest { K.stays keeper.old keeper.new }
 {
     rows.reserve(slice::from_ref(&effect))?;

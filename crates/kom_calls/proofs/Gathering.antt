@@ -5,7 +5,7 @@ use Rattle.kom_types.specs.Token.{Token}
 use Rattle.kom_types.specs.calls.Arguments.{Taken, Took, Departs, then, elements}
 use Rattle.kom_calls.specs.declared.fault.ArgumentFault.{ArgumentFault}
 use Rattle.kom_calls.specs.declared.fault.ArgumentFault.TheVariants as fault
-use Rattle.kom_calls.specs.Telling.{Departed}
+use Rattle.kom_calls.specs.Telling.{DepartsAs}
 
 -- the elements that were read, and those that are still read
 abbrev pub after : {X : Type 0} → List X → Taken (List X) → Taken (List X)
@@ -30,8 +30,8 @@ goes_on reads before count index tokens rest value total below taken so_far =
 
 -- an element that departs
 pub departs : {X : Type 0} (found : ArgumentFault) (reads : List Token → Taken X) (before : List X) (count index : ℕ)
-    (tokens : List Token) (total : Taken (List X)) → index < count → Departed true (reads tokens) found →
-    after before (elements reads (count - index) tokens) ≡ total → Departed true total found
+    (tokens : List Token) (total : Taken (List X)) → index < count → DepartsAs true (reads tokens) found →
+    after before (elements reads (count - index) tokens) ≡ total → DepartsAs true total found
 departs fault.Malformed reads before count index tokens total below taken so_far =
     let left : count - index ≡ suc (count - (index + 1)) = omega arith in
     let one : after before (elements reads (count - index) tokens) ≡ Departs _ = rw (left, taken) refl in

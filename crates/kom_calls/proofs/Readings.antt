@@ -12,7 +12,7 @@ use Rattle.kom_types.specs.calls.Arguments.{Taken, Took, Departs, Malformed, int
 use Rattle.kom_types.specs.calls.Pattern.{Pattern}
 use Rattle.kom_calls.specs.declared.fault.ArgumentFault.{ArgumentFault}
 use Rattle.kom_calls.specs.declared.fault.ArgumentFault.TheVariants as fault
-use Rattle.kom_calls.specs.Telling.{Departed, ReadsAs}
+use Rattle.kom_calls.specs.Telling.{DepartsAs, ReadsAs}
 use Rattle.kom_calls.specs.Reads.{ReadsBy, pattern_of, takes_room}
 use Rattle.kom_calls.specs.Lines.{line_takes_room}
 
@@ -46,7 +46,7 @@ took (Some n) tail rest number taken =
 took None tail rest number taken = cc
 
 departed : (spelled : Option ℕ) (tail : List Token) (found : ArgumentFault) →
-    Departed false (integer_by spelled tail) found → spelled ≡ None
+    DepartsAs false (integer_by spelled tail) found → spelled ≡ None
 departed (Some n) tail fault.Malformed taken = cc
 departed (Some n) tail fault.BadBool taken = cc
 departed (Some n) tail fault.LongArray taken = cc
@@ -58,7 +58,7 @@ abbrev pub with_reference : ℕ → Option Call → Option Request
 with_reference reference read = option_map (λ call. record { reference = reference; call = call }) read
 
 -- a line without a reference is malformed
-pub no_reference : (tokens : List Token) (found : ArgumentFault) → Departed false (integer tokens) found →
+pub no_reference : (tokens : List Token) (found : ArgumentFault) → DepartsAs false (integer tokens) found →
     reading_of tokens ≡ None
 unfolding reading_of
 no_reference [] found taken = refl
@@ -69,14 +69,14 @@ no_reference (x ∷ y ∷ rest) found taken =
 
 -- a line without a call number is malformed
 pub no_number : (tokens after : List Token) (reference : ℕ) (found : ArgumentFault) →
-    integer tokens ≡ Took reference after → Departed false (integer after) found → reading_of tokens ≡ None
+    integer tokens ≡ Took reference after → DepartsAs false (integer after) found → reading_of tokens ≡ None
 unfolding reading_of
 no_number [] after reference found first second = refl
 no_number (x ∷ []) after reference found first second = refl
 no_number (x ∷ y ∷ rest) after reference found first second =
     let a = took (integer_of x) (y ∷ rest) after reference first in
     let b = departed (integer_of y) rest found
-    (subst (λ ts. Departed false (integer ts) found) (sym a.1) second) in
+    (subst (λ ts. DepartsAs false (integer ts) found) (sym a.1) second) in
     rw (a.0, b) refl
 
 -- a line with a reference and a number reads as the call of that number

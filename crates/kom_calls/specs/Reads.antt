@@ -11,7 +11,7 @@ use Rattle.kom_types.specs.calls.Arguments.{Taken, Took, integer, string, number
 use Rattle.kom_types.specs.calls.Arguments.{aux_inputs}
 use Rattle.kom_types.specs.calls.Pattern.{Pattern, one, two, three}
 use Rattle.kom_calls.specs.declared.fault.ArgumentFault.{ArgumentFault}
-use Rattle.kom_calls.specs.Telling.{Departed, AllDepart}
+use Rattle.kom_calls.specs.Telling.{DepartsAs, AllDepart}
 
 -- the arguments of each call that is made of one, two or three arguments of these kinds
 abbrev pub ReadsOne : {A : Type 0} → Bool → (List Token → Taken A) → List Token
@@ -71,7 +71,7 @@ abbrev pub Reads : Option Pattern → List Token → Result Call ArgumentFault �
 Reads None tokens result = ⊥
 Reads (Some pattern) tokens (Ok call) = (pattern.reads tokens ≡ Took call []) × IsKnown call
 Reads (Some pattern) tokens (Err found) =
-    Departed (takes_room pattern.number) (pattern.reads tokens) found
+    DepartsAs (takes_room pattern.number) (pattern.reads tokens) found
 
 -- the same, or else no pattern was found, and the tokens stay
 abbrev pub ReadsBy : Option Pattern → List Token → Result (Option Call) ArgumentFault → List Token
@@ -83,4 +83,4 @@ ReadsBy (Some pattern) tokens (Ok None) rest = ⊥
 ReadsBy (Some pattern) tokens (Ok (Some call)) rest =
     (pattern.reads tokens ≡ Took call []) × IsKnown call
 ReadsBy (Some pattern) tokens (Err found) rest =
-    Departed (takes_room pattern.number) (pattern.reads tokens) found
+    DepartsAs (takes_room pattern.number) (pattern.reads tokens) found

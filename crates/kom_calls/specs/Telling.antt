@@ -10,16 +10,16 @@ use Rattle.kom_calls.specs.declared.fault.ArgumentFault.{ArgumentFault}
 use Rattle.kom_calls.specs.declared.fault.ArgumentFault.TheVariants as fault
 
 -- the tokens depart so, or else memory ran out, which a reader may tell that needs room
-abbrev pub Departed : {X : Type 0} → Bool → Taken X → ArgumentFault → Type 0
-Departed room taken fault.Malformed = taken ≡ Departs Malformed
-Departed room taken fault.BadBool = taken ≡ Departs BadBool
-Departed room taken fault.LongArray = taken ≡ Departs LongArray
-Departed room taken fault.Memory = IsTrue room
+abbrev pub DepartsAs : {X : Type 0} → Bool → Taken X → ArgumentFault → Type 0
+DepartsAs room taken fault.Malformed = taken ≡ Departs Malformed
+DepartsAs room taken fault.BadBool = taken ≡ Departs BadBool
+DepartsAs room taken fault.LongArray = taken ≡ Departs LongArray
+DepartsAs room taken fault.Memory = IsTrue room
 
 -- a value and the tokens that are left, or why there is none
 abbrev pub ReadsAs : {X : Type 0} → Bool → Taken X → Result X ArgumentFault → List Token → Type 0
 ReadsAs room taken (Ok value) rest = taken ≡ Took value rest
-ReadsAs room taken (Err found) rest = Departed room taken found
+ReadsAs room taken (Err found) rest = DepartsAs room taken found
 
 -- the number of a run of digits, if they are so many binary digits
 abbrev pub bits_told : ℕ → List ℕ → Option ℕ

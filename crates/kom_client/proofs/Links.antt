@@ -7,28 +7,28 @@ use Rattle.std.specs.Prelude.{IfSome}
 use Rattle.std.proofs.lemmas.List.{take-append-drop, take_all}
 use Rattle.std.proofs.lemmas.Bool.{eqb-true}
 use Rattle.kom_links.specs.declared.link.Took.TheVariants as took
-use Rattle.kom_links.specs.Outside.{LinkView, Rose, IsNothing, Writes, grown}
+use Rattle.kom_links.specs.Outside.{LinkView, Rose, IsNothing, Writes, with_bytes}
 use Rattle.kom_client.specs.declared.talk_end.TalkEnd.TheVariants as end
 use Rattle.kom_client.specs.Client.{HasCarried}
 use Rattle.kom_client.specs.Talking.{Listens, Puts, Sends}
 
-pub grown_nil : (told : Option (List ℕ)) → grown [] told ≡ told
+pub grown_nil : (told : Option (List ℕ)) → with_bytes [] told ≡ told
 grown_nil None = refl
 grown_nil (Some bytes) = ap Some (append-nil bytes)
 
 pub grown-append : (first second : List ℕ) (told : Option (List ℕ))
-    → grown second (grown first told) ≡ grown (first ++ second) told
+    → with_bytes second (with_bytes first told) ≡ with_bytes (first ++ second) told
 grown-append first second None = refl
 grown-append first second (Some before) = ap Some (append_assoc before first second)
 
 told_more : (bytes more : List ℕ) (told : Option (List ℕ)) → IfSome told (λ one. one ≡ bytes)
-    → IfSome (grown more told) (λ one. one ≡ bytes ++ more)
+    → IfSome (with_bytes more told) (λ one. one ≡ bytes ++ more)
 told_more bytes more None is = tt
 told_more bytes more (Some one) is = ap (λ one. one ++ more) is
 
 -- where it is told, it is told with these bytes more
 pub told_grown : (bytes more : List ℕ) (before after : Option (List ℕ))
-    → IfSome before (λ one. one ≡ bytes) → after ≡ grown more before
+    → IfSome before (λ one. one ≡ bytes) → after ≡ with_bytes more before
     → IfSome after (λ one. one ≡ bytes ++ more)
 told_grown bytes more before after is e =
     subst (λ (told : Option (List ℕ)). IfSome told (λ one. one ≡ bytes ++ more)) (sym e)
@@ -58,7 +58,7 @@ listens_none link = record { taken = sym (grown_nil link.taken); put = refl; fau
 pub listens_trans : {a b c : LinkView} {first second : List ℕ} → Listens a first b → Listens b second c
     → Listens a (first ++ second) c
 listens_trans {a} {b} {c} {first} {second} p q = record {
-  taken = q.taken ∙ ap (grown second) p.taken ∙ grown-append first second a.taken;
+  taken = q.taken ∙ ap (with_bytes second) p.taken ∙ grown-append first second a.taken;
   put = q.put ∙ p.put;
   faults = omega (arith, p.faults, q.faults);
 }
@@ -76,7 +76,7 @@ puts_none link = record { put = sym (grown_nil link.put); taken = refl; faults =
 pub puts_trans : {a b c : LinkView} {first second : List ℕ} → Puts a first b → Puts b second c
     → Puts a (first ++ second) c
 puts_trans {a} {b} {c} {first} {second} p q = record {
-  put = q.put ∙ ap (grown second) p.put ∙ grown-append first second a.put;
+  put = q.put ∙ ap (with_bytes second) p.put ∙ grown-append first second a.put;
   taken = q.taken ∙ p.taken;
   faults = omega (arith, p.faults, q.faults);
 }

@@ -15,7 +15,7 @@ use Rattle.kom_client.specs.declared.talk_end.TalkEnd.TheVariants as end
 use Rattle.kom_client.specs.Client.{Course, Awaited, Agrees, IsPart, IsWhole, ends, before, await}
 use Rattle.kom_client.specs.Client.{end_without_line}
 use Rattle.kom_client.specs.Talking.{World, Counts, Past, Stands, Rest, Leads, Over, Passes, Stops}
-use Rattle.kom_client.specs.Talking.{saying, awaiting, with_line, HearsUnit, HearsNone, HearsLine}
+use Rattle.kom_client.specs.Talking.{say, await_reply, with_line, HearsUnit, HearsNone, HearsLine}
 use Rattle.kom_client.specs.Talking.{Spells, TakesReply, Puts, IsHearing}
 use Rattle.kom_client.proofs.Links.{told_grown, rose_after, listens_tells, puts_tells}
 use Rattle.kom_client.proofs.Streams.{HasLines, has_lines, no_second}
@@ -155,7 +155,7 @@ whole_of sent shown ending =
 -- ---- bytes are sent
 
 pub sent_passes : {old new : LinkView} {bytes : List ℕ} (at : World) → at.link ≡ old → Puts old bytes new
-    → Passes (saying bytes []) (λ (next : Rest). next) at (record at { link = new })
+    → Passes (say bytes []) (λ (next : Rest). next) at (record at { link = new })
 sent_passes {old} {new} {bytes} at e p = record {
   passes = λ start past s.
       let p' : Puts at.link bytes new = subst (λ (link : LinkView). Puts link bytes new) (sym e) p in (
@@ -180,7 +180,7 @@ sent_passes {old} {new} {bytes} at e p = record {
 
 pub unsent_stops : {new : LinkView} {bytes part : List ℕ} (more : List ℕ) (at : World) → part ++ more ≡ bytes
     → Rose at.link.faults new.faults → Puts at.link part new
-    → Stops (saying bytes []) end.LinkFault at (record at { link = new })
+    → Stops (say bytes []) end.LinkFault at (record at { link = new })
 unsent_stops {new} {bytes} {part} more at e rose p = record {
   cause = λ start past s. rose_after start.link at.link.faults new.faults s.link_faults rose;
   over = λ start past s next.
@@ -211,7 +211,7 @@ unsent_stops {new} {bytes} {part} more at e rose p = record {
 
 pub shown_passes : {X E : Type 0} {new : SinkView} {bytes : List ℕ} {x : X} (at : World)
     → SinkPuts {X = X} {E = E} at.sink bytes (Ok x) new
-    → Passes (saying [] bytes) (λ (next : Rest). next) at (record at { sink = new })
+    → Passes (say [] bytes) (λ (next : Rest). next) at (record at { sink = new })
 shown_passes {X} {E} {new} {bytes} {x} at p = record {
   passes = λ start past s. (
     record past { shown = past.shown ++ bytes },
@@ -235,7 +235,7 @@ shown_passes {X} {E} {new} {bytes} {x} at p = record {
 
 pub unshown_stops : {X E : Type 0} {new : SinkView} {bytes : List ℕ} {x : E} (at : World)
     → SinkPuts {X = X} {E = E} at.sink bytes (Err x) new
-    → Stops (saying [] bytes) end.SinkFault at (record at { sink = new })
+    → Stops (say [] bytes) end.SinkFault at (record at { sink = new })
 unshown_stops {X} {E} {new} {bytes} {x} at p = record {
   cause = λ start past s. rose_after start.sink at.sink.faults new.faults s.sink_faults p.failed;
   over = λ start past s next.
@@ -323,9 +323,9 @@ heard_over {start} {past} {old} {new} rest ending s n same agrees =
 -- no line will come while a reply is awaited
 whole_line : (sent shown : List ℕ) (reference : ℕ) (next : Rest) (left : List Line) (fault : Option Fault)
     (ending : TalkEnd) → left ≡ [] → end_without_line fault ≡ ending →
-    IsWhole ending (before sent shown (awaiting reference next left fault)) sent shown
+    IsWhole ending (before sent shown (await_reply reference next left fault)) sent shown
 whole_line sent shown reference next left fault ending e why =
-    subst (λ (left : List Line). IsWhole ending (before sent shown (awaiting reference next left fault)) sent shown)
+    subst (λ (left : List Line). IsWhole ending (before sent shown (await_reply reference next left fault)) sent shown)
     (sym e) (record { all_sent = sym (append-nil sent); all_shown = sym (append-nil shown); ends_so = why })
 
 pub no_fault_ends : (fault : Option Fault) → fault ≡ None → end_without_line fault ≡ end.ServerEnd
@@ -337,12 +337,13 @@ fault_ends None place e = absurd cc
 fault_ends (Some fault) place e = let same : place_of fault ≡ place = cc in ap end.Broken same
 
 pub line_stops : (old new : World) (ending : TalkEnd) → HearsUnit (Err ending) old.splitting old.fault old.link
-    new.splitting new.fault new.link → old.sink ≡ new.sink → (reference : ℕ) → Stops (awaiting reference) ending old new
+    new.splitting new.fault new.link → old.sink ≡ new.sink → (reference : ℕ) →
+    Stops (await_reply reference) ending old new
 line_stops old new end.ServerEnd h same reference = record {
   cause = λ start past s. (h past.fed (unit.Hello past.name ∷ map unit.Line past.done) s.hears).why.2;
   over = λ start past s next.
       let n = h past.fed (unit.Hello past.name ∷ map unit.Line past.done) s.hears in
-      heard_over (awaiting reference next) end.ServerEnd s n same
+      heard_over (await_reply reference next) end.ServerEnd s n same
       (λ left e. whole_line past.sent past.shown reference next left _ end.ServerEnd (no_line left (sym n.why.0 ∙ e))
       (no_fault_ends _ n.why.1));
 }
@@ -350,7 +351,7 @@ line_stops old new (end.Broken place) h same reference = record {
   cause = λ start past s. tt;
   over = λ start past s next.
       let n = h past.fed (unit.Hello past.name ∷ map unit.Line past.done) s.hears in
-      heard_over (awaiting reference next) (end.Broken place) s n same
+      heard_over (await_reply reference next) (end.Broken place) s n same
       (λ left e. whole_line past.sent past.shown reference next left _ (end.Broken place)
       (no_line left (sym n.why.0 ∙ e)) (fault_ends _ place n.why.1));
 }
@@ -359,14 +360,14 @@ line_stops old new end.LinkFault h same reference = record {
       let n = h past.fed (unit.Hello past.name ∷ map unit.Line past.done) s.hears in
       rose_after start.link old.link.faults new.link.faults s.link_faults n.why;
   over = λ start past s next.
-      heard_over (awaiting reference next) end.LinkFault s
+      heard_over (await_reply reference next) end.LinkFault s
       (h past.fed (unit.Hello past.name ∷ map unit.Line past.done) s.hears) same
       (λ left e. part_of past.sent past.shown _);
 }
 line_stops old new end.Memory h same reference = record {
   cause = λ start past s. tt;
   over = λ start past s next.
-      heard_over (awaiting reference next) end.Memory s
+      heard_over (await_reply reference next) end.Memory s
       (h past.fed (unit.Hello past.name ∷ map unit.Line past.done) s.hears) same
       (λ left e. part_of past.sent past.shown _);
 }
@@ -406,14 +407,14 @@ hello_stops {X} old new rest ending name h = record {
 -- what is to come with a reply or a message that was spelled
 pub reply_same : (reference : ℕ) (line : Line) (shown : List ℕ) → Spells (Ok true) reference line shown
     → (next : Rest) (left : List Line) (fault : Option Fault)
-    → with_line line (awaiting reference next) left fault ≡ saying [] shown next left fault
+    → with_line line (await_reply reference next) left fault ≡ say [] shown next left fault
 reply_same reference line shown spells next left fault =
     ap (λ (a : Awaited). before [] a.shown (elim a.end [ None ↦ next a.left fault | Some ending ↦ ends ending ]))
     (spells left fault)
 
 pub message_same : (reference : ℕ) (line : Line) (shown : List ℕ) → Spells (Ok false) reference line shown
     → (next : Rest) (left : List Line) (fault : Option Fault)
-    → with_line line (awaiting reference next) left fault ≡ saying [] shown (awaiting reference next) left fault
+    → with_line line (await_reply reference next) left fault ≡ say [] shown (await_reply reference next) left fault
 message_same reference line shown spells next left fault =
     ap (λ (a : Awaited). before [] a.shown (elim a.end [ None ↦ next a.left fault | Some ending ↦ ends ending ]))
     (spells left fault)
@@ -421,16 +422,16 @@ message_same reference line shown spells next left fault =
 
 departed : (reference : ℕ) (line : Line) (shown : List ℕ) (place : ℕ)
     → Spells (Err (end.Broken place)) reference line shown → (next : Rest) (left : List Line) (fault : Option Fault)
-    → with_line line (awaiting reference next) left fault ≡ ends (end.Broken place)
+    → with_line line (await_reply reference next) left fault ≡ ends (end.Broken place)
 departed reference line shown place spells next left fault =
     ap (λ (a : Awaited). before [] a.shown (elim a.end [ None ↦ next a.left fault | Some ending ↦ ends ending ]))
     (spells left fault)
 
 pub unspelled_stops : (ending : TalkEnd) (reference : ℕ) (line : Line) (shown : List ℕ) (at : World)
     → Spells (Err ending) reference line shown
-    → Stops (λ (next : Rest). with_line line (awaiting reference next)) ending at at
+    → Stops (λ (next : Rest). with_line line (await_reply reference next)) ending at at
 unspelled_stops end.Memory reference line shown at spells =
-    memory_stops (λ (next : Rest). with_line line (awaiting reference next)) at
+    memory_stops (λ (next : Rest). with_line line (await_reply reference next)) at
 unspelled_stops (end.Broken place) reference line shown at spells = record {
   cause = λ start past s. tt;
   over = λ start past s next.
@@ -459,21 +460,21 @@ unspelled_stops end.SinkFault reference line shown at spells = absurd spells
 
 -- what was spelled is shown, or not
 pub reply_shown : (is_reply : Bool) (reference : ℕ) (line : Line) (shown : List ℕ) (old new : World)
-    → Spells (Ok is_reply) reference line shown → Passes (saying [] shown) (λ (next : Rest). next) old new
+    → Spells (Ok is_reply) reference line shown → Passes (say [] shown) (λ (next : Rest). next) old new
     → TakesReply (Ok is_reply) reference line old new
 reply_shown true reference line shown old new spells p =
     passes_trans (passes_same old (reply_same reference line shown spells)) p
 reply_shown false reference line shown old new spells p =
-    passes_trans (passes_same old (message_same reference line shown spells)) (passes_at (awaiting reference) p)
+    passes_trans (passes_same old (message_same reference line shown spells)) (passes_at (await_reply reference) p)
 
 pub reply_unshown : (is_reply : Bool) (reference : ℕ) (line : Line) (shown : List ℕ) (ending : TalkEnd)
     (old new : World)
-    → Spells (Ok is_reply) reference line shown → Stops (saying [] shown) ending old new
+    → Spells (Ok is_reply) reference line shown → Stops (say [] shown) ending old new
     → TakesReply (Err ending) reference line old new
 reply_unshown true reference line shown ending old new spells p =
     passes_stops (passes_same old (reply_same reference line shown spells)) p
 reply_unshown false reference line shown ending old new spells p =
-    passes_stops (passes_same old (message_same reference line shown spells)) (stops_at (awaiting reference) p)
+    passes_stops (passes_same old (message_same reference line shown spells)) (stops_at (await_reply reference) p)
 
 -- ---- a reply is awaited, line after line
 
@@ -483,35 +484,35 @@ taken_at : (reference reference' : ℕ) (done : Result Bool TalkEnd) (line : Lin
 taken_at reference reference' done line old new same t =
     subst (λ (reference : ℕ). TakesReply done reference line old new) same t
 
-line_taken : {u v w : World} (reference : ℕ) (line : Line) → Passes (awaiting reference) (awaiting reference) u v
+line_taken : {u v w : World} (reference : ℕ) (line : Line) → Passes (await_reply reference) (await_reply reference) u v
     → HearsLine (Ok line) v w
-    → Passes (awaiting reference) (λ (next : Rest). with_line line (awaiting reference next)) u w
-line_taken reference line p h = passes_trans p (passes_at (awaiting reference) h)
+    → Passes (await_reply reference) (λ (next : Rest). with_line line (await_reply reference next)) u w
+line_taken reference line p h = passes_trans p (passes_at (await_reply reference) h)
 
 pub line_unheard : {u v w : World} (reference : ℕ) (ending : TalkEnd)
-    → Passes (awaiting reference) (awaiting reference) u v → HearsLine (Err ending) v w
-    → Stops (awaiting reference) ending u w
+    → Passes (await_reply reference) (await_reply reference) u v → HearsLine (Err ending) v w
+    → Stops (await_reply reference) ending u w
 line_unheard reference ending p h = passes_stops p (h reference)
 
 pub reply_stops : {u v w x : World} (reference reference' : ℕ) (line : Line) (ending : TalkEnd) → reference' ≡ reference
-    → Passes (awaiting reference) (awaiting reference) u v → HearsLine (Ok line) v w
-    → TakesReply (Err ending) reference' line w x → Stops (awaiting reference) ending u x
+    → Passes (await_reply reference) (await_reply reference) u v → HearsLine (Ok line) v w
+    → TakesReply (Err ending) reference' line w x → Stops (await_reply reference) ending u x
 reply_stops {u} {v} {w} {x} reference reference' line ending same p h t =
     passes_stops (line_taken reference line p h) (taken_at reference reference' (Err ending) line w x same t)
 
 pub reply_comes : {u v w x : World} (reference reference' : ℕ) (line : Line) (is_reply : Bool)
-    → reference' ≡ reference → is_reply ≡ true → Passes (awaiting reference) (awaiting reference) u v
+    → reference' ≡ reference → is_reply ≡ true → Passes (await_reply reference) (await_reply reference) u v
     → HearsLine (Ok line) v w
-    → TakesReply (Ok is_reply) reference' line w x → Passes (awaiting reference) (λ (next : Rest). next) u x
+    → TakesReply (Ok is_reply) reference' line w x → Passes (await_reply reference) (λ (next : Rest). next) u x
 reply_comes {u} {v} {w} {x} reference reference' line is_reply same holds p h t =
     passes_trans (line_taken reference line p h)
     (subst (λ (b : Bool). TakesReply (Ok b) reference line w x) holds
     (taken_at reference reference' (Ok is_reply) line w x same t))
 
 pub message_comes : {u v w x : World} (reference reference' : ℕ) (line : Line) (is_reply : Bool)
-    → reference' ≡ reference → is_reply ≡ false → Passes (awaiting reference) (awaiting reference) u v
+    → reference' ≡ reference → is_reply ≡ false → Passes (await_reply reference) (await_reply reference) u v
     → HearsLine (Ok line) v w
-    → TakesReply (Ok is_reply) reference' line w x → Passes (awaiting reference) (awaiting reference) u x
+    → TakesReply (Ok is_reply) reference' line w x → Passes (await_reply reference) (await_reply reference) u x
 message_comes {u} {v} {w} {x} reference reference' line is_reply same fails p h t =
     passes_trans (line_taken reference line p h)
     (subst (λ (b : Bool). TakesReply (Ok b) reference line w x) fails

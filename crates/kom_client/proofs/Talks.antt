@@ -15,7 +15,7 @@ use Rattle.kom_client.specs.declared.talk_end.TalkEnd.TheVariants as end
 use Rattle.kom_client.specs.Keys.{key_lines, lines_after}
 use Rattle.kom_client.specs.Client.{Course, Turn, Agrees, IsPart, IsWhole, IsUntouched, IsTalk, HasCause, HasCarried}
 use Rattle.kom_client.specs.Client.{Shows, answers}
-use Rattle.kom_client.specs.Client.{before, ends, client, greeted, first_turn, greeting_line, end_without_line}
+use Rattle.kom_client.specs.Client.{before, ends, client, after_greeting, first_turn, greeting_line, end_without_line}
 use Rattle.kom_client.specs.Talking.{World, Typing, Counts, Past, Over, IsCaused, IsCausedBy, Finishes}
 use Rattle.kom_client.specs.Talking.{Greets, Types}
 use Rattle.kom_client.specs.Talking.{IsHearing, IsUnheard, HearsUnit, HearsNone, Puts, Sends}
@@ -38,7 +38,7 @@ ungreeted user bytes start old at ending e fresh shown from (is, rose, part, (mo
       shown,
       subst (λ (faults : ℕ). Rose faults at.link.faults) (sym from) rose,
       λ keys. let c = client user keys [] in
-          let rest = greeted (stream_by side.Server []).greeting keys (stream_by side.Server []).lines
+          let rest = after_greeting (stream_by side.Server []).greeting keys (stream_by side.Server []).lines
           (stream_by side.Server []).fault in
           record {
             part_sent = (
@@ -56,7 +56,7 @@ silent user keys heard ending none why =
     let split = stream_by side.Server heard in
     let same : client user keys heard ≡ before (greeting_line user) [] (ends ending) =
     ap (λ (greeting : Option (List ℕ)).
-    before (greeting_line user) [] (greeted greeting keys split.lines split.fault)) none
+    before (greeting_line user) [] (after_greeting greeting keys split.lines split.fault)) none
     ∙ ap (λ (e : TalkEnd). before (greeting_line user) [] (ends e)) why in
     subst (λ (c : Course). IsWhole ending c (greeting_line user) []) (sym same)
     (whole_of (greeting_line user) [] ending)
@@ -94,7 +94,7 @@ unanswered ending user bytes start old mid at e fresh shown from puts n = (
     part : (keys : List ℕ) → IsPart (client user keys n.piece) (greeting_line user) []
     part keys =
         let split = stream_by side.Server n.piece in
-        part_of (greeting_line user) [] (greeted split.greeting keys split.lines split.fault)
+        part_of (greeting_line user) [] (after_greeting split.greeting keys split.lines split.fault)
 
     agrees : (keys : List ℕ) (ending : TalkEnd) →
         IsUnheard ending n.more (stream_by side.Server n.piece).fault mid at.link
@@ -296,7 +296,7 @@ whole_course user typed heard name past left es eh ed greeting lines =
     let split = stream_by side.Server heard in
     let all : split.lines ≡ left = lines ∙ ap (λ (done : List Line). done ++ left) ed in
     ap (λ (greeting : Option (List ℕ)).
-    before (greeting_line user) [] (greeted greeting typed split.lines split.fault)) greeting
+    before (greeting_line user) [] (after_greeting greeting typed split.lines split.fault)) greeting
     ∙ ap (λ (lines : List Line).
     before (greeting_line user) [] (answers first_turn (key_lines typed) lines split.fault)) all
     ∙ ap (λ (sent : List ℕ). before sent [] (answers first_turn (key_lines typed) left split.fault)) (sym es)

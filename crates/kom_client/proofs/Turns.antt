@@ -13,8 +13,8 @@ use Rattle.kom_client.specs.Keys.{longest_key_line}
 use Rattle.kom_client.specs.Client.{Course, Turn, answers, await, before, ends, turn_after}
 use Rattle.kom_client.specs.declared.talk_end.TalkEnd.{TalkEnd}
 use Rattle.kom_client.specs.declared.talk_end.TalkEnd.TheVariants as end
-use Rattle.kom_client.specs.Talking.{Rest, World, Typing, Passes, Stops, Does, Types, Holds, Puts, Sends, saying}
-use Rattle.kom_client.specs.Talking.{awaiting, asking}
+use Rattle.kom_client.specs.Talking.{Rest, World, Typing, Passes, Stops, Does, Types, Holds, Puts, Sends, say}
+use Rattle.kom_client.specs.Talking.{await_reply, ask_then}
 use Rattle.kom_client.proofs.Steps.{passes_none, passes_same, passes_trans, passes_stops, passes_at, stops_at}
 use Rattle.kom_client.proofs.Steps.{memory_stops}
 use Rattle.kom_client.proofs.Steps.{sent_passes, unsent_stops}
@@ -32,21 +32,21 @@ answers_by turn texts lines fault (Some request) =
 
 pub asked_same : (turn turn' : Turn) (text : List ℕ) (request : Request) → request_of text ≡ Some request
     → turn' ≡ turn_after request turn → (texts : List (List ℕ)) (lines : List Line) (fault : Option Fault)
-    → answers turn (text ∷ texts) lines fault ≡ asking turn request (answers turn' texts) lines fault
+    → answers turn (text ∷ texts) lines fault ≡ ask_then turn request (answers turn' texts) lines fault
 asked_same turn turn' text request e e' texts lines fault =
     ap (answers_by turn texts lines fault) e
-    ∙ ap (λ (after : Turn). asking turn request (answers after texts) lines fault) (sym e')
+    ∙ ap (λ (after : Turn). ask_then turn request (answers after texts) lines fault) (sym e')
 
 pub unasked_same : (turn : Turn) (text : List ℕ) → request_of text ≡ None
     → (texts : List (List ℕ)) (lines : List Line) (fault : Option Fault)
-    → answers turn (text ∷ texts) lines fault ≡ saying [] (codes "?\n") (answers turn texts) lines fault
+    → answers turn (text ∷ texts) lines fault ≡ say [] (codes "?\n") (answers turn texts) lines fault
 unasked_same turn text e texts lines fault = ap (answers_by turn texts lines fault) e
 
 -- a key line asked for something, or for nothing
 pub line_asks : (done : Result (Unit {0}) TalkEnd) (turn turn' : Turn) (text : List ℕ) (request : Request)
     (old new : World)
     → Some request ≡ request_of text → OnOk done (turn' ≡ turn_after request turn) →
-    Does done (asking turn request) (λ (next : Rest). next) old new →
+    Does done (ask_then turn request) (λ (next : Rest). next) old new →
     Does done (λ (more : List (List ℕ)). answers turn (text ∷ more))
     (λ (more : List (List ℕ)). answers turn' more) old new
 line_asks (Ok done) turn turn' text request old new e e' p =
@@ -57,7 +57,7 @@ line_asks (Err ending) turn turn' text request old new e e' p =
     (stops_at (λ (more : List (List ℕ)). answers (turn_after request turn) more) p)
 
 pub line_asks_not : (done : Result (Unit {0}) TalkEnd) (turn : Turn) (text : List ℕ) (old new : World)
-    → None ≡ request_of text → Does done (saying [] (codes "?\n")) (λ (next : Rest). next) old new →
+    → None ≡ request_of text → Does done (say [] (codes "?\n")) (λ (next : Rest). next) old new →
     Does done (λ (more : List (List ℕ)). answers turn (text ∷ more))
     (λ (more : List (List ℕ)). answers turn more) old new
 line_asks_not (Ok done) turn text old new e p =
@@ -72,17 +72,17 @@ line_asks_not (Err ending) turn text old new e p =
 -- the request was not sent whole
 pub request_unsent : {new : LinkView} (turn : Turn) (request : Request) (ending : TalkEnd) (bytes : List ℕ) (at : World)
     → bytes ≡ request_line turn.reference turn.person request → Sends (Err ending) at.link bytes new
-    → Stops (asking turn request) ending at (record at { link = new })
+    → Stops (ask_then turn request) ending at (record at { link = new })
 request_unsent {new} turn request ending bytes at e (is, rose, part, (more, whole), puts) =
-    subst (λ (ending : TalkEnd). Stops (asking turn request) ending at (record at { link = new })) (sym is)
-    (stops_at (awaiting turn.reference) (unsent_stops more at (whole ∙ e) rose puts))
+    subst (λ (ending : TalkEnd). Stops (ask_then turn request) ending at (record at { link = new })) (sym is)
+    (stops_at (await_reply turn.reference) (unsent_stops more at (whole ∙ e) rose puts))
 
 -- it was
 pub request_sent : {new : LinkView} (turn : Turn) (request : Request) (bytes : List ℕ) (at : World)
     → bytes ≡ request_line turn.reference turn.person request → Puts at.link bytes new
-    → Passes (asking turn request) (awaiting turn.reference) at (record at { link = new })
+    → Passes (ask_then turn request) (await_reply turn.reference) at (record at { link = new })
 request_sent {new} turn request bytes at e p =
-    passes_at (awaiting turn.reference)
+    passes_at (await_reply turn.reference)
     (sent_passes at refl
     (subst (λ (bytes : List ℕ). Puts at.link bytes new) e p))
 

@@ -10,7 +10,7 @@ use Rattle.kom_types.specs.Token.{Token}
 use Rattle.kom_types.specs.spellings.Words.{Words}
 use Rattle.kom_framing.specs.Writing.{Written, put_word, end_line}
 use Rattle.kom_client.specs.Seen.{with_words}
-use Rattle.kom_client.specs.Replies.{spelled}
+use Rattle.kom_client.specs.Replies.{spelling_of}
 
 -- words after a first one
 after_a_word : (bytes word : List ℕ) (words : Words)
@@ -31,10 +31,10 @@ line_put word words a b c d ea eb ec ed =
 
 -- a token more
 pub token_more : (tokens : List Token) (index : ℕ) (token : Token) (old new : Written) → index < length tokens
-    → slice_get tokens index ≡ Some token → new ≡ put_word (spelled token) old
-    → with_words (map spelled (drop index tokens)) old ≡ with_words (map spelled (drop (index + 1) tokens)) new
+    → slice_get tokens index ≡ Some token → new ≡ put_word (spelling_of token) old
+    → with_words (map spelling_of (drop index tokens)) old ≡ with_words (map spelling_of (drop (index + 1) tokens)) new
 token_more tokens index token old new within at e =
-    at_drop_more (λ (ts : List Token). with_words (map spelled ts) old) tokens index token within
-    ∙ ap (λ (t : Token). with_words (map spelled (drop (index + 1) tokens)) (put_word (spelled t) old))
+    at_drop_more (λ (ts : List Token). with_words (map spelling_of ts) old) tokens index token within
+    ∙ ap (λ (t : Token). with_words (map spelling_of (drop (index + 1) tokens)) (put_word (spelling_of t) old))
     (get_or_from_slice_get tokens index token token at)
-    ∙ ap (λ (w : Written). with_words (map spelled (drop (index + 1) tokens)) w) (sym e)
+    ∙ ap (λ (w : Written). with_words (map spelling_of (drop (index + 1) tokens)) w) (sym e)

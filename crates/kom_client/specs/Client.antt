@@ -63,9 +63,9 @@ pub record Awaited : Type 0 where
   pub end : Option TalkEnd
 
 -- the reply has the reference that is awaited, or the line departs
-abbrev pub replied : Bool → List ℕ → Line → List Line → Awaited
-replied true shown line lines = record { shown = shown; left = lines; end = None }
-replied false shown line lines =
+abbrev pub reply_or_break : Bool → List ℕ → Line → List Line → Awaited
+reply_or_break true shown line lines = record { shown = shown; left = lines; end = None }
+reply_or_break false shown line lines =
     record { shown = []; left = lines; end = Some (end.Broken line.end) }
 
 abbrev pub shown_first : List ℕ → Awaited → Awaited
@@ -77,12 +77,12 @@ abbrev pub await : ℕ → List Line → Option Fault → Awaited
 await reference [] fault =
     record { shown = []; left = []; end = Some (end_without_line fault) }
 await reference (line ∷ lines) fault = elim (reply_of line.tokens) [
-  | Good number tokens ↦ replied (number == reference) (shown_good tokens) line lines
+  | Good number tokens ↦ reply_or_break (number == reference) (shown_good tokens) line lines
   | Refusal number code status ↦
-      replied (number == reference) (shown_refusal code status) line lines
+      reply_or_break (number == reference) (shown_refusal code status) line lines
   | Message digits tokens ↦
       shown_first (shown_message digits tokens) (await reference lines fault)
-  | Departs ↦ replied false [] line lines
+  | Departs ↦ reply_or_break false [] line lines
 ]
 
 -- What the key lines come to, by the server's lines: each asks for something, and its reply is
@@ -104,15 +104,15 @@ abbrev pub greeting_line : List ℕ → List ℕ
 greeting_line user = 65 ∷ hollerith user ++ 10 ∷ []
 
 -- what a client does once it was greeted, if it was
-abbrev pub greeted : Option (List ℕ) → List ℕ → List Line → Option Fault → Course
-greeted None keys lines fault = ends (end_without_line fault)
-greeted (Some name) keys lines fault = answers first_turn (key_lines keys) lines fault
+abbrev pub after_greeting : Option (List ℕ) → List ℕ → List Line → Option Fault → Course
+after_greeting None keys lines fault = ends (end_without_line fault)
+after_greeting (Some name) keys lines fault = answers first_turn (key_lines keys) lines fault
 
 -- What a client of this user sends and shows, and how its talk ends, if these are all the bytes
 -- that are typed, and these all that the server writes.
 abbrev pub client : List ℕ → List ℕ → List ℕ → Course
 client user keys bytes = let heard = stream_by side.Server bytes in
-    before (greeting_line user) [] (greeted heard.greeting keys heard.lines heard.fault)
+    before (greeting_line user) [] (after_greeting heard.greeting keys heard.lines heard.fault)
 
 -- all of a course, with this end
 pub record IsWhole (ending : TalkEnd) (course : Course) (sent shown : List ℕ) : Type 0 where

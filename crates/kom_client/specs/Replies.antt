@@ -64,20 +64,20 @@ reply_of (Signed sign digits ∷ tokens) = elim (integer_in digits) [
 ]
 
 -- how a token is spelled: digits as they came
-abbrev pub spelled : Token → List ℕ
-spelled (Digits digits) = digits
-spelled (Text bytes) = hollerith bytes
-spelled Open = codes "{"
-spelled Close = codes "}"
-spelled Star = codes "*"
-spelled (Signed sign digits) = sign ∷ digits
+abbrev pub spelling_of : Token → List ℕ
+spelling_of (Digits digits) = digits
+spelling_of (Text bytes) = hollerith bytes
+spelling_of Open = codes "{"
+spelling_of Close = codes "}"
+spelling_of Star = codes "*"
+spelling_of (Signed sign digits) = sign ∷ digits
 
 -- what is shown of a good reply, of a refusal and of a message
 abbrev pub shown_good : List Token → List ℕ
-shown_good tokens = line_of (codes "ok" ∷ map spelled tokens)
+shown_good tokens = line_of (codes "ok" ∷ map spelling_of tokens)
 
 abbrev pub shown_refusal : List ℕ → List ℕ → List ℕ
 shown_refusal code status = line_of (codes "error" ∷ code ∷ status ∷ [])
 
 abbrev pub shown_message : List ℕ → List Token → List ℕ
-shown_message digits tokens = line_of (codes "*" ∷ digits ∷ map spelled tokens)
+shown_message digits tokens = line_of (codes "*" ∷ digits ∷ map spelling_of tokens)

@@ -18,6 +18,6 @@ world talker link sink = record {
   sink = sink;
 }
 
-abbrev pub typing : Talker → List ℕ → LinkView → SinkView → Typing
-typing talker held link sink =
+abbrev pub typing_of : Talker → List ℕ → LinkView → SinkView → Typing
+typing_of talker held link sink =
     record { turn = turn_of talker; held = held; world = world talker link sink }

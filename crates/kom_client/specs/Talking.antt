@@ -8,7 +8,7 @@ use Rattle.kom_framing.specs.declared.units.Unit.{Unit as StreamUnit}
 use Rattle.kom_framing.specs.declared.units.Unit.TheVariants as unit
 use Rattle.kom_framing.specs.Splitting.{Splitting, IsAtBy, units_of}
 use Rattle.kom_links.specs.Doors.{SinkView}
-use Rattle.kom_links.specs.Outside.{LinkView, Rose, grown}
+use Rattle.kom_links.specs.Outside.{LinkView, Rose, with_bytes}
 use Rattle.kom_links.specs.Talk.{IsPrefix}
 use Rattle.kom_client.specs.declared.talk_end.TalkEnd.{TalkEnd}
 use Rattle.kom_client.specs.declared.talk_end.TalkEnd.TheVariants as end
@@ -34,7 +34,7 @@ pub record World : Type 0 where
 
 -- these bytes were read, and nothing else was done on the link
 pub record Listens (old : LinkView) (piece : List ℕ) (new : LinkView) : Type 0 where
-  pub taken : new.taken ≡ grown piece old.taken
+  pub taken : new.taken ≡ with_bytes piece old.taken
   pub put : new.put ≡ old.put
   pub faults : old.faults ≤ new.faults
 
@@ -89,7 +89,7 @@ HearsUnit (Err ending) splitting fault old splitting' fault' new =
 
 -- these bytes were put to a link, or some of the first of them before it failed
 pub record Puts (old : LinkView) (part : List ℕ) (new : LinkView) : Type 0 where
-  pub put : new.put ≡ grown part old.put
+  pub put : new.put ≡ with_bytes part old.put
   pub taken : new.taken ≡ old.taken
   pub faults : old.faults ≤ new.faults
 
@@ -176,12 +176,12 @@ Does (Ok done) rest next old new = Passes rest next old new
 Does (Err ending) rest next old new = Stops rest ending old new
 
 -- these bytes are sent, and these shown, and then comes what is to come
-abbrev pub saying : List ℕ → List ℕ → Rest → Rest
-saying sent shown next left fault = before sent shown (next left fault)
+abbrev pub say : List ℕ → List ℕ → Rest → Rest
+say sent shown next left fault = before sent shown (next left fault)
 
 -- the reply is awaited that has this reference, and then comes what is to come
-abbrev pub awaiting : ℕ → Rest → Rest
-awaiting reference next left fault = let awaited = await reference left fault in
+abbrev pub await_reply : ℕ → Rest → Rest
+await_reply reference next left fault = let awaited = await reference left fault in
     before [] awaited.shown (elim awaited.end [
       | None ↦ next awaited.left fault
       | Some ending ↦ ends ending
@@ -192,14 +192,14 @@ abbrev pub with_line : Line → Rest → Rest
 with_line line rest left fault = rest (line ∷ left) fault
 
 -- a request is sent and its reply awaited, and then comes what is to come
-abbrev pub asking : Turn → Request → Rest → Rest
-asking turn request next =
-    saying (request_line turn.reference turn.person request) [] (awaiting turn.reference next)
+abbrev pub ask_then : Turn → Request → Rest → Rest
+ask_then turn request next =
+    say (request_line turn.reference turn.person request) [] (await_reply turn.reference next)
 
 -- a line was taken, or none will come while a reply is awaited
 abbrev pub HearsLine : Result Line TalkEnd → World → World → Type 0
 HearsLine (Ok line) old new = Passes (λ (rest : Rest). rest) (with_line line) old new
-HearsLine (Err ending) old new = (reference : ℕ) → Stops (awaiting reference) ending old new
+HearsLine (Err ending) old new = (reference : ℕ) → Stops (await_reply reference) ending old new
 
 -- what a line is while a reply is awaited, with what is to be shown: the reply, a message, or none
 abbrev pub Spells : Result Bool TalkEnd → ℕ → Line → List ℕ → Type 0
@@ -220,12 +220,14 @@ Spells (Err end.SinkFault) reference line shown = ⊥
 -- a line was taken while a reply is awaited: it is the reply, or a message, or the talk is over
 abbrev pub TakesReply : Result Bool TalkEnd → ℕ → Line → World → World → Type 0
 TakesReply (Ok true) reference line old new =
-    Passes (λ (next : Rest). with_line line (awaiting reference next)) (λ (next : Rest). next) old
+    Passes (λ (next : Rest). with_line line (await_reply reference next))
+    (λ (next : Rest). next) old
     new
 TakesReply (Ok false) reference line old new =
-    Passes (λ (next : Rest). with_line line (awaiting reference next)) (awaiting reference) old new
+    Passes (λ (next : Rest). with_line line (await_reply reference next))
+    (await_reply reference) old new
 TakesReply (Err ending) reference line old new =
-    Stops (λ (next : Rest). with_line line (awaiting reference next)) ending old new
+    Stops (λ (next : Rest). with_line line (await_reply reference next)) ending old new
 
 -- what is kept of a key line that has begun: its bytes, or too many
 abbrev pub Holds : List ℕ → List ℕ → Type 0

@@ -4,7 +4,7 @@ ghost use Rattle.kom_types.specs.Token.{Signed, number_of};
 ghost use Rattle.kom_framing.specs.Spans.{token_seen};
 ghost use Rattle.kom_framing.specs.Writing.{put_word};
 ghost use Rattle.kom_client.specs.Seen.{with_words, reply_seen};
-ghost use Rattle.kom_client.specs.Replies.{reply_of, refusal_by, spelled};
+ghost use Rattle.kom_client.specs.Replies.{reply_of, refusal_by, spelling_of};
 ghost use Rattle.kom_client.specs.Replies.{shown_good, shown_refusal, shown_message, integer_in};
 ghost use Rattle.kom_client.specs.Replies.{integer_digits};
 
@@ -147,7 +147,7 @@ pub(crate) fn put_message(writer: &mut Writer, digits: &[u8], line: &Line) -> Re
 /// Spells the tokens of a line after the first.
 fn put_tokens(writer: &mut Writer, line: &Line) -> Result<(), Memory>
     ensures { OnOk result
-        (writer.new ≡ with_words (map spelled (drop 1 line.now.tokens)) writer.old) }
+        (writer.new ≡ with_words (map spelling_of (drop 1 line.now.tokens)) writer.old) }
 {
     for index in 1..line.len() {
         put_token(writer, line.token(index))?;
@@ -157,7 +157,8 @@ fn put_tokens(writer: &mut Writer, line: &Line) -> Result<(), Memory>
 
 /// Spells a token as a word.
 fn put_token(writer: &mut Writer, token: Token<'_>) -> Result<(), Memory>
-    ensures { OnOk result (writer.new ≡ put_word (spelled (token_seen token.entry)) writer.old) }
+    ensures { OnOk result
+        (writer.new ≡ put_word (spelling_of (token_seen token.entry)) writer.old) }
 {
     match token {
         Token::Digits(digits) => writer.word(digits),

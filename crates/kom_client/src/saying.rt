@@ -2,7 +2,7 @@ ghost use Rattle.std.specs.Prelude.{[], Option, ℕ};
 ghost use Rattle.kom_framing.specs.Splitting.{Splitting};
 ghost use Rattle.kom_links.specs.Doors.{SinkView};
 ghost use Rattle.kom_links.specs.Outside.{LinkView};
-ghost use Rattle.kom_client.specs.Talking.{Rest, Does, saying, Sends};
+ghost use Rattle.kom_client.specs.Talking.{Rest, Does, say, Sends};
 
 use crate::talk_end::TalkEnd;
 use kom_links::{Failed, Link, Sink, Took};
@@ -29,7 +29,7 @@ pub(crate) fn send<R: Wait, L: Link>(rt: &R, link: &mut L, bytes: &[u8]) -> Resu
 /// Shows bytes.
 pub(crate) fn show<S: Sink>(out: &mut S, bytes: &[u8]) -> Result<(), TalkEnd>
     ensures { (splitting : Splitting) (fault : Option ℕ) (link : LinkView)
-        → Does result (saying [] bytes.now) (λ (next : Rest). next)
+        → Does result (say [] bytes.now) (λ (next : Rest). next)
         (record {
           splitting = splitting;
           fault = fault;

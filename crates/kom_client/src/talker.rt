@@ -6,7 +6,7 @@ ghost use Rattle.kom_client.specs.Seen.{request_seen};
 ghost use Rattle.kom_client.specs.Client.{answers, turn_after, first_turn, reference_after};
 ghost use Rattle.kom_client.specs.Client.{IsUntouched, Shows};
 ghost use Rattle.kom_client.specs.Talking.{Rest, Does, HearsLine, Spells, TakesReply, Greets};
-ghost use Rattle.kom_client.specs.Talking.{IsHearing, awaiting, asking};
+ghost use Rattle.kom_client.specs.Talking.{IsHearing, await_reply, ask_then};
 ghost use Rattle.kom_client.specs.Talkers.{turn_of, world};
 
 use crate::hearing::Hearing;
@@ -91,7 +91,7 @@ impl Talker {
     ) -> Result<(), TalkEnd>
         ensures turn { OnOk result (turn_of self.new
             ≡ turn_after (request_seen request.now) (turn_of self.old)) }
-        ensures asks { Does result (asking (turn_of self.old) (request_seen request.now))
+        ensures asks { Does result (ask_then (turn_of self.old) (request_seen request.now))
             (λ (next : Rest). next)
             (world self.old (L.view link.old) (S.view out.old))
             (world self.new (L.view link.new) (S.view out.new)) }
@@ -113,7 +113,7 @@ impl Talker {
         out: &mut S,
     ) -> Result<(), TalkEnd>
         ensures turn { turn_of self.new ≡ turn_of self.old }
-        ensures awaits { Does result (awaiting self.old.reference) (λ (next : Rest). next)
+        ensures awaits { Does result (await_reply self.old.reference) (λ (next : Rest). next)
             (world self.old (L.view link.old) (S.view out.old))
             (world self.new (L.view link.new) (S.view out.new)) }
     {

@@ -1,7 +1,7 @@
 ghost use Rattle.std.specs.Prelude.{◌≡◌, ◌∷◌, ◌++◌, [], List, ℕ, OnOk};
 ghost use Rattle.kom_client.specs.Client.{IsUntouched, IsTalk, HasCause, Shows};
 ghost use Rattle.kom_client.specs.Talking.{Types, Finishes, Holds};
-ghost use Rattle.kom_client.specs.Talkers.{typing, world};
+ghost use Rattle.kom_client.specs.Talkers.{typing_of, world};
 
 use crate::buffer::Buffer;
 use crate::keys::LONGEST_KEY_LINE;
@@ -55,7 +55,7 @@ fn take_keys<R: Wait, K: Link, L: Link, S: Sink>(
     requires untouched { IsUntouched (K.view keys.old) }
     requires nothing { line.old.items ≡ [] }
     ensures { Finishes result (K.view keys.old)
-        (typing talker.old line.old.items (L.view link.old) (S.view out.old)) (K.view keys.new)
+        (typing_of talker.old line.old.items (L.view link.old) (S.view out.old)) (K.view keys.new)
         (world talker.new (L.view link.new) (S.view out.new)) }
 {
     for _ in rt.forever() {
@@ -82,8 +82,8 @@ fn take_piece<R: Wait, L: Link, S: Sink>(
     piece: &[u8],
 ) -> Result<(), TalkEnd>
     ensures { Types result piece.now
-        (typing talker.old line.old.items (L.view link.old) (S.view out.old))
-        (typing talker.new line.new.items (L.view link.new) (S.view out.new)) }
+        (typing_of talker.old line.old.items (L.view link.old) (S.view out.old))
+        (typing_of talker.new line.new.items (L.view link.new) (S.view out.new)) }
 {
     for byte in piece {
         take_key(rt, talker, link, out, line, *byte)?;
@@ -101,8 +101,8 @@ fn take_key<R: Wait, L: Link, S: Sink>(
     byte: u8,
 ) -> Result<(), TalkEnd>
     ensures { Types result (byte ∷ [])
-        (typing talker.old line.old.items (L.view link.old) (S.view out.old))
-        (typing talker.new line.new.items (L.view link.new) (S.view out.new)) }
+        (typing_of talker.old line.old.items (L.view link.old) (S.view out.old))
+        (typing_of talker.new line.new.items (L.view link.new) (S.view out.new)) }
 {
     if byte == b'\n' {
         talker.take_line(rt, link, out, line.as_slice())?;

@@ -13,13 +13,13 @@ use Rattle.kom_model.specs.After.{decision_at}
 use Rattle.kom_model.specs.Effects.{all_fit}
 use Rattle.kom_model.specs.Kept.{effects_of, kept_of}
 use Rattle.kom_laws.proofs.Kept.{sound-fit, kept-decided}
-use Rattle.kom_state.specs.Keepers.{appended}
+use Rattle.kom_state.specs.Keepers.{append_pending}
 use Rattle.kom_core.specs.declared.asking.Asking.{Asking}
 use Rattle.kom_core.specs.Deciding.{Decides, effects_by}
 use Rattle.kom_core.specs.Steps.{made_of}
 
 -- no effects
-pub none_appended : (pending : Option (List Effect)) → appended [] pending ≡ pending
+pub none_appended : (pending : Option (List Effect)) → append_pending [] pending ≡ pending
 none_appended None = refl
 none_appended (Some list) = ap (λ all. Some all) (append-nil list)
 

@@ -8,17 +8,17 @@ use Rattle.kom_types.specs.declared.answers.NotMade.{NotMade}
 use Rattle.std.specs.Prelude.{None}
 use Rattle.kom_model.specs.State.{State, IsSound}
 use Rattle.kom_model.specs.Refusal.{refusal_of}
-use Rattle.kom_model.specs.After.{MayBeShort, HasUser, sent, after}
+use Rattle.kom_model.specs.After.{MayBeShort, HasUser, after_sending, after}
 use Rattle.kom_model.proofs.Soundness.{IsSound-after}
 use Rattle.kom_laws.proofs.Refusing.{refused-keeps}
 use Rattle.kom_core.specs.Acts.{CoreComes}
-use Rattle.kom_core.specs.Steps.{ChangesBy, Steps, IsShort, IsRecord, made_of, counted}
+use Rattle.kom_core.specs.Steps.{ChangesBy, Steps, IsShort, IsRecord, made_of, count_entry}
 
 -- the act of an entry, whatever its pass and moment
 pub Changes-by : (old new : State) (entry : Entry) (what : Act) → entry.act ≡ what → ChangesBy old what new →
-    new ≡ sent old (made_of old entry false)
+    new ≡ after_sending old (made_of old entry false)
 Changes-by old new entry what same by =
-    subst (λ (one : Act). new ≡ sent old (made_of old (record entry { act = one }) false)) (sym same)
+    subst (λ (one : Act). new ≡ after_sending old (made_of old (record entry { act = one }) false)) (sym same)
     (by entry.pass entry.moment)
 
 may_be_short : (state : State) (moment : ℕ) (what : Act) (short : Bool) → IsShort state moment what short →
@@ -92,9 +92,9 @@ abbrev pub refused_of : Entry → Record
 refused_of entry = record { entry = entry; session = 0; short = true }
 
 pub refused-after : (old : State) (entry : Entry) → entry.act ≡ act.Flush →
-    counted entry.moment (record old { store_refused = true }) ≡ after old (refused_of entry)
+    count_entry entry.moment (record old { store_refused = true }) ≡ after old (refused_of entry)
 refused-after old entry is =
-    subst (λ (what : Act). counted entry.moment (record old { store_refused = true })
+    subst (λ (what : Act). count_entry entry.moment (record old { store_refused = true })
     ≡ after old (refused_of (record entry { act = what }))) (sym is) refl
 
 pub refused-sound : (old new : State) (entry : Entry) (made : Record) → entry.act ≡ act.Flush →

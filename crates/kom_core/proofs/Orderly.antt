@@ -34,8 +34,8 @@ use Rattle.kom_model.specs.State.{State}
 use Rattle.kom_model.specs.Db.{Db, person_of, membership_of, memberships_at, next_conference_of, next_text_of, links_of}
 use Rattle.kom_model.specs.Db.{recipients_of, locals_of, marks_of, marks_on, items_of, next_item_of}
 use Rattle.kom_model.specs.Shown.{text_adder, conference_adder}
-use Rattle.kom_model.specs.calls.AuxItems.{items_added, item_effects, changed, object_of, numbers_guard}
-use Rattle.kom_model.specs.calls.Call.{Asked, seat_of, done, answer}
+use Rattle.kom_model.specs.calls.AuxItems.{items_added, item_effects, change_items, object_of, numbers_guard}
+use Rattle.kom_model.specs.calls.Call.{Asked, seat_of, done_with, answer}
 use Rattle.kom_model.specs.calls.Conferences.{nearest, gone_person, gone_conference, create_conf}
 use Rattle.kom_model.specs.calls.Guards.{Guard, with_items, caller, first_refusal, items_guard}
 use Rattle.kom_model.specs.calls.Guards.{new_items_guard, seat_at}
@@ -46,7 +46,7 @@ use Rattle.kom_model.specs.calls.Memberships.{set_member, type_effects}
 use Rattle.kom_model.specs.calls.NewTexts.{names_recipient, names_footnote, item_effect, item_written, author_effects}
 use Rattle.kom_model.specs.calls.NewTexts.{text_effects, new_text, new_items}
 use Rattle.kom_model.specs.calls.Persons.{person_effects, maker}
-use Rattle.kom_model.specs.calls.Sessions.{counts, seat_left, all_left, leaving_effects, session_meant, ended}
+use Rattle.kom_model.specs.calls.Sessions.{counts, seat_left, all_left, leaving_effects, session_meant, end_session}
 use Rattle.kom_model.specs.calls.Sessions.{static_of}
 use Rattle.kom_model.specs.calls.Texts.{gone_text, new_recipient, nearest_text}
 use Rattle.kom_model.specs.Decide.{definition_of, decision_of}
@@ -82,12 +82,12 @@ ended-nameless : (asked : Asked) (number : ℕ) →
 ended-nameless asked number =
     elim (seat_at asked.seats (session_meant asked number)) as
     (λ found. IsNameless (let decision : Decision = elim found [
-      | None ↦ done [] []
-      | Some seat ↦ ended asked seat
+      | None ↦ done_with [] []
+      | Some seat ↦ end_session asked seat
     ] in decision.effects)) [ None ↦ refl | Some seat ↦ left-nameless asked seat ]
 
 static-orderly : (found : Option Seat) → IsOrderly (let decision : Decision = elim found [
-  | None ↦ done [] []
+  | None ↦ done_with [] []
   | Some seat ↦ answer (reply.StaticSession (static_of seat))
 ] in decision.effects)
 static-orderly None = tt
@@ -124,7 +124,7 @@ change-nameless asked on_text adder given =
     (nameless-map gone (λ number. refl) given.delete) (added-nameless on_text given.object items)
 
 change-orderly : (asked : Asked) (on_text : Bool) (on : Object) (adder : Adder) (given : AuxChange) →
-    IsOrderly (changed asked on_text on adder given).effects
+    IsOrderly (change_items asked on_text on adder given).effects
 change-orderly asked on_text on adder given =
     with_items-orderly
     (first_refusal

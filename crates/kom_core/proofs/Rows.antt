@@ -6,7 +6,7 @@ use Rattle.std.specs.Option.{is_some, option_copied}
 use Rattle.std.proofs.lemmas.Bool.{cases_Bool}
 use Rattle.kom_types.specs.declared.session_changes.SessionChange.{SessionChange}
 use Rattle.kom_types.specs.declared.session_changes.SessionChange.TheVariants.{Stop}
-use Rattle.kom_types.specs.Sessions.{Session, Limits, is_session, changed_session, changed, is_stop}
+use Rattle.kom_types.specs.Sessions.{Session, Limits, is_session, changed_session, after_change, is_stop}
 use Rattle.kom_model.specs.State.{State}
 use Rattle.kom_model.specs.Sending.{Delivery}
 use Rattle.kom_model.specs.After.{with_session, queue_all, make_change, make_changes}
@@ -46,8 +46,8 @@ pub change_absent : (moment session : ℕ) (change : SessionChange) (state : Sta
     is_some (find (is_session session) state.sessions) ≡ false → state ≡ make_change moment change state
 change_absent moment session change state of gone =
     let gone' : is_some (find (is_session (changed_session change)) state.sessions) ≡ false = rw (← of.0) gone in
-    let rows : map (changed_row (changed_session change) (changed change moment)) state.sessions ≡ state.sessions =
-    map-absent (changed_session change) (changed change moment) state.sessions (none_from _ gone') in
+    let rows : map (changed_row (changed_session change) (after_change change moment)) state.sessions ≡ state.sessions =
+    map-absent (changed_session change) (after_change change moment) state.sessions (none_from _ gone') in
     let stopped : (state.stopped || is_stop change) ≡ state.stopped = rw of.1 (or-false state.stopped) in
     rw (rows, stopped) refl
 
@@ -83,6 +83,6 @@ or-true false = refl
 -- the change that shuts the server down
 pub stop_made : (moment : ℕ) (state : State) → record state { stopped = true } ≡ make_change moment Stop state
 stop_made moment state =
-    let rows : map (changed_row 0 (changed Stop moment)) state.sessions ≡ state.sessions =
-    map-same 0 (changed Stop moment) (λ row. refl) state.sessions in
+    let rows : map (changed_row 0 (after_change Stop moment)) state.sessions ≡ state.sessions =
+    map-same 0 (after_change Stop moment) (λ row. refl) state.sessions in
     rw (rows, or-true state.stopped) refl

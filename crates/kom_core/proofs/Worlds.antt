@@ -1,5 +1,5 @@
 -- What an act of a core does to a group, beside an act of a core whose state is the same for the group.
-use Rattle.std.proofs.Common.{◌≡◌, ℕ, ◌+◌, Bool, true, false, List, [], Option, Some, None, refl, sym, ap, ◌∙◌, subst}
+use Rattle.std.proofs.Common.{◌≡◌, ℕ, ◌+◌, Bool, true, [], Option, Some, None, refl, sym, ap, ◌∙◌, subst}
 use Rattle.std.specs.Prelude.{Result, Ok, Err, IfOk}
 use Rattle.kom_types.specs.declared.acts.Act.{Act}
 use Rattle.kom_types.specs.declared.acts.Act.TheVariants as act
@@ -7,7 +7,6 @@ use Rattle.kom_types.specs.declared.acts.Entry.{Entry}
 use Rattle.kom_types.specs.declared.acts.Record.{Record}
 use Rattle.kom_types.specs.declared.answers.NotMade.{NotMade}
 use Rattle.kom_types.specs.declared.answers.NotMade.TheVariants.{Gone, Full, Memory}
-use Rattle.kom_types.specs.declared.items.Item.{Item}
 use Rattle.kom_model.specs.After.{after, session_in}
 use Rattle.kom_model.specs.Making.{IsNotMade}
 use Rattle.kom_model.specs.Out.{taken_by}

@@ -9,7 +9,7 @@ use Rattle.kom_types.specs.Printing.{print_of}
 use Rattle.kom_model.specs.declared.call_errors.CallError.{CallError}
 use Rattle.kom_model.specs.declared.call_errors.CallError.TheVariants as error
 use Rattle.kom_model.specs.State.{State}
-use Rattle.kom_model.specs.calls.Call.{Asked, Definition, decided}
+use Rattle.kom_model.specs.calls.Call.{Asked, Definition, outcome_of}
 use Rattle.kom_model.specs.Decide.{asked_in, decision_of, is_firm}
 use Rattle.kom_model.specs.Sending.{Delivery}
 use Rattle.kom_model.specs.ToWhom.{messages_of}
@@ -42,7 +42,7 @@ HasBody body item.Fault = ⊥
 
 -- a call of this definition comes to this
 abbrev pub Defines : Definition → Decision → Type 0
-Defines definition decision = decision ≡ decided definition
+Defines definition decision = decision ≡ outcome_of definition
 
 -- all that a call may read in a state
 abbrev pub asked_by : State → Asking → Asked

@@ -18,7 +18,8 @@ use Rattle.kom_model.specs.Refusal.{refusal_of}
 use Rattle.kom_model.specs.Making.{IsNotMade}
 use Rattle.kom_model.specs.Decide.{asked_in, is_firm}
 use Rattle.kom_model.specs.Sending.{Delivery}
-use Rattle.kom_model.specs.After.{session_in, moment_of, queue_all, reply_to, carry_out, sent}
+use Rattle.kom_model.specs.After.{session_in, moment_of, queue_all, reply_to, carry_out}
+use Rattle.kom_model.specs.After.{after_sending}
 use Rattle.kom_model.specs.After.{after}
 use Rattle.kom_core.specs.declared.asking.Asking.{Asking}
 use Rattle.kom_core.specs.Deciding.{IsFirm, ComesTo}
@@ -29,8 +30,9 @@ made_of state entry short =
     record { entry = entry; session = session_in state entry.act; short = short }
 
 -- with one entry more, at this moment
-abbrev pub counted : ℕ → State → State
-counted moment state = record state { entries = state.entries + 1; moment = moment_of state moment }
+abbrev pub count_entry : ℕ → State → State
+count_entry moment state =
+    record state { entries = state.entries + 1; moment = moment_of state moment }
 
 -- a core answers a call that is not firm that memory ran out; no other record of its is short
 abbrev pub IsShort : State → ℕ → Act → Bool → Type 0
@@ -53,12 +55,13 @@ pub record IsRecord (old : State) (entry : Entry) (made : Record) : Type 0 where
 -- is short or not.
 abbrev pub Changes : State → Entry → State → ℕ → Bool → Type 0
 Changes old entry new session short = (session ≡ session_in old entry.act)
-    × IsShort old entry.moment entry.act short × (new ≡ sent old (made_of old entry short))
+    × IsShort old entry.moment entry.act short × (new ≡ after_sending old (made_of old entry short))
 
 -- an act was made so that its record is not short, whatever the pass and the moment of the entry
 abbrev pub ChangesBy : State → Act → State → Type 0
 ChangesBy old what new = (pass moment : ℕ)
-    → new ≡ sent old (made_of old (record { pass = pass; moment = moment; act = what }) false)
+    → new ≡ after_sending old
+    (made_of old (record { pass = pass; moment = moment; act = what }) false)
 
 -- an act was made, or not, for this
 abbrev pub Steps : State → Entry → State → Result Record NotMade → Type 0
@@ -90,6 +93,6 @@ IsOf (Some session) change = (session ≡ changed_session change) × (is_stop ch
 IsOf None change = change ≡ Stop
 
 -- the act of a greeting, by this pass at this moment
-abbrev pub greeting : ℕ → ℕ → List ℕ → List ℕ → Entry
-greeting pass moment user host =
+abbrev pub greeting_entry : ℕ → ℕ → List ℕ → List ℕ → Entry
+greeting_entry pass moment user host =
     record { pass = pass; moment = moment; act = act.Connect user host }

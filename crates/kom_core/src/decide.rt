@@ -1,7 +1,7 @@
 ghost use Rattle.std.specs.Prelude.{◌≡◌, true, IfOk, IsOk};
 ghost use Rattle.kom_model.specs.calls.Call.{refuse};
 ghost use Rattle.kom_model.specs.Decide.{definition_of, decision_of, is_firm};
-ghost use Rattle.kom_model.specs.Decide.{limited as limited_decision};
+ghost use Rattle.kom_model.specs.Decide.{limit_reply as limited_decision};
 ghost use Rattle.kom_core.specs.Deciding.{Defines, IsLong, IsReply, HasBody};
 
 use crate::calls;

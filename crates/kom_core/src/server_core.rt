@@ -6,14 +6,14 @@ ghost use Rattle.kom_types.specs.declared.answers.NotMade.{NotMade as Reason};
 ghost use Rattle.kom_types.specs.declared.items.Item.{Item as Taken};
 ghost use Rattle.kom_model.specs.Effects.{IsProtected};
 ghost use Rattle.kom_model.specs.Initial.{initial};
-ghost use Rattle.kom_model.specs.State.{IsSound, opening};
+ghost use Rattle.kom_model.specs.State.{IsSound, opening_state};
 ghost use Rattle.kom_model.specs.Whole.{IsWhole};
 ghost use Rattle.kom_model.specs.After.{after};
 ghost use Rattle.kom_model.specs.Legal.{HasUser};
 ghost use Rattle.kom_model.specs.Out.{taken_by};
 ghost use Rattle.kom_model.specs.Refusal.{refusal_of};
 ghost use Rattle.kom_types.specs.declared.acts.Act.TheVariants as act;
-ghost use Rattle.kom_state.specs.Keepers.{appended};
+ghost use Rattle.kom_state.specs.Keepers.{append_pending};
 ghost use Rattle.kom_core.specs.Keeping.{kept_by};
 ghost use Rattle.kom_core.specs.Acts.{CoreComes, IsAnswer, IsAnswered, answer_to as answer_of};
 ghost use Rattle.kom_core.specs.Worlds.{IsConsistent, RespectsGroups};
@@ -57,7 +57,7 @@ impl Core {
     /// A core before its first act, of a new server whose administrator has this password.
     pub fn fresh(alloc: Global, password: &[u8], moment: Moment) -> Result<Core, Memory>
         ensures value { IfOk result (λ core. core
-            ≡ record { state = opening (initial password.now moment); last = None }) }
+            ≡ record { state = opening_state (initial password.now moment); last = None }) }
         ensures sound { IfOk result (λ core. IsSound core.state) }
     {
         let rows = kom_state::StoredRows::initial(alloc, password, moment)?;
@@ -68,7 +68,7 @@ impl Core {
     pub fn of(alloc: Global, rows: kom_state::StoredRows) -> Core
         requires protected { IsProtected rows.db }
         requires whole { IsWhole rows.db }
-        ensures value { result ≡ record { state = opening rows.db; last = None } }
+        ensures value { result ≡ record { state = opening_state rows.db; last = None } }
         ensures sound { IsSound result.state }
     {
         Core {
@@ -102,7 +102,7 @@ impl Core {
             × IsAnswered self.old.state entry self.new result came
             × IsConsistent self.old.state entry self.new.state came
             × RespectsGroups self.old.state entry self.new.state came
-            × (K.pending keeper.new ≡ appended (kept_by self.old.state came)
+            × (K.pending keeper.new ≡ append_pending (kept_by self.old.state came)
             (K.pending keeper.old)) }
         ensures rest { K.stays keeper.old keeper.new }
         ensures counted { self.new.state.entries ≤ self.old.state.entries + 1 }
@@ -149,7 +149,7 @@ impl Core {
         ensures respects { RespectsGroups self.old.state entry.now self.new.state result }
         ensures given { items.new.items ≡ taken_by self.old.state entry.now.act }
         ensures kept { K.pending keeper.new
-            ≡ appended (kept_by self.old.state result) (K.pending keeper.old) }
+            ≡ append_pending (kept_by self.old.state result) (K.pending keeper.old) }
         ensures rest { K.stays keeper.old keeper.new }
         ensures last { self.new.last ≡ self.old.last }
         ensures counted { self.new.state.entries ≤ self.old.state.entries + 1 }

@@ -1,12 +1,12 @@
 ghost use Rattle.std.specs.Prelude.{◌≡◌, ◌+◌, ◌^◌, ◌<◌, ◌||◌, [], max, true};
-ghost use Rattle.kom_model.specs.State.{IsSound, opening as opening_state};
+ghost use Rattle.kom_model.specs.State.{IsSound, opening_state};
 ghost use Rattle.kom_types.specs.declared.acts.Act.TheVariants as act;
 ghost use Rattle.kom_model.specs.After.{after};
 ghost use Rattle.kom_model.specs.Out.{taken_by};
-ghost use Rattle.kom_state.specs.Keepers.{appended};
+ghost use Rattle.kom_state.specs.Keepers.{append_pending};
 ghost use Rattle.kom_core.specs.Deciding.{asked_by};
 ghost use Rattle.kom_core.specs.Keeping.{kept_by};
-ghost use Rattle.kom_core.specs.Steps.{Steps, counted};
+ghost use Rattle.kom_core.specs.Steps.{Steps, count_entry};
 
 mod acting;
 mod calling;
@@ -127,7 +127,7 @@ impl ServerState {
         requires none { items.old.items ≡ [] }
         ensures steps { Steps self.old entry.now self.new result }
         ensures kept { K.pending keeper.new
-            ≡ appended (kept_by self.old result) (K.pending keeper.old) }
+            ≡ append_pending (kept_by self.old result) (K.pending keeper.old) }
         ensures rest { K.stays keeper.old keeper.new }
         ensures given { items.new.items ≡ taken_by self.old entry.now.act }
     {
@@ -165,7 +165,7 @@ impl ServerState {
     /// Counts an entry that was made.
     fn advance(&mut self, moment: Moment)
         requires { self.old.entries < 2 ^ 62 }
-        ensures { self.new ≡ counted moment self.old }
+        ensures { self.new ≡ count_entry moment self.old }
     {
         self.entries += 1;
         self.moment = later(self.moment, moment);

@@ -6,7 +6,7 @@ use Rattle.std.proofs.lemmas.List.{take-append-le}
 use Rattle.std.specs.List.{AllByRecursion}
 use Rattle.std.proofs.lemmas.List.Elements.{recursion_from_All}
 use Rattle.std.specs.declared.alloc.Global.{Global}
-use Rattle.kom_disk.specs.Disk.{overwritten, Torn, Shortened, ComesBy, AddsNone, Only, Passes}
+use Rattle.kom_disk.specs.Disk.{overwritten, IsTorn, IsShortened, ComesBy, AddsNone, Only, Passes}
 use Rattle.kom_disk.specs.Steps.{bytes_after, stable_after, torn_after, IsImage, KeepsNothing, IsWrite, LeftOf, LeftBy}
 use Rattle.kom_disk.specs.Steps.{EndsSynced, all_steps}
 use Rattle.kom_disk.specs.declared.step.Step.{Step}
@@ -36,9 +36,9 @@ pub torn_apart : (images : List ℕ → Type 0) (bytes : List ℕ) (xs ys : List
     → torn_after images bytes (xs ++ ys) image → torn_after (torn_after images bytes xs) (bytes_after bytes xs) ys image
 torn_apart images bytes [] ys image left = left
 torn_apart images bytes (Write at from ∷ xs) ys image left =
-    torn_apart (LeftOf (Torn at (length from.items)) images) (overwritten bytes at from.items) xs ys image left
+    torn_apart (LeftOf (IsTorn at (length from.items)) images) (overwritten bytes at from.items) xs ys image left
 torn_apart images bytes (Cut len ∷ xs) ys image left =
-    torn_apart (LeftOf (Shortened len) images) (take len bytes) xs ys image left
+    torn_apart (LeftOf (IsShortened len) images) (take len bytes) xs ys image left
 torn_apart images bytes (Sync ∷ xs) ys image left = torn_apart (λ was. was ≡ bytes) bytes xs ys image left
 torn_apart images bytes (Pass ∷ xs) ys image left = torn_apart images bytes xs ys image left
 
@@ -46,9 +46,9 @@ pub torn_together : (images : List ℕ → Type 0) (bytes : List ℕ) (xs ys : L
     → torn_after (torn_after images bytes xs) (bytes_after bytes xs) ys image → torn_after images bytes (xs ++ ys) image
 torn_together images bytes [] ys image left = left
 torn_together images bytes (Write at from ∷ xs) ys image left =
-    torn_together (LeftOf (Torn at (length from.items)) images) (overwritten bytes at from.items) xs ys image left
+    torn_together (LeftOf (IsTorn at (length from.items)) images) (overwritten bytes at from.items) xs ys image left
 torn_together images bytes (Cut len ∷ xs) ys image left =
-    torn_together (LeftOf (Shortened len) images) (take len bytes) xs ys image left
+    torn_together (LeftOf (IsShortened len) images) (take len bytes) xs ys image left
 torn_together images bytes (Sync ∷ xs) ys image left = torn_together (λ was. was ≡ bytes) bytes xs ys image left
 torn_together images bytes (Pass ∷ xs) ys image left = torn_together images bytes xs ys image left
 
@@ -76,24 +76,24 @@ module _ (start : List ℕ) where
   sync_adds xs image left = inr (sync_only xs image left)
 
   pub write_tears : (xs : List Step) (at : ℕ) (from : Vec ℕ Global) → at ≤ length (read xs)
-      → ComesBy (Torn at (length from.items)) (IsImage start xs) (IsImage start (xs ++ Write at from ∷ []))
+      → ComesBy (IsTorn at (length from.items)) (IsImage start xs) (IsImage start (xs ++ Write at from ∷ []))
   write_tears xs at from within image left =
       ⊎_elim (λ torn. (torn.0, inl torn.1, torn.2))
       (λ whole. (
         read xs,
         inr refl,
-        subst (λ (l : List ℕ). Torn at (length from.items) (read xs) l) (sym whole)
+        subst (λ (l : List ℕ). IsTorn at (length from.items) (read xs) l) (sym whole)
             (torn_whole at from.items (read xs) within),
       )) (one_more xs (Write at from) image left)
 
   pub cut_tears : (xs : List Step) (len : ℕ)
-      → ComesBy (Shortened len) (IsImage start xs) (IsImage start (xs ++ Cut len ∷ []))
+      → ComesBy (IsShortened len) (IsImage start xs) (IsImage start (xs ++ Cut len ∷ []))
   cut_tears xs len image left =
       ⊎_elim (λ torn. (torn.0, inl torn.1, torn.2))
       (λ whole. (
         read xs,
         inr refl,
-        subst (λ (l : List ℕ). Shortened len (read xs) l) (sym whole)
+        subst (λ (l : List ℕ). IsShortened len (read xs) l) (sym whole)
             (cut_whole len (read xs)),
       )) (one_more xs (Cut len) image left)
 
@@ -166,11 +166,11 @@ module _ (start : List ℕ) where
   only_by xs ys more image left = sync_only xs image (subst (λ (l : List Step). IsImage start l image) more left)
 
   pub cut_by : (xs ys : List Step) (len : ℕ) → ys ≡ xs ++ Cut len ∷ []
-      → ComesBy (Shortened len) (IsImage start xs) (IsImage start ys)
+      → ComesBy (IsShortened len) (IsImage start xs) (IsImage start ys)
   cut_by xs ys len more image left = cut_tears xs len image (subst (λ (l : List Step). IsImage start l image) more left)
 
   pub cut_failed : (xs ys : List Step) (len : ℕ) → KeepsNothing xs ys
-      → ComesBy (Shortened len) (IsImage start xs) (IsImage start ys)
+      → ComesBy (IsShortened len) (IsImage start xs) (IsImage start ys)
   cut_failed xs ys len nothing image left = (image, nothing_adds xs ys nothing image left, cut_away len image)
 
   -- a step that writes these bytes at this place is the last one
@@ -189,9 +189,9 @@ module _ (start : List ℕ) where
   wrote at bytes xs ys (Some Pass) is more = absurd is
 
   pub write_by : (at : ℕ) (bytes : List ℕ) (xs ys : List Step) → at ≤ length (read xs) → Wrote at bytes xs ys
-      → ComesBy (Torn at (length bytes)) (IsImage start xs) (IsImage start ys)
+      → ComesBy (IsTorn at (length bytes)) (IsImage start xs) (IsImage start ys)
   write_by at bytes xs ys within w image left =
-      let P : List ℕ → Type 0 = λ (l : List ℕ). (was : List ℕ) × IsImage start xs was × Torn at (length l) was image in
+      let P : List ℕ → Type 0 = λ (l : List ℕ). (was : List ℕ) × IsImage start xs was × IsTorn at (length l) was image in
       subst P w.same
       (write_tears xs at w.copy within image (subst (λ (l : List Step). IsImage start l image) w.more left))
 
@@ -250,10 +250,10 @@ pub torn_by_more : (images more : List ℕ → Type 0) (bytes : List ℕ) (xs : 
     → torn_after more bytes xs image
 torn_by_more images more bytes [] wider image left = wider image left
 torn_by_more images more bytes (Write at from ∷ xs) wider image left =
-    torn_by_more (LeftOf (Torn at (length from.items)) images) (LeftOf (Torn at (length from.items)) more)
+    torn_by_more (LeftOf (IsTorn at (length from.items)) images) (LeftOf (IsTorn at (length from.items)) more)
     (overwritten bytes at from.items) xs (λ was left. (left.0, wider left.0 left.1, left.2)) image left
 torn_by_more images more bytes (Cut len ∷ xs) wider image left =
-    torn_by_more (LeftOf (Shortened len) images) (LeftOf (Shortened len) more) (take len bytes) xs
+    torn_by_more (LeftOf (IsShortened len) images) (LeftOf (IsShortened len) more) (take len bytes) xs
     (λ was left. (left.0, wider left.0 left.1, left.2)) image left
 torn_by_more images more bytes (Sync ∷ xs) wider image left = left
 torn_by_more images more bytes (Pass ∷ xs) wider image left = torn_by_more images more bytes xs wider image left

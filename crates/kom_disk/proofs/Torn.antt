@@ -2,10 +2,10 @@
 use Rattle.std.proofs.Common.{◌≡◌, ◌≤◌, ◌+◌, ◌-◌, ℕ, List, ◌++◌, length, take, drop, max, zero, suc, [], ◌∷◌, refl, sym}
 use Rattle.std.proofs.Common.{◌∙◌, ap, arith, append_assoc, length-append}
 use Rattle.std.proofs.lemmas.List.{take_all, take_at, drop_at, length-take, length-take-le, length-drop, drop-drop}
-use Rattle.kom_disk.specs.Disk.{overwritten, Torn, Shortened, ComesBy}
+use Rattle.kom_disk.specs.Disk.{overwritten, IsTorn, IsShortened, ComesBy}
 
 -- nothing of a cut is there
-pub cut_away : (n : ℕ) (bytes : List ℕ) → Shortened n bytes bytes
+pub cut_away : (n : ℕ) (bytes : List ℕ) → IsShortened n bytes bytes
 cut_away n bytes = record { prefix = take_all (length bytes) bytes (omega arith); no_shorter = omega arith }
 
 pub length-overwritten : (bytes : List ℕ) (at : ℕ) (from : List ℕ) → at ≤ length bytes
@@ -21,7 +21,7 @@ length-overwritten bytes at from within =
     )
 
 -- a part of a write is left of all of it
-pub torn_wider : (at m n : ℕ) (old new : List ℕ) → m ≤ n → Torn at m old new → Torn at n old new
+pub torn_wider : (at m n : ℕ) (old new : List ℕ) → m ≤ n → IsTorn at m old new → IsTorn at n old new
 torn_wider at m n old new within torn = record {
   prefix = torn.prefix;
   suffix = rest new ∙ ap (drop (n - m)) torn.suffix ∙ sym (rest old);
@@ -34,15 +34,15 @@ torn_wider at m n old new within torn = record {
         let same : at + n ≡ at + m + (n - m) = omega (arith, within) in
         ap (λ (k : ℕ). drop k l) same ∙ sym (drop-drop (n - m) (at + m) l)
 
-pub comes_wider : (at m n : ℕ) (old new : List ℕ → Type 0) → m ≤ n → ComesBy (Torn at m) old new
-    → ComesBy (Torn at n) old new
+pub comes_wider : (at m n : ℕ) (old new : List ℕ → Type 0) → m ≤ n → ComesBy (IsTorn at m) old new
+    → ComesBy (IsTorn at n) old new
 comes_wider at m n old new within comes image left =
     let from = comes image left in
     (from.0, from.1, torn_wider at m n from.0 image within from.2)
 
 -- all of a write is there
 pub torn_whole : (at : ℕ) (from bytes : List ℕ) → at ≤ length bytes
-    → Torn at (length from) bytes (overwritten bytes at from)
+    → IsTorn at (length from) bytes (overwritten bytes at from)
 torn_whole at from bytes within = record {
   prefix =
       ap (take at) (append_assoc (take at bytes) from (drop (at + length from) bytes))
@@ -64,5 +64,5 @@ cut_prefix (suc n) [] = refl
 cut_prefix (suc n) (b ∷ bytes) = ap (λ (l : List ℕ). b ∷ l) (cut_prefix n bytes)
 
 -- all of a cut is there
-pub cut_whole : (n : ℕ) (bytes : List ℕ) → Shortened n bytes (take n bytes)
+pub cut_whole : (n : ℕ) (bytes : List ℕ) → IsShortened n bytes (take n bytes)
 cut_whole n bytes = record { prefix = cut_prefix n bytes; no_shorter = omega (arith, length-take n bytes) }

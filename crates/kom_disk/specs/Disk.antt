@@ -9,14 +9,14 @@ overwritten bytes at from = take at bytes ++ from ++ drop (at + length from) byt
 
 -- What is left of a write of n bytes: anything in its range and past the old end, elsewhere what
 -- was there.
-pub record Torn (at n : ℕ) (old new : List ℕ) : Type 0 where
+pub record IsTorn (at n : ℕ) (old new : List ℕ) : Type 0 where
   pub prefix : take at new ≡ take at old
   pub suffix : drop (at + n) new ≡ drop (at + n) old
   pub no_shorter : length old ≤ length new
   pub no_longer : length new ≤ max (length old) (at + n)
 
 -- What is left of a cut to n bytes: a prefix of what was there, and no less than was asked for.
-pub record Shortened (n : ℕ) (old new : List ℕ) : Type 0 where
+pub record IsShortened (n : ℕ) (old new : List ℕ) : Type 0 where
   pub prefix : take (length new) old ≡ new
   pub no_shorter : min n (length old) ≤ length new
 

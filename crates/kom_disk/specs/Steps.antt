@@ -2,7 +2,7 @@
 use Rattle.std.specs.Prelude.{◌≡◌, ◌⊎◌, ◌↔◌, ℕ, List, [], ◌∷◌, ◌++◌, length, take}
 use Rattle.std.proofs.Common.{sym, subst}
 use Rattle.std.proofs.Math.Seq.{take-length}
-use Rattle.kom_disk.specs.Disk.{overwritten, Torn, Shortened}
+use Rattle.kom_disk.specs.Disk.{overwritten, IsTorn, IsShortened}
 use Rattle.kom_disk.specs.declared.step.Step.{Step}
 use Rattle.kom_disk.specs.declared.step.Step.TheVariants.{Write, Cut, Sync, Pass}
 
@@ -31,9 +31,9 @@ LeftOf step images image = (was : List ℕ) × images was × step was image
 abbrev pub torn_after : (List ℕ → Type 0) → List ℕ → List Step → List ℕ → Type 0
 torn_after images bytes [] = images
 torn_after images bytes (Write at from ∷ later) =
-    torn_after (LeftOf (Torn at (length from.items)) images) (overwritten bytes at from.items) later
+    torn_after (LeftOf (IsTorn at (length from.items)) images) (overwritten bytes at from.items) later
 torn_after images bytes (Cut len ∷ later) =
-    torn_after (LeftOf (Shortened len) images) (take len bytes) later
+    torn_after (LeftOf (IsShortened len) images) (take len bytes) later
 torn_after images bytes (Sync ∷ later) = torn_after (λ image. image ≡ bytes) bytes later
 torn_after images bytes (Pass ∷ later) = torn_after images bytes later
 
@@ -62,8 +62,8 @@ IsWrite at bytes Pass = ⊥
 
 -- what is left of one step that is no sync
 abbrev pub LeftBy : Step → List ℕ → List ℕ → Type 0
-LeftBy (Write at from) = Torn at (length from.items)
-LeftBy (Cut len) = Shortened len
+LeftBy (Write at from) = IsTorn at (length from.items)
+LeftBy (Cut len) = IsShortened len
 LeftBy Sync = λ was image. ⊥
 LeftBy Pass = λ was image. image ≡ was
 

@@ -1,7 +1,7 @@
 // What a disk is.
 ghost use Rattle.std.specs.Prelude.{◌≡◌, ◌≤◌, ◌↔◌, ◌+◌, [], ◌∷◌, ◌++◌, ℕ, Bool, IsTrue, List};
 ghost use Rattle.std.specs.Prelude.{length, take, drop, min, max, IfOk, OnOk, OnErr};
-ghost use Rattle.kom_disk.specs.Disk.{overwritten, Torn, Shortened, ComesBy, AddsNone, Only};
+ghost use Rattle.kom_disk.specs.Disk.{overwritten, IsTorn, IsShortened, ComesBy, AddsNone, Only};
 ghost use Rattle.kom_disk.specs.Disk.{Passes};
 ghost use Rattle.kom_disk.specs.Faults.{CountsFault};
 
@@ -75,13 +75,13 @@ pub trait Disk {
         ensures written { IsTrue tells
             → OnOk result (bytes self.new ≡ overwritten (bytes self.old) at from.now) }
         ensures left { IsTrue tells
-            → OnErr result (Torn at (length from.now) (bytes self.old) (bytes self.new)) }
+            → OnErr result (IsTorn at (length from.now) (bytes self.old) (bytes self.new)) }
         ensures size { OnOk result (size self.new ≡ max (size self.old) (at + length from.now)) }
         ensures size_left { OnErr result
             ((size self.old ≤ size self.new)
             × (size self.new ≤ max (size self.old) (at + length from.now))) }
         ensures stop { IsTrue tells
-            → ComesBy (Torn at (length from.now)) (images self.old) (images self.new) }
+            → ComesBy (IsTorn at (length from.now)) (images self.old) (images self.new) }
         ensures time { Passes tells (moment self.old) (moment self.new) (images_at self.old)
             (images_at self.new) }
         ensures reads { IsTrue tells_reads → reads self.new ≡ reads self.old }
@@ -92,11 +92,11 @@ pub trait Disk {
     fn cut(&mut self, len: u64) -> Result<(), Failed>
         ensures cut { IsTrue tells → OnOk result (bytes self.new ≡ take len (bytes self.old)) }
         ensures left { IsTrue tells
-            → OnErr result (Shortened len (bytes self.old) (bytes self.new)) }
+            → OnErr result (IsShortened len (bytes self.old) (bytes self.new)) }
         ensures size { OnOk result (size self.new ≡ min len (size self.old)) }
         ensures size_left { OnErr result
             ((min len (size self.old) ≤ size self.new) × (size self.new ≤ size self.old)) }
-        ensures stop { IsTrue tells → ComesBy (Shortened len) (images self.old) (images self.new) }
+        ensures stop { IsTrue tells → ComesBy (IsShortened len) (images self.old) (images self.new) }
         ensures time { Passes tells (moment self.old) (moment self.new) (images_at self.old)
             (images_at self.new) }
         ensures reads { IsTrue tells_reads → reads self.new ≡ reads self.old }

@@ -1,6 +1,6 @@
 // What follows for every disk from its meanings, for arguments over many calls.
 ghost use Rattle.std.specs.Prelude.{◌≡◌, ◌≤◌, ◌+◌, ℕ, List, IsTrue, length, take, drop, max};
-ghost use Rattle.kom_disk.specs.Disk.{overwritten, Torn, Shortened, AddsNone, Passes};
+ghost use Rattle.kom_disk.specs.Disk.{overwritten, IsTorn, IsShortened, AddsNone, Passes};
 ghost use Rattle.kom_disk.specs.Moments.{HasInside, LeftSince, LeavesOnly};
 
 use crate::Disk;
@@ -63,10 +63,10 @@ pub fn wider_fact<D: Disk, T, P: Fact, Q: Fact>(about: &T)
 /// a write stands what was written.
 pub fn whole_calls()
     ensures write { (bytes from : List ℕ) (at : ℕ) → at ≤ length bytes
-        → Torn at (length from) bytes (overwritten bytes at from) }
+        → IsTorn at (length from) bytes (overwritten bytes at from) }
     ensures written { (bytes from : List ℕ) (at : ℕ) → at ≤ length bytes
         → take (length from) (drop at (overwritten bytes at from)) ≡ from }
     ensures longer { (bytes from : List ℕ) (at : ℕ) → at ≤ length bytes
         → length (overwritten bytes at from) ≡ max (length bytes) (at + length from) }
-    ensures cut { (bytes : List ℕ) (n : ℕ) → Shortened n bytes (take n bytes) }
+    ensures cut { (bytes : List ℕ) (n : ℕ) → IsShortened n bytes (take n bytes) }
 {}

@@ -3,7 +3,7 @@ ghost use Rattle.std.specs.Prelude.{◌≡◌, ◌<◌, ◌≤◌, ◌+◌, [], 
 ghost use Rattle.std.specs.Prelude.{drop, vec_len, vec_capacity, IsErr, IfOk, IfSome, OnOk};
 ghost use Rattle.std.specs.Prelude.{OnErr};
 ghost use Rattle.std.proofs.Common.{inr};
-ghost use Rattle.kom_disk.specs.Disk.{overwritten, Torn, Shortened, ComesBy, AddsNone, Only};
+ghost use Rattle.kom_disk.specs.Disk.{overwritten, IsTorn, IsShortened, ComesBy, AddsNone, Only};
 ghost use Rattle.kom_disk.specs.Disk.{Passes};
 ghost use Rattle.kom_disk.specs.Faults.{CountsFault};
 ghost use Rattle.kom_disk.specs.Steps.{bytes_after, IsWrite, all_steps};
@@ -115,8 +115,8 @@ impl MemoryDisk {
     // Leaves a part of a write that has failed, where it ends within the room and finds memory.
     fn leave_part(&mut self, at: usize, from: &[u8])
         requires { at ≤ length (bytes_of self.old) }
-        ensures left { Torn at (length from.now) (bytes_of self.old) (bytes_of self.new) }
-        ensures stop { ComesBy (Torn at (length from.now)) (images_of self.old)
+        ensures left { IsTorn at (length from.now) (bytes_of self.old) (bytes_of self.new) }
+        ensures stop { ComesBy (IsTorn at (length from.now)) (images_of self.old)
             (images_of self.new) }
         ensures time { Passes true (moment_of self.old) (moment_of self.new) (images_after self.old)
             (images_after self.new) }
@@ -136,8 +136,8 @@ impl MemoryDisk {
     // Writes bytes where they end within the room and find memory.
     fn leave(&mut self, at: usize, left: &[u8])
         requires { at ≤ length (bytes_of self.old) }
-        ensures left { Torn at (length left.now) (bytes_of self.old) (bytes_of self.new) }
-        ensures stop { ComesBy (Torn at (length left.now)) (images_of self.old)
+        ensures left { IsTorn at (length left.now) (bytes_of self.old) (bytes_of self.new) }
+        ensures stop { ComesBy (IsTorn at (length left.now)) (images_of self.old)
             (images_of self.new) }
         ensures time { Passes true (moment_of self.old) (moment_of self.new) (images_after self.old)
             (images_after self.new) }
@@ -221,9 +221,9 @@ impl Disk for MemoryDisk {
         ensures written { OnOk result
             (bytes_of self.new ≡ overwritten (bytes_of self.old) at from.now) }
         ensures left { OnErr result
-            (Torn at (length from.now) (bytes_of self.old) (bytes_of self.new)) }
+            (IsTorn at (length from.now) (bytes_of self.old) (bytes_of self.new)) }
         ensures room { room_of self.old < at + length from.now → IsErr result }
-        ensures stop { ComesBy (Torn at (length from.now)) (images_of self.old)
+        ensures stop { ComesBy (IsTorn at (length from.now)) (images_of self.old)
             (images_of self.new) }
         ensures time { Passes true (moment_of self.old) (moment_of self.new) (images_after self.old)
             (images_after self.new) }
@@ -247,7 +247,7 @@ impl Disk for MemoryDisk {
     fn cut(&mut self, len: u64) -> Result<(), Failed>
         ensures cut { OnOk result (bytes_of self.new ≡ take len (bytes_of self.old)) }
         ensures left { OnErr result (bytes_of self.new ≡ bytes_of self.old) }
-        ensures stop { ComesBy (Shortened len) (images_of self.old) (images_of self.new) }
+        ensures stop { ComesBy (IsShortened len) (images_of self.old) (images_of self.new) }
         ensures time { Passes true (moment_of self.old) (moment_of self.new) (images_after self.old)
             (images_after self.new) }
         ensures faults { CountsFault (faults_of self.old) (faults_of self.new) result }

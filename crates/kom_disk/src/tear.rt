@@ -1,6 +1,6 @@
 // What a stop leaves of a write or of a cut.
 ghost use Rattle.std.specs.Prelude.{◌≡◌, ◌<◌, ◌≤◌, ◌+◌, ◌^◌, length, take, drop, max, OnOk, IfOk};
-ghost use Rattle.kom_disk.specs.Disk.{overwritten, Torn, Shortened};
+ghost use Rattle.kom_disk.specs.Disk.{overwritten, IsTorn, IsShortened};
 ghost use Rattle.kom_disk.specs.declared.tear.Tear.TheVariants.{Nothing, Whole};
 
 use crate::memory_disk::overwrite;
@@ -97,7 +97,7 @@ fn mix(tear: Tear, bytes: &mut [u8], at: usize, end: usize, from: &[u8])
 /// Leaves a torn write in `bytes`. One that begins past their end leaves nothing.
 #[tactic(auto, using(crate::proofs::Torn::torn_whole))]
 pub fn tear_write(tear: Tear, bytes: &mut Vec<u8>, at: usize, from: &[u8]) -> Result<(), AllocError>
-    ensures torn { OnOk result (Torn at (length from.now) bytes.old.items bytes.new.items) }
+    ensures torn { OnOk result (IsTorn at (length from.now) bytes.old.items bytes.new.items) }
     ensures nothing { tear ≡ Nothing → OnOk result (bytes.new.items ≡ bytes.old.items) }
     ensures whole { at ≤ length bytes.old.items → tear ≡ Whole
         → OnOk result (bytes.new.items ≡ overwritten bytes.old.items at from.now) }
@@ -135,7 +135,7 @@ pub fn torn_range(
 
 /// Leaves a torn cut in `bytes`.
 pub fn tear_cut(tear: Tear, bytes: &mut Vec<u8>, len: usize)
-    ensures torn { Shortened len bytes.old.items bytes.new.items }
+    ensures torn { IsShortened len bytes.old.items bytes.new.items }
     ensures nothing { tear ≡ Nothing → bytes.new.items ≡ bytes.old.items }
     ensures whole { tear ≡ Whole → bytes.new.items ≡ take len bytes.old.items }
 {

@@ -14,7 +14,7 @@ use Rattle.kom_types.specs.Stream.{Malformed, stopped_in, lines_from, greeting_f
 use Rattle.kom_framing.specs.declared.fault.Fault.TheVariants as found
 use Rattle.kom_framing.specs.declared.greeting.Greeting.{Greeting}
 use Rattle.kom_framing.specs.Splitting.{Opening, Length, opening_of}
-use Rattle.kom_framing.specs.Hearing.{Greets, Going, Ended, Stuck, hear_in_length, hear, next, onward, heard}
+use Rattle.kom_framing.specs.Hearing.{Greets, Going, Ended, Stuck, hear_in_length, hear, next, onward, hear_all}
 use Rattle.kom_framing.specs.BegunGreetings.{IsLength, IsGreeting, Lengthens, IsGoing, HearsTo, IsUnheardAt}
 use Rattle.kom_framing.specs.BegunGreetings.{greeting_kept, GreetsOn, GreetsTo, GreetsFail}
 use Rattle.kom_framing.proofs.Steps.{digit_bounds}
@@ -77,32 +77,32 @@ form_sticks (Whole name) opening e = absurd cc
 form_sticks Unfit opening e = refl
 
 module _ (side : Side) where
-  pub greeting_goes : (bytes : List ℕ) → IsGoing (heard side bytes) → greeting_form side bytes ≡ Prefix
+  pub greeting_goes : (bytes : List ℕ) → IsGoing (hear_all side bytes) → greeting_form side bytes ≡ Prefix
   greeting_goes bytes going =
       form_goes (greeting_form side bytes) (opening_of side bytes) (subst IsGoing (heard-told side bytes) going)
 
-  greeting_is : (bytes name : List ℕ) → heard side bytes ≡ Ended name → greeting_form side bytes ≡ Whole name
+  greeting_is : (bytes name : List ℕ) → hear_all side bytes ≡ Ended name → greeting_form side bytes ≡ Whole name
   greeting_is bytes name e =
       form_ends (greeting_form side bytes) (opening_of side bytes) name (sym (heard-told side bytes) ∙ e)
 
-  greeting_sticks : (bytes : List ℕ) → heard side bytes ≡ Stuck → greeting_form side bytes ≡ Unfit
+  greeting_sticks : (bytes : List ℕ) → hear_all side bytes ≡ Stuck → greeting_form side bytes ≡ Unfit
   greeting_sticks bytes e =
       form_sticks (greeting_form side bytes) (opening_of side bytes) (sym (heard-told side bytes) ∙ e)
 
   -- what is kept of a greeting's prefix is all that matters
   pub kept_prefix : (bytes : List ℕ) → greeting_form side bytes ≡ Prefix
-      → heard side bytes ≡ Going (opening_of side bytes)
+      → hear_all side bytes ≡ Going (opening_of side bytes)
   kept_prefix bytes e = heard-told side bytes ∙ ap (λ (f : Form (List ℕ)). told f (opening_of side bytes)) e
 
-  going_first : (text : List ℕ) (byte : ℕ) (bytes : List ℕ) → IsGoing (heard side (text ++ byte ∷ bytes))
-      → IsGoing (heard side (text ++ byte ∷ []))
+  going_first : (text : List ℕ) (byte : ℕ) (bytes : List ℕ) → IsGoing (hear_all side (text ++ byte ∷ bytes))
+      → IsGoing (hear_all side (text ++ byte ∷ []))
   going_first text byte bytes going =
       let regrouped : text ++ byte ∷ bytes ≡ (text ++ byte ∷ []) ++ bytes = sym (append_assoc text (byte ∷ []) bytes) in
-      goes_on_before (heard side (text ++ byte ∷ [])) bytes
+      goes_on_before (hear_all side (text ++ byte ∷ [])) bytes
       (subst IsGoing
-      (ap (heard side) regrouped ∙ onward-append (Going (opening_of side [])) (text ++ byte ∷ []) bytes) going)
+      (ap (hear_all side) regrouped ∙ onward-append (Going (opening_of side [])) (text ++ byte ∷ []) bytes) going)
 
-  pub greeting_goes_through : (place : ℕ) (text prefix bytes : List ℕ) → IsGoing (heard side (text ++ prefix))
+  pub greeting_goes_through : (place : ℕ) (text prefix bytes : List ℕ) → IsGoing (hear_all side (text ++ prefix))
       → place + length prefix ≤ LONGEST_STREAM
       → greeting_from side place text (prefix ++ bytes)
       ≡ greeting_from side (place + length prefix) (text ++ prefix) bytes
@@ -117,16 +117,16 @@ module _ (side : Side) where
       greeting_goes_on side place text byte (prefix ++ bytes) (omega arith)
       (greeting_goes (text ++ byte ∷ []) (going_first text byte prefix going))
       ∙ greeting_goes_through (place + 1) (text ++ byte ∷ []) prefix bytes
-      (subst (λ (t : List ℕ). IsGoing (heard side t)) regrouped going) (omega arith)
+      (subst (λ (t : List ℕ). IsGoing (hear_all side t)) regrouped going) (omega arith)
       ∙ ap (λ (p : ℕ). greeting_from side p ((text ++ byte ∷ []) ++ prefix) bytes) further
       ∙ ap (λ (t : List ℕ). greeting_from side (place + length (byte ∷ prefix)) t bytes) (sym regrouped)
 
-  heard_more : (text bytes : List ℕ) (before after : Greets) → heard side text ≡ before → onward before bytes ≡ after
-      → heard side (text ++ bytes) ≡ after
+  heard_more : (text bytes : List ℕ) (before after : Greets) → hear_all side text ≡ before → onward before bytes ≡ after
+      → hear_all side (text ++ bytes) ≡ after
   heard_more text bytes before after e goes =
       onward-append (Going (opening_of side [])) text bytes ∙ ap (λ (s : Greets). onward s bytes) e ∙ goes
 
-  greeting_to : (place count : ℕ) (text bytes name : List ℕ) (before : Greets) → heard side text ≡ before
+  greeting_to : (place count : ℕ) (text bytes name : List ℕ) (before : Greets) → hear_all side text ≡ before
       → HearsTo count before bytes name → place + count ≤ LONGEST_STREAM
       → greeting_from side place text bytes
       ≡ record (lines_from side (place + count) [] (drop count bytes)) { greeting = Some name }
@@ -142,10 +142,10 @@ module _ (side : Side) where
       let regrouped : text ++ take count bytes ≡ (text ++ prefix) ++ byte ∷ [] =
       ap (λ (n : ℕ). text ++ take n bytes) back ∙ ap (λ (t : List ℕ). text ++ t) (take_more bytes at 0 inside)
       ∙ sym (append_assoc text prefix (byte ∷ [])) in
-      let last : heard side ((text ++ prefix) ++ byte ∷ []) ≡ Ended name =
-      sym (ap (heard side) regrouped) ∙ heard_more text (take count bytes) before (Ended name) so_far hears.ended in
-      let going : IsGoing (heard side (text ++ prefix)) =
-      ends_from (heard side (text ++ prefix)) byte name
+      let last : hear_all side ((text ++ prefix) ++ byte ∷ []) ≡ Ended name =
+      sym (ap (hear_all side) regrouped) ∙ heard_more text (take count bytes) before (Ended name) so_far hears.ended in
+      let going : IsGoing (hear_all side (text ++ prefix)) =
+      ends_from (hear_all side (text ++ prefix)) byte name
       (sym (onward-append (Going (opening_of side [])) (text ++ prefix) (byte ∷ [])) ∙ last) in
       ap (greeting_from side place text) (split_at bytes at inside)
       ∙ greeting_goes_through place text prefix (byte ∷ drop (at + 1) bytes) going (omega arith)
@@ -154,7 +154,7 @@ module _ (side : Side) where
       ∙ ap (λ (p : ℕ). record (lines_from side p [] (drop (at + 1) bytes)) { greeting = Some name }) (omega arith)
       ∙ ap (λ (n : ℕ). record (lines_from side (place + count) [] (drop n bytes)) { greeting = Some name }) (sym back)
 
-  greeting_unheard : (place at : ℕ) (text bytes : List ℕ) (before : Greets) → heard side text ≡ before
+  greeting_unheard : (place at : ℕ) (text bytes : List ℕ) (before : Greets) → hear_all side text ≡ before
       → IsUnheardAt at before bytes → place + at ≤ LONGEST_STREAM
       → (rest : List ℕ) × (greeting_from side place text bytes ≡ stopped_in rest (Some (Malformed (place + at))))
   greeting_unheard place at text bytes before so_far unfit early =
@@ -164,9 +164,9 @@ module _ (side : Side) where
       let prefix_length : length prefix ≡ at = length-take-le at bytes (omega arith) in
       let regrouped : text ++ take (at + 1) bytes ≡ (text ++ prefix) ++ byte ∷ [] =
       ap (λ (t : List ℕ). text ++ t) (take_more bytes at 0 inside) ∙ sym (append_assoc text prefix (byte ∷ [])) in
-      let last : heard side ((text ++ prefix) ++ byte ∷ []) ≡ Stuck =
-      sym (ap (heard side) regrouped) ∙ heard_more text (take (at + 1) bytes) before Stuck so_far unfit.stuck in
-      let going : IsGoing (heard side (text ++ prefix)) =
+      let last : hear_all side ((text ++ prefix) ++ byte ∷ []) ≡ Stuck =
+      sym (ap (hear_all side) regrouped) ∙ heard_more text (take (at + 1) bytes) before Stuck so_far unfit.stuck in
+      let going : IsGoing (hear_all side (text ++ prefix)) =
       subst IsGoing (sym (heard_more text prefix before (onward before prefix) so_far refl)) unfit.going in (
         text ++ prefix,
         ap (greeting_from side place text) (split_at bytes at inside)

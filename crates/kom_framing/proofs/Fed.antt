@@ -19,7 +19,7 @@ use Rattle.kom_framing.specs.declared.units.Unit.{Unit as StreamUnit}
 use Rattle.kom_framing.specs.declared.units.Unit.TheVariants as unit
 use Rattle.kom_framing.specs.Splitting.{Opening, Begun, Greeting, InLine, units_of, begun_by, begun_of, opening_of}
 use Rattle.kom_framing.specs.Spans.{tokens_of}
-use Rattle.kom_framing.specs.Hearing.{Going, heard}
+use Rattle.kom_framing.specs.Hearing.{Going, hear_all}
 use Rattle.kom_framing.specs.BegunLines.{fault_seen, FailsAt, IsLine, ScansOn, ScansTo, units_at}
 use Rattle.kom_framing.specs.BegunGreetings.{greeting_kept, IsBegunGreeting, GreetsOn, GreetsTo, GreetsFail}
 use Rattle.kom_framing.specs.WholeLines.{AddsAll, AreLines}
@@ -254,7 +254,7 @@ module _ (side : Side) where
 
   record FedGreeting (units : List StreamUnit) (opening : Opening) (place : ℕ) (piece fed : List ℕ)
       (taken : List StreamUnit) : Type 0 where
-    heard_is : heard side (stream_by side fed).rest ≡ Going opening
+    heard_is : hear_all side (stream_by side fed).rest ≡ Going opening
     split : stream_by side (fed ++ piece) ≡ greeting_from side place (stream_by side fed).rest piece
     all : (more : List StreamUnit) → more ≡ taken ++ (units ++ more)
 

@@ -15,10 +15,10 @@ use Rattle.kom_types.specs.ByteKind.{is_blank, is_digit, kind_of}
 use Rattle.kom_types.specs.Token.{number_of}
 use Rattle.kom_types.specs.Grammar.{Form, Prefix, Whole, Unfit, drop_while, exactly, is_name_length, name_at}
 use Rattle.kom_types.specs.Grammar.{client_greeting, letters_at, welcome, greeting_form}
-use Rattle.kom_framing.specs.Splitting.{Opening, Letter, Length, Name, Letters, opened, client_opening}
+use Rattle.kom_framing.specs.Splitting.{Opening, Letter, Length, Name, Letters, opening_from, client_opening}
 use Rattle.kom_framing.specs.Splitting.{opening_of}
 use Rattle.kom_framing.specs.Hearing.{Greets, Going, Ended, Stuck, name_from, hear_after_letter, hear_in_length, next}
-use Rattle.kom_framing.specs.Hearing.{letters_from, onward, heard}
+use Rattle.kom_framing.specs.Hearing.{letters_from, onward, hear_all}
 use Rattle.kom_framing.proofs.Looks.{look, blank, feed, digit, hollerith, open_brace, close_brace, star, sign_byte}
 use Rattle.kom_framing.proofs.Looks.{other}
 use Rattle.kom_framing.proofs.Lists.{take_while-yes, take_while-no, drop_while-yes, drop_while-no, HeadFails}
@@ -104,22 +104,22 @@ name_onward count name (byte ∷ rest) = elim (cases_lt (length name) count) [
 -- ---- the length of the name
 
 abbrev told_run : List ℕ → List ℕ → Greets
-told_run digits rest = told (name_at digits rest) (opened digits rest)
+told_run digits rest = told (name_at digits rest) (opening_from digits rest)
 
 run_prefix : (byte : ℕ) (digits : List ℕ) → length (byte ∷ digits) ≤ 4
     → told_run (byte ∷ digits) [] ≡ Going (Length (length (byte ∷ digits)) (number_of (byte ∷ digits)))
 run_prefix byte digits short =
-    ap (λ (b : Bool). told (choice b Prefix Unfit) (opened (byte ∷ digits) []))
+    ap (λ (b : Bool). told (choice b Prefix Unfit) (opening_from (byte ∷ digits) []))
     (le-leb (length (byte ∷ digits)) 4 short)
 
 run_stuck : (digits : List ℕ) (byte : ℕ) (rest : List ℕ) → (eqb byte 72 && is_name_length digits) ≡ false
     → told_run digits (byte ∷ rest) ≡ Stuck
 run_stuck digits byte rest e =
-    ap (λ (b : Bool). told (choice b (exactly (number_of digits) rest) Unfit) (opened digits (byte ∷ rest))) e
+    ap (λ (b : Bool). told (choice b (exactly (number_of digits) rest) Unfit) (opening_from digits (byte ∷ rest))) e
 
 run_long : (digits rest : List ℕ) → 4 < length digits → told_run digits rest ≡ Stuck
 run_long digits [] long =
-    ap (λ (b : Bool). told (choice b Prefix Unfit) (opened digits [])) (lt-leb (length digits) 4 long)
+    ap (λ (b : Bool). told (choice b Prefix Unfit) (opening_from digits [])) (lt-leb (length digits) 4 long)
 run_long digits (byte ∷ rest) long =
     run_stuck digits byte rest (and_right _ _ (and_left _ _ (and_right _ _ (lt-leb (length digits) 4 long))))
 
@@ -284,7 +284,7 @@ letter_onward (byte ∷ bytes) head = elim (look byte) [
   | other l ↦ letter_stuck byte bytes kind.Other l.kind_is refl l.digit_is
 ]
 
-client_told : (bytes : List ℕ) → heard sides.Client bytes ≡ told (client_greeting bytes) (client_opening bytes)
+client_told : (bytes : List ℕ) → hear_all sides.Client bytes ≡ told (client_greeting bytes) (client_opening bytes)
 client_told [] = refl
 client_told (letter ∷ bytes) = elim (cases_Bool (eqb letter 65)) [
   | inl e ↦ ap (λ (b : Bool). onward (choice b (Going Letter) Stuck) bytes) e ∙ blanks_skipped bytes
@@ -316,6 +316,6 @@ letters_onward (letter ∷ letters) (byte ∷ bytes) = elim (cases_Bool (eqb byt
 
 -- the greeting of these bytes is what was heard, and what is kept of it is what the definition keeps
 pub heard-told : (side : Side) (bytes : List ℕ)
-    → heard side bytes ≡ told (greeting_form side bytes) (opening_of side bytes)
+    → hear_all side bytes ≡ told (greeting_form side bytes) (opening_of side bytes)
 heard-told sides.Client bytes = client_told bytes
 heard-told sides.Server bytes = letters_onward welcome bytes

@@ -14,10 +14,11 @@ use Rattle.kom_types.specs.ByteKind.{is_blank, is_digit, kind_of}
 use Rattle.kom_types.specs.Token.{Token, Digits, Text, Open, Close, Star, Signed, number_of, is_integer}
 use Rattle.kom_types.specs.Grammar.{Form, Prefix, Whole, Unfit, Cut, drop_while, string_at, run_at, token_at}
 use Rattle.kom_types.specs.Grammar.{signed_run_at, signed_at}
-use Rattle.kom_types.specs.Grammar.{may_follow, ended, with_token, tokens_at, line_form}
+use Rattle.kom_types.specs.Grammar.{may_follow, end_of_line, with_token, tokens_at, line_form}
 use Rattle.kom_framing.specs.Lexing.{Mode, Between, Run, Past, AfterSign, Move, Goes, Ends, Unfits, string_from, move}
 use Rattle.kom_framing.specs.Lexing.{move_past, move_to_sign, move_past_sign, move_after_sign}
-use Rattle.kom_framing.specs.Lexing.{move_between, move_in_run, LexerState, Going, Ended, Stuck, reached, next, onward}
+use Rattle.kom_framing.specs.Lexing.{move_between, move_in_run, LexerState, Going, Ended, Stuck, lexer_after, next}
+use Rattle.kom_framing.specs.Lexing.{onward}
 use Rattle.kom_framing.specs.Lexing.{walk}
 use Rattle.kom_framing.proofs.Looks.{look, blank, feed, digit, hollerith, open_brace, close_brace, star, sign_byte}
 use Rattle.kom_framing.proofs.Looks.{other}
@@ -39,7 +40,7 @@ prefixed prefix (Ended tokens) = Ended (prefix ++ tokens)
 prefixed prefix Stuck = Stuck
 
 reached-prefixed : (prefix tokens : List Token) (moved : Move)
-    → reached (prefix ++ tokens) moved ≡ prefixed prefix (reached tokens moved)
+    → lexer_after (prefix ++ tokens) moved ≡ prefixed prefix (lexer_after tokens moved)
 reached-prefixed prefix tokens (Goes more mode) = ap (λ all. Going all mode) (append_assoc prefix tokens more)
 reached-prefixed prefix tokens (Ends more) = ap Ended (append_assoc prefix tokens more)
 reached-prefixed prefix tokens Unfits = refl
@@ -91,18 +92,19 @@ module _ (side : Side) where
   -- ---- the first byte, by its kind
 
   between_kind : (byte : ℕ) (bytes : List ℕ) (sort : ByteKind) → kind_of byte ≡ sort
-      → onward side (Going [] Between) (byte ∷ bytes) ≡ onward side (reached [] (move_between side byte sort)) bytes
-  between_kind byte bytes sort e = ap (λ (k : ByteKind). onward side (reached [] (move_between side byte k)) bytes) e
+      → onward side (Going [] Between) (byte ∷ bytes) ≡ onward side (lexer_after [] (move_between side byte sort)) bytes
+  between_kind byte bytes sort e =
+      ap (λ (k : ByteKind). onward side (lexer_after [] (move_between side byte k)) bytes) e
 
   past_kind : (byte : ℕ) (bytes : List ℕ) (sort : ByteKind) → kind_of byte ≡ sort
-      → onward side (Going [] Past) (byte ∷ bytes) ≡ onward side (reached [] (move_past [] sort)) bytes
-  past_kind byte bytes sort e = ap (λ (k : ByteKind). onward side (reached [] (move_past [] k)) bytes) e
+      → onward side (Going [] Past) (byte ∷ bytes) ≡ onward side (lexer_after [] (move_past [] sort)) bytes
+  past_kind byte bytes sort e = ap (λ (k : ByteKind). onward side (lexer_after [] (move_past [] k)) bytes) e
 
   run_kind : (digits : List ℕ) (byte : ℕ) (bytes : List ℕ) (sort : ByteKind) → kind_of byte ≡ sort
       → onward side (Going [] (Run digits)) (byte ∷ bytes)
-      ≡ onward side (reached [] (move_in_run digits byte sort)) bytes
+      ≡ onward side (lexer_after [] (move_in_run digits byte sort)) bytes
   run_kind digits byte bytes sort e =
-      ap (λ (k : ByteKind). onward side (reached [] (move_in_run digits byte k)) bytes) e
+      ap (λ (k : ByteKind). onward side (lexer_after [] (move_in_run digits byte k)) bytes) e
 
   -- ---- blanks
 
@@ -137,14 +139,14 @@ module _ (side : Side) where
       → move_past [] sort ≡ move_between side byte sort
       → form_of (onward side (Going [] Past) (byte ∷ bytes)) ≡ line_past (byte ∷ bytes)
   may_go_on byte bytes sort e may same =
-      ap form_of (past_kind byte bytes sort e) ∙ ap (λ (m : Move). form_of (onward side (reached [] m) bytes)) same
+      ap form_of (past_kind byte bytes sort e) ∙ ap (λ (m : Move). form_of (onward side (lexer_after [] m) bytes)) same
       ∙ sym (ap form_of (between_kind byte bytes sort e))
       ∙ sym (ap (λ (b : Bool). choice b (line_after (byte ∷ bytes)) Unfit) may)
 
   may_not : (byte : ℕ) (bytes : List ℕ) (sort : ByteKind) → kind_of byte ≡ sort → may_follow (byte ∷ bytes) ≡ false
       → move_past [] sort ≡ Unfits → form_of (onward side (Going [] Past) (byte ∷ bytes)) ≡ line_past (byte ∷ bytes)
   may_not byte bytes sort e may same =
-      ap form_of (past_kind byte bytes sort e) ∙ ap (λ (m : Move). form_of (onward side (reached [] m) bytes)) same
+      ap form_of (past_kind byte bytes sort e) ∙ ap (λ (m : Move). form_of (onward side (lexer_after [] m) bytes)) same
       ∙ stuck_form bytes
       ∙ sym (ap (λ (b : Bool). choice b (line_after (byte ∷ bytes)) Unfit) may)
 
@@ -186,7 +188,7 @@ module _ (side : Side) where
   string_cut count text bytes = Whole (record { token = Text (text ++ take count bytes); tail = drop count bytes })
 
   string_then : (count : ℕ) (text bytes : List ℕ)
-      → form_of (onward side (reached [] (string_from count text)) bytes)
+      → form_of (onward side (lexer_after [] (string_from count text)) bytes)
       ≡ choice (leb count (length bytes)) (cut_then line_after (string_cut count text bytes)) Prefix
   string_then zero text bytes =
       token_then (Text text) bytes
@@ -211,7 +213,8 @@ module _ (side : Side) where
   cut_then-cond false cut = refl
 
   string_line : (count : ℕ) (bytes : List ℕ)
-      → form_of (onward side (reached [] (string_from count [])) bytes) ≡ cut_then line_after (string_at count bytes)
+      → form_of (onward side (lexer_after [] (string_from count [])) bytes)
+      ≡ cut_then line_after (string_at count bytes)
   string_line count bytes =
       string_then count [] bytes
       ∙ sym (cut_then-cond (leb count (length bytes))
@@ -220,7 +223,7 @@ module _ (side : Side) where
   -- ---- a run of digits
 
   run_ends : (digits : List ℕ) (byte : ℕ) (bytes : List ℕ) (sort : ByteKind) → kind_of byte ≡ sort
-      → reached [] (move_in_run digits byte sort) ≡ reached (Digits digits ∷ []) (move_past [] sort)
+      → lexer_after [] (move_in_run digits byte sort) ≡ lexer_after (Digits digits ∷ []) (move_past [] sort)
       → eqb byte 72 ≡ false
       → is_digit byte ≡ false → length digits ≤ 16
       → form_of (onward side (Going [] (Run digits)) (byte ∷ bytes))
@@ -228,7 +231,7 @@ module _ (side : Side) where
   run_ends digits byte bytes sort e same h d short =
       ap form_of (run_kind digits byte bytes sort e)
       ∙ ap (λ (s : LexerState). form_of (onward side s bytes)) same
-      ∙ sym (ap (λ (k : ByteKind). form_of (onward side (reached (Digits digits ∷ []) (move_past [] k)) bytes)) e)
+      ∙ sym (ap (λ (k : ByteKind). form_of (onward side (lexer_after (Digits digits ∷ []) (move_past [] k)) bytes)) e)
       ∙ token_then (Digits digits) (byte ∷ bytes)
       ∙ sym (ap (cut_then line_after) (run_from-ended run_at digits byte bytes d ∙ run_cut digits byte bytes h short))
 
@@ -243,14 +246,14 @@ module _ (side : Side) where
       elim (cases_Bool (is_integer digits)) [
         | inl found ↦ left
             ∙ ap (λ (b : Bool). form_of
-            (onward side (reached [] (choice b (string_from (number_of digits) []) Unfits)) bytes))
+            (onward side (lexer_after [] (choice b (string_from (number_of digits) []) Unfits)) bytes))
             found
             ∙ string_line (number_of digits) bytes
             ∙ sym (ap (λ (b : Bool). cut_then line_after (choice b (string_at (number_of digits) bytes) Unfit)) found)
             ∙ sym right
         | inr none ↦ left
             ∙ ap (λ (b : Bool). form_of
-            (onward side (reached [] (choice b (string_from (number_of digits) []) Unfits)) bytes))
+            (onward side (lexer_after [] (choice b (string_from (number_of digits) []) Unfits)) bytes))
             none
             ∙ stuck_form bytes
             ∙ sym (ap (λ (b : Bool). cut_then line_after (choice b (string_at (number_of digits) bytes) Unfit)) none)
@@ -267,13 +270,13 @@ module _ (side : Side) where
     | digit l ↦ elim (cases_lt (length digits) 16) [
       | inl lt ↦ ap form_of (run_kind digits byte bytes kind.Digit l.kind_is)
           ∙ ap (λ (b : Bool). form_of
-          (onward side (reached [] (choice b (Goes [] (Run (digits ++ byte ∷ []))) Unfits)) bytes))
+          (onward side (lexer_after [] (choice b (Goes [] (Run (digits ++ byte ∷ []))) Unfits)) bytes))
           (lt-ltb (length digits) 16 lt)
           ∙ run_then (digits ++ byte ∷ []) bytes (omega (arith, length-append digits (byte ∷ [])))
           ∙ sym (ap (cut_then line_after) (run_from-digit run_at digits byte bytes l.digit_is))
       | inr le ↦ ap form_of (run_kind digits byte bytes kind.Digit l.kind_is)
           ∙ ap (λ (b : Bool). form_of
-          (onward side (reached [] (choice b (Goes [] (Run (digits ++ byte ∷ []))) Unfits)) bytes))
+          (onward side (lexer_after [] (choice b (Goes [] (Run (digits ++ byte ∷ []))) Unfits)) bytes))
           (le-ltb (length digits) 16 le)
           ∙ stuck_form bytes
           ∙ sym (ap (cut_then line_after) (run_from-digit run_at digits byte bytes l.digit_is
@@ -308,12 +311,12 @@ module _ (side : Side) where
 
   signed_kind : (mark : ℕ) (digits : List ℕ) (byte : ℕ) (bytes : List ℕ) (sort : ByteKind) → kind_of byte ≡ sort
       → onward side (Going [] (AfterSign mark digits)) (byte ∷ bytes)
-      ≡ onward side (reached [] (move_after_sign mark digits byte sort)) bytes
+      ≡ onward side (lexer_after [] (move_after_sign mark digits byte sort)) bytes
   signed_kind mark digits byte bytes sort e =
-      ap (λ (k : ByteKind). onward side (reached [] (move_after_sign mark digits byte k)) bytes) e
+      ap (λ (k : ByteKind). onward side (lexer_after [] (move_after_sign mark digits byte k)) bytes) e
 
   past_reached : (token : Token) (sort : ByteKind)
-      → reached [] (move_past (token ∷ []) sort) ≡ reached (token ∷ []) (move_past [] sort)
+      → lexer_after [] (move_past (token ∷ []) sort) ≡ lexer_after (token ∷ []) (move_past [] sort)
   past_reached token kind.Blank = refl
   past_reached token kind.LineFeed = refl
   past_reached token kind.Digit = refl
@@ -326,13 +329,13 @@ module _ (side : Side) where
 
   signed_past : (mark : ℕ) (digits : List ℕ) (byte : ℕ) (bytes : List ℕ) (sort : ByteKind) → kind_of byte ≡ sort
       → length digits ≤ 16
-      → form_of (onward side (reached [] (move_past_sign mark digits sort)) bytes)
+      → form_of (onward side (lexer_after [] (move_past_sign mark digits sort)) bytes)
       ≡ cut_then line_after (signed_run_at mark digits (byte ∷ bytes))
   signed_past mark [] byte bytes sort e short = stuck_form bytes
   signed_past mark (first ∷ digits) byte bytes sort e short =
       let token : Token = Signed mark (first ∷ digits) in
       ap (λ (s : LexerState). form_of (onward side s bytes)) (past_reached token sort)
-      ∙ sym (ap (λ (k : ByteKind). form_of (onward side (reached (token ∷ []) (move_past [] k)) bytes)) e)
+      ∙ sym (ap (λ (k : ByteKind). form_of (onward side (lexer_after (token ∷ []) (move_past [] k)) bytes)) e)
       ∙ token_then token (byte ∷ bytes)
       ∙ sym (ap (cut_then line_after) (signed_cut mark (first ∷ digits) byte bytes (omega arith) short))
 
@@ -343,7 +346,7 @@ module _ (side : Side) where
       ≡ cut_then line_after (run_from (signed_run_at mark) digits (byte ∷ bytes))
   signed_ends mark digits byte bytes sort e same d short =
       ap form_of (signed_kind mark digits byte bytes sort e)
-      ∙ ap (λ (m : Move). form_of (onward side (reached [] m) bytes)) same
+      ∙ ap (λ (m : Move). form_of (onward side (lexer_after [] m) bytes)) same
       ∙ signed_past mark digits byte bytes sort e short
       ∙ sym (ap (cut_then line_after) (run_from-ended (signed_run_at mark) digits byte bytes d))
 
@@ -359,13 +362,13 @@ module _ (side : Side) where
     | digit l ↦ elim (cases_lt (length digits) 16) [
       | inl lt ↦ ap form_of (signed_kind mark digits byte bytes kind.Digit l.kind_is)
           ∙ ap (λ (b : Bool). form_of
-          (onward side (reached [] (choice b (Goes [] (AfterSign mark (digits ++ byte ∷ []))) Unfits)) bytes))
+          (onward side (lexer_after [] (choice b (Goes [] (AfterSign mark (digits ++ byte ∷ []))) Unfits)) bytes))
           (lt-ltb (length digits) 16 lt)
           ∙ signed_then mark (digits ++ byte ∷ []) bytes (omega (arith, length-append digits (byte ∷ [])))
           ∙ sym (ap (cut_then line_after) (run_from-digit (signed_run_at mark) digits byte bytes l.digit_is))
       | inr le ↦ ap form_of (signed_kind mark digits byte bytes kind.Digit l.kind_is)
           ∙ ap (λ (b : Bool). form_of
-          (onward side (reached [] (choice b (Goes [] (AfterSign mark (digits ++ byte ∷ []))) Unfits)) bytes))
+          (onward side (lexer_after [] (choice b (Goes [] (AfterSign mark (digits ++ byte ∷ []))) Unfits)) bytes))
           (le-ltb (length digits) 16 le)
           ∙ stuck_form bytes
           ∙ sym (ap (cut_then line_after) (run_from-digit (signed_run_at mark) digits byte bytes l.digit_is
@@ -383,10 +386,10 @@ module _ (side : Side) where
 
   -- a sign where a token may begin
   signed_line : (mark : ℕ) (bytes : List ℕ)
-      → form_of (onward side (reached [] (move_to_sign side mark)) bytes)
+      → form_of (onward side (lexer_after [] (move_to_sign side mark)) bytes)
       ≡ cut_then line_after (signed_at side mark bytes)
   signed_line mark bytes =
-      elim side as (λ (s : Side). form_of (onward side (reached [] (move_to_sign s mark)) bytes)
+      elim side as (λ (s : Side). form_of (onward side (lexer_after [] (move_to_sign s mark)) bytes)
       ≡ cut_then line_after (signed_at s mark bytes)) [
         | sides.Client ↦ stuck_form bytes
         | sides.Server ↦ signed_then mark [] bytes (omega arith)
@@ -515,7 +518,8 @@ module _ (side : Side) where
       (same cut.tail within)
   after_same count f g Unfit within same = refl
 
-  ended_line : (byte : ℕ) (bytes : List ℕ) → kind_of byte ≡ kind.LineFeed → line_after (byte ∷ bytes) ≡ ended bytes
+  ended_line : (byte : ℕ) (bytes : List ℕ) → kind_of byte ≡ kind.LineFeed →
+      line_after (byte ∷ bytes) ≡ end_of_line bytes
   ended_line byte [] e = ap form_of (between_kind byte [] kind.LineFeed e)
   ended_line byte (second ∷ bytes) e =
       ap form_of (between_kind byte (second ∷ bytes) kind.LineFeed e) ∙ stuck_form bytes
@@ -524,7 +528,7 @@ module _ (side : Side) where
   abbrev unblank : ℕ → List ℕ → Form (List Token)
   unblank most [] = Prefix
   unblank most (byte ∷ tail) =
-      choice (eqb byte 10) (ended tail) (cut_then (tokens_at side most) (token_at side byte tail))
+      choice (eqb byte 10) (end_of_line tail) (cut_then (tokens_at side most) (token_at side byte tail))
 
   feed_kind : (byte : ℕ) → eqb byte 10 ≡ true → kind_of byte ≡ kind.LineFeed
   feed_kind byte e = ap kind_of (eqb-true byte 10 e)
@@ -534,9 +538,11 @@ module _ (side : Side) where
       → unblank most bytes ≡ line_after bytes
   unblank_line most [] head short same = refl
   unblank_line most (byte ∷ tail) head short same = elim (cases_Bool (eqb byte 10)) [
-    | inl e ↦ ap (λ (b : Bool). choice b (ended tail) (cut_then (tokens_at side most) (token_at side byte tail))) e
+    | inl e ↦ ap
+        (λ (b : Bool). choice b (end_of_line tail) (cut_then (tokens_at side most) (token_at side byte tail))) e
         ∙ sym (ended_line byte tail (feed_kind byte e))
-    | inr e ↦ ap (λ (b : Bool). choice b (ended tail) (cut_then (tokens_at side most) (token_at side byte tail))) e
+    | inr e ↦ ap
+        (λ (b : Bool). choice b (end_of_line tail) (cut_then (tokens_at side most) (token_at side byte tail))) e
         ∙ after_same (length tail) (tokens_at side most) line_after (token_at side byte tail) (token_leaves byte tail)
         (λ rest le. same rest (omega arith))
         ∙ sym (token_line byte tail head e)

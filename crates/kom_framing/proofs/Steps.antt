@@ -23,7 +23,7 @@ use Rattle.kom_framing.specs.declared.lexer.Step.{Step}
 use Rattle.kom_framing.specs.declared.lexer.Step.TheVariants as step
 use Rattle.kom_framing.specs.Spans.{cut_of}
 use Rattle.kom_framing.specs.Lexing.{Between, Run, Inside, Past, AfterSign, Goes, Unfits, move, move_past, move_in_run}
-use Rattle.kom_framing.specs.Lexing.{string_from, move_after_sign, Going, reached, onward}
+use Rattle.kom_framing.specs.Lexing.{string_from, move_after_sign, Going, lexer_after, onward}
 use Rattle.kom_framing.specs.Scanning.{AreDigits, text_from, mode_of, IsRun, IsInside, IsAfterSign, IsMove, LeadsOn}
 use Rattle.kom_framing.specs.Scanning.{Does, step_by}
 use Rattle.kom_framing.proofs.Spans.{one_token}
@@ -362,15 +362,15 @@ module _ (side : Side) where
       subst (λ (n : ℕ). Does side (step.Goes n ended after) before bytes (byte ∷ rest)) (sym moved.0) (record {
         some = omega arith;
         within = omega arith;
-        onward_is = λ tokens. ap (reached tokens) moved.1;
+        onward_is = λ tokens. ap (lexer_after tokens) moved.1;
         sound = moved.2;
         whole = moved.3;
       })
   does_move (step.Ends ended) before bytes byte rest moved = record {
-    onward_is = λ tokens. ap (reached tokens) moved.0;
+    onward_is = λ tokens. ap (lexer_after tokens) moved.0;
     whole = moved.1;
   }
-  does_move step.Unfit before bytes byte rest moved = λ tokens. ap (reached tokens) moved
+  does_move step.Unfit before bytes byte rest moved = λ tokens. ap (lexer_after tokens) moved
 
   -- ---- many bytes of a string
 

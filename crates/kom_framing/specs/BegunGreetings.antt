@@ -17,7 +17,7 @@ use Rattle.kom_framing.specs.declared.greeting.Heard.TheVariants as heard_so
 use Rattle.kom_framing.specs.declared.lines.Scan.{Scan}
 use Rattle.kom_framing.specs.declared.lines.Scan.TheVariants as scan
 use Rattle.kom_framing.specs.Splitting.{Opening, Nothing, Letter, Length, Name, Letters}
-use Rattle.kom_framing.specs.Hearing.{Greets, Going, Ended, Stuck, hear, onward, heard}
+use Rattle.kom_framing.specs.Hearing.{Greets, Going, Ended, Stuck, hear, onward, hear_all}
 use Rattle.kom_framing.specs.BegunLines.{fault_seen}
 
 -- what is kept of a greeting
@@ -99,10 +99,10 @@ pub record IsSame (old new : Greeting) : Type 0 where
 pub record GreetsOn (place : ℕ) (old : Greeting) (piece : List ℕ) (new : Greeting) : Type 0 where
   pub greeting : IsBegunGreeting new
   pub early : place + length piece ≤ LONGEST_STREAM
-  pub split : (side : Side) (bytes : List ℕ) → heard side bytes ≡ Going (greeting_kept old)
+  pub split : (side : Side) (bytes : List ℕ) → hear_all side bytes ≡ Going (greeting_kept old)
       → stream.greeting_from side place bytes piece ≡ stream.stopped_in (bytes ++ piece) None
-  pub heard_more : (side : Side) (bytes : List ℕ) → heard side bytes ≡ Going (greeting_kept old)
-      → heard side (bytes ++ piece) ≡ Going (greeting_kept new)
+  pub heard_more : (side : Side) (bytes : List ℕ) → hear_all side bytes ≡ Going (greeting_kept old)
+      → hear_all side (bytes ++ piece) ≡ Going (greeting_kept new)
 
 -- the greeting ends with the last of so many bytes of the piece
 pub record GreetsTo (count place : ℕ) (old : Greeting) (piece : List ℕ) (new : Greeting)
@@ -111,14 +111,14 @@ pub record GreetsTo (count place : ℕ) (old : Greeting) (piece : List ℕ) (new
   pub within : count ≤ length piece
   pub early : place + count ≤ LONGEST_STREAM
   pub lengthens : Lengthens old.name.items new.name.items
-  pub split : (side : Side) (bytes : List ℕ) → heard side bytes ≡ Going (greeting_kept old)
+  pub split : (side : Side) (bytes : List ℕ) → hear_all side bytes ≡ Going (greeting_kept old)
       → stream.greeting_from side place bytes piece
       ≡ record (stream.lines_from side (place + count) [] (drop count piece))
       { greeting = Some new.name.items }
 
 -- the stream has this fault within its greeting
 pub record GreetsFail (place : ℕ) (old : Greeting) (piece : List ℕ) (found : Fault) : Type 0 where
-  pub split : (side : Side) (bytes : List ℕ) → heard side bytes ≡ Going (greeting_kept old)
+  pub split : (side : Side) (bytes : List ℕ) → hear_all side bytes ≡ Going (greeting_kept old)
       → (rest : List ℕ)
       × (stream.greeting_from side place bytes piece
       ≡ stream.stopped_in rest (Some (fault_seen found)))

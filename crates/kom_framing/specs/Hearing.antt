@@ -81,5 +81,5 @@ abbrev pub onward : Greets → List ℕ → Greets
 onward state bytes = fold next state bytes
 
 -- these bytes of a greeting
-abbrev pub heard : Side → List ℕ → Greets
-heard side bytes = onward (Going (opening_of side [])) bytes
+abbrev pub hear_all : Side → List ℕ → Greets
+hear_all side bytes = onward (Going (opening_of side [])) bytes

@@ -110,13 +110,13 @@ pub data LexerState : Type 0 where
   Ended : List Token → LexerState
   Stuck : LexerState
 
-abbrev pub reached : List Token → Move → LexerState
-reached tokens (Goes more mode) = Going (tokens ++ more) mode
-reached tokens (Ends more) = Ended (tokens ++ more)
-reached tokens Unfits = Stuck
+abbrev pub lexer_after : List Token → Move → LexerState
+lexer_after tokens (Goes more mode) = Going (tokens ++ more) mode
+lexer_after tokens (Ends more) = Ended (tokens ++ more)
+lexer_after tokens Unfits = Stuck
 
 abbrev pub next : Side → LexerState → ℕ → LexerState
-next side (Going tokens mode) byte = reached tokens (move side mode byte)
+next side (Going tokens mode) byte = lexer_after tokens (move side mode byte)
 next side (Ended tokens) byte = Stuck
 next side Stuck byte = Stuck
 

@@ -22,17 +22,17 @@ pub data Opening : Type 0 where
   Name : ℕ → List ℕ → Opening
   Letters : List ℕ → Opening
 
-abbrev pub opened : List ℕ → List ℕ → Opening
-opened [] [] = Letter
-opened [] (byte ∷ name) = Name 0 name
-opened (digit ∷ digits) [] = Length (length (digit ∷ digits)) (number_of (digit ∷ digits))
-opened (digit ∷ digits) (byte ∷ name) = Name (number_of (digit ∷ digits)) name
+abbrev pub opening_from : List ℕ → List ℕ → Opening
+opening_from [] [] = Letter
+opening_from [] (byte ∷ name) = Name 0 name
+opening_from (digit ∷ digits) [] = Length (length (digit ∷ digits)) (number_of (digit ∷ digits))
+opening_from (digit ∷ digits) (byte ∷ name) = Name (number_of (digit ∷ digits)) name
 
 abbrev pub client_opening : List ℕ → Opening
 client_opening [] = Nothing
 client_opening (letter ∷ bytes) =
     let text = drop_while is_blank bytes in
-    opened (take_while is_digit text) (drop_while is_digit text)
+    opening_from (take_while is_digit text) (drop_while is_digit text)
 
 -- what is kept of these bytes, with which a greeting has begun
 abbrev pub opening_of : Side → List ℕ → Opening

@@ -19,8 +19,11 @@ use std::alloc::Global;
 use std::collections::VecDeque;
 use std::mem;
 
+/// How long a line's text is at most that takes no memory of its own.
+const SHORT: usize = 24;
+
 /// The bytes of a line. Up to 24 take no memory of their own.
-pub type LineText = SmallVec<u8, 24>;
+pub type LineText = SmallVec<u8, SHORT>;
 
 /// The places of a line at which its tokens begin. Up to twelve take no memory of their own.
 pub type LineStarts = SmallVec<u32, 12>;
@@ -378,13 +381,28 @@ fn add_whole(units: &mut VecDeque<Unit>, place: u64, piece: &[u8]) -> Result<Opt
             if starts.is_empty() {
                 return Ok(Some(count));
             }
-            let text = SmallVec::from_slice(alloc, &window[..count])?;
+            let text = text_of(alloc, window, count)?;
             let end = place + count as u64 - 1;
             units.reserve(1)?;
             units.push_back_reserved(Unit::Line(Line::of(text, starts, end)));
             Ok(Some(count))
         }
     }
+}
+
+// So many bytes at the start of a window. A short text of a window that is long enough is copied
+// with what is after it: a copy of a fixed length needs no call.
+#[inline(always)]
+fn text_of(alloc: Global, window: &[u8], count: usize) -> Result<LineText, Memory>
+    requires { count ≤ length window.now }
+    ensures { IfOk result (λ text. text.items ≡ take count window.now) }
+{
+    if count <= SHORT && SHORT <= window.len() {
+        let mut bytes = [0; SHORT];
+        bytes.copy_from_slice(&window[..SHORT]);
+        return Ok(SmallVec::from_buf_and_len(alloc, bytes, count));
+    }
+    Ok(SmallVec::from_slice(alloc, &window[..count])?)
 }
 
 // Adds a unit at the end, if there is one.

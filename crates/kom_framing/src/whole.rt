@@ -10,6 +10,7 @@ use kom_types::{ByteKind, Memory, kind_of_byte};
 
 /// The number of the bytes of the line that a window begins with, if it is whole there and has no
 /// sign, and the places of its tokens. Else there may be places of any tokens.
+#[inline(always)]
 pub fn whole_line(window: &[u8], starts: &mut LineStarts) -> Result<Option<usize>, Memory>
     requires fresh { starts.old.items ≡ [] }
     requires short { length window.now ≤ LONGEST_LINE }
@@ -60,8 +61,11 @@ fn token_end(window: &[u8], start: usize) -> Option<usize>
     requires short { length window.now ≤ LONGEST_LINE }
     ensures { IfSome result (IsTokenTo window.now start) }
 {
-    match kind_of_byte(window[start]) {
-        ByteKind::Digit => run_end(window, start),
+    let byte = window[start];
+    if byte.is_ascii_digit() {
+        return run_end(window, start);
+    }
+    match kind_of_byte(byte) {
         ByteKind::Open => Some(start + 1),
         ByteKind::Close => Some(start + 1),
         ByteKind::Star => Some(start + 1),

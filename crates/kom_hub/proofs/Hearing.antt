@@ -7,7 +7,7 @@ use Rattle.kom_types.specs.declared.answers.NotMade.{NotMade}
 use Rattle.kom_types.specs.declared.answers.NotMade.TheVariants as fault
 use Rattle.kom_links.specs.declared.deeds.Deed.{Deed}
 use Rattle.kom_links.specs.declared.deeds.Deed.TheVariants as deed
-use Rattle.kom_links.specs.Answers.{Answer, said}
+use Rattle.kom_links.specs.Answers.{Answer, without_value}
 use Rattle.kom_links.specs.DeskCalls.{DeskView}
 use Rattle.kom_hub.specs.declared.place.Place.{Place}
 use Rattle.kom_hub.specs.Seats.{IsAnswered, IsSeatAnswer, IsHeard, Hears}
@@ -112,7 +112,7 @@ hears_told old new before after answer told grown = record {
 
 -- an answer to a deed, without what it hands over
 pub said_is : (answers : List Answer) (what : Deed) (answer : Result ⊤ NotMade)
-    → answers ++ (what, said answer) ∷ [] ≡ answers ++ (what, answer) ∷ []
+    → answers ++ (what, without_value answer) ∷ [] ≡ answers ++ (what, answer) ∷ []
 said_is answers what (Ok done) = refl
 said_is answers what (Err reason) = refl
 

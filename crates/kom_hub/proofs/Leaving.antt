@@ -16,7 +16,7 @@ use Rattle.kom_links.specs.Records.{has_session, IsOpen}
 use Rattle.kom_links.specs.DeskCalls.{DeskView, ChangesAt, StaysForAll, record_of, IsTold}
 use Rattle.kom_links.specs.DeskCalls.{Connects, Acts, Calls, Drains, Flushes, Closes, AsksStopped, AddsNoneOrShort}
 use Rattle.kom_hub.specs.declared.place.Place.{Place}
-use Rattle.kom_hub.specs.Seats.{is_flush, shown, IsFlush, Hears, Leaves}
+use Rattle.kom_hub.specs.Seats.{is_flush, seat_records, IsFlush, Hears, Leaves}
 use Rattle.kom_hub.proofs.Shown.{shown_own}
 use Rattle.kom_hub.proofs.Hearing.{Told, hears_told, hears_connected, said_is}
 use Rattle.kom_hub.proofs.Seated.{present_more, absent_more, connect_more, flush_more, grows}
@@ -43,9 +43,10 @@ has_still old new before after more same grown had some =
 
 -- the same is shown
 shows_same : (old new : Place) (before after : DeskView) → new.session ≡ old.session → after.mine ≡ before.mine
-    → shown new.session after.mine ≡ shown old.session before.mine ++ []
+    → seat_records new.session after.mine ≡ seat_records old.session before.mine ++ []
 shows_same old new before after same mine =
-    ap (λ k. shown k after.mine) same ∙ ap (shown old.session) mine ∙ sym (append-nil (shown old.session before.mine))
+    ap (λ k. seat_records k after.mine) same ∙ ap (seat_records old.session) mine
+    ∙ sym (append-nil (seat_records old.session before.mine))
 
 -- nothing was added
 still : (old new : Place) (before after : DeskView) → new.session ≡ old.session → after.mine ≡ before.mine
@@ -72,10 +73,10 @@ pub leaves_connected : (old new : Place) (before : DeskView) (moment : ℕ) (use
 leaves_connected old new before moment user host session after none is fresh spent items c = record {
   more = record_of before.pass moment (act.Connect user host) session false ∷ [];
   mine = c.added;
-  shows = ap (λ k. shown k after.mine) is ∙ ap (shown session) c.added
+  shows = ap (λ k. seat_records k after.mine) is ∙ ap (seat_records session) c.added
       ∙ connect_more session before.mine (record_of before.pass moment (act.Connect user host) session false)
       c.new_number.0 c.new_number.1 refl
-      ∙ ap (λ k. shown k before.mine ++ record_of before.pass moment (act.Connect user host) session false ∷ [])
+      ∙ ap (λ k. seat_records k before.mine ++ record_of before.pass moment (act.Connect user host) session false ∷ [])
       (sym none);
   own = (inl (λ zero. c.new_number.0 (sym is ∙ zero), sym is, refl), tt);
   stays = λ some. absurd (some none);
@@ -116,7 +117,7 @@ pub data Adds (session : ℕ) (before after : DeskView) : Type 0 where
       → after.mine ≡ before.mine ++ made ∷ [] → Adds session before after
 
 leaves_acted : (old new : Place) (before : DeskView) (number : ℕ) (what : Deed) (answer : Result ⊤ NotMade)
-    (after : DeskView) → Told old new (what, answer) → IsOpen number (shown old.session before.mine)
+    (after : DeskView) → Told old new (what, answer) → IsOpen number (seat_records old.session before.mine)
     → Adds number before after
     → ((other : ℕ) → other ≢ number → after.gave_to other ≡ before.gave_to other)
     → IsTold before what answer after → Leaves old before new after
@@ -147,7 +148,7 @@ leaves_acted old new before number what answer after heard opened adds given tol
     go is some (One made own kind added) = record {
       more = made ∷ [];
       mine = added;
-      shows = ap (λ k. shown k after.mine) same ∙ grows old.session before number opened made own after added;
+      shows = ap (λ k. seat_records k after.mine) same ∙ grows old.session before number opened made own after added;
       own = (inl (λ zero. some (sym same ∙ zero), own ∙ is ∙ sym same, kind), tt);
       stays = λ some. same;
       fresh = λ none some'. absurd (some none);
@@ -167,7 +168,7 @@ flush_leaves : (old new : Place) (before after : DeskView) (made : Record) → o
 flush_leaves old new before after made some same mine flush given pass lock hears = record {
   more = made ∷ [];
   mine = mine;
-  shows = ap (λ k. shown k after.mine) same ∙ ap (shown old.session) mine
+  shows = ap (λ k. seat_records k after.mine) same ∙ ap (seat_records old.session) mine
       ∙ flush_more old.session before.mine made some flush.0 flush.1;
   own = (inr flush, tt);
   stays = λ some. same;
@@ -218,7 +219,7 @@ ok_adds number before after (Err reason) made own kind one none = Nothing none
 
 pub leaves_act : (old new : Place) (before : DeskView) (moment : ℕ) (what : Act) (number : ℕ)
     (answer : Result ⊤ NotMade) (after : DeskView) → Told old new (deed_of what, answer)
-    → IsOpen number (shown old.session before.mine) → is_flush what ≡ false
+    → IsOpen number (seat_records old.session before.mine) → is_flush what ≡ false
     → Acts before moment what number answer after → Leaves old before new after
 leaves_act old new before moment what number answer after same opened kind a =
     leaves_acted old new before number (deed_of what) answer after same opened
@@ -227,7 +228,7 @@ leaves_act old new before moment what number answer after same opened kind a =
     (λ other differs. a.given other) a.rest
 
 pub leaves_closed : (old new : Place) (before : DeskView) (moment : ℕ) (number : ℕ) (answer : Result ⊤ NotMade)
-    (after : DeskView) → Told old new (deed.Close number, answer) → IsOpen number (shown old.session before.mine)
+    (after : DeskView) → Told old new (deed.Close number, answer) → IsOpen number (seat_records old.session before.mine)
     → Closes before moment number answer after → Leaves old before new after
 leaves_closed old new before moment number answer after same opened a =
     leaves_acted old new before number (deed.Close number) answer after same opened
@@ -245,7 +246,7 @@ called_adds number before after moment what (Err reason) kind one none = Nothing
 
 pub leaves_called : (old new : Place) (before : DeskView) (moment : ℕ) (what : Act) (number : ℕ)
     (answer : Result ⊤ NotMade) (after : DeskView) → Told old new (deed_of what, answer)
-    → IsOpen number (shown old.session before.mine) → is_flush what ≡ false
+    → IsOpen number (seat_records old.session before.mine) → is_flush what ≡ false
     → Calls before moment what number answer after → Leaves old before new after
 leaves_called old new before moment what number answer after same opened kind a =
     leaves_acted old new before number (deed_of what) answer after same opened
@@ -261,7 +262,7 @@ drained_given number before after items (Err reason) one none other differs = no
 
 pub leaves_drained : (old new : Place) (before : DeskView) (moment : ℕ) (number : ℕ) (items : List Item)
     (answer : Result ⊤ NotMade) (after : DeskView) → Told old new (deed.Drain number (is_nothing items), answer)
-    → IsOpen number (shown old.session before.mine) → Drains before moment number items answer after
+    → IsOpen number (seat_records old.session before.mine) → Drains before moment number items answer after
     → Leaves old before new after
 leaves_drained old new before moment number items answer after same opened a =
     leaves_acted old new before number (deed.Drain number (is_nothing items)) answer after same opened

@@ -10,7 +10,8 @@ use Rattle.kom_links.specs.Answers.{Answer}
 use Rattle.kom_links.specs.DeskCalls.{DeskView, StaysForAll}
 use Rattle.kom_links.specs.Records.{has_session}
 use Rattle.kom_hub.specs.declared.place.Place.{Place}
-use Rattle.kom_hub.specs.Seats.{is_flush, is_shown, since, since_at, shown, only, seat_of, IsFlush, IsOfSeat, Leaves}
+use Rattle.kom_hub.specs.Seats.{is_flush, is_shown, since, since_at, seat_records, only, seat_of, IsFlush, IsOfSeat}
+use Rattle.kom_hub.specs.Seats.{Leaves}
 use Rattle.kom_hub.specs.Passing.{Passes, IsSeatOf, IsBlank}
 use Rattle.kom_hub.proofs.Shown.{since_present, shown_by, any_since}
 use Rattle.kom_hub.proofs.Seated.{present_more, absent_more, only_none, only_nobody, only_same, only_own, flush_more}
@@ -48,7 +49,8 @@ absent_all session other (made ∷ more) some differs all =
 
 shown_pass : (session other : ℕ) (records more : List Record) → other ≢ 0 → other ≢ session
     → AllByRecursion (IsOfSeat session) more
-    → shown other (records ++ more) ≡ shown other records ++ filter (λ (made : Record). is_flush made.entry.act) more
+    → seat_records other (records ++ more)
+    ≡ seat_records other records ++ filter (λ (made : Record). is_flush made.entry.act) more
 shown_pass session other records more some differs all = elim (cases_Bool (has_session other records)) [
   | inl here ↦
       shown_by other (records ++ more) true some (present_more other records more here)
@@ -80,7 +82,7 @@ flushes_of session (made ∷ more) all = go (is_flush made.entry.act) refl all.0
 
 -- the seat of a session that has records shows some
 shows_some : (session : ℕ) (records : List Record) → session ≢ 0 → has_session session records ≡ true
-    → shown session records ≡ [] → ⊥
+    → seat_records session records ≡ [] → ⊥
 shows_some session records some has none =
     let here : has_session session (since session records) ≡ true =
     any_since (λ (made : Record). made.session == session) session records (λ made is. is) ∙ has in
@@ -93,7 +95,8 @@ passes_other : (old new : Place) (before after : DeskView) (session : ℕ) (answ
     → Passes (seat_of session answers before) (seat_of session answers after)
 passes_other old new before after session answers leaves some has other = record {
   flushes = filter (λ (made : Record). is_flush made.entry.act) leaves.more;
-  mine = ap (shown session) leaves.mine ∙ shown_pass new.session session before.mine leaves.more some other leaves.own;
+  mine = ap (seat_records session) leaves.mine
+      ∙ shown_pass new.session session before.mine leaves.more some other leaves.own;
   all = flushes_of new.session leaves.more leaves.own;
   begun = λ none. absurd (shows_some session before.mine some has none);
   given = only_own session [] before.gave_to after.gave_to (leaves.given session some other);
@@ -130,14 +133,14 @@ passes old new before after session answers leaves has other = elim (cases_eq se
 
 -- some flushes more are to any seat flushes, or nothing
 shown_flushes : (session : ℕ) (records more : List Record) → session ≢ 0 → AllByRecursion IsFlush more
-    → shown session (records ++ more) ≡ shown session records ++ more
+    → seat_records session (records ++ more) ≡ seat_records session records ++ more
 shown_flushes session records [] some all =
-    ap (shown session) (append-nil records) ∙ sym (append-nil (shown session records))
+    ap (seat_records session) (append-nil records) ∙ sym (append-nil (seat_records session records))
 shown_flushes session records (made ∷ more) some all =
-    ap (shown session) (sym (assoc records more))
+    ap (seat_records session) (sym (assoc records more))
     ∙ shown_flushes session (records ++ made ∷ []) more some all.1
     ∙ ap (λ first. first ++ more) (flush_more session records made some all.0.0 all.0.1)
-    ∙ assoc (shown session records) more
+    ∙ assoc (seat_records session records) more
   where
     assoc : (xs ys : List Record) → (xs ++ made ∷ []) ++ ys ≡ xs ++ made ∷ ys
     assoc [] ys = refl
@@ -161,7 +164,7 @@ passes_quiet before after session answers flushes mine all given pass lock has =
   })
   | inr some ↦ record {
     flushes = flushes;
-    mine = ap (shown session) mine ∙ shown_flushes session before.mine flushes some all;
+    mine = ap (seat_records session) mine ∙ shown_flushes session before.mine flushes some all;
     all = all;
     begun = λ none. absurd (shows_some session before.mine some (has some) none);
     given = only_same session [] before.gave_to after.gave_to given;
@@ -199,12 +202,12 @@ all_since session (made ∷ records) = go (made.session == session) refl (all_si
 
 -- what a seat shows is its own
 pub seat_is : (session : ℕ) (records : List Record) → (session ≢ 0 → has_session session records ≡ true)
-    → IsSeatOf session (shown session records)
+    → IsSeatOf session (seat_records session records)
 seat_is session records has = elim (cases_eq session 0) [
-  | inl zero ↦ subst (λ (k : ℕ). IsSeatOf k (shown k records)) (sym zero)
+  | inl zero ↦ subst (λ (k : ℕ). IsSeatOf k (seat_records k records)) (sym zero)
       (record { own = tt; has = λ some. absurd (some refl); none = λ e. refl })
   | inr some ↦
-      let same : shown session records ≡ since session records = shown_by session records true some (has some) in
+      let same : seat_records session records ≡ since session records = shown_by session records true some (has some) in
       subst (λ (made : List Record). IsSeatOf session made) (sym same) (record {
         own = all_since session records;
         has = λ e. any_since (λ (made : Record). made.session == session) session records (λ made is. is) ∙ has some;
@@ -216,7 +219,7 @@ seat_is session records has = elim (cases_eq session 0) [
 pub blank : (session : ℕ) (answers : List Answer) (desk : DeskView) → session ≡ 0 → answers ≡ []
     → IsBlank (seat_of session answers desk)
 blank session answers desk nobody nothing = record {
-  mine = ap (λ k. shown k desk.mine) nobody;
+  mine = ap (λ k. seat_records k desk.mine) nobody;
   given = λ number. ap (λ k. only k [] desk.gave_to number) nobody ∙ only_nobody [] desk.gave_to number;
   answers = nothing;
 }

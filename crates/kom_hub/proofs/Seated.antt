@@ -15,10 +15,10 @@ use Rattle.kom_links.specs.declared.deeds.Deed.TheVariants as deed
 use Rattle.kom_types.specs.declared.answers.NotMade.{NotMade}
 use Rattle.kom_types.specs.declared.answers.NotMade.TheVariants as fault
 use Rattle.kom_links.specs.Records.{has_session, IsOpen}
-use Rattle.kom_links.specs.Answers.{Answer, said, said_stopped, deed_of, is_nothing}
+use Rattle.kom_links.specs.Answers.{Answer, without_value, said_stopped, deed_of, is_nothing}
 use Rattle.kom_links.specs.DeskCalls.{DeskView, ChangesAt, StaysForAll, record_of, IsTold}
 use Rattle.kom_links.specs.DeskCalls.{Connects, Acts, Calls, Drains, Flushes, Closes, AsksStopped, AddsNoneOrShort}
-use Rattle.kom_hub.specs.Seats.{is_flush, is_shown, since, since_at, shown, only, only_by, seat_of}
+use Rattle.kom_hub.specs.Seats.{is_flush, is_shown, since, since_at, seat_records, only, only_by, seat_of}
 use Rattle.kom_hub.proofs.Shown.{since_absent, since_present, shown_by, shown_own, shown_open, connected_present}
 
 -- ---- what is shown of one record more
@@ -50,7 +50,7 @@ flush_shown session made flush = ap (λ b. (made.session == session) || b) flush
 
 one_present : (session : ℕ) (records : List Record) (made : Record) → session ≢ 0
     → has_session session records ≡ true → is_shown session made ≡ true
-    → shown session (records ++ made ∷ []) ≡ shown session records ++ made ∷ []
+    → seat_records session (records ++ made ∷ []) ≡ seat_records session records ++ made ∷ []
 one_present session records made some here is =
     shown_by session (records ++ made ∷ []) true some (present_more session records (made ∷ []) here)
     ∙ since_present session records (made ∷ []) here
@@ -58,13 +58,13 @@ one_present session records made some here is =
     ∙ ap (λ first. first ++ made ∷ []) (sym (shown_by session records true some here))
 
 pub own_more : (session : ℕ) (records : List Record) (made : Record) → session ≢ 0 → IsOpen session records
-    → made.session ≡ session → shown session (records ++ made ∷ []) ≡ shown session records ++ made ∷ []
+    → made.session ≡ session → seat_records session (records ++ made ∷ []) ≡ seat_records session records ++ made ∷ []
 own_more session records made some opened own =
     one_present session records made some (connected_present session records opened) (own_shown session made own)
 
 pub flush_more : (session : ℕ) (records : List Record) (made : Record) → session ≢ 0
     → is_flush made.entry.act ≡ true → made.session ≡ 0
-    → shown session (records ++ made ∷ []) ≡ shown session records ++ made ∷ []
+    → seat_records session (records ++ made ∷ []) ≡ seat_records session records ++ made ∷ []
 flush_more session records made some flush none = elim (cases_Bool (has_session session records)) [
   | inl here ↦ one_present session records made some here (flush_shown session made flush)
   | inr there ↦
@@ -80,7 +80,7 @@ flush_more session records made some flush none = elim (cases_Bool (has_session 
 
 pub connect_more : (session : ℕ) (records : List Record) (made : Record) → session ≢ 0
     → has_session session records ≡ false → made.session ≡ session
-    → shown session (records ++ made ∷ []) ≡ made ∷ []
+    → seat_records session (records ++ made ∷ []) ≡ made ∷ []
 connect_more session records made some none own =
     let at : (made.session == session) ≡ true = eq-eqb made.session session own in
     let more : has_session session (records ++ made ∷ []) ≡ true =
@@ -155,12 +155,12 @@ on_ok (Ok done) to was = to was
 on_ok (Err why) to was = tt
 
 -- an answer that hands over nothing is what it says
-said_same : (answer : Result ⊤ NotMade) → said answer ≡ answer
+said_same : (answer : Result ⊤ NotMade) → without_value answer ≡ answer
 said_same (Ok done) = refl
 said_same (Err why) = refl
 
 told : (answers : List Answer) (what : Deed) (answer : Result ⊤ NotMade)
-    → answers ++ (what, answer) ∷ [] ≡ answers ++ (what, said answer) ∷ []
+    → answers ++ (what, answer) ∷ [] ≡ answers ++ (what, without_value answer) ∷ []
 told answers what answer = ap (λ one. answers ++ (what, one) ∷ []) (sym (said_same answer))
 
 or_false : (b : Bool) → b ≡ (b || false)
@@ -177,7 +177,7 @@ connected before zero answers old moment user host session new c =
     subst (λ (k : ℕ). Connects (seat_of k answers old) moment user host (Ok session)
     (seat_of session (answers ++ (deed.Connect, Ok tt) ∷ []) new)) (sym zero) (record {
       added =
-          ap (shown session) c.added
+          ap (seat_records session) c.added
           ∙ connect_more session old.mine (record_of old.pass moment (act.Connect user host) session false)
           c.new_number.0 c.new_number.1 refl;
       new_number = (c.new_number.0, refl);
@@ -198,7 +198,7 @@ refused session answers old moment user host reason new c = record {
   added = tt;
   new_number = tt;
   given = tt;
-  none_added = ap (shown session) c.none_added;
+  none_added = ap (seat_records session) c.none_added;
   none_given = only_same session [] old.gave_to new.gave_to c.none_given;
   tells = refl;
   why = c.why;
@@ -228,7 +228,7 @@ left : (session : ℕ) (answers : List Answer) (what : Deed) (old : DeskView) (a
     (new : DeskView) → IsTold old what answer new
     → IsTold (seat_of session answers old) what answer (seat_of session (answers ++ (what, answer) ∷ []) new)
 left session answers what old answer new t = record {
-  none_added = on_err answer (λ same. ap (shown session) same) t.none_added;
+  none_added = on_err answer (λ same. ap (seat_records session) same) t.none_added;
   tells = told answers what answer;
   lock_full = t.lock_full;
   pass = t.pass;
@@ -236,27 +236,27 @@ left session answers what old answer new t = record {
 
 one_more : (session : ℕ) (old new : DeskView) (made : Record) → session ≢ 0 → IsOpen session old.mine
     → made.session ≡ session → new.mine ≡ old.mine ++ made ∷ []
-    → shown session new.mine ≡ shown session old.mine ++ made ∷ []
+    → seat_records session new.mine ≡ seat_records session old.mine ++ made ∷ []
 one_more session old new made some opened own added =
-    ap (shown session) added ∙ own_more session old.mine made some opened own
+    ap (seat_records session) added ∙ own_more session old.mine made some opened own
 
 -- the session of an act that a seat lets through is the seat's own
-own_of : (session number : ℕ) (old : DeskView) → IsOpen number (shown session old.mine)
+own_of : (session number : ℕ) (old : DeskView) → IsOpen number (seat_records session old.mine)
     → (number ≡ session) × (session ≢ 0) × IsOpen session old.mine
 own_of session number old opened =
     let own : (number ≡ session) × (session ≢ 0) = shown_own session number old.mine opened in
     (own.0, own.1, subst (λ (k : ℕ). IsOpen k old.mine) own.0 (shown_open session number old.mine opened))
 
 -- the same, and its record is shown
-pub grows : (session : ℕ) (old : DeskView) (number : ℕ) → IsOpen number (shown session old.mine)
+pub grows : (session : ℕ) (old : DeskView) (number : ℕ) → IsOpen number (seat_records session old.mine)
     → (made : Record) → made.session ≡ number → (new : DeskView) → new.mine ≡ old.mine ++ made ∷ []
-    → shown session new.mine ≡ shown session old.mine ++ made ∷ []
+    → seat_records session new.mine ≡ seat_records session old.mine ++ made ∷ []
 grows session old number opened made of new added =
     let own : (number ≡ session) × (session ≢ 0) × IsOpen session old.mine = own_of session number old opened in
     one_more session old new made own.1 own.2 (of ∙ own.0) added
 
 pub acted : (session : ℕ) (answers : List Answer) (old : DeskView) (moment : ℕ) (what : Act) (number : ℕ)
-    (answer : Result ⊤ NotMade) (new : DeskView) → IsOpen number (shown session old.mine)
+    (answer : Result ⊤ NotMade) (new : DeskView) → IsOpen number (seat_records session old.mine)
     → Acts old moment what number answer new
     → Acts (seat_of session answers old) moment what number answer
     (seat_of session (answers ++ (deed_of what, answer) ∷ []) new)
@@ -268,7 +268,7 @@ acted session answers old moment what number answer new opened a = record {
 }
 
 pub called : (session : ℕ) (answers : List Answer) (old : DeskView) (moment : ℕ) (what : Act) (number : ℕ)
-    (answer : Result ⊤ NotMade) (new : DeskView) → IsOpen number (shown session old.mine)
+    (answer : Result ⊤ NotMade) (new : DeskView) → IsOpen number (seat_records session old.mine)
     → Calls old moment what number answer new
     → Calls (seat_of session answers old) moment what number answer
     (seat_of session (answers ++ (deed_of what, answer) ∷ []) new)
@@ -283,7 +283,7 @@ called session answers old moment what number answer new opened a = record {
 }
 
 pub closed : (session : ℕ) (answers : List Answer) (old : DeskView) (moment : ℕ) (number : ℕ)
-    (answer : Result ⊤ NotMade) (new : DeskView) → IsOpen number (shown session old.mine)
+    (answer : Result ⊤ NotMade) (new : DeskView) → IsOpen number (seat_records session old.mine)
     → Closes old moment number answer new
     → Closes (seat_of session answers old) moment number answer
     (seat_of session (answers ++ (deed.Close number, answer) ∷ []) new)
@@ -296,7 +296,7 @@ closed session answers old moment number answer new opened a = record {
 }
 
 pub drained : (session : ℕ) (answers : List Answer) (old : DeskView) (moment : ℕ) (number : ℕ) (items : List Item)
-    (answer : Result ⊤ NotMade) (new : DeskView) → IsOpen number (shown session old.mine)
+    (answer : Result ⊤ NotMade) (new : DeskView) → IsOpen number (seat_records session old.mine)
     → Drains old moment number items answer new
     → Drains (seat_of session answers old) moment number items answer
     (seat_of session (answers ++ (deed.Drain number (is_nothing items), answer) ∷ []) new)
@@ -334,7 +334,7 @@ nothing_is (item ∷ items) = ne_eqb (length (item ∷ items)) 0 (λ e. omega (a
 
 pub drained_by : (session : ℕ) (answers : List Answer) (old : DeskView) (moment : ℕ) (number : ℕ) (items : List Item)
     (answer : Result ⊤ NotMade) (new : DeskView) (nothing : Bool) → nothing ≡ (length items == 0)
-    → IsOpen number (shown session old.mine) → Drains old moment number items answer new
+    → IsOpen number (seat_records session old.mine) → Drains old moment number items answer new
     → Drains (seat_of session answers old) moment number items answer
     (seat_of session (answers ++ (deed.Drain number nothing, answer) ∷ []) new)
 drained_by session answers old moment number items answer new nothing e opened a = subst
@@ -357,22 +357,22 @@ short_more : (session : ℕ) (answers answers' : List Answer) (old : DeskView) (
     (new : DeskView) → session ≢ 0 → AddsNoneOrShort old moment reason new
     → AddsNoneOrShort (seat_of session answers old) moment reason (seat_of session answers' new)
 short_more session answers answers' old moment (fault.Gone why.Stopped) new some (inl same) =
-    inl (ap (shown session) same)
+    inl (ap (seat_records session) same)
 short_more session answers answers' old moment (fault.Gone why.Stopped) new some (inr short) =
-    inr (ap (shown session) short
+    inr (ap (seat_records session) short
     ∙ flush_more session old.mine (record_of old.pass moment act.Flush 0 true) some refl refl)
-short_more session answers answers' old moment (fault.Gone why.Absent) new some same = ap (shown session) same
-short_more session answers answers' old moment (fault.Gone why.Dropped) new some same = ap (shown session) same
-short_more session answers answers' old moment (fault.Gone why.Overrun) new some same = ap (shown session) same
-short_more session answers answers' old moment (fault.Full number) new some same = ap (shown session) same
-short_more session answers answers' old moment fault.Memory new some same = ap (shown session) same
+short_more session answers answers' old moment (fault.Gone why.Absent) new some same = ap (seat_records session) same
+short_more session answers answers' old moment (fault.Gone why.Dropped) new some same = ap (seat_records session) same
+short_more session answers answers' old moment (fault.Gone why.Overrun) new some same = ap (seat_records session) same
+short_more session answers answers' old moment (fault.Full number) new some same = ap (seat_records session) same
+short_more session answers answers' old moment fault.Memory new some same = ap (seat_records session) same
 
 pub flushed : (session : ℕ) (answers : List Answer) (old : DeskView) (moment : ℕ) (answer : Result ⊤ NotMade)
     (new : DeskView) → session ≢ 0 → Flushes old moment answer new
     → Flushes (seat_of session answers old) moment answer (seat_of session (answers ++ (deed.Flush, answer) ∷ []) new)
 flushed session answers old moment (Ok done) new some f = record {
   added =
-      ap (shown session) f.added
+      ap (seat_records session) f.added
       ∙ flush_more session old.mine (record_of old.pass moment act.Flush 0 false) some refl refl;
   none_added = tt;
   given = only_same session [] old.gave_to new.gave_to f.given;
@@ -411,7 +411,7 @@ pub asked : (session : ℕ) (answers : List Answer) (old : DeskView) (answer : R
     → AsksStopped (seat_of session answers old) answer
     (seat_of session (answers ++ (deed.Ask, said_stopped answer) ∷ []) new)
 asked session answers old answer new a = record {
-  mine = ap (shown session) a.mine;
+  mine = ap (seat_records session) a.mine;
   given = only_same session [] old.gave_to new.gave_to a.given;
   answers = refl;
   why = a.why;

@@ -9,7 +9,7 @@ use Rattle.kom_types.specs.declared.acts.Act.{Act}
 use Rattle.kom_types.specs.declared.acts.Act.TheVariants as act
 use Rattle.kom_types.specs.declared.acts.Record.{Record}
 use Rattle.kom_links.specs.Records.{is_connect, is_close, has_connect, has_close, has_session, is_open, IsOpen}
-use Rattle.kom_hub.specs.Seats.{is_flush, is_shown, since, since_at, from_first, shown, shown_at}
+use Rattle.kom_hub.specs.Seats.{is_flush, is_shown, since, since_at, from_first, seat_records, shown_at}
 
 or_elim : (a b : Bool) → (a || b) ≡ true → (a ≡ true) ⊎ (b ≡ true)
 or_elim true b e = inl refl
@@ -203,17 +203,17 @@ connected_present session records opened = elim (cases_Bool (has_session session
 ]
 
 pub shown_some : (session : ℕ) (records : List Record) → session ≢ 0
-    → shown session records ≡ from_first (has_session session records) session records
+    → seat_records session records ≡ from_first (has_session session records) session records
 shown_some session records some =
     ap (λ b. shown_at b (from_first (has_session session records) session records)) (ne_eqb session 0 some)
 
 pub shown_by : (session : ℕ) (records : List Record) (has : Bool) → session ≢ 0 → has_session session records ≡ has
-    → shown session records ≡ from_first has session records
+    → seat_records session records ≡ from_first has session records
 shown_by session records has some e =
     shown_some session records some ∙ ap (λ b. from_first b session records) e
 
 pub open_same : (session : ℕ) (records : List Record) → session ≢ 0
-    → is_open session (shown session records) ≡ is_open session records
+    → is_open session (seat_records session records) ≡ is_open session records
 open_same session records some = elim (cases_Bool (has_session session records)) [
   | inl here ↦
       ap (is_open session) (shown_by session records true some here)
@@ -228,12 +228,12 @@ open_same session records some = elim (cases_Bool (has_session session records))
       ∙ sym (ap (λ b. b && not (has_close session records)) (absent_connect session records there))
 ]
 
-shown_zero : (session : ℕ) (records : List Record) → (session == 0) ≡ true → shown session records ≡ []
+shown_zero : (session : ℕ) (records : List Record) → (session == 0) ≡ true → seat_records session records ≡ []
 shown_zero session records zero =
     ap (λ b. shown_at b (from_first (has_session session records) session records)) zero
 
 pub open_other : (session number : ℕ) (records : List Record) → number ≢ session
-    → is_open number (shown session records) ≡ false
+    → is_open number (seat_records session records) ≡ false
 open_other session number records other = elim (cases_Bool (session == 0)) [
   | inl zero ↦ ap (is_open number) (shown_zero session records zero)
   | inr some ↦
@@ -253,24 +253,24 @@ open_other session number records other = elim (cases_Bool (session == 0)) [
 ]
 
 -- who is open among what is shown is the seat's own session, and open
-pub shown_own : (session number : ℕ) (records : List Record) → IsOpen number (shown session records)
+pub shown_own : (session number : ℕ) (records : List Record) → IsOpen number (seat_records session records)
     → (number ≡ session) × (session ≢ 0)
 shown_own session number records opened = elim (cases_Bool (number == session)) [
   | inl same ↦ (eqb-true _ _ same, nobody)
   | inr differs ↦
-      absurd (let t : is_open number (shown session records) ≡ false =
+      absurd (let t : is_open number (seat_records session records) ≡ false =
       open_other session number records (λ e. let s : (number == session) ≡ true = eq-eqb number session e in cc) in cc)
 ]
   where
     nobody : session ≢ 0
     nobody zero =
-        let t : is_open number (shown session records) ≡ false =
+        let t : is_open number (seat_records session records) ≡ false =
         ap (is_open number) (shown_zero session records (eq-eqb session 0 zero)) in cc
 
-pub shown_open : (session number : ℕ) (records : List Record) → IsOpen number (shown session records)
+pub shown_open : (session number : ℕ) (records : List Record) → IsOpen number (seat_records session records)
     → IsOpen number records
 shown_open session number records opened =
     let own : (number ≡ session) × (session ≢ 0) = shown_own session number records opened in
     subst (λ (k : ℕ). is_open k records ≡ true) (sym own.0)
     (sym (open_same session records own.1)
-    ∙ subst (λ (k : ℕ). is_open k (shown session records) ≡ true) own.0 opened)
+    ∙ subst (λ (k : ℕ). is_open k (seat_records session records) ≡ true) own.0 opened)

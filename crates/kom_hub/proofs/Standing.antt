@@ -23,7 +23,7 @@ use Rattle.kom_links.specs.declared.gate.Next.{Next}
 use Rattle.kom_hub.specs.declared.crowd.TheConstants.{MOST_GUESTS}
 use Rattle.kom_hub.specs.declared.place.Place.{Place}
 use Rattle.kom_hub.specs.declared.guest.Guest.{Guest}
-use Rattle.kom_hub.specs.Seats.{seat_view, shown, IsFlush, IsHeard, Leaves}
+use Rattle.kom_hub.specs.Seats.{seat_view, seat_records, IsFlush, IsHeard, Leaves}
 use Rattle.kom_hub.specs.Passing.{Passes, IsTimed}
 use Rattle.kom_hub.specs.Crowds.{Changes, IsOwned, IsKept, IsGuest, Stands, IsClosed, IsTold, HalfStands}
 use Rattle.kom_hub.proofs.Leaving.{lock_before, short_or}
@@ -35,7 +35,7 @@ pub timed_by : (one two : Place) (before after : DeskView) (gave gave' : Option 
     → IsTimed (seat_view one before) gave (seat_view two after) gave' → IsTimed before gave after gave'
 timed_by one two before after gave gave' leaves timed =
     let same : timed.0 ≡ leaves.more =
-    cancel (shown one.session before.mine) timed.0 leaves.more (sym timed.1 ∙ leaves.shows) in
+    cancel (seat_records one.session before.mine) timed.0 leaves.more (sym timed.1 ∙ leaves.shows) in
     (timed.0, leaves.mine ∙ ap (λ (more : List Record). before.mine ++ more) (sym same), timed.2)
 
 -- ---- an exchange in a slab

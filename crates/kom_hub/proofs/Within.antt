@@ -16,11 +16,11 @@ use Rattle.kom_links.specs.declared.served.SessionEnd.{SessionEnd}
 use Rattle.kom_links.specs.declared.served.SessionEnd.TheVariants as end
 use Rattle.kom_links.specs.DeskCalls.{record_of}
 use Rattle.kom_links.specs.Talk.{Step, Connects, Asks, Breaks, Flushes, Drains, Closes, own_step, steps_of, records_of}
-use Rattle.kom_links.specs.Talk.{requests_in, drains_in, breaks_in, is_quiet, Begins, EndsClosed, Written, Settles}
+use Rattle.kom_links.specs.Talk.{requests_in, drains_in, breaks_in, is_quiet, Begins, EndsClosed, WasWritten, Settles}
 use Rattle.kom_links.specs.Talk.{IsDrained, IsBroken, MayBreak, IsSpaced, AtItsEnd, IsTalk}
 use Rattle.kom_hub.proofs.Steps.{requests_in-append, drains_in-append, breaks_in-append, append_split}
 use Rattle.kom_links.specs.Records.{has_session}
-use Rattle.kom_hub.specs.Seats.{is_shown, since, since_at, shown, IsMade}
+use Rattle.kom_hub.specs.Seats.{is_shown, since, since_at, seat_records, IsMade}
 use Rattle.kom_hub.specs.Seats.{is_flush as IsFlushAct}
 use Rattle.kom_hub.proofs.Shown.{shown_by}
 use Rattle.std.proofs.Common.{◌≢◌, ne_eqb}
@@ -362,7 +362,7 @@ talk_around host input output ended whole added session given end full prefix re
           talk.calls;
       breaks = subst (λ (all : List Step). MayBreak input all) (sym all)
           (break_around input prefix steps rear flushes flushes' talk.breaks);
-      written = subst (λ (made : List Record). Written input output made given) (sym records) talk.written;
+      written = subst (λ (made : List Record). WasWritten input output made given) (sym records) talk.written;
       at_end = subst
           (λ (made : List Record). AtItsEnd end input output ended made
           (steps_of session whole given) given) (sym records)
@@ -436,13 +436,13 @@ talk_of_nobody host input output ended records given end full made talk =
 pub talk_of_seat : (host input output : List ℕ) (ended : Bool) (records : List Record) (session : ℕ)
     (given : List (List Item)) (end : SessionEnd) (full : Bool) → AllByRecursion IsMade records
     → (session ≢ 0 → has_session session records ≡ true) →
-    IsTalk host input output ended (shown session records) session given end full →
+    IsTalk host input output ended (seat_records session records) session given end full →
     IsTalk host input output ended records session given end full
 talk_of_seat host input output ended records session given end full made has talk = elim (cases_eq session 0) [
   | inl zero ↦
       subst (λ (k : ℕ). IsTalk host input output ended records k given end full) (sym zero)
       (talk_of_nobody host input output ended records given end full made
-      (subst (λ (k : ℕ). IsTalk host input output ended (shown k records) k given end full) zero talk))
+      (subst (λ (k : ℕ). IsTalk host input output ended (seat_records k records) k given end full) zero talk))
   | inr some ↦
       let found : (before : List Step) × AllByRecursion (λ (step : Step). step ≡ Flushes) before
       × (steps_of session records given ≡ before ++ steps_of session (since session records) given) =

@@ -20,9 +20,9 @@ use Rattle.kom_hub.specs.Seats.{IsFlush, IsSeatAnswer, IsHeard, Leaves, seat_of,
 use Rattle.kom_hub.specs.Passing.{IsTimed}
 
 -- what a desk was asked for all guests: a flush, or whether it is stopped
-abbrev pub Heard : News → DeskView → DeskView → Type 0
-Heard (news.Flushed answer) before after = (moment : ℕ) × Flushes before moment answer after
-Heard (news.Asked answer) before after = AsksStopped before answer after
+abbrev pub HearsNews : News → DeskView → DeskView → Type 0
+HearsNews (news.Flushed answer) before after = (moment : ℕ) × Flushes before moment answer after
+HearsNews (news.Asked answer) before after = AsksStopped before answer after
 
 -- the guest at each key of a slab
 abbrev pub guests : {T L : Type 0} → Slab (Guest T L) → ℕ → Option (Guest T L)

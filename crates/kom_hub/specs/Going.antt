@@ -8,7 +8,7 @@ use Rattle.kom_types.specs.declared.acts.Record.{Record}
 use Rattle.kom_hub.specs.declared.place.Place.{Place}
 use Rattle.kom_links.specs.Records.{has_session}
 use Rattle.kom_links.specs.DeskCalls.{DeskView}
-use Rattle.kom_hub.specs.Seats.{shown, IsOfSeat, Leaves}
+use Rattle.kom_hub.specs.Seats.{seat_records, IsOfSeat, Leaves}
 
 pub all_append : {X : Type 0} (P : X → Type 0) (xs ys : List X) → AllByRecursion P xs
     → AllByRecursion P ys → AllByRecursion P (xs ++ ys)
@@ -52,7 +52,7 @@ leaves_further a b c x y z one two = record {
   mine = two.mine ∙ ap (λ records. records ++ two.more) one.mine
       ∙ append_assoc x.mine one.more two.more;
   shows = two.shows ∙ ap (λ records. records ++ two.more) one.shows
-      ∙ append_assoc (shown a.session x.mine) one.more two.more;
+      ∙ append_assoc (seat_records a.session x.mine) one.more two.more;
   own = all_append (IsOfSeat c.session) one.more two.more
       (of_later b.session c.session two.stays one.more one.own) two.own;
   stays = λ some. let same : b.session ≡ a.session = one.stays some in
@@ -83,7 +83,7 @@ pub leaves_itself : (place : Place) (view : DeskView) → Leaves place view plac
 leaves_itself place view = record {
   more = [];
   mine = sym (append-nil view.mine);
-  shows = sym (append-nil (shown place.session view.mine));
+  shows = sym (append-nil (seat_records place.session view.mine));
   own = tt;
   stays = λ some. refl;
   fresh = λ none some. absurd (some none);

@@ -45,8 +45,8 @@ shown_at false records = records
 
 -- The records that a seat shows: without a session none; else those of the session, and the
 -- flushes from its first record on.
-abbrev pub shown : ℕ → List Record → List Record
-shown session records =
+abbrev pub seat_records : ℕ → List Record → List Record
+seat_records session records =
     shown_at (session == 0) (from_first (has_session session records) session records)
 
 abbrev pub only_by : {X : Type 0} → Bool → Bool → X → X → X
@@ -62,7 +62,7 @@ only session none kept number = only_by (number == 0) (number == session) none (
 abbrev pub seat_of : ℕ → List Answer → DeskView → DeskView
 seat_of session answers view = record {
   pass = view.pass;
-  mine = shown session view.mine;
+  mine = seat_records session view.mine;
   gave_to = only session [] view.gave_to;
   answers = answers;
   lock_full = view.lock_full;
@@ -118,7 +118,7 @@ pub record Hears (old : Place) (before : DeskView) (new : Place) (after : DeskVi
 pub record Leaves (old : Place) (before : DeskView) (new : Place) (after : DeskView) : Type 0 where
   pub more : List Record
   pub mine : after.mine ≡ before.mine ++ more
-  pub shows : shown new.session after.mine ≡ shown old.session before.mine ++ more
+  pub shows : seat_records new.session after.mine ≡ seat_records old.session before.mine ++ more
   pub own : AllByRecursion (IsOfSeat new.session) more
   pub stays : old.session ≢ 0 → new.session ≡ old.session
   pub fresh : old.session ≡ 0 → new.session ≢ 0 → has_session new.session before.mine ≡ false

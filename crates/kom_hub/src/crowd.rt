@@ -6,7 +6,7 @@ ghost use Rattle.kom_links.specs.Doors.{GateView, Admits};
 ghost use Rattle.kom_hub.specs.declared.guest.Guest.{Guest as OneOf};
 ghost use Rattle.kom_hub.specs.Seats.{IsHeard};
 ghost use Rattle.kom_hub.specs.Crowds.{guests, IsKept, Stands, CanGo, Carries, CarriesTo};
-ghost use Rattle.kom_hub.specs.Crowds.{HalfStands, Heard};
+ghost use Rattle.kom_hub.specs.Crowds.{HalfStands, HearsNews};
 
 use crate::guest::{Converse, Guest, Turn};
 use crate::news::News;
@@ -96,7 +96,7 @@ pub fn tell_at<T: Converse, L: Link>(
     news: News,
 )
     ensures { (begun : Option (List ℕ)) (before after : DeskView) (gave : Option (List ℕ))
-        (gate : GateView L) → Heard news before after
+        (gate : GateView L) → HearsNews news before after
         → HalfStands T.kept T.talks L.view begun number before after gave crowd.old gate
         → HalfStands T.kept T.talks L.view begun number before after gave crowd.new gate }
 {
@@ -114,7 +114,7 @@ pub fn tell_some<T: Converse, L: Link>(
     news: News,
 )
     ensures { (begun : Option (List ℕ)) (before after : DeskView) (gave : Option (List ℕ))
-        (gate : GateView L) → Heard news before after
+        (gate : GateView L) → HearsNews news before after
         → HalfStands T.kept T.talks L.view begun number before after gave crowd.old gate
         → HalfStands T.kept T.talks L.view begun number before after gave crowd.new gate }
 {
@@ -131,7 +131,7 @@ pub fn tell_all<T: Converse, L: Link>(
     news: News,
 )
     ensures { (begun : Option (List ℕ)) (before after : DeskView) (gave : Option (List ℕ))
-        (gate : GateView L) → Heard news before after
+        (gate : GateView L) → HearsNews news before after
         → HalfStands T.kept T.talks L.view begun number before after gave crowd.old gate
         → HalfStands T.kept T.talks L.view begun number before after gave crowd.new gate }
 {

@@ -4,7 +4,7 @@ ghost use Rattle.kom_links.specs.DeskCalls.{DeskView, Flushes, AsksStopped};
 ghost use Rattle.kom_links.specs.Outside.{LinkView, IsFresh};
 ghost use Rattle.kom_hub.specs.Seats.{seat_view, IsHeard, Leaves};
 ghost use Rattle.kom_hub.specs.Passing.{Passes, IsTimed, IsSeatOf, IsBlank};
-ghost use Rattle.kom_hub.specs.Crowds.{IsKept, IsGuest, IsClosed, IsTold, Heard};
+ghost use Rattle.kom_hub.specs.Crowds.{IsKept, IsGuest, IsClosed, IsTold, HearsNews};
 
 use crate::news::News;
 use crate::place::Place;
@@ -227,7 +227,7 @@ impl<T: Converse, L: Link> Guest<T, L> {
 
     /// It is told of what the desk was asked for all, once by this number, where it can be told.
     pub fn tell(&mut self, number: u64, news: News)
-        ensures { (before after : DeskView) → Heard news before after
+        ensures { (before after : DeskView) → HearsNews news before after
             → IsTold T.kept T.talks L.view number before after self.old self.new }
     {
         if self.told == number {

@@ -5,7 +5,7 @@ ghost use Rattle.kom_types.specs.declared.items.Item.{Item as Given};
 ghost use Rattle.kom_links.specs.Records.{has_session};
 ghost use Rattle.kom_links.specs.Talk.{Step, Flushes, steps_of, IsTalk};
 ghost use Rattle.kom_links.specs.declared.served.SessionEnd.{SessionEnd as EndOf};
-ghost use Rattle.kom_hub.specs.Seats.{shown, IsMade};
+ghost use Rattle.kom_hub.specs.Seats.{seat_records, IsMade};
 
 /// The steps of a session among all records of a desk are some flushes, and then its steps among
 /// what its seat shows.
@@ -14,7 +14,7 @@ pub fn whole_steps()
         → session ≢ 0 → has_session session records ≡ true
         → (before : List Step) × AllByRecursion (λ step. step ≡ Flushes) before
         × (steps_of session records given
-        ≡ before ++ steps_of session (shown session records) given) }
+        ≡ before ++ steps_of session (seat_records session records) given) }
 {}
 
 /// A talk by what its seat shows of the records of a desk is one by all of them.
@@ -22,6 +22,6 @@ pub fn whole_talk()
     ensures { (host input output : List ℕ) (ended : Bool) (records : List Made) (session : ℕ)
         (given : List (List Given)) (ending : EndOf) (full : Bool) → AllByRecursion IsMade records
         → (session ≢ 0 → has_session session records ≡ true)
-        → IsTalk host input output ended (shown session records) session given ending full
+        → IsTalk host input output ended (seat_records session records) session given ending full
         → IsTalk host input output ended records session given ending full }
 {}

@@ -6,7 +6,7 @@ use Rattle.std.specs.List.{AllByRecursion}
 use Rattle.kom_types.specs.declared.effects.Effect.{Effect}
 use Rattle.kom_model.specs.Db.{Db, empty_db}
 use Rattle.kom_model.specs.Effects.{fits, apply, apply_all, all_fit}
-use Rattle.batch_log.specs.Batches.{sized, batch, batches, AreShort, IsEnd, IsBroken}
+use Rattle.batch_log.specs.Batches.{with_length, batch, batches, AreShort, IsEnd, IsBroken}
 use Rattle.batch_log.proofs.Ends.{batches_more, short_more}
 use Rattle.batch_log.proofs.Parts.{no_end, after_gate, same_sized, same_tails, same_rest, not_broken, has_no_break}
 use Rattle.effect_codec.specs.Coding.{coded_effect, IsInRange}
@@ -182,7 +182,8 @@ no_first : (one : List Effect) (more : List (List Effect)) (db : Db) (x y : List
     → 1 ∷ x ≡ batches (map body_of (one ∷ more)) ++ 1 ∷ y → ⊥
 no_first one more db x y short coded fit damaged same =
     let after = batches (map body_of more) ++ 1 ∷ y in
-    let is : x ≡ sized (body_of one) ++ after = tails (same ∙ after_gate (body_of one) (map body_of more) (1 ∷ y)) in
+    let is : x ≡ with_length (body_of one) ++ after =
+    tails (same ∙ after_gate (body_of one) (map body_of more) (1 ∷ y)) in
     let some : 0 < length after = omega (arith, length-append (batches (map body_of more)) (1 ∷ y)) in
     elim damaged [
       | inl broken ↦ not_broken (body_of one) after short some (subst IsBroken is broken)

@@ -6,9 +6,9 @@ use Rattle.std.specs.List.{AllByRecursion}
 use Rattle.kom_types.specs.declared.effects.Effect.{Effect}
 use Rattle.kom_model.specs.Db.{Db}
 use Rattle.kom_model.specs.Effects.{apply_all, all_fit}
-use Rattle.batch_log.specs.Batches.{sized, batches, HasBatches}
+use Rattle.batch_log.specs.Batches.{with_length, batches, HasBatches}
 use Rattle.batch_log.specs.Gates.{IsAtRest, IsShutOrWhole, chunk_of}
-use Rattle.batch_log.specs.Log.{flushed}
+use Rattle.batch_log.specs.Log.{flush_of}
 use Rattle.batch_log.proofs.Ends.{before_is, flush_reads}
 use Rattle.batch_log.proofs.Parts.{unique_bodies}
 use Rattle.effect_codec.specs.Coding.{IsInRange}
@@ -78,27 +78,27 @@ module _ (db : Db) (place : ℕ) (file : List ℕ) (stands : StandsBefore db pla
       (shut_sound stands.batches db stands.makes new []
       (is ∙ ap (λ (l : List ℕ). l ++ 0 ∷ []) stands.before))
 
-  flushed_some : (new : List ℕ) → new ≡ take place file ++ 1 ∷ (sized body ++ 0 ∷ [])
+  flushed_some : (new : List ℕ) → new ≡ take place file ++ 1 ∷ (with_length body ++ 0 ∷ [])
       → SoundFor (apply_all effects db) (apply_all effects db) new
   flushed_some new is =
-      let whole = is ∙ ap (λ (l : List ℕ). l ++ 1 ∷ (sized body ++ 0 ∷ [])) stands.before
-      ∙ ap (λ (b : List ℕ). store_of stands.batches ++ 1 ∷ (sized b ++ 0 ∷ [])) is_body
+      let whole = is ∙ ap (λ (l : List ℕ). l ++ 1 ∷ (with_length body ++ 0 ∷ [])) stands.before
+      ∙ ap (λ (b : List ℕ). store_of stands.batches ++ 1 ∷ (with_length b ++ 0 ∷ [])) is_body
       ∙ opened_more stands.batches effects (0 ∷ []) in
       shut_sound (stands.batches ++ effects ∷ []) (apply_all effects db)
       (makes_more stands.batches db stands.makes effects coded fit few) new [] whole
 
 -- the batches that a flush adds, none of an empty body
-added : (place : ℕ) (file new body : List ℕ) → new ≡ take place file ++ batches (flushed body) ++ 0 ∷ []
+added : (place : ℕ) (file new body : List ℕ) → new ≡ take place file ++ batches (flush_of body) ++ 0 ∷ []
     → ((body ≡ []) × (new ≡ take place file ++ 0 ∷ []))
-    ⊎ (new ≡ take place file ++ 1 ∷ (sized body ++ 0 ∷ []))
+    ⊎ (new ≡ take place file ++ 1 ∷ (with_length body ++ 0 ∷ []))
 added place file new [] is = inl (refl, is ∙ ap (λ (l : List ℕ). l ++ 0 ∷ []) (append-nil (take place file)))
 added place file new (byte ∷ bytes) is =
-    inr (is ∙ append_assoc (take place file) (batches (flushed (byte ∷ bytes))) (0 ∷ [])
-    ∙ ap (λ (l : List ℕ). take place file ++ (l ++ 0 ∷ [])) (append-nil (1 ∷ sized (byte ∷ bytes))))
+    inr (is ∙ append_assoc (take place file) (batches (flush_of (byte ∷ bytes))) (0 ∷ [])
+    ∙ ap (λ (l : List ℕ). take place file ++ (l ++ 0 ∷ [])) (append-nil (1 ∷ with_length (byte ∷ bytes))))
 
 pub flush_leaves_all : (db : Db) (place : ℕ) (file : List ℕ) → StandsBefore db place file → (effects : List Effect)
     (body : List ℕ) → body ≡ body_of effects → AllByRecursion IsInRange effects → all_fit effects db ≡ true
-    → length body < 2 ^ 64 → (new : List ℕ) → new ≡ take place file ++ batches (flushed body) ++ 0 ∷ []
+    → length body < 2 ^ 64 → (new : List ℕ) → new ≡ take place file ++ batches (flush_of body) ++ 0 ∷ []
     → SoundFor (apply_all effects db) (apply_all effects db) new
 flush_leaves_all db place file stands effects body is_body coded fit short new is =
     elim (added place file new body is) [
@@ -109,11 +109,11 @@ flush_leaves_all db place file stands effects body is_body coded fit short new i
 -- a store at rest goes on after it
 pub stored_after : (place : ℕ) (file : List ℕ) (images : List ℕ → Type 0) → IsStored place file images
     → (body new : List ℕ) (images_new : List ℕ → Type 0) → length body < 2 ^ 64
-    → new ≡ take place file ++ batches (flushed body) ++ 0 ∷ []
-    → IsAtRest (place + length (batches (flushed body))) new images_new
-    → IsStored (place + length (batches (flushed body))) new images_new
+    → new ≡ take place file ++ batches (flush_of body) ++ 0 ∷ []
+    → IsAtRest (place + length (batches (flush_of body))) new images_new
+    → IsStored (place + length (batches (flush_of body))) new images_new
 stored_after place file images stored body new images_new short is rests = record {
   at_rest = rests;
-  bodies = stored.bodies ++ flushed body;
+  bodies = stored.bodies ++ flush_of body;
   read = flush_reads header stored.bodies place file stored.read body new short is;
 }

@@ -5,7 +5,7 @@ use Rattle.std.proofs.lemmas.List.{append-nil, length_push, take_at, drop_at}
 use Rattle.kom_types.specs.declared.effects.Effect.{Effect}
 use Rattle.kom_model.specs.Db.{Db, empty_db}
 use Rattle.kom_model.specs.Effects.{apply_all, all_fit}
-use Rattle.batch_log.specs.Batches.{sized, batches, IsBroken, HasBatches}
+use Rattle.batch_log.specs.Batches.{with_length, batches, IsBroken, HasBatches}
 use Rattle.batch_log.proofs.Parts.{unique_bodies}
 use Rattle.batch_log.specs.Gates.{IsStable}
 use Rattle.batch_log.specs.Repair.{Mends}
@@ -151,7 +151,7 @@ module _ (place gate count : ℕ) (db : Db) (file : List ℕ) (of : IsMadeOf pla
       let one = further sound torn in
       let rows : sound.db ≡ db = stands_for_one file sound.db db sound.stands opened_stands in
       let fit : all_fit one.effects db ≡ true = subst (λ (d : Db). all_fit one.effects d ≡ true) rows one.fit in
-      let rest : of.more ≡ sized (body_of one.effects) ++ 0 ∷ one.more = tails one.whole in
+      let rest : of.more ≡ with_length (body_of one.effects) ++ 0 ∷ one.more = tails one.whole in
       let found : SoundFor db (apply_all one.effects db) image =
       gated_sound of.made.lists db of.made.makes image other one.effects one.more one.coded fit one.short
       (is ∙ ap (λ (l : List ℕ). l ++ other ∷ of.more) before

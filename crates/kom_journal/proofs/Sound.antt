@@ -8,7 +8,7 @@ use Rattle.std.specs.List.{AllByRecursion}
 use Rattle.kom_types.specs.declared.effects.Effect.{Effect}
 use Rattle.kom_model.specs.Db.{Db, empty_db}
 use Rattle.kom_model.specs.Effects.{fits, apply, apply_all, all_fit}
-use Rattle.batch_log.specs.Batches.{sized, batch, batches, AreShort, IsEnd}
+use Rattle.batch_log.specs.Batches.{with_length, batch, batches, AreShort, IsEnd}
 use Rattle.batch_log.proofs.Ends.{batches_more, short_more}
 use Rattle.effect_codec.specs.Coding.{IsInRange}
 use Rattle.kom_journal.specs.Files.{IsStoreOf, IsSoundFile, body_of, all_of, header}
@@ -110,16 +110,16 @@ module _ (lists : List (List Effect)) (db : Db) (makes : Makes lists db) where
   -- with some other gate before one more whole batch
   pub torn_sound : (image : List ℕ) (gate : ℕ) (effects : List Effect) (more : List ℕ) → gate ≢ 1
       → AllByRecursion IsInRange effects → all_fit effects db ≡ true → length (body_of effects) < 2 ^ 64
-      → image ≡ store_of lists ++ gate ∷ (sized (body_of effects) ++ 0 ∷ more) → SoundFor db db image
+      → image ≡ store_of lists ++ gate ∷ (with_length (body_of effects) ++ 0 ∷ more) → SoundFor db db image
   unfolding stands_with
   torn_sound image gate effects more shut coded fit short is = record {
     sound = record {
       db = db;
-      stands = stands_with image (gate ∷ (sized (body_of effects) ++ 0 ∷ more)) is shut;
+      stands = stands_with image (gate ∷ (with_length (body_of effects) ++ 0 ∷ more)) is shut;
       ended = λ other rest also.
-          let same : gate ∷ (sized (body_of effects) ++ 0 ∷ more) ≡ other ∷ rest =
-          same_gate image (gate ∷ (sized (body_of effects) ++ 0 ∷ more)) other rest is also in
-          let tails : rest ≡ sized (body_of effects) ++ 0 ∷ more = cc in
+          let same : gate ∷ (with_length (body_of effects) ++ 0 ∷ more) ≡ other ∷ rest =
+          same_gate image (gate ∷ (with_length (body_of effects) ++ 0 ∷ more)) other rest is also in
+          let tails : rest ≡ with_length (body_of effects) ++ 0 ∷ more = cc in
           inr (record {
             effects = effects;
             more = more;
@@ -141,7 +141,7 @@ store_more lists effects =
 
 -- after an open gate stands one batch more
 pub opened_more : (lists : List (List Effect)) (effects : List Effect) (more : List ℕ)
-    → store_of lists ++ 1 ∷ (sized (body_of effects) ++ more) ≡ store_of (lists ++ effects ∷ []) ++ more
+    → store_of lists ++ 1 ∷ (with_length (body_of effects) ++ more) ≡ store_of (lists ++ effects ∷ []) ++ more
 opened_more lists effects more =
     sym (append_assoc (store_of lists) (batch (body_of effects)) more)
     ∙ ap (λ (l : List ℕ). l ++ more) (sym (store_more lists effects))
@@ -149,7 +149,7 @@ opened_more lists effects more =
 -- a gate before one more whole batch and a closed gate: open it has the batch too
 pub gated_sound : (lists : List (List Effect)) (db : Db) (makes : Makes lists db) (image : List ℕ) (gate : ℕ)
     (effects : List Effect) (more : List ℕ) → AllByRecursion IsInRange effects → all_fit effects db ≡ true
-    → length (body_of effects) < 2 ^ 64 → image ≡ store_of lists ++ gate ∷ (sized (body_of effects) ++ 0 ∷ more)
+    → length (body_of effects) < 2 ^ 64 → image ≡ store_of lists ++ gate ∷ (with_length (body_of effects) ++ 0 ∷ more)
     → SoundFor db (apply_all effects db) image
 gated_sound lists db makes image gate effects more coded fit short is =
     elim (cases_eq gate 1) [
@@ -157,7 +157,7 @@ gated_sound lists db makes image gate effects more coded fit short is =
           (torn_sound lists db makes image gate effects more shut coded fit short is)
       | inl opens ↦
           let whole : image ≡ store_of (lists ++ effects ∷ []) ++ 0 ∷ more =
-          is ∙ ap (λ (g : ℕ). store_of lists ++ g ∷ (sized (body_of effects) ++ 0 ∷ more)) opens
+          is ∙ ap (λ (g : ℕ). store_of lists ++ g ∷ (with_length (body_of effects) ++ 0 ∷ more)) opens
           ∙ opened_more lists effects (0 ∷ more) in
           as_second db (apply_all effects db) image
           (shut_sound (lists ++ effects ∷ []) (apply_all effects db)

@@ -11,7 +11,7 @@ use Rattle.kom_disk.specs.Moments.{LeavesOnly}
 use Rattle.kom_disk.proofs.Moments.{wider}
 use Rattle.batch_log.specs.Batches.{batches}
 use Rattle.batch_log.specs.Gates.{IsAtRest, IsStable, IsShutOrWhole, chunk_of}
-use Rattle.batch_log.specs.Log.{LogView, flushed, size_after}
+use Rattle.batch_log.specs.Log.{LogView, flush_of, size_after}
 use Rattle.effect_codec.specs.Coding.{coded_effect, IsInRange}
 use Rattle.kom_journal.specs.Files.{IsStoreOf, IsStoreOfEither, header, body_of}
 use Rattle.kom_journal.specs.Images as store
@@ -126,8 +126,8 @@ module _ {D : Type 0} (moment : D → ℕ) (images_at : D → ℕ → List ℕ �
 
   -- after a flush
   pub flushed_whole : (refused : Bool) (old new : LogView D) → Whole refused old → length old.body < 2 ^ 64
-      → new.body ≡ [] → new.place ≡ old.place + length (batches (flushed old.body))
-      → (IsTrue tells → bytes new.disk ≡ take old.place (bytes old.disk) ++ batches (flushed old.body) ++ 0 ∷ [])
+      → new.body ≡ [] → new.place ≡ old.place + length (batches (flush_of old.body))
+      → (IsTrue tells → bytes new.disk ≡ take old.place (bytes old.disk) ++ batches (flush_of old.body) ++ 0 ∷ [])
       → (IsTrue tells → IsAtRest new.place (bytes new.disk) (images new.disk)) → Whole refused new
   flushed_whole refused old new whole short empty at appended rests = record {
     spelled = subst IsSpelled (sym empty) spelled_none;
@@ -176,7 +176,7 @@ module _ {D : Type 0} (moment : D → ℕ) (images_at : D → ℕ → List ℕ �
 
     -- and after it
     pub flush_rows : Only (bytes new.disk) (images new.disk)
-        → bytes new.disk ≡ take old.place (bytes old.disk) ++ batches (flushed old.body) ++ 0 ∷ []
+        → bytes new.disk ≡ take old.place (bytes old.disk) ++ batches (flush_of old.body) ++ 0 ∷ []
         → AreFor (store.images images new.disk) (apply_all (effects_in old.body) db)
     flush_rows stable is =
         let found : SoundFor (apply_all (effects_in old.body) db) (apply_all (effects_in old.body) db) (bytes new.disk)

@@ -5,7 +5,7 @@ use Rattle.kom_types.specs.declared.effects.Effect.{Effect}
 use Rattle.kom_model.specs.Db.{Db, empty_db}
 use Rattle.kom_model.specs.Effects.{apply_all, all_fit}
 use Rattle.kom_disk.specs.Moments.{LeavesOnly}
-use Rattle.batch_log.specs.Batches.{batches, sized, AreShort, HasBatches}
+use Rattle.batch_log.specs.Batches.{batches, with_length, AreShort, HasBatches}
 use Rattle.batch_log.specs.Walk.{IsReadTo}
 use Rattle.effect_codec.specs.Coding.{IsInRange}
 use Rattle.kom_journal.specs.Files.{IsStoreOf, header, body_of, all_of}
@@ -43,7 +43,7 @@ pub record HasFurther (db : Db) (effects : List Effect) (file : List ℕ) : Type
   pub gate : ℕ
   pub more : List ℕ
   pub torn : gate ≢ 0
-  pub whole : file ≡ store_of lists ++ gate ∷ (sized (body_of effects) ++ 0 ∷ more)
+  pub whole : file ≡ store_of lists ++ gate ∷ (with_length (body_of effects) ++ 0 ∷ more)
   pub fit : all_fit effects db ≡ true
 
 abbrev pub IsLeftOfFile : List ℕ → Db → List ℕ → Type 0

@@ -6,7 +6,7 @@ use Rattle.std.specs.List.{flat_map, AllByRecursion}
 use Rattle.kom_types.specs.declared.effects.Effect.{Effect}
 use Rattle.kom_model.specs.Db.{Db, empty_db}
 use Rattle.kom_model.specs.Effects.{apply_all, all_fit, fits}
-use Rattle.batch_log.specs.Batches.{sized, batch, AreShort, IsBroken}
+use Rattle.batch_log.specs.Batches.{with_length, batch, AreShort, IsBroken}
 use Rattle.effect_codec.specs.Coding.{coded_effect, IsInRange}
 use Rattle.kom_journal.specs.Files.{header, body_of, all_of}
 use Rattle.kom_journal.specs.declared.errors.OpenFault.{OpenFault}
@@ -35,7 +35,7 @@ pub record IsUnfit (db : Db) (body : List ℕ) : Type 0 where
 pub record HasUnfit (db : Db) (rest : List ℕ) : Type 0 where
   pub body : List ℕ
   pub after : List ℕ
-  pub whole : rest ≡ sized body ++ after
+  pub whole : rest ≡ with_length body ++ after
   pub more : 0 < length after
   pub short : length body < 2 ^ 64
   pub unfit : IsUnfit db body

@@ -6,7 +6,7 @@ ghost use Rattle.kom_disk.specs.Faults.{CountsFault, Rose};
 ghost use Rattle.kom_disk.specs.Moments.{LeavesOnly};
 ghost use Rattle.batch_log.specs.Gates.{IsStable};
 ghost use Rattle.batch_log.specs.Batches.{batches};
-ghost use Rattle.batch_log.specs.Log.{flushed, size_after};
+ghost use Rattle.batch_log.specs.Log.{flush_of, size_after};
 ghost use Rattle.effect_codec.specs.Coding.{coded_effect, IsShortEnough};
 ghost use Rattle.kom_model.specs.Db.{Db, empty_db};
 ghost use Rattle.kom_model.specs.Effects.{apply_all, all_fit, IsProtected};
@@ -225,7 +225,7 @@ impl<D: Disk> Journal<D> {
         ensures spare { self.old.spare ≤ self.new.spare }
         ensures batches { self.new.batches ≡ self.old.batches }
         ensures place { OnOk result (self.new.place
-            ≡ self.old.place + length (batches (flushed (body_of self.old.pending)))) }
+            ≡ self.old.place + length (batches (flush_of (body_of self.old.pending)))) }
         ensures same_place { OnErr result (self.new.place ≡ self.old.place) }
 
         // Why it is refused.

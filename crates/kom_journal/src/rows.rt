@@ -2,7 +2,7 @@
 ghost use Rattle.std.specs.Prelude.{◌≡◌, true, ◌∷◌, [], OnOk};
 ghost use Rattle.kom_state.specs.Room.{HasRoom};
 ghost use Rattle.kom_model.specs.Db.{empty_db};
-ghost use Rattle.kom_model.specs.Effects.{fits, made, IsProtected};
+ghost use Rattle.kom_model.specs.Effects.{fits, after_effect, IsProtected};
 ghost use Rattle.kom_model.specs.Whole.{IsWhole};
 ghost use Rattle.kom_snapshot.specs.Listed.{IsListed};
 
@@ -58,7 +58,7 @@ impl MadeRows {
     pub(crate) fn apply_effect(&mut self, effect: Effect)
         requires fits { fits effect self.old.db ≡ true }
         requires room { HasRoom self.old.room (effect ∷ []) }
-        ensures { self.new.db ≡ made effect self.old.db }
+        ensures { self.new.db ≡ after_effect effect self.old.db }
     {
         self.rows.apply_effect(effect);
     }

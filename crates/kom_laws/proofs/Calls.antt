@@ -16,7 +16,7 @@ use Rattle.kom_model.specs.Decide.{decision_of, definition_of}
 use Rattle.kom_model.specs.Messages.{told_if, new_membership}
 use Rattle.kom_model.specs.ToWhom.{text_added, items_made}
 use Rattle.kom_model.specs.Whole.{IsWhole}
-use Rattle.kom_model.specs.calls.Call.{Asked, answer, done}
+use Rattle.kom_model.specs.calls.Call.{Asked, answer, done_with}
 use Rattle.kom_model.specs.calls.Conferences.{nearest}
 use Rattle.kom_model.specs.calls.Guards.{caller, seat_at, text_or_none_guard, conference_or_none_guard}
 use Rattle.kom_model.specs.calls.Sessions.{static_of}
@@ -61,7 +61,7 @@ nearest-fits asked start None = refl
 nearest-fits asked start (Some row) = refl
 
 session-fits : (asked : Asked) (found : Option Seat) → all_fit (elim found as (λ _. Decision) [
-  | None ↦ done [] []
+  | None ↦ done_with [] []
   | Some seat ↦ answer (reply.StaticSession (static_of seat))
 ]).effects asked.db ≡ true
 session-fits asked None = refl

@@ -6,7 +6,7 @@ use Rattle.kom_types.specs.declared.acts.Record.{Record}
 use Rattle.kom_types.specs.declared.effects.Effect.{Effect}
 use Rattle.kom_model.specs.State.{State, IsSound}
 use Rattle.kom_model.specs.Decide.{asked_in}
-use Rattle.kom_model.specs.Effects.{all_fit, fitting}
+use Rattle.kom_model.specs.Effects.{all_fit, fitting_effects}
 use Rattle.kom_model.specs.After.{moment_of}
 use Rattle.kom_model.specs.Kept.{effects_of, kept_of}
 use Rattle.kom_model.proofs.Kept.{fitting-all}
@@ -30,5 +30,5 @@ pub kept-decided : (state : State) (made : Record) → IsSound state → made.sh
     kept_of state made ≡ effects_of state made.entry
 kept-decided state made sound whole =
     let effects : List Effect = effects_of state made.entry in
-    ap (λ (short : Bool). cond short [] (fitting effects state.db)) whole
+    ap (λ (short : Bool). cond short [] (fitting_effects effects state.db)) whole
     ∙ fitting-all effects state.db (sound-fit state made sound)

@@ -21,7 +21,7 @@ use Rattle.kom_model.specs.declared.viewers.Viewer.{Viewer}
 use Rattle.kom_model.specs.Db.{Db, conference_of, conference_head_of, membership_of, membership_kind_of, text_of}
 use Rattle.kom_model.specs.Db.{recipient_of}
 use Rattle.kom_model.specs.Effects.{IsProtected}
-use Rattle.kom_model.specs.Messages.{sending, told_if, takes, gets_text, is_heard, hears, deleted_text}
+use Rattle.kom_model.specs.Messages.{sending_of, told_if, takes, gets_text, is_heard, hears, deleted_text}
 use Rattle.kom_model.specs.Messages.{sub_recipient, text_aux_changed}
 use Rattle.kom_model.specs.Rights.{is_let_in, sees, reads}
 use Rattle.kom_model.specs.Sending.{Sending}
@@ -152,7 +152,7 @@ if-told shown shown' what what' same whats = elim (cases_Bool shown') [
 -- a message of a conference, to who sees that
 abbrev pub to_seers : Db → ℕ → ℕ → (ConferenceRow → Message) → ConferenceRow → Sending
 to_seers db conference number tell row =
-    sending number (λ viewer. told_if (sees db viewer conference) (tell row))
+    sending_of number (λ viewer. told_if (sees db viewer conference) (tell row))
 
 pub conference-told : (group : Group) (db : Db) (viewer : Viewer) (conference number : ℕ)
     (tell : ConferenceRow → Message) → IsInGroup group viewer →

@@ -24,19 +24,19 @@ use Rattle.kom_types.specs.declared.texts.TextRow.{TextRow}
 use Rattle.kom_model.specs.Db.{next_conference_of, items_of}
 use Rattle.kom_model.specs.After.{moment_of, reply_in}
 use Rattle.kom_model.specs.Decide.{asked_in, decision_of, definition_of}
-use Rattle.kom_model.specs.Effects.{apply_all, fitting}
+use Rattle.kom_model.specs.Effects.{apply_all, fitting_effects}
 use Rattle.kom_model.specs.Kept.{kept_of}
 use Rattle.kom_model.specs.Shown.{text_adder, conference_adder}
 use Rattle.kom_model.specs.State.{State}
 use Rattle.kom_model.specs.ToWhom.{is_refused}
-use Rattle.kom_model.specs.calls.AuxItems.{item_effects, changed, object_of, numbers_guard}
-use Rattle.kom_model.specs.calls.Call.{Asked, answer, done, refuse}
+use Rattle.kom_model.specs.calls.AuxItems.{item_effects, change_items, object_of, numbers_guard}
+use Rattle.kom_model.specs.calls.Call.{Asked, answer, done_with, refuse}
 use Rattle.kom_model.specs.calls.Conferences.{nearest}
 use Rattle.kom_model.specs.calls.Guards.{Guard, with_items, caller, first_refusal, items_guard, new_items_guard}
 use Rattle.kom_model.specs.calls.Guards.{seat_at}
 use Rattle.kom_model.specs.calls.NewTexts.{new_text}
 use Rattle.kom_model.specs.calls.Persons.{maker}
-use Rattle.kom_model.specs.calls.Sessions.{accept_reply, accepted_bits, session_meant, ended, static_of}
+use Rattle.kom_model.specs.calls.Sessions.{accept_reply, accepted_bits, session_meant, end_session, static_of}
 use Rattle.kom_model.specs.calls.Texts.{nearest_text}
 use Rattle.kom_model.proofs.Deciding.{decision-meets}
 use Rattle.kom_model.proofs.Kept.{kept_makes}
@@ -78,14 +78,14 @@ items-spare None decision is = is
 items-spare (Some refused) decision is = spares _ refl
 
 ended-spares : (asked : Asked) (found : Option Seat) → Spares (elim found as (λ _. Decision) [
-  | None ↦ done [] []
-  | Some seat ↦ ended asked seat
+  | None ↦ done_with [] []
+  | Some seat ↦ end_session asked seat
 ])
 ended-spares asked None = spares _ refl
 ended-spares asked (Some seat) = spares _ refl
 
 static-spares : (found : Option Seat) → Spares (elim found as (λ _. Decision) [
-  | None ↦ done [] []
+  | None ↦ done_with [] []
   | Some seat ↦ answer (reply.StaticSession (static_of seat))
 ])
 static-spares None = spares _ refl
@@ -101,11 +101,12 @@ nearest_text-spares asked start None = spares _ refl
 nearest_text-spares asked start (Some row) = spares _ refl
 
 change-spares : (asked : Asked) (on_text : Bool) (on : Object) (adder : Adder) (given : AuxChange) →
-    Spares (changed asked on_text on adder given)
+    Spares (change_items asked on_text on adder given)
 change-spares asked on_text on adder given = items-spare
     (first_refusal
     (items_guard on adder (items_of asked.db on_text given.object) given.delete given.add
-    ∷ numbers_guard asked.db on_text given ∷ [])) (done (item_effects asked on_text adder given) []) (spares _ refl)
+    ∷ numbers_guard asked.db on_text given ∷ [])) (done_with (item_effects asked on_text adder given) [])
+    (spares _ refl)
 
 new_text-spares : (anonymous : Bool) (asked : Asked) (given : NewText) → Spares (new_text anonymous asked given).rest
 new_text-spares anonymous asked given =
@@ -198,7 +199,7 @@ replied-keeps : (state : State) (pass moment : ℕ) (what : Act) (session : ℕ)
     reply_in state made ≡ Some (reply.Refused code status) → kept_of state made ≡ []
 replied-keeps state pass moment (act.Call number reference call) session true code status is = refl
 replied-keeps state pass moment (act.Call number reference call) session false code status is =
-    ap (λ (effects : List Effect). fitting effects state.db)
+    ap (λ (effects : List Effect). fitting_effects effects state.db)
     (refused-changes (asked_in state (moment_of state moment) number reference) call code status
     (ap told is)).0
 replied-keeps state pass moment (act.Connect user host) session short code status is = cc

@@ -27,8 +27,8 @@ erased_session group session = if is_among group.sessions session.seat.number th
     record session { waiting = []; overrun = false }
 
 -- The state without what is hidden from a group.
-abbrev pub erased : Group → State → State
-erased group state = record state {
+abbrev pub erase : Group → State → State
+erase group state = record state {
   db = erased_db group state.db;
   sessions = map (erased_session group) state.sessions;
 }

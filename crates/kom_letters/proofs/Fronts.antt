@@ -8,7 +8,7 @@ use Rattle.std.proofs.lemmas.List.Sums.{sum_by-cons, sum_by-append}
 use Rattle.std.proofs.lemmas.List.Elements.{All-nil, All-cons, All-append, All-map, All-take}
 use Rattle.unicode_width.specs.Width.{char_width}
 use Rattle.kom_letters.specs.Kinds.{is_plain, shown_letter, columns_of}
-use Rattle.kom_letters.specs.Names.{front_count, shortened, shown_name}
+use Rattle.kom_letters.specs.Names.{front_count, shorten, shown_name}
 use Rattle.kom_letters.proofs.Lays.{shown_letter_plain}
 
 pub front_step : (room : ℕ) (xs : List ℕ) (i : ℕ) → i < length xs → front_count room (drop i xs)
@@ -46,7 +46,7 @@ dot_plain : is_plain 46 ≡ true
 unfolding is_plain
 dot_plain = refl
 
-pub short_width : (room : ℕ) (cs : List ℕ) → sum_by columns_of (shortened room cs) ≤ room
+pub short_width : (room : ℕ) (cs : List ℕ) → sum_by columns_of (shorten room cs) ≤ room
 short_width room cs =
     let whole : sum_by columns_of (take (front_count room cs) cs) ≤ room = front_width room cs in
     let part : sum_by columns_of (take (front_count (room - 3) cs) cs) ≤ room - 3 = front_width (room - 3) cs in

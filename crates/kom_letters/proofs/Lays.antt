@@ -8,9 +8,9 @@ use Rattle.std.proofs.lemmas.List.Elements.{All-nil, All-cons, All-head, All-tai
 use Rattle.unicode_width.specs.Width.{char_width}
 use Rattle.unicode_width.proofs.Rules.{width_or_zero-le}
 use Rattle.kom_letters.specs.Kinds.{is_plain, shown_letter, columns_of}
-use Rattle.kom_letters.specs.Spacing.{piece_of, spaced}
-use Rattle.kom_letters.specs.Lines.{moved, cursor, StaysWithin, StandsBehindBlanks, is_shown}
-use Rattle.kom_letters.specs.Lines.{seen, word_fits, kept_behind, fits, placed, laid}
+use Rattle.kom_letters.specs.Spacing.{piece_of, shown_letters}
+use Rattle.kom_letters.specs.Lines.{column_after, cursor, StaysWithin, StandsBehindBlanks, is_shown}
+use Rattle.kom_letters.specs.Lines.{visible_letters, word_fits, kept_behind, fits, as_laid, lay_out}
 
 pub blank_columns : columns_of 32 ≡ 1
 unfolding columns_of char_width
@@ -23,8 +23,8 @@ columns_of_le c = grind (arith, nat_tests, width_or_zero-le false c)
 -- the cases of what a letter becomes
 placed_cases : (columns at c : ℕ) (rest : List ℕ) (P : List ℕ → Type 0) → (c ≡ 10 → P (10 ∷ 32 ∷ []))
     → (c ≢ 10 → at + columns_of c ≤ columns → P (c ∷ [])) → (c ≡ 32 → P (10 ∷ 32 ∷ []))
-    → (c ≢ 10 → P (10 ∷ 32 ∷ c ∷ [])) → P (placed columns at c rest)
-unfolding placed
+    → (c ≢ 10 → P (10 ∷ 32 ∷ c ∷ [])) → P (as_laid columns at c rest)
+unfolding as_laid
 placed_cases columns at c rest P feed same blank cut =
     elim (c == 10) as
     (λ b. (c == 10) ≡ b → P (cond b (10 ∷ 32 ∷ []) (cond (fits columns at c rest) (c ∷ [])
@@ -48,19 +48,20 @@ placed_cases columns at c rest P feed same blank cut =
         let narrow : at + columns_of c + kept_behind rest ≤ columns = grind (arith, nat_tests, both.0) in
         omega arith
 
-moved_within : (columns at c : ℕ) → at + columns_of c ≤ columns → moved at c ≤ columns
+moved_within : (columns at c : ℕ) → at + columns_of c ≤ columns → column_after at c ≤ columns
 moved_within columns at c narrow = grind (arith, nat_tests)
 
 -- no line is wider than the columns
 pub laid_within : (columns at : ℕ) (cs : List ℕ) → 20 ≤ columns → at ≤ columns →
-    StaysWithin columns at (laid columns at cs)
+    StaysWithin columns at (lay_out columns at cs)
 laid_within columns at [] wide within = within
 laid_within columns at (c ∷ cs) wide within =
     let first : 0 + columns_of 32 ≤ columns = omega (arith, blank_columns) in
     let second : (0 + columns_of 32) + columns_of c ≤ columns = omega (arith, blank_columns, columns_of_le c) in
-    placed_cases columns at c cs (λ (here : List ℕ). StaysWithin columns at (here ++ laid columns (cursor at here) cs))
+    placed_cases columns at c cs
+    (λ (here : List ℕ). StaysWithin columns at (here ++ lay_out columns (cursor at here) cs))
     (λ is. (within, (omega arith, laid_within columns (0 + columns_of 32) cs wide first)))
-    (λ no narrow. (within, laid_within columns (moved at c) cs wide (moved_within columns at c narrow)))
+    (λ no narrow. (within, laid_within columns (column_after at c) cs wide (moved_within columns at c narrow)))
     (λ is. (within, (omega arith, laid_within columns (0 + columns_of 32) cs wide first)))
     (λ no. (
       within,
@@ -68,7 +69,7 @@ laid_within columns at (c ∷ cs) wide within =
         omega arith,
         (
           first,
-          laid_within columns (moved (0 + columns_of 32) c) cs wide
+          laid_within columns (column_after (0 + columns_of 32) c) cs wide
               (moved_within columns (0 + columns_of 32) c second),
         ),
       ),
@@ -78,40 +79,42 @@ laid_within columns at (c ∷ cs) wide within =
 pub not_blank : ◌≡◌ {A = ℕ} 32 10 → ⊥
 not_blank e = omega arith
 
-pub laid_blanks : (columns at : ℕ) (cs : List ℕ) → StandsBehindBlanks (laid columns at cs)
+pub laid_blanks : (columns at : ℕ) (cs : List ℕ) → StandsBehindBlanks (lay_out columns at cs)
 laid_blanks columns at [] = tt
 laid_blanks columns at (c ∷ cs) =
-    placed_cases columns at c cs (λ (here : List ℕ). StandsBehindBlanks (here ++ laid columns (cursor at here) cs))
+    placed_cases columns at c cs (λ (here : List ℕ). StandsBehindBlanks (here ++ lay_out columns (cursor at here) cs))
     (λ is. (λ feed. refl, (λ e. absurd (not_blank e), laid_blanks columns (0 + columns_of 32) cs)))
-    (λ no narrow. (λ is. absurd (no is), laid_blanks columns (moved at c) cs))
+    (λ no narrow. (λ is. absurd (no is), laid_blanks columns (column_after at c) cs))
     (λ is. (λ feed. refl, (λ e. absurd (not_blank e), laid_blanks columns (0 + columns_of 32) cs)))
     (λ no. (
       λ feed. refl,
       (
         λ e. absurd (not_blank e),
-        (λ is. absurd (no is), laid_blanks columns (moved (0 + columns_of 32) c) cs),
+        (λ is. absurd (no is), laid_blanks columns (column_after (0 + columns_of 32) c) cs),
       ),
     ))
 
 -- what is seen of a text stays
-feed_unseen : (c : ℕ) (cs : List ℕ) → c ≡ 10 → seen cs ≡ seen (c ∷ cs)
-feed_unseen c cs is = sym (ap (λ (d : ℕ). seen (d ∷ cs)) is)
+feed_unseen : (c : ℕ) (cs : List ℕ) → c ≡ 10 → visible_letters cs ≡ visible_letters (c ∷ cs)
+feed_unseen c cs is = sym (ap (λ (d : ℕ). visible_letters (d ∷ cs)) is)
 
-blank_unseen : (c : ℕ) (cs : List ℕ) → c ≡ 32 → seen cs ≡ seen (c ∷ cs)
-blank_unseen c cs is = sym (ap (λ (d : ℕ). seen (d ∷ cs)) is)
+blank_unseen : (c : ℕ) (cs : List ℕ) → c ≡ 32 → visible_letters cs ≡ visible_letters (c ∷ cs)
+blank_unseen c cs is = sym (ap (λ (d : ℕ). visible_letters (d ∷ cs)) is)
 
-with_letter : (c : ℕ) (xs ys : List ℕ) → seen xs ≡ seen ys → seen (c ∷ xs) ≡ seen (c ∷ ys)
+with_letter : (c : ℕ) (xs ys : List ℕ) → visible_letters xs ≡ visible_letters ys →
+    visible_letters (c ∷ xs) ≡ visible_letters (c ∷ ys)
 with_letter c xs ys same = ap (λ (zs : List ℕ). cond (not ((c == 32) || (c == 10))) (c ∷ zs) zs) same
 
-pub laid_seen : (columns at : ℕ) (cs : List ℕ) → seen (laid columns at cs) ≡ seen cs
+pub laid_seen : (columns at : ℕ) (cs : List ℕ) → visible_letters (lay_out columns at cs) ≡ visible_letters cs
 laid_seen columns at [] = refl
 laid_seen columns at (c ∷ cs) =
-    placed_cases columns at c cs (λ (here : List ℕ). seen (here ++ laid columns (cursor at here) cs) ≡ seen (c ∷ cs))
+    placed_cases columns at c cs
+    (λ (here : List ℕ). visible_letters (here ++ lay_out columns (cursor at here) cs) ≡ visible_letters (c ∷ cs))
     (λ is. laid_seen columns (0 + columns_of 32) cs ∙ feed_unseen c cs is)
-    (λ no narrow. with_letter c (laid columns (moved at c) cs) cs (laid_seen columns (moved at c) cs))
+    (λ no narrow. with_letter c (lay_out columns (column_after at c) cs) cs (laid_seen columns (column_after at c) cs))
     (λ is. laid_seen columns (0 + columns_of 32) cs ∙ blank_unseen c cs is)
-    (λ no. with_letter c (laid columns (moved (0 + columns_of 32) c) cs) cs
-    (laid_seen columns (moved (0 + columns_of 32) c) cs))
+    (λ no. with_letter c (lay_out columns (column_after (0 + columns_of 32) c) cs) cs
+    (laid_seen columns (column_after (0 + columns_of 32) c) cs))
 
 -- letters of the allowed kinds alone
 abbrev pub Shown : ℕ → Type 0
@@ -162,24 +165,24 @@ piece_shown at c rest =
           ]
     ]
 
-pub spaced_shown : (at : ℕ) (cs : List ℕ) → All Shown (spaced at cs)
+pub spaced_shown : (at : ℕ) (cs : List ℕ) → All Shown (shown_letters at cs)
 spaced_shown at [] = All-nil Shown
 spaced_shown at (c ∷ cs) =
-    All-append Shown (piece_of at c cs).0 (spaced (piece_of at c cs).1 cs) (piece_shown at c cs)
+    All-append Shown (piece_of at c cs).0 (shown_letters (piece_of at c cs).1 cs) (piece_shown at c cs)
     (spaced_shown (piece_of at c cs).1 cs)
 
-pub laid_shown : (columns at : ℕ) (cs : List ℕ) → All Shown cs → All Shown (laid columns at cs)
+pub laid_shown : (columns at : ℕ) (cs : List ℕ) → All Shown cs → All Shown (lay_out columns at cs)
 laid_shown columns at [] all = All-nil Shown
 laid_shown columns at (c ∷ cs) all =
     let here_shown : Shown c = All-head Shown c cs all in
     let rest_shown : All Shown cs = All-tail Shown c cs all in
     let line = λ (tail : List ℕ) (shown : All Shown tail). All-cons Shown 10 (32 ∷ tail) feed_shown
     (All-cons Shown 32 tail blank_shown shown) in
-    placed_cases columns at c cs (λ (here : List ℕ). All Shown (here ++ laid columns (cursor at here) cs))
-    (λ is. line (laid columns (0 + columns_of 32) cs) (laid_shown columns (0 + columns_of 32) cs rest_shown))
-    (λ no narrow. All-cons Shown c (laid columns (moved at c) cs) here_shown
-    (laid_shown columns (moved at c) cs rest_shown))
-    (λ is. line (laid columns (0 + columns_of 32) cs) (laid_shown columns (0 + columns_of 32) cs rest_shown))
-    (λ no. line (c ∷ laid columns (moved (0 + columns_of 32) c) cs) (All-cons Shown c
-    (laid columns (moved (0 + columns_of 32) c) cs) here_shown
-    (laid_shown columns (moved (0 + columns_of 32) c) cs rest_shown)))
+    placed_cases columns at c cs (λ (here : List ℕ). All Shown (here ++ lay_out columns (cursor at here) cs))
+    (λ is. line (lay_out columns (0 + columns_of 32) cs) (laid_shown columns (0 + columns_of 32) cs rest_shown))
+    (λ no narrow. All-cons Shown c (lay_out columns (column_after at c) cs) here_shown
+    (laid_shown columns (column_after at c) cs rest_shown))
+    (λ is. line (lay_out columns (0 + columns_of 32) cs) (laid_shown columns (0 + columns_of 32) cs rest_shown))
+    (λ no. line (c ∷ lay_out columns (column_after (0 + columns_of 32) c) cs) (All-cons Shown c
+    (lay_out columns (column_after (0 + columns_of 32) c) cs) here_shown
+    (laid_shown columns (column_after (0 + columns_of 32) c) cs rest_shown)))

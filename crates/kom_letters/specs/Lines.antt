@@ -5,16 +5,16 @@ use Rattle.std.specs.Prelude.{fold, filter, All, IsTrue, if◌then◌else◌}
 use Rattle.kom_letters.specs.Kinds.{is_plain, widens, columns_of}
 
 -- the column in which the cursor stands after a letter, and after several
-abbrev pub moved : ℕ → ℕ → ℕ
-moved at c = if c == 10 then 0 else at + columns_of c
+abbrev pub column_after : ℕ → ℕ → ℕ
+column_after at c = if c == 10 then 0 else at + columns_of c
 
 abbrev pub cursor : ℕ → List ℕ → ℕ
-cursor at cs = fold moved at cs
+cursor at cs = fold column_after at cs
 
 -- from a column on the cursor never stands behind the last one: no line is wider than the columns
 abbrev pub StaysWithin : ℕ → ℕ → List ℕ → Type 0
 StaysWithin columns at [] = at ≤ columns
-StaysWithin columns at (c ∷ cs) = (at ≤ columns) × StaysWithin columns (moved at c) cs
+StaysWithin columns at (c ∷ cs) = (at ≤ columns) × StaysWithin columns (column_after at c) cs
 
 abbrev pub BeginsWithBlank : List ℕ → Type 0
 BeginsWithBlank [] = ⊥
@@ -38,8 +38,8 @@ pub record IsHarmless (columns at : ℕ) (cs : List ℕ) : Type 0 where
   pub blanks : StandsBehindBlanks cs
 
 -- the letters that are seen: all but blanks and line feeds
-abbrev pub seen : List ℕ → List ℕ
-seen cs = filter (λ c. not ((c == 32) || (c == 10))) cs
+abbrev pub visible_letters : List ℕ → List ℕ
+visible_letters cs = filter (λ c. not ((c == 32) || (c == 10))) cs
 
 -- the letters up to the next blank or line feed fit into so many columns
 abbrev pub word_fits : ℕ → List ℕ → Bool
@@ -60,15 +60,15 @@ fits columns at c rest =
 
 -- what a letter becomes before others: a line feed gets a blank behind it; a letter that does not
 -- fit begins a line, behind a blank unless it is one
-unfoldable pub placed : ℕ → ℕ → ℕ → List ℕ → List ℕ
-placed columns at c rest =
+unfoldable pub as_laid : ℕ → ℕ → ℕ → List ℕ → List ℕ
+as_laid columns at c rest =
     if c == 10 then 10 ∷ 32 ∷ []
     else if fits columns at c rest then c ∷ []
     else if c == 32 then 10 ∷ 32 ∷ []
     else 10 ∷ 32 ∷ c ∷ []
 
 -- the lines of a text from a column on
-abbrev pub laid : ℕ → ℕ → List ℕ → List ℕ
-laid columns at [] = []
-laid columns at (c ∷ cs) =
-    placed columns at c cs ++ laid columns (cursor at (placed columns at c cs)) cs
+abbrev pub lay_out : ℕ → ℕ → List ℕ → List ℕ
+lay_out columns at [] = []
+lay_out columns at (c ∷ cs) =
+    as_laid columns at c cs ++ lay_out columns (cursor at (as_laid columns at c cs)) cs

@@ -15,6 +15,6 @@ piece_of at c rest =
     else (shown_letter c ∷ [], (at + columns_of (shown_letter c)) % 8)
 
 -- what is shown of the letters behind a column
-abbrev pub spaced : ℕ → List ℕ → List ℕ
-spaced at [] = []
-spaced at (c ∷ cs) = (piece_of at c cs).0 ++ spaced (piece_of at c cs).1 cs
+abbrev pub shown_letters : ℕ → List ℕ → List ℕ
+shown_letters at [] = []
+shown_letters at (c ∷ cs) = (piece_of at c cs).0 ++ shown_letters (piece_of at c cs).1 cs

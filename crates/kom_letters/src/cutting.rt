@@ -1,7 +1,7 @@
 //! The lines of a text.
 ghost use Rattle.std.specs.Prelude.{◌≡◌, ◌+◌, ◌^◌, ◌≤◌, ◌<◌, ◌++◌, ◌∷◌, [], IsTrue, OnOk, IfOk};
 ghost use Rattle.kom_letters.specs.Kinds.{columns_of};
-ghost use Rattle.kom_letters.specs.Lines.{word_fits, kept_behind, fits, placed, cursor, laid};
+ghost use Rattle.kom_letters.specs.Lines.{word_fits, kept_behind, fits, as_laid, cursor, lay_out};
 
 use crate::columns_of;
 use crate::kinds::widens;
@@ -18,7 +18,7 @@ pub(crate) fn lay(
     requires wide { 20 ≤ columns }
     requires bound { columns < 2 ^ 16 }
     requires within { first ≤ columns }
-    ensures { OnOk result (out.new.items ≡ out.old.items ++ laid columns first letters.now) }
+    ensures { OnOk result (out.new.items ≡ out.old.items ++ lay_out columns first letters.now) }
 {
     let mut at = first;
     for (i, c) in letters.iter().enumerate() {
@@ -27,7 +27,7 @@ pub(crate) fn lay(
     Ok(())
 }
 
-#[tactic(auto, using(crate::proofs::Lays::blank_columns), unfolding(crate::specs::Lines::placed))]
+#[tactic(auto, using(crate::proofs::Lays::blank_columns), unfolding(crate::specs::Lines::as_laid))]
 fn place(
     out: &mut Vec<char>,
     columns: usize,
@@ -38,8 +38,8 @@ fn place(
     requires wide { 20 ≤ columns }
     requires bound { columns < 2 ^ 16 }
     requires within { at ≤ columns }
-    ensures items { OnOk result (out.new.items ≡ out.old.items ++ placed columns at c rest.now) }
-    ensures next { IfOk result (λ next. next ≡ cursor at (placed columns at c rest.now)) }
+    ensures items { OnOk result (out.new.items ≡ out.old.items ++ as_laid columns at c rest.now) }
+    ensures next { IfOk result (λ next. next ≡ cursor at (as_laid columns at c rest.now)) }
     ensures within { IfOk result (λ next. next ≤ columns) }
 {
     if c == '\n' {

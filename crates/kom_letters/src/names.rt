@@ -3,7 +3,7 @@ ghost use Rattle.std.specs.Prelude.{◌≡◌, ◌≤◌, OnOk, IfOk, IsTrue, Al
 ghost use Rattle.std.specs.Str.{chars};
 ghost use Rattle.kom_letters.specs.Kinds.{is_plain, shown_letter, columns_of};
 ghost use Rattle.kom_letters.specs.Charsets.{letters_of};
-ghost use Rattle.kom_letters.specs.Names.{front_count, shortened, shown_name};
+ghost use Rattle.kom_letters.specs.Names.{front_count, shorten, shown_name};
 
 use crate::showing::text_of;
 use crate::{Charset, columns_of, decode, shown_letter};
@@ -49,7 +49,7 @@ fn plain(alloc: Global, letters: &[char]) -> Result<Vec<char>, AllocError>
 }
 
 fn shorten(letters: &mut Vec<char>, room: usize) -> Result<(), AllocError>
-    ensures { OnOk result (letters.new.items ≡ shortened room letters.old.items) }
+    ensures { OnOk result (letters.new.items ≡ shorten room letters.old.items) }
 {
     if front_count(letters.as_slice(), room) == letters.len() {
         return Ok(());

@@ -2,8 +2,8 @@
 ghost use Rattle.std.specs.Prelude.{◌≡◌, ◌≤◌, ◌++◌, IfOk, OnOk, max, encode_utf8_all, string_bytes};
 ghost use Rattle.std.specs.Str.{chars};
 ghost use Rattle.kom_letters.specs.Charsets.{letters_of};
-ghost use Rattle.kom_letters.specs.Spacing.{spaced};
-ghost use Rattle.kom_letters.specs.Lines.{seen};
+ghost use Rattle.kom_letters.specs.Spacing.{shown_letters};
+ghost use Rattle.kom_letters.specs.Lines.{visible_letters};
 ghost use Rattle.kom_letters.specs.Showing.{front_of, first_column, shown_text, IsHarmlessFrom};
 
 use crate::cutting::lay;
@@ -32,8 +32,8 @@ pub fn show(
         ≡ shown_text (max columns 20) start (letters_of charset bytes.now)) }
     ensures harmless { IfOk result (λ text.
         IsHarmlessFrom (max columns 20) start (chars (string_bytes text))) }
-    ensures seen { IfOk result (λ text. seen (chars (string_bytes text))
-        ≡ seen (spaced 0 (letters_of charset bytes.now))) }
+    ensures seen { IfOk result (λ text. visible_letters (chars (string_bytes text))
+        ≡ visible_letters (shown_letters 0 (letters_of charset bytes.now))) }
 {
     let text = shown(alloc, bytes, charset, columns, start)?;
     Ok(text)

@@ -1,6 +1,6 @@
 //! What is shown of a text, before its lines are cut.
 ghost use Rattle.std.specs.Prelude.{◌≡◌, ◌≤◌, ◌<◌, ◌++◌, OnOk, IfOk, replicate};
-ghost use Rattle.kom_letters.specs.Spacing.{piece_of, spaced};
+ghost use Rattle.kom_letters.specs.Spacing.{piece_of, shown_letters};
 
 use crate::{columns_of, shown_letter};
 use std::alloc::{AllocError, Global};
@@ -11,7 +11,7 @@ const STOP: usize = 8;
 /// What is shown of letters, with tabs as blanks.
 #[tactic(auto, using(crate::proofs::Steps::spaced_step, crate::proofs::Steps::spaced_end))]
 pub(crate) fn space(alloc: Global, letters: &[char]) -> Result<Vec<char>, AllocError>
-    ensures { IfOk result (λ shown. shown.items ≡ spaced 0 letters.now) }
+    ensures { IfOk result (λ shown. shown.items ≡ shown_letters 0 letters.now) }
 {
     let mut out = Vec::new(alloc);
     let mut at = 0;

@@ -16,9 +16,9 @@ abbrev pub Answer : Type 0
 Answer = Deed × Result ⊤ NotMade
 
 -- an answer without what it hands over
-abbrev pub said : {X : Type 0} → Result X NotMade → Result ⊤ NotMade
-said (Ok value) = Ok tt
-said (Err fault) = Err fault
+abbrev pub without_value : {X : Type 0} → Result X NotMade → Result ⊤ NotMade
+without_value (Ok value) = Ok tt
+without_value (Err fault) = Err fault
 
 -- that the desk is stopped counts as a fault
 abbrev pub said_stopped : Result Bool NotMade → Result ⊤ NotMade
@@ -67,8 +67,8 @@ first_of [] = None
 first_of (fault ∷ faults) = Some fault
 
 -- the first fault that concerns a session
-abbrev pub refused : ℕ → List Answer → Option NotMade
-refused session answers = first_of (faults_of session answers)
+abbrev pub first_fault_of : ℕ → List Answer → Option NotMade
+first_fault_of session answers = first_of (faults_of session answers)
 
 abbrev pub is_ask : Deed → Bool
 is_ask deed.Connect = false
@@ -94,14 +94,14 @@ drained_empty session = (deed.Drain session true, Ok tt)
 abbrev pub IsFlushedAfter : ℕ → List Answer → Type 0
 IsFlushedAfter session answers =
     (before rest : List Answer) × (answers ≡ before ++ flush_made ∷ rest)
-    × (refused session before ≢ None)
+    × (first_fault_of session before ≢ None)
 
 -- After the first fault that concerns a session a flush was made, and after that a drain gave the
 -- session nothing.
 abbrev pub IsSettledAfter : ℕ → List Answer → Type 0
 IsSettledAfter session answers = (before between rest : List Answer)
     × (answers ≡ before ++ flush_made ∷ between ++ drained_empty session ∷ rest)
-    × (refused session before ≢ None)
+    × (first_fault_of session before ≢ None)
 
 -- a flush, or a drain of a session
 abbrev pub sends : ℕ → Deed → Bool

@@ -12,7 +12,7 @@ use Rattle.kom_types.specs.declared.answers.NotMade.{NotMade}
 use Rattle.kom_types.specs.declared.answers.NotMade.TheVariants as fault
 use Rattle.kom_links.specs.declared.deeds.Deed.{Deed}
 use Rattle.kom_links.specs.declared.deeds.Deed.TheVariants as deed
-use Rattle.kom_links.specs.Answers.{Answer, said, said_stopped, deed_of, is_nothing}
+use Rattle.kom_links.specs.Answers.{Answer, without_value, said_stopped, deed_of, is_nothing}
 use Rattle.kom_links.specs.Records.{has_session}
 
 -- What contracts see of a desk: the number of its pass; the records of the acts that it made; for
@@ -88,7 +88,7 @@ IsLockFault fault.Memory = ⊥
 
 -- A deed and what was answered to it stand at the end of the desk's answers.
 abbrev pub IsAnswered : {X : Type 0} → DeskView → Deed → Result X NotMade → DeskView → Type 0
-IsAnswered old deed answer new = new.answers ≡ old.answers ++ (deed, said answer) ∷ []
+IsAnswered old deed answer new = new.answers ≡ old.answers ++ (deed, without_value answer) ∷ []
 
 -- A session was connected, by a number that no record of the desk has, and nothing was given to it;
 -- or the desk refused.

@@ -9,7 +9,7 @@ use Rattle.kom_links.specs.declared.gate.Next.TheVariants as next
 use Rattle.kom_links.specs.declared.served.Served.{Served}
 use Rattle.kom_links.specs.declared.world.WorldFault.{WorldFault}
 use Rattle.kom_links.specs.declared.world.WorldFault.TheVariants as world
-use Rattle.kom_links.specs.Outside.{Rose, grown, IsNothing}
+use Rattle.kom_links.specs.Outside.{Rose, with_bytes, IsNothing}
 
 -- What contracts see of a gate: how many links it gave so far, and those that were given back, in
 -- order, each with how it was served, both if the gate tells them; whether it returned Ended;
@@ -112,8 +112,9 @@ pub record IsNewGate {L : Type 0} (gate : GateView L) : Type 0 where
 -- All bytes were put to a sink; or some of the first of them were, and it has counted a fault.
 pub record Puts {X E : Type 0} (old : SinkView) (from : List ℕ) (answer : Result X E)
     (new : SinkView) : Type 0 where
-  pub all : OnOk answer (new.put ≡ grown from old.put)
-  pub some : OnErr answer ((n : ℕ) × (n ≤ length from) × (new.put ≡ grown (take n from) old.put))
+  pub all : OnOk answer (new.put ≡ with_bytes from old.put)
+  pub some : OnErr answer
+      ((n : ℕ) × (n ≤ length from) × (new.put ≡ with_bytes (take n from) old.put))
   pub failed : OnErr answer (Rose old.faults new.faults)
   pub faults : old.faults ≤ new.faults
 

@@ -63,8 +63,8 @@ MayWrite size before after took.NotYet = Unit {0}
 MayWrite size before after took.Failed = Rose before after
 
 -- where it is told, it has these bytes more at its end
-abbrev pub grown : List ℕ → Option (List ℕ) → Option (List ℕ)
-grown bytes told = option_map (λ before. before ++ bytes) told
+abbrev pub with_bytes : List ℕ → Option (List ℕ) → Option (List ℕ)
+with_bytes bytes told = option_map (λ before. before ++ bytes) told
 
 -- where it is told before, it is told after with these bytes fewer at its beginning
 abbrev pub Shrinks : Option (List ℕ) → List ℕ → Option (List ℕ) → Type 0
@@ -90,7 +90,7 @@ Looks old answer new = IfSome new.reads (λ after. (before : List Look) × (take
 -- A read gave bytes, of those in the buffer, or none.
 pub record Reads (old : LinkView) (buffer : List ℕ) (answer : Got) (new : LinkView) : Type 0 where
   pub may : MayRead (length buffer) old.faults new.faults answer
-  pub taken : new.taken ≡ grown (read_bytes answer buffer) old.taken
+  pub taken : new.taken ≡ with_bytes (read_bytes answer buffer) old.taken
   pub left : Shrinks old.left (read_bytes answer buffer) new.left
   pub all : IsTrue (is_end answer) → IsNothing new.left
   pub put : new.put ≡ old.put
@@ -102,7 +102,7 @@ pub record Reads (old : LinkView) (buffer : List ℕ) (answer : Got) (new : Link
 -- A write took bytes, of those that it was handed, or none.
 pub record Writes (old : LinkView) (from : List ℕ) (answer : Took) (new : LinkView) : Type 0 where
   pub may : MayWrite (length from) old.faults new.faults answer
-  pub put : new.put ≡ grown (written_bytes answer from) old.put
+  pub put : new.put ≡ with_bytes (written_bytes answer from) old.put
   pub taken : new.taken ≡ old.taken
   pub left : new.left ≡ old.left
   pub ended : new.ended ≡ old.ended

@@ -118,8 +118,8 @@ abbrev pub lines_before : ℕ → List Line → ℕ
 lines_before place lines = length (filter (λ line. nat_lt line.end place) lines)
 
 -- the items of all drains, printed one after the other
-abbrev pub printed : List (List Item) → List ℕ
-printed given = flat_map (flat_map print_of) given
+abbrev pub print_of_drains : List (List Item) → List ℕ
+print_of_drains given = flat_map (flat_map print_of) given
 
 abbrev pub IsPrefix : List ℕ → List ℕ → Type 0
 IsPrefix prefix whole = (more : List ℕ) × (prefix ++ more ≡ whole)
@@ -167,9 +167,9 @@ IsSpaced steps = (before between rest : List Step) (first fourth : Request) →
 
 -- What was written: a prefix of what the drains gave, printed; without a Connect nothing, or a
 -- prefix of the line that says that the stream is at fault, where it is so within the greeting.
-abbrev pub Written : List ℕ → List ℕ → List Record → List (List Item) → Type 0
-Written input output (made ∷ records) given = IsPrefix output (printed given)
-Written input output [] given =
+abbrev pub WasWritten : List ℕ → List ℕ → List Record → List (List Item) → Type 0
+WasWritten input output (made ∷ records) given = IsPrefix output (print_of_drains given)
+WasWritten input output [] given =
     (output ≡ [])
     ⊎ (((stream_of input).greeting ≡ None) × IsSome (fault_of input)
     × IsPrefix output (print_of item.Fault))
@@ -181,7 +181,7 @@ pub record AtEnd (input output : List ℕ) (ended : Bool) (records : List Record
   pub has_ended : ended ≡ true
   pub no_fault : fault_of input ≡ None
   pub all_lines : length (requests_in steps) ≡ length (stream_of input).lines
-  pub all_written : output ≡ printed given
+  pub all_written : output ≡ print_of_drains given
   pub drained : records ≢ [] → IsDrained steps
 
 -- At Broken the stream is at fault at that place, all lines before it were called, and all was
@@ -191,7 +191,7 @@ pub record AtBroken (place : ℕ) (input output : List ℕ) (records : List Reco
   pub fault : fault_of input ≡ Some place
   pub all_lines : length (requests_in steps) ≡ lines_before place (stream_of input).lines
   pub greeting_line : records ≡ [] → output ≡ print_of item.Fault
-  pub all_written : records ≢ [] → output ≡ printed given
+  pub all_written : records ≢ [] → output ≡ print_of_drains given
   pub broken : records ≢ [] → IsBroken steps
 
 -- what each end says beside
@@ -201,10 +201,10 @@ AtItsEnd end.End input output ended records steps given =
     AtEnd input output ended records steps given
 AtItsEnd (end.Broken place) input output ended records steps given =
     AtBroken place input output records steps given
-AtItsEnd end.Dropped input output ended records steps given = output ≡ printed given
-AtItsEnd end.Overrun input output ended records steps given = output ≡ printed given
-AtItsEnd end.Stopped input output ended records steps given = output ≡ printed given
-AtItsEnd (end.Full number) input output ended records steps given = output ≡ printed given
+AtItsEnd end.Dropped input output ended records steps given = output ≡ print_of_drains given
+AtItsEnd end.Overrun input output ended records steps given = output ≡ print_of_drains given
+AtItsEnd end.Stopped input output ended records steps given = output ≡ print_of_drains given
+AtItsEnd (end.Full number) input output ended records steps given = output ≡ print_of_drains given
 AtItsEnd end.LinkFault input output ended records steps given = Unit {0}
 AtItsEnd end.Memory input output ended records steps given = Unit {0}
 
@@ -219,7 +219,7 @@ pub record IsTalk (host input output : List ℕ) (ended : Bool) (pass : List Rec
       map Some requests
       ≡ map (λ line. reading_of line.tokens) (take (length requests) (stream_of input).lines)
   pub breaks : MayBreak input (steps_of session pass given)
-  pub written : Written input output (records_of session pass) given
+  pub written : WasWritten input output (records_of session pass) given
   pub at_end : AtItsEnd end input output ended (records_of session pass)
       (steps_of session pass given) given
   pub closed : full ≡ false → (records_of session pass ≡ []) ⊎ EndsClosed (records_of session pass)

@@ -3,28 +3,28 @@ use Rattle.std.proofs.Common.{◌≡◌, ℕ, ◌+◌, ◌*◌, ◌<◌, ◌≤�
 use Rattle.kom_types.specs.declared.replies.Reply.{Reply}
 use Rattle.kom_model.specs.State.{State}
 use Rattle.kom_load.specs.declared.runs.Run.{Run}
-use Rattle.kom_load.specs.Runs.{begun, next_of, answered}
-use Rattle.kom_load.specs.Loading.{Loading, new_server, server_of, started, called, reply_at, with_next, loaded}
+use Rattle.kom_load.specs.Runs.{new_run, next_of, after_answer}
+use Rattle.kom_load.specs.Loading.{Loading, new_server, server_of, run_start, call_once, reply_at, with_next, run_of}
 use Rattle.kom_load.specs.Steps.{Leads, AreBefore}
 use Rattle.kom_load.proofs.Leading.{leads-on}
 
 -- the run so far is that of the definition, and its server that of its history
 pub record IsAt (count : ℕ) (run : Run) (state : State) : Type 0 where
-  pub leads : Leads new_server (loaded run.calls).history state
-  pub is : run ≡ (loaded run.calls).run
+  pub leads : Leads new_server (run_of run.calls).history state
+  pub is : run ≡ (run_of run.calls).run
   pub before : AreBefore (run.calls + 1) state
   pub refused : run.refused ≤ run.calls
   pub few : run.calls ≤ count
   pub counted : state.entries ≤ 6 + 3 * run.calls
 
 -- before its first call
-pub at-start : (count : ℕ) (run : Run) (old state : State) → old ≡ new_server → run ≡ begun →
-    Leads old started.history state → AreBefore 1 state → state.entries ≤ old.entries + 6 → IsAt count run state
-unfolding loaded started new_server
+pub at-start : (count : ℕ) (run : Run) (old state : State) → old ≡ new_server → run ≡ new_run →
+    Leads old run_start.history state → AreBefore 1 state → state.entries ≤ old.entries + 6 → IsAt count run state
+unfolding run_of run_start new_server
 at-start count run old state new is leads before entries =
     let none : old.entries ≡ 0 = ap (λ (one : State). one.entries) new in
     subst (λ (one : Run). IsAt count one state) (sym is) (record {
-      leads = subst (λ (one : State). Leads one started.history state) new leads;
+      leads = subst (λ (one : State). Leads one run_start.history state) new leads;
       is = refl;
       before = before;
       refused = omega arith;
@@ -33,43 +33,43 @@ at-start count run old state new is leads before entries =
     })
 
 -- an answer counts one call
-pub calls-next : (run next : Run) (reply : Reply) → next ≡ answered run reply → next.calls ≡ run.calls + 1
-unfolding answered
+pub calls-next : (run next : Run) (reply : Reply) → next ≡ after_answer run reply → next.calls ≡ run.calls + 1
+unfolding after_answer
 calls-next run next reply is = ap (λ (one : Run). one.calls) is
 
-loaded-next : (count : ℕ) → loaded (count + 1) ≡ with_next (loaded count)
-unfolding loaded
-loaded-next count = ap loaded (add-one count)
+loaded-next : (count : ℕ) → run_of (count + 1) ≡ with_next (run_of count)
+unfolding run_of
+loaded-next count = ap run_of (add-one count)
 
-history-next : (count : ℕ) → (loaded (count + 1)).history
-    ≡ (loaded count).history ++ called ((loaded count).run.calls + 1) (next_of (loaded count).run)
+history-next : (count : ℕ) → (run_of (count + 1)).history
+    ≡ (run_of count).history ++ call_once ((run_of count).run.calls + 1) (next_of (run_of count).run)
 unfolding with_next
 history-next count = ap (λ (loading : Loading). loading.history) (loaded-next count)
 
-run-next : (count : ℕ) → (loaded (count + 1)).run ≡ answered (loaded count).run
-    (reply_at (server_of (loaded count)) ((loaded count).run.calls + 1) (next_of (loaded count).run))
+run-next : (count : ℕ) → (run_of (count + 1)).run ≡ after_answer (run_of count).run
+    (reply_at (server_of (run_of count)) ((run_of count).run.calls + 1) (next_of (run_of count).run))
 unfolding with_next
 run-next count = ap (λ (loading : Loading). loading.run) (loaded-next count)
 
 -- after one call more
 pub at-next : (count : ℕ) (run next : Run) (old new : State) → IsAt count run old → run.calls < count →
-    Leads old (called (run.calls + 1) (next_of run)) new →
-    next ≡ answered run (reply_at old (run.calls + 1) (next_of run)) → AreBefore (next.calls + 1) new →
+    Leads old (call_once (run.calls + 1) (next_of run)) new →
+    next ≡ after_answer run (reply_at old (run.calls + 1) (next_of run)) → AreBefore (next.calls + 1) new →
     next.refused ≤ next.calls → new.entries ≤ old.entries + 3 → IsAt count next new
 at-next count run next old new at less leads is before refused entries =
     let index = run.calls in
     let calls : next.calls ≡ index + 1 = calls-next _ _ _ is in
-    let history : (loaded (index + 1)).history ≡ (loaded index).history ++ called (index + 1) (next_of run) =
+    let history : (run_of (index + 1)).history ≡ (run_of index).history ++ call_once (index + 1) (next_of run) =
     history-next index
-    ∙ sym (ap (λ (one : Run). (loaded index).history ++ called (one.calls + 1) (next_of one)) at.is) in
-    let same : next ≡ (loaded (index + 1)).run =
-    is ∙ ap (λ (state : State). answered run (reply_at state (index + 1) (next_of run))) at.leads.state
-    ∙ ap (λ (one : Run). answered one (reply_at (server_of (loaded index)) (one.calls + 1) (next_of one))) at.is
+    ∙ sym (ap (λ (one : Run). (run_of index).history ++ call_once (one.calls + 1) (next_of one)) at.is) in
+    let same : next ≡ (run_of (index + 1)).run =
+    is ∙ ap (λ (state : State). after_answer run (reply_at state (index + 1) (next_of run))) at.leads.state
+    ∙ ap (λ (one : Run). after_answer one (reply_at (server_of (run_of index)) (one.calls + 1) (next_of one))) at.is
     ∙ sym (run-next index) in
     record {
-      leads = subst (λ (n : ℕ). Leads new_server (loaded n).history new) (sym calls)
+      leads = subst (λ (n : ℕ). Leads new_server (run_of n).history new) (sym calls)
           (subst (λ history. Leads new_server history new) (sym history) (leads-on _ _ at.leads leads));
-      is = subst (λ (n : ℕ). next ≡ (loaded n).run) (sym calls) same;
+      is = subst (λ (n : ℕ). next ≡ (run_of n).run) (sym calls) same;
       before = before;
       refused = refused;
       few = omega (arith, calls, less);

@@ -9,9 +9,9 @@ use Rattle.kom_types.specs.declared.items.Item.TheVariants as item
 use Rattle.kom_types.specs.declared.replies.Reply.{Reply}
 use Rattle.kom_types.specs.Sessions.{Waiting, Session}
 use Rattle.kom_model.specs.Initial.{initial}
-use Rattle.kom_model.specs.State.{State, opening}
+use Rattle.kom_model.specs.State.{State, opening_state}
 use Rattle.kom_model.specs.Legal.{state_after}
-use Rattle.kom_load.specs.Loading.{made, drained, greeted, called, reply_at, new_server}
+use Rattle.kom_load.specs.Loading.{lone_act, flush_drain, connect_one, call_once, reply_at, new_server}
 use Rattle.kom_load.specs.Steps.{IsBefore, AreBefore, taken_at}
 use Rattle.kom_load.proofs.Waiting.{AllHold, Holds, stepped, call-holds, connect-holds, flush-holds, drain-holds}
 use Rattle.kom_load.proofs.Waiting.{taken-holds, holds_at}
@@ -61,17 +61,17 @@ module _ (index : ℕ) (what : Call) (state : State) (before : AreBefore index s
   flushed-up_to : AllHold (IsUpTo index body) (stepped index 0 act.Flush after_call)
   flushed-up_to = flush-holds (IsUpTo index body) index after_call call-up_to
 
-  pub called-before : AreBefore (index + 1) (state_after state (called index what))
-  unfolding AreBefore called drained made
+  pub called-before : AreBefore (index + 1) (state_after state (call_once index what))
+  unfolding AreBefore call_once flush_drain lone_act
   called-before =
       hold-weaker (IsUpTo index body) (IsBefore (index + 1)) (up_to-before index body)
-      (state_after state (called index what)).sessions
+      (state_after state (call_once index what)).sessions
       (drain-holds (IsUpTo index body) index (stepped index 0 act.Flush after_call) flushed-up_to)
 
   pub reply-is : (items : List Item) →
-      items ≡ taken_at index (state_after state (made index 1 (act.Call 1 index what))) →
+      items ≡ taken_at index (state_after state (lone_act index 1 (act.Call 1 index what))) →
       (reply : Reply) → Contains items (item.Reply index reply) → reply ≡ body
-  unfolding made taken_at
+  unfolding lone_act taken_at
   reply-is items taken reply has =
       let held : AllByRecursion (IsUpTo index body) items = subst (AllByRecursion (IsUpTo index body)) (sym taken)
       (taken-holds (IsUpTo index body) 1 (stepped index 0 act.Flush after_call) flushed-up_to) in
@@ -80,11 +80,11 @@ module _ (index : ℕ) (what : Call) (state : State) (before : AreBefore index s
       one.1 refl
 
 -- no reply waits after the greeting
-pub greeted-before : AreBefore 0 (state_after new_server greeted)
-unfolding AreBefore greeted drained made new_server
+pub greeted-before : AreBefore 0 (state_after new_server connect_one)
+unfolding AreBefore connect_one flush_drain lone_act new_server
 greeted-before =
     let holds : Item → Type 0 = IsBefore 0 in
-    let one = stepped 0 1 (act.Connect (codes "load") (codes "memory")) (opening (initial [] 0)) in
+    let one = stepped 0 1 (act.Connect (codes "load") (codes "memory")) (opening_state (initial [] 0)) in
     drain-holds holds 0 (stepped 0 0 act.Flush one)
     (flush-holds holds 0 one
-    (connect-holds holds 0 1 (codes "load") (codes "memory") (opening (initial [] 0)) tt tt))
+    (connect-holds holds 0 1 (codes "load") (codes "memory") (opening_state (initial [] 0)) tt tt))

@@ -13,8 +13,8 @@ use Rattle.kom_types.specs.declared.items.Item.TheVariants as item
 use Rattle.kom_types.specs.declared.messages.Message.{Message}
 use Rattle.kom_types.specs.declared.seats.Seat.{Seat}
 use Rattle.kom_types.specs.declared.session_changes.SessionChange.{SessionChange}
-use Rattle.kom_types.specs.Sessions.{Waiting, Session, Limits, waiting_limits, is_session, fits, queued, with_waiting}
-use Rattle.kom_types.specs.Sessions.{changed, changed_session, fresh_session, drained_count}
+use Rattle.kom_types.specs.Sessions.{Waiting, Session, Limits, waiting_limits, is_session, fits, queue, with_waiting}
+use Rattle.kom_types.specs.Sessions.{after_change, changed_session, fresh_session, drained_count}
 use Rattle.kom_types.specs.Sessions as Sessions
 use Rattle.kom_model.specs.Db.{Db}
 use Rattle.kom_model.specs.State.{State}
@@ -24,7 +24,7 @@ use Rattle.kom_model.specs.Decide.{asked_in}
 use Rattle.kom_model.specs.Effects.{apply_all}
 use Rattle.kom_model.specs.Out.{waiting_in, waiting_for, taken_by, given_from, drained_from}
 use Rattle.kom_model.specs.Refusal.{refusal_of}
-use Rattle.kom_model.specs.Sending.{Delivery, Sending, accepts, delivered, delivered_to}
+use Rattle.kom_model.specs.Sending.{Delivery, Sending, accepts, delivery_to, delivered_to}
 use Rattle.kom_model.specs.ToWhom.{messages_of, sendings}
 use Rattle.kom_model.specs.Viewers.{viewer_of}
 use Rattle.kom_model.specs.calls.Call.{Asked}
@@ -97,7 +97,7 @@ module _ (Q : Item → Type 0) where
       state.sessions all
 
   queued-holds : (limits : Limits) (place : ℕ) (what : Item) → Q what → (row : Session) → Holds row →
-      Holds (queued limits place what row)
+      Holds (queue limits place what row)
   queued-holds limits place what is row here =
       cond_both row.overrun row
       (cond (fits limits row.waiting what) (with_waiting what place row) (record row { overrun = true })) Holds
@@ -111,8 +111,8 @@ module _ (Q : Item → Type 0) where
   queue_all-holds limits [] state sent all = all
   queue_all-holds limits (delivery ∷ deliveries) state sent all =
       queue_all-holds limits deliveries
-      (with_session delivery.session (queued limits state.entries delivery.item) state) sent.1
-      (with_session-holds delivery.session (queued limits state.entries delivery.item)
+      (with_session delivery.session (queue limits state.entries delivery.item) state) sent.1
+      (with_session-holds delivery.session (queue limits state.entries delivery.item)
       (queued-holds limits state.entries delivery.item sent.0) state all)
 
   make_changes-hold : (moment : ℕ) (changes : List SessionChange) (state : State) → AllHold state →
@@ -120,12 +120,12 @@ module _ (Q : Item → Type 0) where
   make_changes-hold moment [] state all = all
   make_changes-hold moment (what ∷ changes) state all =
       make_changes-hold moment changes (make_change moment what state)
-      (with_session-holds (changed_session what) (changed what moment) (λ row here. here) state all)
+      (with_session-holds (changed_session what) (after_change what moment) (λ row here. here) state all)
 
   -- ---- what a call sends
   module _ (messages : (message : Message) → Q (item.Message message)) where
     delivered-holds : (db : Db) (sending : Sending) (seat : Seat) →
-        OfSome (λ delivery. Q delivery.item) (delivered db sending seat)
+        OfSome (λ delivery. Q delivery.item) (delivery_to db sending seat)
     delivered-holds db sending seat =
         cond_both (seat.person == 0 || not (accepts sending.number seat)) None
         (option_map (λ message. record { session = seat.number; item = item.Message message })
@@ -141,7 +141,7 @@ module _ (Q : Item → Type 0) where
     unfolding messages_of
     messages-hold asked what decision =
         all_flat (λ delivery. Q delivery.item) (delivered_to asked.db asked.seats)
-        (λ sending. all_some (λ delivery. Q delivery.item) (delivered asked.db sending)
+        (λ sending. all_some (λ delivery. Q delivery.item) (delivery_to asked.db sending)
         (delivered-holds asked.db sending) asked.seats) (sendings asked what decision)
 
     -- ---- acts
@@ -172,7 +172,7 @@ module _ (Q : Item → Type 0) where
 
   pub drain-holds : (moment : ℕ) (state : State) → AllHold state → AllHold (stepped moment 1 (act.Drain 1) state)
   drain-holds moment state all =
-      with_session-holds 1 (Sessions.drained state.stable)
+      with_session-holds 1 (Sessions.after_drain state.stable)
       (λ row here. all_dropped (λ one. Q one.item) (drained_count state.stable row.waiting) row.waiting here) state all
 
   -- what is taken of what waits

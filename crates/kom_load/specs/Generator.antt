@@ -19,18 +19,18 @@ written_text index conference = call.CreateText (record {
 })
 
 -- person 5 becomes a member, with priority 100, in the first place
-abbrev pub joined : ℕ → Call
-joined conference = call.AddMember conference 5 100 0 0
+abbrev pub join_call : ℕ → Call
+join_call conference = call.AddMember conference 5 100 0 0
 
 -- the first text of a conference was read
-abbrev pub marked : ℕ → Call
-marked conference = call.MarkAsRead conference (1 ∷ [])
+abbrev pub mark_call : ℕ → Call
+mark_call conference = call.MarkAsRead conference (1 ∷ [])
 
 -- the call of an index, from 1 on: four calls for each conference, all but the first of them about
 -- the one that was made last
-abbrev pub generated : ℕ → ℕ → Call
-generated index conference =
+abbrev pub call_of_index : ℕ → ℕ → Call
+call_of_index index conference =
     if index % 4 == 1 then made_conference index
     else if index % 4 == 2 then written_text index conference
-    else if index % 4 == 3 then joined conference
-    else marked conference
+    else if index % 4 == 3 then join_call conference
+    else mark_call conference

@@ -8,7 +8,7 @@ use Rattle.kom_types.specs.declared.items.Item.TheVariants as item
 use Rattle.kom_model.specs.State.{State}
 use Rattle.kom_model.specs.Legal.{IsLegal, state_after}
 use Rattle.kom_model.specs.Out.{taken_by}
-use Rattle.kom_load.specs.Loading.{made}
+use Rattle.kom_load.specs.Loading.{lone_act}
 
 -- these records were made, one after the other, and led from one state to another
 pub record Leads (old : State) (history : List Record) (new : State) : Type 0 where
@@ -17,7 +17,7 @@ pub record Leads (old : State) (history : List Record) (new : State) : Type 0 wh
 
 -- what session 1 takes once all that was done is stable
 unfoldable pub taken_at : ℕ → State → List Item
-taken_at moment state = taken_by (state_after state (made moment 0 act.Flush)) (act.Drain 1)
+taken_at moment state = taken_by (state_after state (lone_act moment 0 act.Flush)) (act.Drain 1)
 
 -- a reply has a reference below this one
 abbrev pub IsBefore : ℕ → Item → Type 0

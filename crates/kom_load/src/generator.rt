@@ -1,6 +1,6 @@
 ghost use Rattle.std.specs.Prelude.{◌≡◌, [], ◌∷◌, IfOk};
 ghost use Rattle.std.specs.Fmt.{decimal};
-ghost use Rattle.kom_load.specs.Generator.{generated, made_conference, written_text, marked};
+ghost use Rattle.kom_load.specs.Generator.{call_of_index, made_conference, written_text, mark_call};
 
 use itoa::Buffer;
 use kom_types::{
@@ -15,7 +15,7 @@ const PRIORITY: u8 = 100;
 
 /// The call of an index, from 1 on, of a run that made this conference last.
 pub fn generated(index: u32, conference: u32, alloc: Global) -> Result<Call, Memory>
-    ensures { IfOk result (λ call. call ≡ generated index conference) }
+    ensures { IfOk result (λ call. call ≡ call_of_index index conference) }
 {
     match index % 4 {
         1 => make_conference(index, alloc),
@@ -66,7 +66,7 @@ fn recipient(conference: u32, alloc: Global) -> Result<MiscInputs, Memory>
 }
 
 fn mark_as_read(conference: u32, alloc: Global) -> Result<Call, Memory>
-    ensures { IfOk result (λ call. call ≡ marked conference) }
+    ensures { IfOk result (λ call. call ≡ mark_call conference) }
 {
     let mut locals = Numbers::new(alloc);
     locals.push(1)?;

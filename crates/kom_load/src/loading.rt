@@ -1,7 +1,7 @@
 ghost use Rattle.std.specs.Prelude.{◌≡◌, ◌+◌, ◌<◌, ◌≤◌, ◌^◌, IfOk, OnOk};
 ghost use Rattle.kom_model.specs.Legal.{IsLegal};
-ghost use Rattle.kom_load.specs.Runs.{next_of, answered};
-ghost use Rattle.kom_load.specs.Loading.{new_server, started, called, reply_at, loaded};
+ghost use Rattle.kom_load.specs.Runs.{next_of, after_answer};
+ghost use Rattle.kom_load.specs.Loading.{new_server, run_start, call_once, reply_at, run_of};
 ghost use Rattle.kom_load.specs.Loading.{summary_in, summary_of};
 ghost use Rattle.kom_load.specs.Steps.{Leads, AreBefore};
 
@@ -20,8 +20,8 @@ const PERSON: u32 = 5;
 /// call that is answered so, an act that is refused and a reply that does not come.
 pub fn load(alloc: Global, count: u32) -> Result<Summary, Memory>
     requires { count ≤ 100000 }
-    ensures legal { OnOk result (IsLegal new_server (loaded count).history) }
-    ensures summary { IfOk result (λ summary. summary ≡ summary_of (loaded count)) }
+    ensures legal { OnOk result (IsLegal new_server (run_of count).history) }
+    ensures summary { IfOk result (λ summary. summary ≡ summary_of (run_of count)) }
 {
     let mut core = Core::fresh(alloc, b"", Moment::at_most(0))?;
     let run = make_calls(&mut core, count, alloc)?;
@@ -47,8 +47,8 @@ fn summary_in(core: &Core, run: Run) -> Summary
 fn make_calls(core: &mut Core, count: u32, alloc: Global) -> Result<Run, Memory>
     requires few { count ≤ 100000 }
     requires new { core.old.state ≡ new_server }
-    ensures loaded { IfOk result (λ run. run ≡ (loaded count).run) }
-    ensures leads { OnOk result (Leads new_server (loaded count).history core.new.state) }
+    ensures loaded { IfOk result (λ run. run ≡ (run_of count).run) }
+    ensures leads { OnOk result (Leads new_server (run_of count).history core.new.state) }
     ensures refused { IfOk result (λ run. run.refused ≤ run.calls) }
 {
     let mut items = ArrayVec::new();
@@ -63,7 +63,7 @@ fn make_calls(core: &mut Core, count: u32, alloc: Global) -> Result<Run, Memory>
 /// Connects the session to a new server, and logs it in.
 fn start(core: &mut Core, items: &mut ArrayVec<Item, 64>, alloc: Global) -> Result<(), Memory>
     requires { core.old.state ≡ new_server }
-    ensures started { OnOk result (Leads core.old.state started.history core.new.state) }
+    ensures started { OnOk result (Leads core.old.state run_start.history core.new.state) }
     ensures before { OnOk result (AreBefore 1 core.new.state) }
     ensures counted { core.new.state.entries ≤ core.old.state.entries + 6 }
 {
@@ -90,8 +90,8 @@ fn make_next(
     requires before { AreBefore (run.old.calls + 1) core.old.state }
     requires room { core.old.state.entries + 2 < 2 ^ 62 }
     ensures called { OnOk result (Leads core.old.state
-        (called (run.old.calls + 1) (next_of run.old)) core.new.state) }
-    ensures answered { OnOk result (run.new ≡ answered run.old
+        (call_once (run.old.calls + 1) (next_of run.old)) core.new.state) }
+    ensures answered { OnOk result (run.new ≡ after_answer run.old
         (reply_at core.old.state (run.old.calls + 1) (next_of run.old))) }
     ensures before { OnOk result (AreBefore (run.new.calls + 1) core.new.state) }
     ensures refused { OnOk result (run.new.refused ≤ run.new.calls) }

@@ -1,5 +1,5 @@
 ghost use Rattle.std.specs.Prelude.{◌≡◌, ◌<◌, ◌≤◌, IfOk};
-ghost use Rattle.kom_load.specs.Runs.{begun, next_of, answered, is_refusal, made_last};
+ghost use Rattle.kom_load.specs.Runs.{new_run, next_of, after_answer, is_refusal, made_last};
 
 use crate::generator::generated;
 use kom_types::{Call, Memory, Reply};
@@ -17,7 +17,7 @@ pub struct Run {
 impl Run {
     /// The run before its first call.
     pub fn new() -> Run
-        ensures { result ≡ begun }
+        ensures { result ≡ new_run }
     {
         Run {
             calls: 0,
@@ -36,11 +36,11 @@ impl Run {
     }
 
     /// Takes note of the answer to the next call.
-    #[tactic(auto, unfolding(crate::specs::Runs::answered))]
+    #[tactic(auto, unfolding(crate::specs::Runs::after_answer))]
     pub fn answer(&mut self, reply: &Reply)
         requires few { self.old.calls < 100000 }
         requires refused { self.old.refused ≤ self.old.calls }
-        ensures run { self.new ≡ answered self.old reply.now }
+        ensures run { self.new ≡ after_answer self.old reply.now }
         ensures refused { self.new.refused ≤ self.new.calls }
     {
         self.calls += 1;

@@ -3,7 +3,7 @@ ghost use Rattle.kom_types.specs.declared.acts.Act.TheVariants as act;
 ghost use Rattle.kom_types.specs.declared.items.Item.TheVariants as kind;
 ghost use Rattle.kom_model.specs.After.{session_in, HasUser};
 ghost use Rattle.kom_model.specs.Out.{taken_by};
-ghost use Rattle.kom_load.specs.Loading.{made, drained, greeted, called, reply_at};
+ghost use Rattle.kom_load.specs.Loading.{lone_act, flush_drain, connect_one, call_once, reply_at};
 ghost use Rattle.kom_load.specs.Steps.{Leads, AreBefore, taken_at};
 
 use arrayvec::ArrayVec;
@@ -23,7 +23,7 @@ pub(crate) fn greet(
 ) -> Result<(), Memory>
     requires first { core.old.state.connects ≡ 0 }
     requires room { core.old.state.entries + 2 < 2 ^ 62 }
-    ensures greeted { OnOk result (Leads core.old.state greeted core.new.state) }
+    ensures greeted { OnOk result (Leads core.old.state connect_one core.new.state) }
     ensures counted { core.new.state.entries ≤ core.old.state.entries + 3 }
 {
     let user = Bytes::copy_of(alloc, b"load")?;
@@ -42,7 +42,7 @@ pub(crate) fn make_call(
 ) -> Result<Reply, Memory>
     requires before { AreBefore index core.old.state }
     requires room { core.old.state.entries + 2 < 2 ^ 62 }
-    ensures called { OnOk result (Leads core.old.state (called index call) core.new.state) }
+    ensures called { OnOk result (Leads core.old.state (call_once index call) core.new.state) }
     ensures reply { IfOk result (λ reply. reply ≡ reply_at core.old.state index call) }
     ensures before { OnOk result (AreBefore (index + 1) core.new.state) }
     ensures counted { core.new.state.entries ≤ core.old.state.entries + 3 }
@@ -61,7 +61,7 @@ pub(crate) fn make_call(
 /// Makes what was done stable, and takes what waits for the session.
 fn drain(core: &mut Core, moment: u32, items: &mut ArrayVec<Item, 64>) -> Result<(), Memory>
     requires room { core.old.state.entries + 1 < 2 ^ 62 }
-    ensures drained { OnOk result (Leads core.old.state (drained moment) core.new.state) }
+    ensures drained { OnOk result (Leads core.old.state (flush_drain moment) core.new.state) }
     ensures given { OnOk result (items.new.items ≡ taken_at moment core.old.state) }
     ensures counted { core.new.state.entries ≤ core.old.state.entries + 2 }
 {
@@ -80,7 +80,7 @@ fn make(
     requires user { HasUser act }
     requires room { core.old.state.entries < 2 ^ 62 }
     ensures made { OnOk result (Leads core.old.state
-        (made moment (session_in core.old.state act) act) core.new.state) }
+        (lone_act moment (session_in core.old.state act) act) core.new.state) }
     ensures given { OnOk result (items.new.items ≡ taken_by core.old.state act) }
     ensures counted { core.new.state.entries ≤ core.old.state.entries + 1 }
 {

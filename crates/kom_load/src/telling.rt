@@ -2,7 +2,7 @@ ghost use Rattle.std.specs.Prelude.{◌≡◌, ◌≤◌, OnOk, OnErr};
 ghost use Rattle.kom_links.specs.Doors.{IsNewSink};
 ghost use Rattle.kom_commands.specs.Reports.{HasText};
 ghost use Rattle.kom_model.specs.Legal.{IsLegal};
-ghost use Rattle.kom_load.specs.Loading.{new_server, loaded, summary_of};
+ghost use Rattle.kom_load.specs.Loading.{new_server, run_of, summary_of};
 ghost use Rattle.kom_load.specs.Summaries.{lines_of};
 
 use crate::loading::load;
@@ -16,9 +16,9 @@ use std::alloc::Global;
 pub fn tell_load<S: Sink>(alloc: Global, count: u32, sink: &mut S) -> Result<(), Memory>
     requires few { count ≤ 100000 }
     requires fresh { IsNewSink (S.view sink.old) }
-    ensures legal { OnOk result (IsLegal new_server (loaded count).history) }
+    ensures legal { OnOk result (IsLegal new_server (run_of count).history) }
     ensures told { OnOk result (
-        HasText (lines_of (summary_of (loaded count))) (S.view sink.new)) }
+        HasText (lines_of (summary_of (run_of count))) (S.view sink.new)) }
     ensures untold { OnErr result (S.view sink.new ≡ S.view sink.old) }
 {
     let summary = load(alloc, count)?;

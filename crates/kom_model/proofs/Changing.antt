@@ -3,7 +3,7 @@ use Rattle.std.proofs.Common.{◌≡◌, ℕ, ◌==◌, true, false, cond, List,
 use Rattle.kom_types.specs.declared.seats.Seat.{Seat}
 use Rattle.kom_types.specs.declared.session_changes.SessionChange.{SessionChange}
 use Rattle.kom_types.specs.declared.session_changes.SessionChange.TheVariants as change
-use Rattle.kom_types.specs.Sessions.{Waiting, changed_session, changed_seat, changed}
+use Rattle.kom_types.specs.Sessions.{Waiting, changed_session, changed_seat, after_change}
 use Rattle.kom_types.specs.Sessions.{with_invisible}
 use Rattle.kom_model.specs.State.{State}
 use Rattle.kom_model.specs.After.{make_change, make_changes}
@@ -43,7 +43,7 @@ make_changes-stay moment (what ∷ changes) state =
     let next : State = make_change moment what state in
     KeepsRows-then Stays Stays Stays (λ a b c first second. second ∙ first) state.sessions next.sessions
     (make_changes moment changes next).sessions
-    (KeepsRows-changed Stays (λ w. refl) (changed_session what) (changed what moment)
+    (KeepsRows-changed Stays (λ w. refl) (changed_session what) (after_change what moment)
     (λ row. (number-changed_seat what moment row.seat, refl)) state.sessions)
     (make_changes-stay moment changes next)
 

@@ -7,9 +7,9 @@ use Rattle.std.proofs.lemmas.Bool.{cases_eq, ne_eqb, eq-eqb}
 use Rattle.kom_types.specs.declared.acts.Act.{Act}
 use Rattle.kom_types.specs.declared.acts.Act.TheVariants as act
 use Rattle.kom_types.specs.declared.acts.Record.{Record}
-use Rattle.kom_types.specs.Sessions.{Session, waiting_limits, is_session, drained}
+use Rattle.kom_types.specs.Sessions.{Session, waiting_limits, is_session, after_drain}
 use Rattle.kom_model.specs.State.{State, IsSound, session_of}
-use Rattle.kom_model.specs.After.{moment_of, decision_at, deliveries, acted, after}
+use Rattle.kom_model.specs.After.{moment_of, decision_at, deliveries, after_act, after}
 use Rattle.kom_model.specs.Effects.{apply_all}
 use Rattle.kom_model.specs.After.{MayFollow}
 use Rattle.kom_model.specs.Legal.{state_after}
@@ -39,7 +39,7 @@ absent_changed n number change keeps rows none =
     ]
 
 acted_step : (n : ℕ) (state : State) (pass moment : ℕ) (what : Act) (session : ℕ) (short : Bool) → IsOver n state →
-    IsOver n (acted state (record {
+    IsOver n (after_act state (record {
       entry = record { pass = pass; moment = moment; act = what };
       session = session;
       short = short;
@@ -62,7 +62,7 @@ acted_step n state pass moment (act.Call number reference call) session false ov
 acted_step n state pass moment (act.Broken number) session short over = over
 acted_step n state pass moment (act.Drain number) session short over = record {
   drawn = over.drawn;
-  absent = absent_changed n number (drained state.stable) (λ row. refl) state.sessions over.absent;
+  absent = absent_changed n number (after_drain state.stable) (λ row. refl) state.sessions over.absent;
 }
 acted_step n state pass moment act.Flush session true over = record { drawn = over.drawn; absent = over.absent }
 acted_step n state pass moment act.Flush session false over = record { drawn = over.drawn; absent = over.absent }
@@ -75,9 +75,9 @@ acted_step n state pass moment (act.Close number) session short over = record {
 }
 
 -- what an act sends brings no session back
-over-sent : (n : ℕ) (state : State) (made : Record) → IsOver n (acted state made) → IsOver n (after state made)
+over-sent : (n : ℕ) (state : State) (made : Record) → IsOver n (after_act state made) → IsOver n (after state made)
 over-sent n state made over =
-    let rows = queue_all-rows waiting_limits (deliveries state made) (acted state made) in
+    let rows = queue_all-rows waiting_limits (deliveries state made) (after_act state made) in
     record {
       drawn = rw (ap (λ s. s.connects) rows) over.drawn;
       absent = absent-kept (Grows state.entries) n _ _ (sent-grows state made) over.absent;
@@ -132,7 +132,7 @@ closed_step : (n : ℕ) (state : State) (pass moment : ℕ) (what : Act) (sessio
       session = session;
       short = short;
     } in
-    MayFollow state made → Closes n what → IsOver n (acted state made) × (taken_by n state made ≡ [])
+    MayFollow state made → Closes n what → IsOver n (after_act state made) × (taken_by n state made ≡ [])
 closed_step n state pass moment (act.Connect user host) session short sound may closes = absurd closes
 closed_step n state pass moment (act.Call number reference call) session short sound may closes = absurd closes
 closed_step n state pass moment (act.Broken number) session short sound may closes = absurd closes

@@ -8,17 +8,17 @@ use Rattle.kom_types.specs.declared.effects.Effect.{Effect}
 use Rattle.kom_types.specs.declared.items.Item.TheVariants as item
 use Rattle.kom_types.specs.Printing.{print_of}
 use Rattle.kom_model.specs.declared.call_errors.Refused.{Refused}
-use Rattle.kom_model.specs.calls.Call.{Asked, Definition, decided, refuse}
-use Rattle.kom_model.specs.Decide.{definition_of, decision_of, limited}
+use Rattle.kom_model.specs.calls.Call.{Asked, Definition, outcome_of, refuse}
+use Rattle.kom_model.specs.Decide.{definition_of, decision_of, limit_reply}
 
 module _ (P : Decision → Type 0) (refused : (why : Refused) → P (refuse why)) where
-  decided-meets : (definition : Definition) → (definition.early ≡ None → P definition.rest) → P (decided definition)
+  decided-meets : (definition : Definition) → (definition.early ≡ None → P definition.rest) → P (outcome_of definition)
   decided-meets definition rest =
       elim definition.early as
-      (λ early. (early ≡ None → P definition.rest) → P (decided (record { early = early; rest = definition.rest })))
+      (λ early. (early ≡ None → P definition.rest) → P (outcome_of (record { early = early; rest = definition.rest })))
       [ Some why ↦ λ wrong. refused why | None ↦ λ holds. holds refl ] rest
 
-  limited-meets : (reference : ℕ) (decision : Decision) → P decision → P (limited reference decision)
+  limited-meets : (reference : ℕ) (decision : Decision) → P decision → P (limit_reply reference decision)
   limited-meets reference decision holds =
       elim (nat_le (length (print_of (item.Reply reference decision.reply))) LONGEST_REPLY) as
       (λ b. P (cond b decision (refuse (record { code = 46; status = 0 }))))
@@ -28,7 +28,8 @@ module _ (P : Decision → Type 0) (refused : (why : Refused) → P (refuse why)
       ((definition_of asked what).early ≡ None → P (definition_of asked what).rest) → P (decision_of asked what)
   unfolding decision_of
   decision-meets asked what rest =
-      limited-meets asked.reference (decided (definition_of asked what)) (decided-meets (definition_of asked what) rest)
+      limited-meets asked.reference (outcome_of (definition_of asked what))
+      (decided-meets (definition_of asked what) rest)
 
 -- the same of its effects alone
 pub decision-holds : (P : List Effect → Type 0) → P [] → (asked : Asked) (what : Call) →

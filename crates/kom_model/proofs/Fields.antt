@@ -10,7 +10,7 @@ use Rattle.kom_types.specs.declared.effects.PersonField.TheVariants as person_fi
 use Rattle.kom_types.specs.declared.persons.PersonRow.{PersonRow}
 use Rattle.kom_types.specs.tables.Conferences as Conferences
 use Rattle.kom_types.specs.tables.Persons as Persons
-use Rattle.kom_types.specs.tables.Persons.{counted}
+use Rattle.kom_types.specs.tables.Persons.{count_up}
 
 pub field-number : (what : ConfField) (row : ConferenceRow) → (Conferences.with_field what row).number ≡ row.number
 field-number (field.Presentation text) row = refl
@@ -29,7 +29,7 @@ person_field-number (person_field.Privileges privileges) row = refl
 person_field-number (person_field.Flags flags) row = refl
 person_field-number (person_field.UserArea text) row = refl
 
-pub counted-number : (what : Counter) (by : ℕ) (row : PersonRow) → (counted what by row).number ≡ row.number
+pub counted-number : (what : Counter) (by : ℕ) (row : PersonRow) → (count_up what by row).number ≡ row.number
 counted-number counter.TimePresent by row = refl
 counted-number counter.CreatedLines by row = refl
 counted-number counter.CreatedBytes by row = refl

@@ -5,7 +5,7 @@ use Rattle.kom_types.specs.declared.acts.Act.TheVariants as act
 use Rattle.kom_types.specs.declared.acts.Record.{Record}
 use Rattle.kom_types.specs.Sessions.{waiting_limits}
 use Rattle.kom_model.specs.State.{State, IsSound}
-use Rattle.kom_model.specs.After.{moment_of, decision_at, deliveries, acted, after}
+use Rattle.kom_model.specs.After.{moment_of, decision_at, deliveries, after_act, after}
 use Rattle.kom_model.specs.Effects.{apply_all}
 use Rattle.kom_model.specs.Legal.{IsLegal, state_after}
 use Rattle.kom_model.proofs.Queueing.{queue_all-rows}
@@ -13,7 +13,7 @@ use Rattle.kom_model.proofs.Changing.{make_changes-rows}
 use Rattle.kom_model.proofs.Soundness.{IsSound-after}
 
 stable_step : (state : State) (pass moment : ℕ) (what : Act) (session : ℕ) (short : Bool) → IsSound state →
-    state.stable ≤ (acted state (record {
+    state.stable ≤ (after_act state (record {
       entry = record { pass = pass; moment = moment; act = what };
       session = session;
       short = short;
@@ -34,8 +34,8 @@ stable_step state pass moment (act.Close number) session short sound = omega ari
 -- the stable number never falls
 stable-after : (state : State) (made : Record) → IsSound state → state.stable ≤ (after state made).stable
 stable-after state made sound =
-    let rows = queue_all-rows waiting_limits (deliveries state made) (acted state made) in
-    let same : (after state made).stable ≡ (acted state made).stable = ap (λ s. s.stable) rows in
+    let rows = queue_all-rows waiting_limits (deliveries state made) (after_act state made) in
+    let same : (after state made).stable ≡ (after_act state made).stable = ap (λ s. s.stable) rows in
     let step =
     stable_step state made.entry.pass made.entry.moment made.entry.act made.session made.short sound in
     omega (arith, same, step)

@@ -10,8 +10,8 @@ use Rattle.kom_types.specs.declared.effects.Effect.{Effect}
 use Rattle.kom_types.specs.Sessions.{waiting_limits}
 use Rattle.kom_model.specs.Db.{Db}
 use Rattle.kom_model.specs.State.{State}
-use Rattle.kom_model.specs.Effects.{fits, made, apply, apply_all, all_fit, fitting}
-use Rattle.kom_model.specs.After.{moment_of, deliveries, decision_at, acted, after}
+use Rattle.kom_model.specs.Effects.{fits, after_effect, apply, apply_all, all_fit, fitting_effects}
+use Rattle.kom_model.specs.After.{moment_of, deliveries, decision_at, after_act, after}
 use Rattle.kom_model.specs.Kept.{effects_of, kept_of}
 use Rattle.kom_model.proofs.Protection.{and-first, and-second}
 use Rattle.kom_model.proofs.Queueing.{queue_all-rows}
@@ -19,15 +19,15 @@ use Rattle.kom_model.proofs.Changing.{make_changes-rows}
 
 -- an effect that does not fit changes nothing
 unchanged : (what : Effect) (db : Db) → fits what db ≡ false → apply what db ≡ db
-unchanged what db unfit = ap (λ (b : Bool). cond b (made what db) db) unfit
+unchanged what db unfit = ap (λ (b : Bool). cond b (after_effect what db) db) unfit
 
 both : (a b : Bool) → a ≡ true → b ≡ true → (a && b) ≡ true
 both a b first second = rw first second
 
-pub all_fitted : (effects : List Effect) (db : Db) → all_fit (fitting effects db) db ≡ true
+pub all_fitted : (effects : List Effect) (db : Db) → all_fit (fitting_effects effects db) db ≡ true
 all_fitted [] db = refl
 all_fitted (what ∷ effects) db =
-    let rest : List Effect = fitting effects (apply what db) in
+    let rest : List Effect = fitting_effects effects (apply what db) in
     let fitted : all_fit rest (apply what db) ≡ true = all_fitted effects (apply what db) in
     elim (fits what db) as (λ b. fits what db ≡ b → all_fit (cond b (what ∷ rest) rest) db ≡ true) [
       | true ↦ λ fit. both (fits what db) (all_fit rest (apply what db)) fit fitted
@@ -35,10 +35,10 @@ all_fitted (what ∷ effects) db =
     ] refl
 
 pub apply_all-fitting : (effects : List Effect) (db : Db) →
-    apply_all (fitting effects db) db ≡ apply_all effects db
+    apply_all (fitting_effects effects db) db ≡ apply_all effects db
 apply_all-fitting [] db = refl
 apply_all-fitting (what ∷ effects) db =
-    let rest : List Effect = fitting effects (apply what db) in
+    let rest : List Effect = fitting_effects effects (apply what db) in
     let made_so : apply_all rest (apply what db) ≡ apply_all effects (apply what db) =
     apply_all-fitting effects (apply what db) in
     elim (fits what db) as (λ b. fits what db ≡ b →
@@ -47,10 +47,10 @@ apply_all-fitting (what ∷ effects) db =
       | false ↦ λ unfit. ap (λ (d : Db). apply_all rest d) (sym (unchanged what db unfit)) ∙ made_so
     ] refl
 
-pub fitting-all : (effects : List Effect) (db : Db) → all_fit effects db ≡ true → fitting effects db ≡ effects
+pub fitting-all : (effects : List Effect) (db : Db) → all_fit effects db ≡ true → fitting_effects effects db ≡ effects
 fitting-all [] db all = refl
 fitting-all (what ∷ effects) db all =
-    let rest : List Effect = fitting effects (apply what db) in
+    let rest : List Effect = fitting_effects effects (apply what db) in
     let first : fits what db ≡ true = and-first (fits what db) (all_fit effects (apply what db)) all in
     let more : all_fit effects (apply what db) ≡ true =
     and-second (fits what db) (all_fit effects (apply what db)) all in
@@ -61,7 +61,7 @@ fitting-all (what ∷ effects) db all =
 
 pub kept_fits : (state : State) (made : Record) → all_fit (kept_of state made) state.db ≡ true
 kept_fits state made = elim made.short as
-    (λ b. all_fit (cond b [] (fitting (effects_of state made.entry) state.db)) state.db
+    (λ b. all_fit (cond b [] (fitting_effects (effects_of state made.entry) state.db)) state.db
     ≡ true) [
       | true ↦ refl
       | false ↦ all_fitted (effects_of state made.entry) state.db
@@ -73,7 +73,7 @@ kept_step : (state : State) (pass moment : ℕ) (what : Act) (session : ℕ) (sh
       session = session;
       short = short;
     } in
-    apply_all (kept_of state made) state.db ≡ (acted state made).db
+    apply_all (kept_of state made) state.db ≡ (after_act state made).db
 kept_step state pass moment (act.Connect user host) session true = refl
 kept_step state pass moment (act.Connect user host) session false = refl
 kept_step state pass moment (act.Call number reference call) session true = refl
@@ -94,4 +94,4 @@ kept_step state pass moment (act.Close number) session false = refl
 pub kept_makes : (state : State) (made : Record) → apply_all (kept_of state made) state.db ≡ (after state made).db
 kept_makes state made =
     kept_step state made.entry.pass made.entry.moment made.entry.act made.session made.short
-    ∙ sym (ap (λ (s : State). s.db) (queue_all-rows waiting_limits (deliveries state made) (acted state made)))
+    ∙ sym (ap (λ (s : State). s.db) (queue_all-rows waiting_limits (deliveries state made) (after_act state made)))

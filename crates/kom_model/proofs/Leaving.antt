@@ -34,8 +34,8 @@ use Rattle.kom_model.specs.Db.{recipients_of, locals_of, marks_of, marks_on, ite
 use Rattle.kom_model.specs.Decide.{definition_of, decision_of}
 use Rattle.kom_model.specs.Effects.{apply_all}
 use Rattle.kom_model.specs.Shown.{text_adder, conference_adder}
-use Rattle.kom_model.specs.calls.AuxItems.{items_added, item_effects, changed, object_of, numbers_guard}
-use Rattle.kom_model.specs.calls.Call.{Asked, refuse, seat_of, done, answer}
+use Rattle.kom_model.specs.calls.AuxItems.{items_added, item_effects, change_items, object_of, numbers_guard}
+use Rattle.kom_model.specs.calls.Call.{Asked, refuse, seat_of, done_with, answer}
 use Rattle.kom_model.specs.calls.Conferences.{nearest, gone_person, gone_conference, create_conf, left_by_deletion}
 use Rattle.kom_model.specs.calls.Guards.{Guard, with_items, caller, first_refusal, items_guard}
 use Rattle.kom_model.specs.calls.Guards.{new_items_guard, seat_at, person_guard, password_guard}
@@ -45,7 +45,7 @@ use Rattle.kom_model.specs.calls.NewTexts.{names_recipient, names_footnote, item
 use Rattle.kom_model.specs.calls.NewTexts.{text_effects, new_text, new_items}
 use Rattle.kom_model.specs.calls.Persons.{person_effects, maker}
 use Rattle.kom_model.specs.calls.Sessions.{counts, seat_left, all_left, leaving_effects, leaving_changes}
-use Rattle.kom_model.specs.calls.Sessions.{session_meant, ended, static_of, user_of}
+use Rattle.kom_model.specs.calls.Sessions.{session_meant, end_session, static_of, user_of}
 use Rattle.kom_model.specs.calls.Texts.{gone_text, new_recipient, nearest_text}
 use Rattle.read_ranges.specs.Changed.{all_marked, size_of}
 use Rattle.kom_model.proofs.Deciding.{decision-meets}
@@ -144,17 +144,17 @@ leaving-unseated asked =
 
 -- a session that is ended
 ended-quiet : (asked : Asked) (found : Option Seat) → IsQuiet (elim found as (λ _. Decision) [
-  | None ↦ done [] []
-  | Some seat ↦ ended asked seat
+  | None ↦ done_with [] []
+  | Some seat ↦ end_session asked seat
 ])
 ended-quiet asked None = quiet _ refl refl
-ended-quiet asked (Some seat) = quiet (ended asked seat) (left-spares 0 asked seat)
+ended-quiet asked (Some seat) = quiet (end_session asked seat) (left-spares 0 asked seat)
     (cond_both (seat.person == 0) [] (change.Person seat.number 0 false ∷ [])
     (λ (changes : List SessionChange). list_all unseats (changes ++ change.Ended seat.number ∷ []) ≡ true)
     (λ _. refl) (λ _. refl))
 
 static-quiet : (found : Option Seat) → IsQuiet (elim found as (λ _. Decision) [
-  | None ↦ done [] []
+  | None ↦ done_with [] []
   | Some seat ↦ answer (reply.StaticSession (static_of seat))
 ])
 static-quiet None = quiet _ refl refl
@@ -171,7 +171,7 @@ nearest_text-quiet asked start (Some row) = quiet _ refl refl
 
 -- aux-items that are changed
 change-quiet : (asked : Asked) (on_text : Bool) (on : Object) (adder : Adder) (given : AuxChange) →
-    IsQuiet (changed asked on_text on adder given)
+    IsQuiet (change_items asked on_text on adder given)
 change-quiet asked on_text on adder given =
     let gone : ℕ → Effect = λ (number : ℕ). effect.AuxGone on_text given.object number in
     let items : List AuxRow =
@@ -179,8 +179,8 @@ change-quiet asked on_text on adder given =
     items-quiet
     (first_refusal
     (items_guard on adder (items_of asked.db on_text given.object) given.delete given.add
-    ∷ numbers_guard asked.db on_text given ∷ [])) (done (item_effects asked on_text adder given) [])
-    (quiet (done (item_effects asked on_text adder given) [])
+    ∷ numbers_guard asked.db on_text given ∷ [])) (done_with (item_effects asked on_text adder given) [])
+    (quiet (done_with (item_effects asked on_text adder given) [])
     (both-spare 0 (map gone given.delete) (items_added on_text given.object items)
     (map-spares 0 gone (λ number. refl) given.delete) (added-spares 0 on_text given.object items)) refl)
 

@@ -10,9 +10,9 @@ use Rattle.std.proofs.Math.Seq.{drop-append_seam}
 use Rattle.kom_types.specs.declared.acts.Act.{Act}
 use Rattle.kom_types.specs.declared.acts.Act.TheVariants as act
 use Rattle.kom_types.specs.declared.acts.Record.{Record}
-use Rattle.kom_types.specs.Sessions.{Waiting, Session, is_session, drained, drained_count}
+use Rattle.kom_types.specs.Sessions.{Waiting, Session, is_session, after_drain, drained_count}
 use Rattle.kom_model.specs.State.{State, IsSound, session_of}
-use Rattle.kom_model.specs.After.{moment_of, decision_at, acted, sent, after}
+use Rattle.kom_model.specs.After.{moment_of, decision_at, after_act, after_sending, after}
 use Rattle.kom_model.specs.Effects.{apply_all}
 use Rattle.kom_model.specs.Out.{waiting_in, waiting_for, drained_from}
 use Rattle.kom_model.proofs.Finding.{find-changed_same, find-changed_other, find-added_same}
@@ -35,7 +35,7 @@ taken_by n state made = elim made.entry.act [
 
 -- what a record queues for the session
 abbrev pub added_by : ℕ → State → Record → List Waiting
-added_by n state made = drop (length (waiting_for n (acted state made))) (waiting_for n (sent state made))
+added_by n state made = drop (length (waiting_for n (after_act state made))) (waiting_for n (after_sending state made))
 
 -- the act of a record closes this session
 abbrev pub Closes : ℕ → Act → Type 0
@@ -47,7 +47,7 @@ Closes n act.Flush = ⊥
 Closes n (act.Close session) = n ≡ session
 
 waiting-drained : (stable : ℕ) (row : Option Session) →
-    waiting_in (option_map (drained stable) row) ≡ drop (drained_count stable (waiting_in row)) (waiting_in row)
+    waiting_in (option_map (after_drain stable) row) ≡ drop (drained_count stable (waiting_in row)) (waiting_in row)
 waiting-drained stable None = refl
 waiting-drained stable (Some row) = refl
 
@@ -65,7 +65,7 @@ connect_takes n state row drawn fresh sound =
 drain_takes : (n : ℕ) (state : State) (number : ℕ) →
     waiting_for n state
     ≡ cond (eqb number n) (drained_from number state) [] ++ waiting_for n (record state {
-      sessions = map (λ row. if is_session number row then drained state.stable row else row) state.sessions;
+      sessions = map (λ row. if is_session number row then after_drain state.stable row else row) state.sessions;
     })
 drain_takes n state number =
     elim (cases_eq n number) [
@@ -75,13 +75,13 @@ drain_takes n state number =
           rw (
             here,
             same,
-            find-changed_same number (drained state.stable) (λ row. refl) state.sessions,
+            find-changed_same number (after_drain state.stable) (λ row. refl) state.sessions,
             waiting-drained state.stable (session_of number state),
           )
           (sym (take-append-drop (drained_count state.stable waiting) waiting))
       | inr other ↦
           let apart : eqb number n ≡ false = ne_eqb _ _ (λ e. other (sym e)) in
-          rw (apart, find-changed_other number n (drained state.stable) (λ row. refl) other state.sessions) refl
+          rw (apart, find-changed_other number n (after_drain state.stable) (λ row. refl) other state.sessions) refl
     ]
 
 takes_step : (n : ℕ) (state : State) (pass moment : ℕ) (what : Act) (session : ℕ) (short : Bool) → IsSound state →
@@ -91,7 +91,7 @@ takes_step : (n : ℕ) (state : State) (pass moment : ℕ) (what : Act) (session
       session = session;
       short = short;
     } in
-    waiting_for n state ≡ taken_by n state made ++ waiting_for n (acted state made)
+    waiting_for n state ≡ taken_by n state made ++ waiting_for n (after_act state made)
 takes_step n state pass moment (act.Connect user host) session short sound stays =
     connect_takes n state _ refl refl sound
 takes_step n state pass moment (act.Call number reference call) session true sound stays = refl
@@ -108,15 +108,15 @@ takes_step n state pass moment (act.Close number) session short sound stays =
 
 -- an act that does not close the session leaves waiting for it what it does not take
 acted-takes : (n : ℕ) (state : State) (made : Record) → IsSound state → (Closes n made.entry.act → ⊥) →
-    waiting_for n state ≡ taken_by n state made ++ waiting_for n (acted state made)
+    waiting_for n state ≡ taken_by n state made ++ waiting_for n (after_act state made)
 acted-takes n state made sound stays =
     takes_step n state made.entry.pass made.entry.moment made.entry.act made.session made.short sound stays
 
 -- what an act sends is queued for the session after all that waits
 sent-adds : (n : ℕ) (state : State) (made : Record) →
-    waiting_for n (after state made) ≡ waiting_for n (acted state made) ++ added_by n state made
+    waiting_for n (after state made) ≡ waiting_for n (after_act state made) ++ added_by n state made
 sent-adds n state made =
-    let before : List Waiting = waiting_for n (acted state made) in
+    let before : List Waiting = waiting_for n (after_act state made) in
     let grows : Grows state.entries before (waiting_for n (after state made)) =
     waiting-kept (Grows state.entries) ([], refl, tt) n _ _ (sent-grows state made) in
     let more : added_by n state made ≡ grows.0 =
@@ -130,5 +130,5 @@ record_moves n state made sound stays =
     let taken : List Waiting = taken_by n state made in
     let added : List Waiting = added_by n state made in
     ap (λ w. w ++ added) (acted-takes n state made sound stays)
-    ∙ append_assoc taken (waiting_for n (acted state made)) added
+    ∙ append_assoc taken (waiting_for n (after_act state made)) added
     ∙ ap (λ w. taken ++ w) (sym (sent-adds n state made))

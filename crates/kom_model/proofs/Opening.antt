@@ -4,13 +4,13 @@ use Rattle.std.specs.List.{IsDistinct}
 use Rattle.kom_model.specs.Db.{Db, empty_db}
 use Rattle.kom_model.specs.Effects.{IsProtected}
 use Rattle.kom_model.specs.Initial.{initial, initial_effects}
-use Rattle.kom_model.specs.State.{IsSound, opening}
+use Rattle.kom_model.specs.State.{IsSound, opening_state}
 use Rattle.kom_model.specs.Whole.{IsWhole}
 use Rattle.kom_model.proofs.Protection.{IsProtected-apply_all}
 use Rattle.kom_model.proofs.whole.Effects.{effects-whole, empty-whole}
 
 -- there is no session before the first entry
-pub IsSound-opening : (db : Db) → IsProtected db → IsWhole db → IsSound (opening db)
+pub IsSound-opening : (db : Db) → IsProtected db → IsWhole db → IsSound (opening_state db)
 unfolding IsDistinct
 IsSound-opening db protected whole = record {
   drawn = tt;

@@ -12,7 +12,7 @@ use Rattle.kom_types.specs.declared.effects.Effect.TheVariants as effect
 use Rattle.kom_types.specs.tables.Conferences.{number_of_conference, is_secret_protected, with_field, with_name}
 use Rattle.kom_types.specs.tables.Conferences.{with_local_drawn, with_item_drawn}
 use Rattle.kom_model.specs.Db.{Db, conference_of}
-use Rattle.kom_model.specs.Effects.{IsProtected, fits, made, apply, apply_all, may_set}
+use Rattle.kom_model.specs.Effects.{IsProtected, fits, after_effect, apply, apply_all, may_set}
 
 abbrev IsGuarded : ConferenceRow → Type 0
 IsGuarded row = IsTrue (is_secret_protected row.kind)
@@ -86,8 +86,8 @@ guarded-found : (what : ConfField) (found : Option ConferenceRow) →
 guarded-found what None may row guarded = absurd (true≢false (sym may))
 guarded-found what (Some old) may row guarded = guarded-set what old may row guarded
 
-protected-made : (what : Effect) (db : Db) → fits what db ≡ true → IsProtected db → IsProtected (made what db)
-unfolding fits made
+protected-made : (what : Effect) (db : Db) → fits what db ≡ true → IsProtected db → IsProtected (after_effect what db)
+unfolding fits after_effect
 protected-made (effect.ConfAdded number name kind at creator supervisor) db fit protected =
     guarded-with _ (and-second _ (is_secret_protected kind) fit) db.conferences protected
 protected-made (effect.ConfGone number) db fit protected = guarded-without number db.conferences protected
@@ -104,7 +104,7 @@ protected-made other db fit protected = protected
 
 IsProtected-apply : (what : Effect) (db : Db) → IsProtected db → IsProtected (apply what db)
 IsProtected-apply what db protected =
-    elim (fits what db) as (λ b. fits what db ≡ b → IsProtected (cond b (made what db) db)) [
+    elim (fits what db) as (λ b. fits what db ≡ b → IsProtected (cond b (after_effect what db) db)) [
       | true ↦ λ fit. protected-made what db fit protected
       | false ↦ λ fit. protected
     ] refl

@@ -3,7 +3,7 @@ use Rattle.std.proofs.Common.{◌≡◌, ℕ, true, false, cond, List, [], ◌�
 use Rattle.std.proofs.Common.{append_assoc}
 use Rattle.std.proofs.lemmas.List.{append-nil}
 use Rattle.kom_types.specs.declared.items.Item.{Item}
-use Rattle.kom_types.specs.Sessions.{Waiting, Session, Limits, fits, queued}
+use Rattle.kom_types.specs.Sessions.{Waiting, Session, Limits, fits, queue}
 use Rattle.kom_model.specs.State.{State}
 use Rattle.kom_model.specs.Sending.{Delivery}
 use Rattle.kom_model.specs.After.{with_session, queue_all}
@@ -31,7 +31,7 @@ grows-then place a b c first second = (
 
 -- queueing one item adds it or nothing
 pub queued-grows : (limits : Limits) (place : ℕ) (item : Item) (row : Session) →
-    KeepsRow (Grows place) row (queued limits place item row)
+    KeepsRow (Grows place) row (queue limits place item row)
 queued-grows limits place item row =
     elim row.overrun as (λ b. KeepsRow (Grows place) row (cond b row
     (cond (fits limits row.waiting item)
@@ -52,7 +52,7 @@ pub queue_all-rows : (limits : Limits) (deliveries : List Delivery) (state : Sta
 queue_all-rows limits [] state = refl
 queue_all-rows limits (delivery ∷ deliveries) state =
     queue_all-rows limits deliveries
-    (with_session delivery.session (queued limits state.entries delivery.item) state)
+    (with_session delivery.session (queue limits state.entries delivery.item) state)
 
 -- and only adds to what waits
 pub queue_all-grows : (limits : Limits) (deliveries : List Delivery) (state : State) →
@@ -60,9 +60,9 @@ pub queue_all-grows : (limits : Limits) (deliveries : List Delivery) (state : St
 queue_all-grows limits [] state = KeepsRows-same (Grows state.entries) (grows-same state.entries) state.sessions
 queue_all-grows limits (delivery ∷ deliveries) state =
     let place : ℕ = state.entries in
-    let next : State = with_session delivery.session (queued limits place delivery.item) state in
+    let next : State = with_session delivery.session (queue limits place delivery.item) state in
     KeepsRows-then (Grows place) (Grows place) (Grows place) (grows-then place) state.sessions next.sessions
     (queue_all limits deliveries next).sessions
-    (KeepsRows-changed (Grows place) (grows-same place) delivery.session (queued limits place delivery.item)
+    (KeepsRows-changed (Grows place) (grows-same place) delivery.session (queue limits place delivery.item)
     (queued-grows limits place delivery.item) state.sessions)
     (queue_all-grows limits deliveries next)

@@ -12,11 +12,11 @@ use Rattle.kom_types.specs.declared.persons.PersonRow.{PersonRow}
 use Rattle.kom_types.specs.declared.seats.Seat.{Seat}
 use Rattle.kom_types.specs.declared.session_changes.SessionChange.{SessionChange}
 use Rattle.kom_types.specs.declared.session_changes.SessionChange.TheVariants as change
-use Rattle.kom_types.specs.Sessions.{Session, is_session, changed_session, changed_seat, changed, with_invisible}
+use Rattle.kom_types.specs.Sessions.{Session, is_session, changed_session, changed_seat, after_change, with_invisible}
 use Rattle.kom_types.specs.tables.Persons as Persons
-use Rattle.kom_types.specs.tables.Persons.{number_of_person, counted, logged_in, with_hash, with_created_drawn}
+use Rattle.kom_types.specs.tables.Persons.{number_of_person, count_up, logged_in, with_hash, with_created_drawn}
 use Rattle.kom_model.specs.Db.{Db, person_of}
-use Rattle.kom_model.specs.Effects.{fits, made, apply, apply_all, with_changed_person}
+use Rattle.kom_model.specs.Effects.{fits, after_effect, apply, apply_all, with_changed_person}
 use Rattle.kom_model.specs.State.{State, IsSeated, AreSeated, seats_of}
 use Rattle.kom_model.specs.After.{make_change, make_changes, carry_out}
 use Rattle.kom_model.proofs.Changing.{make_changes-rows}
@@ -41,8 +41,8 @@ module _ (db : Db) (person : ℕ) (there : is_person db person ≡ true) where
       has-changed number_of_person (λ row. true) make keeps at db.persons (λ row found is. refl) person there
 
   made-there : (number : ℕ) → (person == number) ≡ false → (what : Effect) → fits what db ≡ true →
-      spares number what ≡ true → is_person (made what db) person ≡ true
-  unfolding person_of fits made
+      spares number what ≡ true → is_person (after_effect what db) person ≡ true
+  unfolding person_of fits after_effect
   made-there number other (effect.PersonAdded added privileges flags last_login) fit spared =
       has-with_row number_of_person (λ row. true) _ db.persons (and_parts _ _ fit).1 person there
   made-there number other (effect.PersonGone gone) fit spared =
@@ -54,7 +54,7 @@ module _ (db : Db) (person : ℕ) (there : is_person db person ≡ true) where
   made-there number other (effect.LoggedIn at moment user) fit spared =
       changed-there at (logged_in moment user) (λ row. refl)
   made-there number other (effect.Counted at counter by) fit spared =
-      changed-there at (counted counter by) (counted-number counter by)
+      changed-there at (count_up counter by) (counted-number counter by)
   made-there number other (effect.AuxAdded true object item) fit spared = there
   made-there number other (effect.AuxAdded false object item) fit spared = there
   made-there number other (effect.Created at local text) fit spared =
@@ -69,7 +69,7 @@ still-there [] db number person other spared there = there
 still-there (what ∷ effects) db number person other spared there =
     let parts = and_parts (spares number what) (list_all (spares number) effects) spared in
     still-there effects (apply what db) number person other parts.1
-    (cond_both (fits what db) (made what db) db (λ (made : Db). is_person made person ≡ true)
+    (cond_both (fits what db) (after_effect what db) db (λ (made : Db). is_person made person ≡ true)
     (λ fit. made-there db person there number other what fit parts.0) (λ fit. there))
 
 -- ---- seats
@@ -138,7 +138,7 @@ module _ (db : Db) (moment : ℕ) where
 
   -- what a change, and changes one after the other, make of one session
   abbrev stepped : SessionChange → Session → Session
-  stepped what row = cond (is_session (changed_session what) row) (changed what moment row) row
+  stepped what row = cond (is_session (changed_session what) row) (after_change what moment row) row
 
   abbrev walked : List SessionChange → Session → Session
   walked [] row = row
@@ -166,11 +166,11 @@ module _ (db : Db) (moment : ℕ) where
 
   -- what else a change leaves of a session
   step-number : (what : SessionChange) (row : Session) → (stepped what row).seat.number ≡ row.seat.number
-  step-number what row = cond_both (is_session (changed_session what) row) (changed what moment row) row
+  step-number what row = cond_both (is_session (changed_session what) row) (after_change what moment row) row
       (λ (one : Session). one.seat.number ≡ row.seat.number) (λ _. number-kept what row.seat) (λ _. refl)
 
   step-user : (what : SessionChange) (row : Session) → (stepped what row).seat.user ≡ row.seat.user
-  step-user what row = cond_both (is_session (changed_session what) row) (changed what moment row) row
+  step-user what row = cond_both (is_session (changed_session what) row) (after_change what moment row) row
       (λ (one : Session). one.seat.user ≡ row.seat.user) (λ _. user-kept what row.seat) (λ _. refl)
 
   walk-seated : (changes : List SessionChange) (row : Session) → list_all (seats_there db) changes ≡ true →
@@ -180,7 +180,7 @@ module _ (db : Db) (moment : ℕ) where
   walk-seated (what ∷ changes) row there (inl seated) =
       let parts = and_parts (seats_there db what) (list_all (seats_there db) changes) there in
       walk-seated changes (stepped what row) parts.1 (inl (cond_both (is_session (changed_session what) row)
-      (changed what moment row) row (λ (one : Session). IsSeated db one.seat)
+      (after_change what moment row) row (λ (one : Session). IsSeated db one.seat)
       (λ _. seat-changed what row.seat parts.0 seated) (λ _. seated)))
   walk-seated (what ∷ changes) row there (inr late) =
       let parts = and_parts (seats_there db what) (list_all (seats_there db) changes) there in

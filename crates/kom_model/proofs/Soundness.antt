@@ -10,15 +10,15 @@ use Rattle.kom_types.specs.declared.acts.Record.{Record}
 use Rattle.kom_types.specs.declared.decisions.Decision.{Decision}
 use Rattle.kom_types.specs.declared.items.Item.{Item}
 use Rattle.kom_types.specs.declared.seats.Seat.{Seat}
-use Rattle.kom_types.specs.Sessions.{Waiting, Session, Limits, waiting_limits, drained, drained_count, is_session}
-use Rattle.kom_types.specs.Sessions.{fits, with_waiting, queued, fresh_session}
+use Rattle.kom_types.specs.Sessions.{Waiting, Session, Limits, waiting_limits, after_drain, drained_count, is_session}
+use Rattle.kom_types.specs.Sessions.{fits, with_waiting, queue, fresh_session}
 use Rattle.kom_model.specs.Db.{Db}
 use Rattle.kom_model.specs.State.{State, IsSound, IsInOrder, IsSeated, AreSeated, seats_of}
 use Rattle.kom_model.specs.Sending.{Delivery}
 use Rattle.kom_model.specs.Decide.{asked_in}
-use Rattle.kom_model.specs.After.{moment_of, deliveries, decision_at, carry_out, acted, HasUser}
+use Rattle.kom_model.specs.After.{moment_of, deliveries, decision_at, carry_out, after_act, HasUser}
 use Rattle.kom_model.specs.Effects.{apply_all, IsProtected}
-use Rattle.kom_model.specs.After.{sent, after, queue_all, with_session}
+use Rattle.kom_model.specs.After.{after_sending, after, queue_all, with_session}
 use Rattle.kom_model.specs.Legal.{IsLegal, state_after}
 use Rattle.kom_model.specs.Whole.{IsWhole}
 use Rattle.kom_model.proofs.Order.{IsInOrder-drop, IsInOrder-append}
@@ -87,7 +87,7 @@ same-seats number change keeps (row ∷ rows) =
     (λ _. keeps row) (λ _. refl)) (same-seats number change keeps rows)
 
 queued-seat : (limits : Limits) (place : ℕ) (item : Item) (row : Session) →
-    (queued limits place item row).seat ≡ row.seat
+    (queue limits place item row).seat ≡ row.seat
 queued-seat limits place item row =
     cond_both row.overrun row
     (cond (fits limits row.waiting item) (with_waiting item place row) (record row { overrun = true }))
@@ -99,8 +99,8 @@ queue_all-seats : (limits : Limits) (deliveries : List Delivery) (state : State)
     seats_of (queue_all limits deliveries state) ≡ seats_of state
 queue_all-seats limits [] state = refl
 queue_all-seats limits (delivery ∷ deliveries) state =
-    queue_all-seats limits deliveries (with_session delivery.session (queued limits state.entries delivery.item) state)
-    ∙ same-seats delivery.session (queued limits state.entries delivery.item)
+    queue_all-seats limits deliveries (with_session delivery.session (queue limits state.entries delivery.item) state)
+    ∙ same-seats delivery.session (queue limits state.entries delivery.item)
     (queued-seat limits state.entries delivery.item) state.sessions
 
 -- the changes of a call
@@ -124,7 +124,7 @@ IsSound-carry_out moment decision state carries sound =
     (subst IsWhole (sym (ap (λ s. s.db) rows)) (effects-whole decision.effects state.db sound.whole)) sound
 
 acted_step : (state : State) (pass moment : ℕ) (what : Act) (session : ℕ) (short : Bool) → HasUser what →
-    IsSound state → IsSound (acted state (record {
+    IsSound state → IsSound (after_act state (record {
       entry = record { pass = pass; moment = moment; act = what };
       session = session;
       short = short;
@@ -147,11 +147,11 @@ acted_step state pass moment (act.Call number reference call) session false has 
 acted_step state pass moment (act.Broken number) session short has sound = sound
 acted_step state pass moment (act.Drain number) session short has sound =
     IsSound-kept state _
-    (KeepsRows-changed (KeepsOrder state.entries state.entries) (λ w order. order) number (drained state.stable)
+    (KeepsRows-changed (KeepsOrder state.entries state.entries) (λ w order. order) number (after_drain state.stable)
     (λ row. (refl, IsInOrder-drop (drained_count state.stable row.waiting) state.entries row.waiting))
     state.sessions)
     refl
-    (subst (AreSeated state.db) (sym (same-seats number (drained state.stable) (λ row. refl) state.sessions))
+    (subst (AreSeated state.db) (sym (same-seats number (after_drain state.stable) (λ row. refl) state.sessions))
     sound.seated)
     sound.stable sound.protected sound.whole sound
 acted_step state pass moment act.Flush session true has sound = record {
@@ -184,12 +184,12 @@ acted_step state pass moment (act.Close number) session short has sound = record
 
 -- what an act changes
 pub IsSound-acted : (state : State) (made : Record) → HasUser made.entry.act → IsSound state →
-    IsSound (acted state made)
+    IsSound (after_act state made)
 IsSound-acted state made has sound =
     acted_step state made.entry.pass made.entry.moment made.entry.act made.session made.short has sound
 
 entries_step : (state : State) (pass moment : ℕ) (what : Act) (session : ℕ) (short : Bool) →
-    (acted state (record {
+    (after_act state (record {
       entry = record { pass = pass; moment = moment; act = what };
       session = session;
       short = short;
@@ -207,15 +207,15 @@ entries_step state pass moment act.Flush session false = refl
 entries_step state pass moment (act.Close number) session short = refl
 
 -- the entry is added after what an act changes
-pub entries-acted : (state : State) (made : Record) → (acted state made).entries ≡ state.entries
+pub entries-acted : (state : State) (made : Record) → (after_act state made).entries ≡ state.entries
 entries-acted state made = entries_step state made.entry.pass made.entry.moment made.entry.act made.session made.short
 
 -- what an act sends is queued by its own entry
 pub sent-grows : (state : State) (made : Record) →
-    KeepsRows (Grows state.entries) (acted state made).sessions (sent state made).sessions
+    KeepsRows (Grows state.entries) (after_act state made).sessions (after_sending state made).sessions
 sent-grows state made = subst
-    (λ place. KeepsRows (Grows place) (acted state made).sessions (sent state made).sessions)
-    (entries-acted state made) (queue_all-grows waiting_limits (deliveries state made) (acted state made))
+    (λ place. KeepsRows (Grows place) (after_act state made).sessions (after_sending state made).sessions)
+    (entries-acted state made) (queue_all-grows waiting_limits (deliveries state made) (after_act state made))
 
 grown-ordered : (entries : ℕ) (waiting waiting' : List Waiting) → Grows entries waiting waiting' →
     KeepsOrder entries (entries + 1) waiting waiting'
@@ -226,7 +226,7 @@ grown-ordered entries waiting waiting' grows order =
 pub IsSound-after : (state : State) (made : Record) → HasUser made.entry.act → IsSound state →
     IsSound (after state made)
 IsSound-after state made has sound =
-    let middle : State = acted state made in
+    let middle : State = after_act state made in
     let end : State = after state made in
     let rows = queue_all-rows waiting_limits (deliveries state made) middle in
     let entries : middle.entries ≡ state.entries = entries-acted state made in

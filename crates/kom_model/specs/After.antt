@@ -13,7 +13,7 @@ use Rattle.kom_types.specs.declared.decisions.Decision.{Decision}
 use Rattle.kom_types.specs.declared.items.Item.TheVariants as item
 use Rattle.kom_types.specs.declared.session_changes.SessionChange.{SessionChange}
 use Rattle.kom_types.specs.Sessions.{Session, Limits, waiting_limits, fresh_session, is_session}
-use Rattle.kom_types.specs.Sessions.{queued, drained, changed_session, changed, is_stop}
+use Rattle.kom_types.specs.Sessions.{queue, after_drain, changed_session, after_change, is_stop}
 use Rattle.kom_model.specs.State.{State}
 use Rattle.kom_model.specs.Effects.{apply_all}
 use Rattle.kom_model.specs.Decide.{asked_in, decision_of, is_firm}
@@ -74,7 +74,7 @@ abbrev pub queue_all : Limits → List Delivery → State → State
 queue_all limits [] state = state
 queue_all limits (delivery ∷ deliveries) state =
     queue_all limits deliveries
-    (with_session delivery.session (queued limits state.entries delivery.item) state)
+    (with_session delivery.session (queue limits state.entries delivery.item) state)
 
 -- what a call comes to at this moment
 abbrev pub decision_at : State → ℕ → ℕ → ℕ → Call → Decision
@@ -122,7 +122,7 @@ deliveries state made = elim made.entry.act [
 -- what a change of a session makes of the server, at a moment
 abbrev pub make_change : ℕ → SessionChange → State → State
 make_change moment change state =
-    record (with_session (changed_session change) (changed change moment) state)
+    record (with_session (changed_session change) (after_change change moment) state)
     { stopped = state.stopped || is_stop change }
 
 abbrev pub make_changes : ℕ → List SessionChange → State → State
@@ -143,9 +143,9 @@ with_connected pass moment user host state = record state {
 }
 
 -- a flush makes all entries before it stable, unless the store refuses it
-abbrev pub flushed : Bool → State → State
-flushed true state = record state { store_refused = true }
-flushed false state = record state { stable = state.entries }
+abbrev pub after_flush : Bool → State → State
+after_flush true state = record state { store_refused = true }
+after_flush false state = record state { stable = state.entries }
 
 -- a session is there no more
 abbrev pub without : ℕ → State → State
@@ -154,27 +154,27 @@ without session state = record state {
 }
 
 -- What an act changes, beside what it sends and the history's length and moment.
-abbrev pub acted : State → Record → State
-acted state made = let moment = moment_of state made.entry.moment in elim made.entry.act [
+abbrev pub after_act : State → Record → State
+after_act state made = let moment = moment_of state made.entry.moment in elim made.entry.act [
   | act.Connect user host ↦ with_connected made.entry.pass moment user host state
   | act.Call session reference call ↦ elim made.short [
     | true ↦ state
     | false ↦ carry_out moment (decision_at state made.entry.moment session reference call) state
   ]
   | act.Broken session ↦ state
-  | act.Drain session ↦ with_session session (drained state.stable) state
-  | act.Flush ↦ flushed made.short state
+  | act.Drain session ↦ with_session session (after_drain state.stable) state
+  | act.Flush ↦ after_flush made.short state
   | act.Close session ↦ without session state
 ]
 
 -- the same, with what it sends
-abbrev pub sent : State → Record → State
-sent state made = queue_all waiting_limits (deliveries state made) (acted state made)
+abbrev pub after_sending : State → Record → State
+after_sending state made = queue_all waiting_limits (deliveries state made) (after_act state made)
 
 -- The state that follows a record.
 abbrev pub after : State → Record → State
 after state made =
-    record (sent state made) {
+    record (after_sending state made) {
       entries = state.entries + 1;
       moment = moment_of state made.entry.moment;
     }

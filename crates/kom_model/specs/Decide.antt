@@ -12,7 +12,7 @@ use Rattle.kom_types.specs.calls.Numbers.{number_of_call}
 use Rattle.kom_model.specs.State.{State, seats_of}
 use Rattle.kom_model.specs.declared.kinds.TheConstants.{FIRM_NUMBERS}
 use Rattle.kom_model.specs.Kinds.{accept_async, is_among}
-use Rattle.kom_model.specs.calls.Call.{Asked, Definition, decided, refuse, refused}
+use Rattle.kom_model.specs.calls.Call.{Asked, Definition, outcome_of, refuse, refused_with}
 use Rattle.kom_model.specs.calls.AuxItems as AuxItems
 use Rattle.kom_model.specs.calls.Conferences as Conferences
 use Rattle.kom_model.specs.calls.Memberships as Memberships
@@ -149,17 +149,17 @@ definition_of asked (call.FindPreviousConfNo number) =
     Conferences.find_previous_conf_no asked number
 definition_of asked (call.LocalToGlobalReverse conference ceiling count) =
     Texts.local_to_global_reverse asked conference ceiling count
-definition_of asked (call.Refused code status) = refused code status
+definition_of asked (call.Refused code status) = refused_with code status
 
 -- the last guard of every call: a reply whose line would be longer is refused, and nothing changes
-abbrev pub limited : ℕ → Decision → Decision
-limited reference decision =
+abbrev pub limit_reply : ℕ → Decision → Decision
+limit_reply reference decision =
     if nat_le (length (print_of (item.Reply reference decision.reply))) LONGEST_REPLY then decision
     else refuse (record { code = error.LONG_ARRAY; status = 0 })
 
 -- What a session's call comes to.
 unfoldable pub decision_of : Asked → Call → Decision
-decision_of asked call = limited asked.reference (decided (definition_of asked call))
+decision_of asked call = limit_reply asked.reference (outcome_of (definition_of asked call))
 
 -- whether the reader refused the call
 abbrev pub was_refused : Call → Bool

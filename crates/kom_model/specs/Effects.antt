@@ -31,13 +31,13 @@ use Rattle.kom_types.specs.tables.Conferences.{is_letterbox, fresh_conference, w
 use Rattle.kom_types.specs.tables.Conferences.{with_local_drawn}
 use Rattle.kom_types.specs.tables.Memberships.{with_membership, without_membership}
 use Rattle.kom_types.specs.tables.Persons as Persons
-use Rattle.kom_types.specs.tables.Persons.{number_of_person, fresh_person, counted, logged_in}
+use Rattle.kom_types.specs.tables.Persons.{number_of_person, fresh_person, count_up, logged_in}
 use Rattle.kom_types.specs.tables.Persons.{with_hash, with_created_drawn}
 use Rattle.kom_types.specs.tables.Texts as Texts
 use Rattle.kom_types.specs.tables.Texts.{number_of_text, fresh_text, without_recipient}
 use Rattle.kom_types.specs.tables.Texts.{without_link, with_mark, without_mark, with_created_local}
 use Rattle.read_ranges.specs.Changed.{rise_after}
-use Rattle.read_ranges.specs.Merged.{merged}
+use Rattle.read_ranges.specs.Merged.{merge_all}
 use Rattle.read_ranges.specs.Reads.{with_reader, without_reader, with_read, read_at}
 use Rattle.kom_model.specs.Db.{Db, conference_of, person_of, membership_of, memberships_of}
 use Rattle.kom_model.specs.Db.{members_of, locals_of, conferences_of, text_of, recipient_of}
@@ -276,65 +276,68 @@ with_item on_text object item db = with_item_drawn on_text object item.number (r
 })
 
 -- What an effect that fits makes of the rows.
-unfoldable pub made : Effect → Db → Db
-made (effect.ConfAdded number name kind at creator supervisor) db =
+unfoldable pub after_effect : Effect → Db → Db
+after_effect (effect.ConfAdded number name kind at creator supervisor) db =
     with_conference (fresh_conference number name kind at creator supervisor) db
-made (effect.ConfGone number) db =
+after_effect (effect.ConfGone number) db =
     record db { conferences = without_row number_of_conference number db.conferences }
-made (effect.ConfNamed number name) db = with_changed_conference number (with_name name) db
-made (effect.ConfField number what) db =
+after_effect (effect.ConfNamed number name) db = with_changed_conference number (with_name name) db
+after_effect (effect.ConfField number what) db =
     with_changed_conference number (Conferences.with_field what) db
-made (effect.PersonAdded number privileges flags last_login) db = record db {
+after_effect (effect.PersonAdded number privileges flags last_login) db = record db {
   persons = with_row number_of_person (fresh_person number privileges flags last_login) db.persons;
 }
-made (effect.PersonGone number) db = record db {
+after_effect (effect.PersonGone number) db = record db {
   persons = without_row number_of_person number db.persons;
   texts = map (without_number number) db.texts;
 }
-made (effect.PersonField number what) db = with_changed_person number (Persons.with_field what) db
-made (effect.Password number hash) db = with_changed_person number (with_hash hash) db
-made (effect.LoggedIn number at user) db = with_changed_person number (logged_in at user) db
-made (effect.Counted number counter by) db = with_changed_person number (counted counter by) db
-made (effect.TextAdded number author at body) db = record db {
+after_effect (effect.PersonField number what) db =
+    with_changed_person number (Persons.with_field what) db
+after_effect (effect.Password number hash) db = with_changed_person number (with_hash hash) db
+after_effect (effect.LoggedIn number at user) db = with_changed_person number (logged_in at user) db
+after_effect (effect.Counted number counter by) db =
+    with_changed_person number (count_up counter by) db
+after_effect (effect.TextAdded number author at body) db = record db {
   texts = with_row number_of_text (fresh_text number author at body) db.texts;
   next_text = number + 1;
 }
-made (effect.TextGone number) db =
+after_effect (effect.TextGone number) db =
     record db { texts = without_row number_of_text number db.texts }
-made (effect.RecipientAdded recipient) db = with_recipient recipient db
-made (effect.RecipientGone text conference) db =
+after_effect (effect.RecipientAdded recipient) db = with_recipient recipient db
+after_effect (effect.RecipientGone text conference) db =
     record db { recipients = without_recipient text conference db.recipients }
-made (effect.LinkAdded link) db = record db { links = db.links ++ link ∷ [] }
-made (effect.LinkGone child parent footnote) db =
+after_effect (effect.LinkAdded link) db = record db { links = db.links ++ link ∷ [] }
+after_effect (effect.LinkGone child parent footnote) db =
     record db { links = without_link child parent footnote db.links }
-made (effect.MemberSet person conference position priority added_by added_at kind) db = record db {
-  memberships = with_membership
-      (member_row person conference position priority added_by added_at kind) db.memberships;
-  reads = with_reader person conference db.reads;
-}
-made (effect.MemberGone person conference) db = record db {
+after_effect (effect.MemberSet person conference position priority added_by added_at kind) db =
+    record db {
+      memberships = with_membership
+          (member_row person conference position priority added_by added_at kind) db.memberships;
+      reads = with_reader person conference db.reads;
+    }
+after_effect (effect.MemberGone person conference) db = record db {
   memberships = without_membership person conference db.memberships;
   reads = without_reader person conference db.reads;
 }
-made (effect.ReadSet person conference at ranges) db = record db {
+after_effect (effect.ReadSet person conference at ranges) db = record db {
   memberships = read_at person conference at db.memberships;
-  reads = with_read person conference (merged ranges) db.reads;
+  reads = with_read person conference (merge_all ranges) db.reads;
 }
-made (effect.MarkSet person text kind) db = record db {
+after_effect (effect.MarkSet person text kind) db = record db {
   marks = with_mark (record { person = person; text = text; kind = kind }) db.marks;
 }
-made (effect.MarkGone person text) db =
+after_effect (effect.MarkGone person text) db =
     record db { marks = without_mark person text db.marks }
-made (effect.AuxAdded on_text object item) db = with_item on_text object item db
-made (effect.AuxGone on_text object number) db =
+after_effect (effect.AuxAdded on_text object item) db = with_item on_text object item db
+after_effect (effect.AuxGone on_text object number) db =
     record db { items = without_item on_text object number db.items }
-made (effect.Created person local text) db =
+after_effect (effect.Created person local text) db =
     with_changed_person person (with_created_drawn local)
     (with_changed_text text (with_created_local local) db)
 
 -- An effect that does not fit changes nothing.
 abbrev pub apply : Effect → Db → Db
-apply what db = if fits what db then made what db else db
+apply what db = if fits what db then after_effect what db else db
 
 abbrev pub apply_all : List Effect → Db → Db
 apply_all [] db = db
@@ -346,9 +349,9 @@ all_fit [] db = true
 all_fit (what ∷ effects) db = fits what db && all_fit effects (apply what db)
 
 -- those of the effects that fit, each after those before it
-abbrev pub fitting : List Effect → Db → List Effect
-fitting [] db = []
-fitting (what ∷ effects) db = let rest = fitting effects (apply what db) in
+abbrev pub fitting_effects : List Effect → Db → List Effect
+fitting_effects [] db = []
+fitting_effects (what ∷ effects) db = let rest = fitting_effects effects (apply what db) in
     if fits what db then what ∷ rest else rest
 
 -- every conference that is secret is read-protected too

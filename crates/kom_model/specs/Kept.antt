@@ -4,7 +4,7 @@ use Rattle.kom_types.specs.declared.acts.Act.TheVariants as act
 use Rattle.kom_types.specs.declared.acts.Entry.{Entry}
 use Rattle.kom_types.specs.declared.acts.Record.{Record}
 use Rattle.kom_types.specs.declared.effects.Effect.{Effect}
-use Rattle.kom_model.specs.Effects.{fitting}
+use Rattle.kom_model.specs.Effects.{fitting_effects}
 use Rattle.kom_model.specs.State.{State}
 use Rattle.kom_model.specs.After.{decision_at}
 
@@ -23,4 +23,5 @@ effects_of state entry = elim entry.act [
 -- The effects that a store keeps of a record: those of its call that fit, each after those before
 -- it, since no other is made. A call whose record is short has none.
 abbrev pub kept_of : State → Record → List Effect
-kept_of state made = if made.short then [] else fitting (effects_of state made.entry) state.db
+kept_of state made =
+    if made.short then [] else fitting_effects (effects_of state made.entry) state.db

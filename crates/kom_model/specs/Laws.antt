@@ -14,7 +14,7 @@ use Rattle.kom_types.specs.Printing.{print_of}
 use Rattle.kom_types.specs.Sessions.{Waiting, waiting_limits, fits, printed_bytes}
 use Rattle.kom_model.specs.State.{State, IsSound}
 use Rattle.kom_model.specs.Db.{Db}
-use Rattle.kom_model.specs.Effects.{apply_all, all_fit, fitting}
+use Rattle.kom_model.specs.Effects.{apply_all, all_fit, fitting_effects}
 use Rattle.kom_model.specs.After.{MayFollow, after}
 use Rattle.kom_model.specs.Kept.{kept_of}
 use Rattle.kom_model.specs.Legal.{IsLegal, state_after}
@@ -88,4 +88,4 @@ KeptMakes = (state : State) (made : Record) →
 -- Effects that all fit are all kept.
 abbrev pub FittingIsAll : Type 0
 FittingIsAll = (effects : List Effect) (db : Db) → all_fit effects db ≡ true →
-    fitting effects db ≡ effects
+    fitting_effects effects db ≡ effects

@@ -8,7 +8,7 @@ use Rattle.kom_types.specs.declared.items.Item.{Item}
 use Rattle.kom_types.specs.Sessions.{Waiting, Session, drained_count}
 use Rattle.kom_model.specs.State.{State, session_of}
 use Rattle.kom_model.specs.Refusal.{refusal_of}
-use Rattle.kom_model.specs.After.{acted, sent, after}
+use Rattle.kom_model.specs.After.{after_act, after_sending, after}
 
 -- the items that wait, in order
 abbrev pub items_of : List Waiting → List Item
@@ -27,8 +27,8 @@ waiting_for number state = waiting_in (session_of number state)
 -- before
 abbrev pub queued_for : ℕ → State → Record → List Item
 queued_for number state made =
-    items_of (drop (length (waiting_for number (acted state made)))
-    (waiting_for number (sent state made)))
+    items_of (drop (length (waiting_for number (after_act state made)))
+    (waiting_for number (after_sending state made)))
 
 -- what is queued for a session along a history
 abbrev pub queued_along : State → ℕ → List Record → List Item

@@ -27,8 +27,8 @@ abbrev pub accepts : ℕ → Seat → Bool
 accepts number seat = is_on (2 ^ number) seat.accepted
 
 -- what a message brings to a session
-abbrev pub delivered : Db → Sending → Seat → Option Delivery
-delivered db sending seat =
+abbrev pub delivery_to : Db → Sending → Seat → Option Delivery
+delivery_to db sending seat =
     if seat.person == 0 || not (accepts sending.number seat) then None
     else option_map
     (λ message. record { session = seat.number; item = item.Message message })
@@ -36,4 +36,4 @@ delivered db sending seat =
 
 -- what it brings to each session, by rising number
 abbrev pub delivered_to : Db → List Seat → Sending → List Delivery
-delivered_to db seats sending = filter_map (delivered db sending) seats
+delivered_to db seats sending = filter_map (delivery_to db sending) seats

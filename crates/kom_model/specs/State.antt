@@ -23,8 +23,8 @@ pub record State : Type 0 where
   pub store_refused : Bool
 
 -- before the first entry, with these stored rows
-abbrev pub opening : Db → State
-opening db = record {
+abbrev pub opening_state : Db → State
+opening_state db = record {
   db = db;
   sessions = [];
   connects = 0;
@@ -37,7 +37,7 @@ opening db = record {
 
 -- the same without a row
 abbrev pub empty : State
-empty = opening empty_db
+empty = opening_state empty_db
 
 -- the session of a number
 abbrev pub session_of : ℕ → State → Option Session

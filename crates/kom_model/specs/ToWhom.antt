@@ -40,9 +40,10 @@ logged_in (change.Person session person invisible) =
 logged_in other = None
 
 -- a membership that goes
-abbrev pub left : Effect → Option Sending
-left (effect.MemberGone person conference) = Some (Messages.leave_conference person conference)
-left other = None
+abbrev pub left_conference : Effect → Option Sending
+left_conference (effect.MemberGone person conference) =
+    Some (Messages.leave_conference person conference)
+left_conference other = None
 
 -- the items of a text that a change names, in the order of their naming
 abbrev pub items_named : Db → ℕ → List ℕ → List AuxRow
@@ -99,8 +100,9 @@ sent_by asked decision (call.ChangeName number name) = elim (conference_of asked
   | None ↦ []
   | Some row ↦ Messages.new_name asked.db number row.name name ∷ []
 ]
-sent_by asked decision (call.DeleteConf number) = filter_map left decision.effects
-sent_by asked decision (call.SubMember conference person) = filter_map left decision.effects
+sent_by asked decision (call.DeleteConf number) = filter_map left_conference decision.effects
+sent_by asked decision (call.SubMember conference person) =
+    filter_map left_conference decision.effects
 sent_by asked decision (call.SetPresentation number text) = elim (conference_of asked.db number) [
   | None ↦ []
   | Some row ↦ Messages.new_presentation asked.db number row.presentation text ∷ []

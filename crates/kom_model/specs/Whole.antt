@@ -29,7 +29,7 @@ use Rattle.kom_types.specs.tables.Texts.{links_from, links_into, is_mark}
 use Rattle.read_ranges.specs.Reads.{ReadRow}
 use Rattle.kom_types.specs.declared.effects.Effect.{Effect}
 use Rattle.kom_model.specs.Db.{Db, empty_db}
-use Rattle.kom_model.specs.Effects.{fits, made, apply_all}
+use Rattle.kom_model.specs.Effects.{fits, after_effect, apply_all}
 use Rattle.kom_model.specs.Effects.{most_links}
 use Rattle.kom_model.specs.Effects.{is_recipient_tag}
 
@@ -209,5 +209,6 @@ pub record IsWhole (db : Db) : Type 0 where
 -- effects one after the other, since one that does not fit changes nothing.
 pub record StandWhole : Type 0 where
   pub empty : IsWhole empty_db
-  pub one : (what : Effect) (db : Db) → fits what db ≡ true → IsWhole db → IsWhole (made what db)
+  pub one : (what : Effect) (db : Db) → fits what db ≡ true → IsWhole db →
+      IsWhole (after_effect what db)
   pub all : (effects : List Effect) (db : Db) → IsWhole db → IsWhole (apply_all effects db)

@@ -10,7 +10,7 @@ use Rattle.kom_reader.specs.declared.rows.Row.{Row}
 use Rattle.kom_reader.specs.declared.words.Word.{Word}
 use Rattle.kom_reader.specs.declared.words.Choice.{Choice}
 use Rattle.kom_reader.specs.declared.words.Choice.TheVariants as choice
-use Rattle.kom_reader.specs.Links.{part_by, group_after, parts_behind, rising, footnote_in, comment_in}
+use Rattle.kom_reader.specs.Links.{part_by, group_after, parts_behind, all_rising, footnote_in, comment_in}
 use Rattle.kom_reader.specs.Reading.{Reading, is_row_in}
 use Rattle.kom_reader.specs.Steps.{lower}
 use Rattle.kom_reader.specs.Hearing.{with_part}
@@ -29,31 +29,33 @@ parts_end group xs i past = at_drop_all (parts_behind group) xs i past
 
 -- the first one of several, if there is one
 some_first : (out : List ℕ) (o : Option ℕ) (rest : List ℕ) →
-    rising out (cons_option o rest) ≡ rising (rising out (option_to_list o)) rest
+    all_rising out (cons_option o rest) ≡ all_rising (all_rising out (option_to_list o)) rest
 some_first out None rest = refl
 some_first out (Some text) rest = refl
 
 pub footnotes_step : (out : List ℕ) (xs : List MiscInfo) (i : ℕ) (d : MiscInfo) → i < length xs →
-    rising out (filter_map footnote_in (drop i xs))
-    ≡ rising (rising out (option_to_list (footnote_in (get_or xs i d)))) (filter_map footnote_in (drop (i + 1) xs))
+    all_rising out (filter_map footnote_in (drop i xs))
+    ≡ all_rising (all_rising out (option_to_list (footnote_in (get_or xs i d))))
+    (filter_map footnote_in (drop (i + 1) xs))
 footnotes_step out xs i d within =
-    at_drop_more (λ ys. rising out (filter_map footnote_in ys)) xs i d within
+    at_drop_more (λ ys. all_rising out (filter_map footnote_in ys)) xs i d within
     ∙ some_first out (footnote_in (get_or xs i d)) (filter_map footnote_in (drop (i + 1) xs))
 
 pub footnotes_end : (out : List ℕ) (xs : List MiscInfo) (i : ℕ) → length xs ≤ i →
-    rising out (filter_map footnote_in (drop i xs)) ≡ out
-footnotes_end out xs i past = at_drop_all (λ ys. rising out (filter_map footnote_in ys)) xs i past
+    all_rising out (filter_map footnote_in (drop i xs)) ≡ out
+footnotes_end out xs i past = at_drop_all (λ ys. all_rising out (filter_map footnote_in ys)) xs i past
 
 pub comments_step : (out : List ℕ) (xs : List MiscInfo) (i : ℕ) (d : MiscInfo) → i < length xs →
-    rising out (filter_map comment_in (drop i xs))
-    ≡ rising (rising out (option_to_list (comment_in (get_or xs i d)))) (filter_map comment_in (drop (i + 1) xs))
+    all_rising out (filter_map comment_in (drop i xs))
+    ≡ all_rising (all_rising out (option_to_list (comment_in (get_or xs i d))))
+    (filter_map comment_in (drop (i + 1) xs))
 comments_step out xs i d within =
-    at_drop_more (λ ys. rising out (filter_map comment_in ys)) xs i d within
+    at_drop_more (λ ys. all_rising out (filter_map comment_in ys)) xs i d within
     ∙ some_first out (comment_in (get_or xs i d)) (filter_map comment_in (drop (i + 1) xs))
 
 pub comments_end : (out : List ℕ) (xs : List MiscInfo) (i : ℕ) → length xs ≤ i →
-    rising out (filter_map comment_in (drop i xs)) ≡ out
-comments_end out xs i past = at_drop_all (λ ys. rising out (filter_map comment_in ys)) xs i past
+    all_rising out (filter_map comment_in (drop i xs)) ≡ out
+comments_end out xs i past = at_drop_all (λ ys. all_rising out (filter_map comment_in ys)) xs i past
 
 pub first_step : (c : ℕ) (first : Option Row) (xs : List Row) (i : ℕ) (d : Row) → i < length xs →
     fold lower first (filter (is_row_in c) (drop i xs))

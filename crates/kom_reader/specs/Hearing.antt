@@ -6,7 +6,7 @@ use Rattle.kom_types.specs.declared.texts.TextStat.{TextStat}
 use Rattle.kom_reader.specs.declared.rows.Row.{Row}
 use Rattle.kom_reader.specs.declared.recipients.Part.{Part}
 use Rattle.kom_reader.specs.Links.{parts_of}
-use Rattle.kom_reader.specs.Reading.{Reading, is_member, with_row, left, without_text}
+use Rattle.kom_reader.specs.Reading.{Reading, is_member, with_row, without_conference, without_text}
 use Rattle.kom_reader.specs.Reading.{without_recipient}
 
 abbrev pub row_of : ℕ → Part → Row
@@ -19,16 +19,16 @@ with_part text reading part = if is_member part.conference reading.places
     else reading
 
 -- a text is unread in each conference of the person in which it stands
-abbrev pub learned : ℕ → TextStat → Reading → Reading
-learned text stat reading = fold (with_part text) reading (parts_of stat.misc_infos)
+abbrev pub with_unread : ℕ → TextStat → Reading → Reading
+with_unread text stat reading = fold (with_part text) reading (parts_of stat.misc_infos)
 
 -- A new text is unread, and one that went, lost a recipient or stood in a conference that was left
 -- no more. Other messages tell nothing of what is unread, or too little.
-abbrev pub heard : Message → Reading → Reading
-heard (message.NewText text stat) reading = learned text stat reading
-heard (message.DeletedText text stat) reading =
+abbrev pub after_message : Message → Reading → Reading
+after_message (message.NewText text stat) reading = with_unread text stat reading
+after_message (message.DeletedText text stat) reading =
     record reading { rows = without_text text reading.rows }
-heard (message.SubRecipient text conference kind) reading =
+after_message (message.SubRecipient text conference kind) reading =
     record reading { rows = without_recipient text conference reading.rows }
-heard (message.LeaveConference conference) reading = left conference reading
-heard _ reading = reading
+after_message (message.LeaveConference conference) reading = without_conference conference reading
+after_message _ reading = reading

@@ -40,10 +40,10 @@ abbrev pub with_rising : List ℕ → ℕ → List ℕ
 with_rising texts text = insert texts (length (take_while (λ other. nat_lt other text) texts)) text
 
 -- the same with several more
-abbrev pub rising : List ℕ → List ℕ → List ℕ
-rising texts more = fold with_rising texts more
+abbrev pub all_rising : List ℕ → List ℕ → List ℕ
+all_rising texts more = fold with_rising texts more
 
 -- the footnotes of a text and then its comments, each rising
 abbrev pub answers_of : List MiscInfo → List ℕ
 answers_of links =
-    rising [] (filter_map footnote_in links) ++ rising [] (filter_map comment_in links)
+    all_rising [] (filter_map footnote_in links) ++ all_rising [] (filter_map comment_in links)

@@ -58,8 +58,8 @@ stands_before other place = nat_lt place.priority other.priority
     || ((other.priority == place.priority) && nat_le other.position place.position)
 
 -- the memberships with one more at its rank, in the place of an earlier one of that conference
-abbrev pub entered : Place → List Place → List Place
-entered place places = let others = without_place place.conference places in
+abbrev pub with_place : Place → List Place → List Place
+with_place place places = let others = without_place place.conference places in
     insert others (length (take_while (λ other. stands_before other place) others)) place
 
 -- a row that is there under its conference and its local number is not added once more
@@ -70,8 +70,8 @@ abbrev pub with_row : Row → List Row → List Row
 with_row row rows = if list_any (is_same_place row) rows then rows else rows ++ row ∷ []
 
 -- a membership ends, and what is unread in it goes
-abbrev pub left : ℕ → Reading → Reading
-left conference reading = record {
+abbrev pub without_conference : ℕ → Reading → Reading
+without_conference conference reading = record {
   rows = without_rows conference reading.rows;
   places = without_place conference reading.places;
   branch = reading.branch;

@@ -1,7 +1,7 @@
 //! What is kept of rows and memberships, and how one is put among them.
 ghost use Rattle.std.specs.Prelude.{◌≡◌, OnOk};
 ghost use Rattle.kom_reader.specs.Reading.{without_text, without_recipient, without_rows};
-ghost use Rattle.kom_reader.specs.Reading.{without_place, entered};
+ghost use Rattle.kom_reader.specs.Reading.{without_place, with_place};
 
 use crate::finding::rank_of;
 use crate::rows::{Place, Row};
@@ -33,7 +33,7 @@ pub(crate) fn drop_place(places: &mut Vec<Place>, conference: u32)
 
 /// Puts a membership at its rank, in the place of one of the same conference.
 pub(crate) fn enter_place(places: &mut Vec<Place>, place: Place) -> Result<(), Memory>
-    ensures { OnOk result (places.new.items ≡ entered place places.old.items) }
+    ensures { OnOk result (places.new.items ≡ with_place place places.old.items) }
 {
     drop_place(places, place.conference);
     let rank = rank_of(place, places.as_slice());

@@ -1,5 +1,5 @@
 ghost use Rattle.std.specs.Prelude.{◌≡◌, OnOk};
-ghost use Rattle.kom_reader.specs.Hearing.{heard, learned, with_part};
+ghost use Rattle.kom_reader.specs.Hearing.{after_message, with_unread, with_part};
 
 use crate::reader::Reader;
 use crate::recipients::{Part, parts_of};
@@ -11,7 +11,7 @@ impl Reader {
     /// What a message changes of what is unread. Those that tell too little, as that a text got
     /// another recipient, change nothing.
     pub fn hear(&mut self, alloc: Global, message: &Message) -> Result<(), Memory>
-        ensures { OnOk result (self.new ≡ heard message.now self.old) }
+        ensures { OnOk result (self.new ≡ after_message message.now self.old) }
     {
         match message {
             Message::NewText { text, stat } => self.learn_text(alloc, *text, stat.get()),
@@ -38,7 +38,7 @@ impl Reader {
     /// Adds the rows of a text in the conferences of the person.
     #[tactic(auto, using(crate::proofs::Passing::learned_step, crate::proofs::Passing::learned_end))]
     pub fn learn_text(&mut self, alloc: Global, text: u32, stat: &TextStat) -> Result<(), Memory>
-        ensures { OnOk result (self.new ≡ learned text stat.now self.old) }
+        ensures { OnOk result (self.new ≡ with_unread text stat.now self.old) }
     {
         let parts = parts_of(alloc, stat.misc_infos.as_slice())?;
         for part in &parts {

@@ -1,7 +1,7 @@
 ghost use Rattle.std.specs.Prelude.{◌≡◌, ◌++◌, ◌∷◌, [], length, OnOk};
 ghost use Rattle.kom_reader.specs.Reading.{read_next, nothing, is_unread, is_member};
 ghost use Rattle.kom_reader.specs.Reading.{count_in, without_text, without_recipient};
-ghost use Rattle.kom_reader.specs.Reading.{entered, with_row, left};
+ghost use Rattle.kom_reader.specs.Reading.{with_place, with_row, without_conference};
 ghost use Rattle.kom_reader.specs.Steps.{next_step};
 
 use crate::finding::{first_in, first_place, first_unread, has_row, is_unread};
@@ -138,14 +138,14 @@ impl Reader {
     /// Takes up a membership, in the place of one of the same conference.
     pub fn enter(&mut self, place: Place) -> Result<(), Memory>
         ensures { OnOk result (self.new
-            ≡ record self.old { places = entered place self.old.places }) }
+            ≡ record self.old { places = with_place place self.old.places }) }
     {
         enter_place(&mut self.places, place)
     }
 
     /// Drops a membership with what is unread in it.
     pub fn leave(&mut self, conference: u32)
-        ensures { self.new ≡ left conference self.old }
+        ensures { self.new ≡ without_conference conference self.old }
     {
         drop_place(&mut self.places, conference);
         drop_rows(&mut self.rows, conference);

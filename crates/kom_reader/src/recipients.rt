@@ -3,7 +3,7 @@ ghost use Rattle.std.specs.Prelude.{◌≡◌, ◌≤◌, ◌++◌, [], IfOk, On
 ghost use Rattle.std.specs.Option.{option_to_list};
 ghost use Rattle.std.specs.List.{filter_map};
 ghost use Rattle.kom_reader.specs.Links.{parts_of, part_by, group_after, answers_of};
-ghost use Rattle.kom_reader.specs.Links.{footnote_in, comment_in, rising, with_rising};
+ghost use Rattle.kom_reader.specs.Links.{footnote_in, comment_in, all_rising, with_rising};
 
 use kom_types::{Memory, MiscInfo};
 use std::alloc::Global;
@@ -65,7 +65,8 @@ pub(crate) fn answers_of(alloc: Global, links: &[MiscInfo]) -> Result<Vec<u32>, 
 
 #[tactic(auto, using(crate::proofs::Passing::footnotes_step, crate::proofs::Passing::footnotes_end))]
 fn footnotes_of(alloc: Global, links: &[MiscInfo]) -> Result<Vec<u32>, Memory>
-    ensures { IfOk result (λ texts. texts.items ≡ rising [] (filter_map footnote_in links.now)) }
+    ensures { IfOk result
+        (λ texts. texts.items ≡ all_rising [] (filter_map footnote_in links.now)) }
 {
     let mut texts = Vec::new(alloc);
     for link in links {
@@ -76,7 +77,7 @@ fn footnotes_of(alloc: Global, links: &[MiscInfo]) -> Result<Vec<u32>, Memory>
 
 #[tactic(auto, using(crate::proofs::Passing::comments_step, crate::proofs::Passing::comments_end))]
 fn comments_of(alloc: Global, links: &[MiscInfo]) -> Result<Vec<u32>, Memory>
-    ensures { IfOk result (λ texts. texts.items ≡ rising [] (filter_map comment_in links.now)) }
+    ensures { IfOk result (λ texts. texts.items ≡ all_rising [] (filter_map comment_in links.now)) }
 {
     let mut texts = Vec::new(alloc);
     for link in links {
@@ -86,7 +87,7 @@ fn comments_of(alloc: Global, links: &[MiscInfo]) -> Result<Vec<u32>, Memory>
 }
 
 fn put_some(texts: &mut Vec<u32>, text: Option<u32>) -> Result<(), Memory>
-    ensures { OnOk result (texts.new.items ≡ rising texts.old.items (option_to_list text)) }
+    ensures { OnOk result (texts.new.items ≡ all_rising texts.old.items (option_to_list text)) }
 {
     match text {
         Some(text) => put_rising(texts, text),

@@ -4,7 +4,7 @@ use Rattle.std.proofs.Common.{arith}
 use Rattle.std.specs.List.{All, flat_map}
 use Rattle.std.proofs.lemmas.List.Elements.{All-cons, All-nil}
 use Rattle.kom_types.specs.Token.{Token, Digits, Text, Open, Close, Star, Signed}
-use Rattle.kom_types.specs.calls.Arguments.{Taken, Took, then, elements, closed}
+use Rattle.kom_types.specs.calls.Arguments.{Taken, Took, then, elements, close_array}
 use Rattle.kom_types.specs.spellings.Words.{Words}
 use Rattle.kom_types.specs.spellings.Words as words
 use Rattle.kom_records.specs.Fits.{IsNumber, AreFit}
@@ -63,9 +63,9 @@ module _ {X : Type 0} (reads : List Token → Taken X) (spells : X → Words) (I
       let all = value ∷ values in
       let inside = tokens_of_words (flat_map spells all ++ (125 ∷ []) ∷ []) ++ tail in
       ap (λ token. array_of reads (suc (length values)) (token ∷ inside)) word_open
-      ∙ ap (λ t. then (elements reads (length all) t) closed) (split (flat_map spells all) ((125 ∷ []) ∷ []) tail)
-      ∙ ap (λ taken. then taken closed) (elements_back all (token_of_word (125 ∷ []) ∷ tail) fits)
-      ∙ ap (λ token. closed all (token ∷ tail)) word_close
+      ∙ ap (λ t. then (elements reads (length all) t) close_array) (split (flat_map spells all) ((125 ∷ []) ∷ []) tail)
+      ∙ ap (λ taken. then taken close_array) (elements_back all (token_of_word (125 ∷ []) ∷ tail) fits)
+      ∙ ap (λ token. close_array all (token ∷ tail)) word_close
 
   array_back : (values : List X) (tail : List Token) → AreFit Is values →
       array reads (tokens_of_words (words.array spells values) ++ tail) ≡ Took values tail
@@ -76,7 +76,7 @@ module _ {X : Type 0} (reads : List Token → Taken X) (spells : X → Words) (I
       onward number_is (length (value ∷ values)) _ (array_of reads) _ fits.0
       (array_of_back value values tail fits.1)
 
-  closed_from : (found values : List X) (tokens tail : List Token) → closed found tokens ≡ Took values tail →
+  closed_from : (found values : List X) (tokens tail : List Token) → close_array found tokens ≡ Took values tail →
       (found ≡ values) × (tokens ≡ token_of_word (125 ∷ []) ∷ tail)
   closed_from found values [] tail is = cc
   closed_from found values (Digits digits ∷ tokens) tail is = cc
@@ -95,9 +95,9 @@ module _ {X : Type 0} (reads : List Token → Taken X) (spells : X → Words) (I
     is : tokens ≡ tokens_of_words (flat_map spells values ++ (125 ∷ []) ∷ []) ++ tail
 
   braced : (count : ℕ) (values : List X) (tokens tail : List Token) →
-      then (elements reads count tokens) closed ≡ Took values tail → Braced count values tokens tail
+      then (elements reads count tokens) close_array ≡ Took values tail → Braced count values tokens tail
   braced count values tokens tail is =
-      let inside = passed (elements reads count tokens) closed values tail is in
+      let inside = passed (elements reads count tokens) close_array values tail is in
       let found = elements_from count inside.value tokens inside.mid inside.first in
       let last = closed_from inside.value values inside.mid tail inside.rest in
       subst (λ vs. Braced count vs tokens tail) last.0

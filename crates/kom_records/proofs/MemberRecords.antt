@@ -14,8 +14,8 @@ use Rattle.kom_types.specs.spellings.Words.{Words}
 use Rattle.kom_types.specs.Token.{Token, Digits, Text, Open, Close, Star, Signed}
 use Rattle.kom_types.specs.calls.Arguments.{Took}
 use Rattle.kom_records.specs.Fits.{IsNumber, IsReadRange, AreRangesShown, IsMembership, AreFit}
-use Rattle.kom_records.specs.Records.{read_range, ranges, ranges_by, starred, membership}
-use Rattle.kom_records.specs.Rules.{array, array_of, made}
+use Rattle.kom_records.specs.Records.{read_range, ranges, ranges_by, is_star_next, membership}
+use Rattle.kom_records.specs.Rules.{array, array_of, map_taken}
 use Rattle.kom_records.specs.Words.{token_of_word, tokens_of_words}
 use Rattle.kom_records.proofs.Spelled.{IsSpelled, on, onward, glue, split, took_same, passed}
 use Rattle.kom_records.proofs.Values.{number_is, byte_is}
@@ -44,15 +44,15 @@ no_star : (test : Bool) → (test && false) ≡ false
 no_star true = refl
 no_star false = refl
 
-by_star : (count : ℕ) (t : List Token) (test : Bool) → (nat_lt 0 count && starred t) ≡ test →
+by_star : (count : ℕ) (t : List Token) (test : Bool) → (nat_lt 0 count && is_star_next t) ≡ test →
     ranges_by count t ≡ (elim test [
       | true ↦ Took (shown.Count count) (drop 1 t)
-      | false ↦ made shown.All (array_of read_range count t)
+      | false ↦ map_taken shown.All (array_of read_range count t)
     ])
 by_star count t test is =
     ap (λ (test : Bool). elim test [
       | true ↦ Took (shown.Count count) (drop 1 t)
-      | false ↦ made shown.All (array_of read_range count t)
+      | false ↦ map_taken shown.All (array_of read_range count t)
     ]) is
 
 ranges_back : (of : RangesShown) (tail : List Token) → AreRangesShown of →
@@ -65,7 +65,7 @@ ranges_back (shown.Count (suc more)) tail fits =
     ∙ by_star (suc more) (Star ∷ tail) true (ap (λ (test : Bool). test && true) some))
 ranges_back (shown.All []) tail fits =
     onward number_is 0 (token_of_word (42 ∷ []) ∷ tail) ranges_by _ (omega arith)
-    (ap (λ taken. made shown.All taken)
+    (ap (λ taken. map_taken shown.All taken)
     (inside_back 0 [] (token_of_word (42 ∷ []) ∷ tail) tail (omega arith) refl fits))
 ranges_back (shown.All (one ∷ others)) tail fits =
     let all = one ∷ others in
@@ -73,12 +73,12 @@ ranges_back (shown.All (one ∷ others)) tail fits =
     let inside = tokens_of_words (drop 2 (words.array memberships.read_range all)) ++ tail in
     onward number_is count (token_of_word (123 ∷ []) ∷ inside) ranges_by _ fits.0
     (by_star count (token_of_word (123 ∷ []) ∷ inside) false
-    (ap (λ token. nat_lt 0 count && starred (token ∷ inside)) word_open ∙ no_star (nat_lt 0 count))
-    ∙ ap (λ taken. made shown.All taken)
+    (ap (λ token. nat_lt 0 count && is_star_next (token ∷ inside)) word_open ∙ no_star (nat_lt 0 count))
+    ∙ ap (λ taken. map_taken shown.All taken)
     (inside_back count all (token_of_word (123 ∷ []) ∷ inside) tail fits.0 refl fits))
 
 star_from : (count : ℕ) (mid tail : List Token) (of : RangesShown) → IsNumber count →
-    (nat_lt 0 count && starred mid) ≡ true → Took (shown.Count count) (drop 1 mid) ≡ Took of tail →
+    (nat_lt 0 count && is_star_next mid) ≡ true → Took (shown.Count count) (drop 1 mid) ≡ Took of tail →
     AreRangesShown of
     × (tokens_of_words (words.number count) ++ mid ≡ tokens_of_words (memberships.ranges_shown of) ++ tail)
 star_from zero mid tail of within is taken = cc
@@ -99,7 +99,7 @@ star_from (suc more) (Signed sign digits ∷ mid) tail of within is taken =
     absurd (no_true (nat_lt 0 (suc more)) is)
 
 array_from : (count : ℕ) (mid tail : List Token) (of : RangesShown) → IsNumber count →
-    made shown.All (array_of read_range count mid) ≡ Took of tail →
+    map_taken shown.All (array_of read_range count mid) ≡ Took of tail →
     AreRangesShown of
     × (tokens_of_words (words.number count) ++ mid ≡ tokens_of_words (memberships.ranges_shown of) ++ tail)
 array_from count mid tail of within taken =
@@ -113,9 +113,9 @@ array_from count mid tail of within taken =
     (found.0, found.1 ∙ ap (λ t. tokens_of_words (words.array memberships.read_range one.value) ++ t) same.1)
 
 either_from : (count : ℕ) (mid tail : List Token) (of : RangesShown) (test : Bool) → IsNumber count →
-    (nat_lt 0 count && starred mid) ≡ test → (elim test [
+    (nat_lt 0 count && is_star_next mid) ≡ test → (elim test [
       | true ↦ Took (shown.Count count) (drop 1 mid)
-      | false ↦ made shown.All (array_of read_range count mid)
+      | false ↦ map_taken shown.All (array_of read_range count mid)
     ]) ≡ Took of tail →
     AreRangesShown of
     × (tokens_of_words (words.number count) ++ mid ≡ tokens_of_words (memberships.ranges_shown of) ++ tail)

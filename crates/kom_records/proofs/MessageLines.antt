@@ -17,10 +17,10 @@ use Rattle.kom_records.specs.declared.fault.ReadFault.{ReadFault}
 use Rattle.kom_records.specs.declared.tokens.Head.{Head}
 use Rattle.kom_records.specs.Fits.{IsNumber, IsTextStat}
 use Rattle.kom_records.specs.Messages.{IsMessage, IsMessageLine, message_line}
-use Rattle.kom_records.specs.Arguments.{two_numbers, three_numbers, new_name, sent, with_stat, aux_changed}
+use Rattle.kom_records.specs.Arguments.{two_numbers, three_numbers, new_name, message_sent, with_stat, aux_changed}
 use Rattle.kom_records.specs.ByNumber.{one_argument, two_arguments, three_arguments, arguments_of}
-use Rattle.kom_records.specs.Replies.{ended, ReadsOnly}
-use Rattle.kom_records.specs.Rules.{head, number, made}
+use Rattle.kom_records.specs.Replies.{nothing_after, ReadsOnly}
+use Rattle.kom_records.specs.Rules.{head, number, map_taken}
 use Rattle.kom_records.specs.Telling.{ReadsAs}
 use Rattle.kom_records.specs.Words.{token_of_word, tokens_of_words}
 use Rattle.kom_records.proofs.Choices.{choose}
@@ -96,7 +96,7 @@ module _ (make : ℕ → TextStat → Message) (count which : ℕ)
       })))
 
 leave_from : (n m : ℕ) (of : Message) (tokens tail : List Token) → n ≡ 1 → m ≡ 8 →
-    made message.LeaveConference (number tokens) ≡ Took of tail → Heard n m of tokens tail
+    map_taken message.LeaveConference (number tokens) ≡ Took of tail → Heard n m of tokens tail
 leave_from n m of tokens tail count_is which_is is =
     let found = made_is number_is message.LeaveConference tokens tail of is in
     subst (λ (of : Message). Heard n m of tokens tail) found.1.2
@@ -124,7 +124,7 @@ name_from n m of tokens tail count_is which_is is =
     }))))
 
 sent_from : (n m : ℕ) (of : Message) (tokens tail : List Token) → n ≡ 3 → m ≡ 12 →
-    sent tokens ≡ Took of tail → Heard n m of tokens tail
+    message_sent tokens ≡ Took of tail → Heard n m of tokens tail
 sent_from n m of tokens tail count_is which_is is =
     on number_is tokens _ of tail is (λ a t0 f0 e0 r0.
     on number_is t0 _ of tail r0 (λ b t1 f1 e1 r1.
@@ -209,9 +209,9 @@ record IsTold (begun : Head) (read : Message) (tokens : List Token) : Type 0 whe
   same : Signed begun.sign (decimal begun.number) ∷ tokens ≡ tokens_of_words (words_of_message read)
 
 told_from : (begun : Head) (read : Message) (tokens tail : List Token) → IsNumber begun.number → begun.sign ≡ 58 →
-    then (then (number tokens) (arguments_of begun.number)) ended ≡ Took read tail → IsTold begun read tokens
+    then (then (number tokens) (arguments_of begun.number)) nothing_after ≡ Took read tail → IsTold begun read tokens
 told_from begun read tokens tail within sign_is is =
-    let all = passed (then (number tokens) (arguments_of begun.number)) ended read tail is in
+    let all = passed (then (number tokens) (arguments_of begun.number)) nothing_after read tail is in
     let last = ended_from all.value read all.mid tail all.rest in
     on number_is tokens (arguments_of begun.number) all.value all.mid all.first (λ which t0 f0 e0 r0.
     let heard = arguments_from begun.number which all.value t0 all.mid r0 in
@@ -245,13 +245,13 @@ line_back : (count which : ℕ) (of : Message) (arguments : Words) → IsNumber 
     message_line (tokens_of_words (message_words count which arguments)) ≡ Took of []
 line_back count which of arguments count_is which_is is =
     let rest = tokens_of_words (words.number which) ++ tokens_of_words arguments in
-    let inside : List Token → Taken Message = λ t. then (then (number t) (arguments_of count)) ended in
+    let inside : List Token → Taken Message = λ t. then (then (number t) (arguments_of count)) nothing_after in
     ap (λ token. message_line (token ∷ rest)) (word_message count count_is)
     ∙ ap (λ taken. then taken (λ begun t. elim (begun.sign == 58) [
-      | true ↦ then (then (number t) (arguments_of begun.number)) ended
+      | true ↦ then (then (number t) (arguments_of begun.number)) nothing_after
       | false ↦ Departs Malformed
     ])) (head_back 58 count rest count_is)
-    ∙ ap (λ taken. then taken ended)
+    ∙ ap (λ taken. then taken nothing_after)
     (onward number_is which (tokens_of_words arguments) (arguments_of count) _ which_is
     (ap (arguments_of count which) (sym (append-nil (tokens_of_words arguments))) ∙ is))
 

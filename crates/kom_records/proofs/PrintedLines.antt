@@ -9,12 +9,12 @@ use Rattle.std.specs.List.{All, flat_map, join_with_byte, list_all}
 use Rattle.std.proofs.lemmas.Bool.Decides.{nat_tests}
 use Rattle.kom_types.specs.ByteKind.{is_blank, is_digit}
 use Rattle.kom_types.specs.declared.side.Side.TheVariants as side
-use Rattle.kom_types.specs.Grammar.{Form, Prefix, Whole, Unfit, Cut, drop_while, token_at, may_follow, ended}
+use Rattle.kom_types.specs.Grammar.{Form, Prefix, Whole, Unfit, Cut, drop_while, token_at, may_follow, end_of_line}
 use Rattle.kom_types.specs.Grammar.{with_token}
 use Rattle.kom_types.specs.Grammar.{tokens_at, line_form, signed_run_at}
 use Rattle.kom_types.specs.Printing.{line_of}
 use Rattle.kom_types.specs.Token.{Token, Digits, Text, Open, Close, Star, Signed, number_of, is_integer}
-use Rattle.kom_types.specs.spellings.Words.{Words, hollerith, bit_string}
+use Rattle.kom_types.specs.spellings.Words.{Words, bit_string}
 use Rattle.kom_types.specs.spellings.Words as words
 use Rattle.kom_framing.proofs.Lists.{drop_while-no}
 use Rattle.kom_records.specs.Fits.{IsNumber, IsText, AreFit}
@@ -37,7 +37,7 @@ after_cut most Unfit = Unfit
 abbrev on_bytes : ℕ → List ℕ → Form (List Token)
 on_bytes most [] = Prefix
 on_bytes most (byte ∷ tail) = elim (byte == 10) [
-  | true ↦ ended tail
+  | true ↦ end_of_line tail
   | false ↦ after_cut most (token_at side.Server byte tail)
 ]
 
@@ -68,7 +68,7 @@ one_token most word others one =
     ap (λ bytes. on_bytes most (drop_while is_blank (bytes ++ after))) one.is
     ∙ ap (on_bytes most) (drop_while-no is_blank one.first (one.rest ++ after) one.begins)
     ∙ ap (λ (test : Bool). elim test [
-      | true ↦ ended (one.rest ++ after)
+      | true ↦ end_of_line (one.rest ++ after)
       | false ↦ after_cut most (token_at side.Server one.first (one.rest ++ after))
     ]) one.inside
     ∙ ap (after_cut most) (one.cut others)

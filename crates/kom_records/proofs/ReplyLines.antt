@@ -23,8 +23,8 @@ use Rattle.kom_records.specs.declared.tokens.Head.{Head}
 use Rattle.kom_records.specs.Fits.{IsNumber, IsMark, IsConferenceName, IsMembership, IsMember, IsDynamicSession, AreFit}
 use Rattle.kom_records.specs.Records.{mark, conference_name, membership, member, dynamic_session}
 use Rattle.kom_records.specs.Replies.{IsMadeOf, IsResult, IsReply, IsReplyLine, ReadsOnly, result_of, refusal}
-use Rattle.kom_records.specs.Replies.{reference_of, body_of, ended, reply_line}
-use Rattle.kom_records.specs.Rules.{head, head_of, number, number_told, array, made}
+use Rattle.kom_records.specs.Replies.{reference_of, body_of, nothing_after, reply_line}
+use Rattle.kom_records.specs.Rules.{head, head_of, number, number_told, array, map_taken}
 use Rattle.kom_records.specs.Telling.{ReadsAs}
 use Rattle.kom_records.specs.Words.{token_of_word, tokens_of_words}
 use Rattle.kom_records.proofs.Spelled.{IsSpelled, on, onward, glue, took_same, made_is, passed, branch, yes}
@@ -67,13 +67,13 @@ module _ {X : Type 0} {reads : List Token → Taken X} {spells : X → Words} {I
     (told : (reference : ℕ) (value : X) →
     words_of_reply reference (make value) ≡ good_words reference (result_words (make value))) where
   made_back : (body : Reply) (tail : List Token) → IsMadeOf make Is body →
-      made make (reads (tokens_of_words (result_words body) ++ tail)) ≡ Took body tail
+      map_taken make (reads (tokens_of_words (result_words body) ++ tail)) ≡ Took body tail
   made_back body tail is =
-      ap (λ of. made make (reads (tokens_of_words (result_words of) ++ tail))) is.1.1
-      ∙ ap (λ (all : Words). made make (reads (tokens_of_words all ++ tail))) (spelled is.0)
+      ap (λ of. map_taken make (reads (tokens_of_words (result_words of) ++ tail))) is.1.1
+      ∙ ap (λ (all : Words). map_taken make (reads (tokens_of_words all ++ tail))) (spelled is.0)
       ∙ onward rule is.0 tail (λ value. Took (make value)) _ is.1.0 (ap (λ of. Took of tail) (sym is.1.1))
 
-  made_from : (tokens tail : List Token) (body : Reply) → made make (reads tokens) ≡ Took body tail →
+  made_from : (tokens tail : List Token) (body : Reply) → map_taken make (reads tokens) ≡ Took body tail →
       IsMadeOf make Is body × (tokens ≡ tokens_of_words (result_words body) ++ tail)
   made_from tokens tail body is =
       let found = made_is rule make tokens tail body is in (
@@ -82,7 +82,7 @@ module _ {X : Type 0} {reads : List Token → Taken X} {spells : X → Words} {I
             ∙ ap (λ of. tokens_of_words (result_words of) ++ tail) found.1.2,
       )
 
-  made_good : IsGood (λ tokens. made make (reads tokens)) (IsMadeOf make Is)
+  made_good : IsGood (λ tokens. map_taken make (reads tokens)) (IsMadeOf make Is)
   made_good = record {
     rule = record { back = made_back; forth = made_from };
     good = λ reference body is.
@@ -150,7 +150,7 @@ pub head_back : (sign n : ℕ) (tail : List Token) → IsNumber n →
 head_back sign n tail within = ap (λ told. head_of sign told tail) (told_decimal n within)
 
 -- no token is left
-pub ended_from : {X : Type 0} (one other : X) (tokens tail : List Token) → ended one tokens ≡ Took other tail →
+pub ended_from : {X : Type 0} (one other : X) (tokens tail : List Token) → nothing_after one tokens ≡ Took other tail →
     (tokens ≡ []) × (one ≡ other)
 ended_from one other [] tail is = let same = took_same one other [] tail is in (refl, same.0)
 ended_from one other (token ∷ tokens) tail is = cc
@@ -224,9 +224,9 @@ line_back : (which : ResultKind) (reference : ℕ) (body : Reply) (sign : ℕ) (
     body_of which sign rest ≡ Took body [] →
     reply_line which (Signed sign (decimal reference) ∷ rest) ≡ Took (reference, body) []
 line_back which reference body sign rest within is =
-    ap (λ taken. then taken (λ begun t. then (body_of which begun.sign t) (λ body. ended (begun.number, body))))
+    ap (λ taken. then taken (λ begun t. then (body_of which begun.sign t) (λ body. nothing_after (begun.number, body))))
     (head_back sign reference rest within)
-    ∙ ap (λ taken. then taken (λ body. ended (reference, body))) is
+    ∙ ap (λ taken. then taken (λ body. nothing_after (reference, body))) is
 
 reply_back : (which : ResultKind) (reference : ℕ) (body : Reply) → IsNumber reference → IsReply which body →
     reply_line which (tokens_of_words (words_of_reply reference body)) ≡ Took (reference, body) []

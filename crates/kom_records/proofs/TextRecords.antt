@@ -15,7 +15,7 @@ use Rattle.kom_types.specs.calls.Arguments.{Taken, Took}
 use Rattle.kom_records.specs.Fits.{IsNumber, IsMiscInfo, IsTextStat, IsBlock, IsMapping, IsLocalText, AreFit}
 use Rattle.kom_records.specs.Links.{misc_by}
 use Rattle.kom_records.specs.Records.{misc_info, text_stat, block, block_by, dense, mapping, local_text}
-use Rattle.kom_records.specs.Rules.{number, array, made}
+use Rattle.kom_records.specs.Rules.{number, array, map_taken}
 use Rattle.kom_records.specs.Words.{tokens_of_words}
 use Rattle.kom_records.proofs.Choices.{choose}
 use Rattle.kom_records.proofs.Spelled.{IsSpelled, on, onward, glue, split, took_same, made_is, branch, yes, not}
@@ -35,7 +35,7 @@ module _ {X : Type 0} {reads : List Token → Taken X} {spells : X → Words} {I
     (rule : IsSpelled reads spells Is) (make : X → MiscInfo) (one : ℕ)
     (fit : (value : X) → Is value → IsMiscInfo (make value))
     (spelled : (value : X) → texts.misc_info (make value) ≡ words.number one ++ spells value) where
-  linked : (tag : ℕ) (mid tail : List Token) (of : MiscInfo) → tag ≡ one → made make (reads mid) ≡ Took of tail →
+  linked : (tag : ℕ) (mid tail : List Token) (of : MiscInfo) → tag ≡ one → map_taken make (reads mid) ≡ Took of tail →
       Linked tag mid of tail
   linked tag mid tail of is read =
       let found = made_is rule make mid tail of read in
@@ -175,7 +175,7 @@ Blocked which mid of tail =
     IsBlock of × (tokens_of_words (words.number which) ++ mid ≡ tokens_of_words (texts.block_words of) ++ tail)
 
 sparse_from : (which : ℕ) (mid tail : List Token) (of : Block) → which ≡ 0 →
-    made pairs.Sparse (array local_text mid) ≡ Took of tail → Blocked which mid of tail
+    map_taken pairs.Sparse (array local_text mid) ≡ Took of tail → Blocked which mid of tail
 sparse_from which mid tail of same is =
     let found = made_is local_texts_is pairs.Sparse mid tail of is in
     subst (λ (of : Block). Blocked which mid of tail) found.1.2 (

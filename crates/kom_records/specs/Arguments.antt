@@ -28,8 +28,8 @@ new_name tokens =
       new_name = new_name;
     })))))
 
-abbrev pub sent : List Token → Taken Message
-sent tokens =
+abbrev pub message_sent : List Token → Taken Message
+message_sent tokens =
     then (number tokens) (λ recipient t.
     then (number t) (λ sender t.
     then (text t) (λ bytes. Took (message.SendMessage (record {

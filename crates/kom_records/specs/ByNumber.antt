@@ -5,13 +5,14 @@ use Rattle.kom_types.specs.declared.messages.Message.{Message}
 use Rattle.kom_types.specs.declared.messages.Message.TheVariants as message
 use Rattle.kom_types.specs.Token.{Token}
 use Rattle.kom_types.specs.calls.Arguments.{Taken, Departs, Malformed}
-use Rattle.kom_records.specs.Arguments.{two_numbers, three_numbers, new_name, sent, with_stat}
+use Rattle.kom_records.specs.Arguments.{two_numbers, three_numbers, new_name, message_sent}
+use Rattle.kom_records.specs.Arguments.{with_stat}
 use Rattle.kom_records.specs.Arguments.{aux_changed}
-use Rattle.kom_records.specs.Rules.{number, made}
+use Rattle.kom_records.specs.Rules.{number, map_taken}
 
 abbrev pub one_argument : ℕ → List Token → Taken Message
 one_argument which t =
-    if which == async.LEAVE_CONF then made message.LeaveConference (number t)
+    if which == async.LEAVE_CONF then map_taken message.LeaveConference (number t)
     else Departs Malformed
 
 abbrev pub two_arguments : ℕ → List Token → Taken Message
@@ -26,7 +27,7 @@ two_arguments which t =
 abbrev pub three_arguments : ℕ → List Token → Taken Message
 three_arguments which t =
     if which == async.NEW_NAME then new_name t
-    else if which == async.SEND_MESSAGE then sent t
+    else if which == async.SEND_MESSAGE then message_sent t
     else if which == async.NEW_RECIPIENT then three_numbers message.NewRecipient t
     else if which == async.SUB_RECIPIENT then three_numbers message.SubRecipient t
     else if which == async.TEXT_AUX_CHANGED then aux_changed t

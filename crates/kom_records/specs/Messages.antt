@@ -8,7 +8,7 @@ use Rattle.kom_types.specs.calls.Arguments.{Taken, Departs, Malformed, then}
 use Rattle.kom_records.specs.Fits.{IsNumber, IsText, IsTextStat, IsAuxItem, AreFit}
 use Rattle.kom_records.specs.ByNumber.{arguments_of}
 use Rattle.kom_records.specs.Rules.{head, number}
-use Rattle.kom_records.specs.Replies.{ended}
+use Rattle.kom_records.specs.Replies.{nothing_after}
 use Rattle.kom_records.specs.Words.{tokens_of_words}
 
 -- the messages that are read
@@ -39,6 +39,6 @@ abbrev pub message_line : List Token → Taken Message
 message_line tokens =
     then (head tokens) (λ begun t.
     elim (begun.sign == 58) [
-      | true ↦ then (then (number t) (arguments_of begun.number)) ended
+      | true ↦ then (then (number t) (arguments_of begun.number)) nothing_after
       | false ↦ Departs Malformed
     ])

@@ -20,7 +20,8 @@ use Rattle.kom_types.specs.declared.texts.MiscInfo.{MiscInfo}
 use Rattle.kom_types.specs.declared.texts.TextStat.{TextStat}
 use Rattle.kom_types.specs.Token.{Token, Digits, Text, Open, Close, Star, Signed}
 use Rattle.kom_types.specs.calls.Arguments.{Taken, Took, Departs, Malformed, then, bits}
-use Rattle.kom_records.specs.Rules.{number, byte, flag, text, first_bits, array, array_of, made}
+use Rattle.kom_records.specs.Rules.{number, byte, flag, text, first_bits, array, array_of}
+use Rattle.kom_records.specs.Rules.{map_taken}
 use Rattle.kom_records.specs.Links.{misc_by}
 use Rattle.kom_records.specs.Times.{time}
 
@@ -87,7 +88,7 @@ dense tokens =
 abbrev pub block_by : ℕ → List Token → Taken Block
 block_by which t =
     elim (which == 0) [
-      | true ↦ made pairs.Sparse (array local_text t)
+      | true ↦ map_taken pairs.Sparse (array local_text t)
       | false ↦
           elim (which == 1) [ true ↦ dense t | false ↦ Departs Malformed ]
     ]
@@ -202,21 +203,21 @@ person tokens =
     }))))))))))))))))))
 
 -- whether a star is next
-abbrev pub starred : List Token → Bool
-starred [] = false
-starred (Digits digits ∷ tail) = false
-starred (Text bytes ∷ tail) = false
-starred (Open ∷ tail) = false
-starred (Close ∷ tail) = false
-starred (Star ∷ tail) = true
-starred (Signed sign digits ∷ tail) = false
+abbrev pub is_star_next : List Token → Bool
+is_star_next [] = false
+is_star_next (Digits digits ∷ tail) = false
+is_star_next (Text bytes ∷ tail) = false
+is_star_next (Open ∷ tail) = false
+is_star_next (Close ∷ tail) = false
+is_star_next (Star ∷ tail) = true
+is_star_next (Signed sign digits ∷ tail) = false
 
 -- the ranges of a membership; where there are some, a star stands for them if only their number is
 -- told
 abbrev pub ranges_by : ℕ → List Token → Taken RangesShown
-ranges_by count t = elim (nat_lt 0 count && starred t) [
+ranges_by count t = elim (nat_lt 0 count && is_star_next t) [
   | true ↦ Took (shown.Count count) (drop 1 t)
-  | false ↦ made shown.All (array_of read_range count t)
+  | false ↦ map_taken shown.All (array_of read_range count t)
 ]
 
 abbrev pub ranges : List Token → Taken RangesShown

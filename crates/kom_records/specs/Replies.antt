@@ -13,7 +13,7 @@ use Rattle.kom_records.specs.declared.replies.ResultKind.TheVariants as kind
 use Rattle.kom_records.specs.Fits.{IsNumber, IsText, AreFit, IsMark, IsTextStat, IsMapping}
 use Rattle.kom_records.specs.Fits.{IsConference, IsUConference, IsConferenceName, IsPerson}
 use Rattle.kom_records.specs.Fits.{IsMembership, IsMember, IsDynamicSession}
-use Rattle.kom_records.specs.Rules.{head, number, number_told, text, array, made}
+use Rattle.kom_records.specs.Rules.{head, number, number_told, text, array, map_taken}
 use Rattle.kom_records.specs.Records.{mark, text_stat, mapping, conference, uconference}
 use Rattle.kom_records.specs.Records.{conference_name, person, membership, member, dynamic_session}
 use Rattle.kom_records.specs.Words.{tokens_of_words}
@@ -65,19 +65,19 @@ ReadsOnly {X} IsSpelled (Err fault.Memory) = Unit {0}
 -- how a result is read
 abbrev pub result_of : ResultKind → List Token → Taken Reply
 result_of kind.Done t = Took reply.Done t
-result_of kind.Number t = made reply.Number (number t)
-result_of kind.Text t = made reply.Text (text t)
-result_of kind.Numbers t = made reply.Numbers (array number t)
-result_of kind.Marks t = made reply.Marks (array mark t)
-result_of kind.TextStat t = made reply.TextStat (text_stat t)
-result_of kind.Mapping t = made reply.Mapping (mapping t)
-result_of kind.Conference t = made reply.Conference (conference t)
-result_of kind.UConference t = made reply.UConference (uconference t)
-result_of kind.ConferenceNames t = made reply.ConferenceNames (array conference_name t)
-result_of kind.Person t = made reply.Person (person t)
-result_of kind.Memberships t = made reply.Memberships (array membership t)
-result_of kind.Members t = made reply.Members (array member t)
-result_of kind.DynamicSessions t = made reply.DynamicSessions (array dynamic_session t)
+result_of kind.Number t = map_taken reply.Number (number t)
+result_of kind.Text t = map_taken reply.Text (text t)
+result_of kind.Numbers t = map_taken reply.Numbers (array number t)
+result_of kind.Marks t = map_taken reply.Marks (array mark t)
+result_of kind.TextStat t = map_taken reply.TextStat (text_stat t)
+result_of kind.Mapping t = map_taken reply.Mapping (mapping t)
+result_of kind.Conference t = map_taken reply.Conference (conference t)
+result_of kind.UConference t = map_taken reply.UConference (uconference t)
+result_of kind.ConferenceNames t = map_taken reply.ConferenceNames (array conference_name t)
+result_of kind.Person t = map_taken reply.Person (person t)
+result_of kind.Memberships t = map_taken reply.Memberships (array membership t)
+result_of kind.Members t = map_taken reply.Members (array member t)
+result_of kind.DynamicSessions t = map_taken reply.DynamicSessions (array dynamic_session t)
 
 abbrev pub refusal : List Token → Taken Reply
 refusal tokens =
@@ -92,14 +92,14 @@ body_of which sign tokens = elim (sign == 61) [
 ]
 
 -- no token is left after it
-abbrev pub ended : {X : Type 0} → X → List Token → Taken X
-ended value [] = Took value []
-ended value (token ∷ tokens) = Departs Malformed
+abbrev pub nothing_after : {X : Type 0} → X → List Token → Taken X
+nothing_after value [] = Took value []
+nothing_after value (token ∷ tokens) = Departs Malformed
 
 abbrev pub reply_line : ResultKind → List Token → Taken (ℕ × Reply)
 reply_line which tokens =
     then (head tokens) (λ begun t.
-    then (body_of which begun.sign t) (λ body. ended (begun.number, body)))
+    then (body_of which begun.sign t) (λ body. nothing_after (begun.number, body)))
 
 -- the reference of a line that begins as a good reply or a refusal
 abbrev pub reference_by : ℕ → List ℕ → Option ℕ

@@ -7,7 +7,7 @@ use Rattle.kom_types.specs.Token.{Token, Digits, Text, Open, Close, Star, Signed
 use Rattle.kom_types.specs.Token.{number_of, is_integer}
 use Rattle.kom_types.specs.calls.Arguments.{Taken, Took, Departs, Malformed, then, bits, elements}
 use Rattle.kom_types.specs.calls.Arguments.{string}
-use Rattle.kom_types.specs.calls.Arguments.{closed, is_binary, bits_of}
+use Rattle.kom_types.specs.calls.Arguments.{close_array, is_binary, bits_of}
 use Rattle.kom_records.specs.declared.tokens.Head.{Head}
 
 -- the number of a run of digits, if they are what a server spells it as
@@ -77,12 +77,12 @@ first_bits tokens = then (bits 4 tokens) (λ value. Took (16 * value))
 abbrev pub array_of : {X : Type 0} → (List Token → Taken X) → ℕ → List Token → Taken (List X)
 array_of element zero (Star ∷ tail) = Took [] tail
 array_of element (suc count) (Open ∷ tail) =
-    then (elements element (suc count) tail) closed
+    then (elements element (suc count) tail) close_array
 array_of element count tokens = Departs Malformed
 
 abbrev pub array : {X : Type 0} → (List Token → Taken X) → List Token → Taken (List X)
 array element tokens = then (number tokens) (array_of element)
 
 -- what is made of a value
-abbrev pub made : {X Y : Type 0} → (X → Y) → Taken X → Taken Y
-made make taken = then taken (λ value. Took (make value))
+abbrev pub map_taken : {X Y : Type 0} → (X → Y) → Taken X → Taken Y
+map_taken make taken = then taken (λ value. Took (make value))

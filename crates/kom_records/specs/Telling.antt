@@ -13,14 +13,14 @@ Next None tokens rest = tokens ≡ []
 Next (Some token) tokens rest = tokens ≡ token_seen token ∷ rest
 
 -- the tokens depart, or else memory ran out, which a reader may tell that needs room
-abbrev pub Departed : {X : Type 0} → Bool → Taken X → ReadFault → Type 0
-Departed room taken fault.Departs = taken ≡ Departs Malformed
-Departed room taken fault.Memory = IsTrue room
+abbrev pub DepartsAs : {X : Type 0} → Bool → Taken X → ReadFault → Type 0
+DepartsAs room taken fault.Departs = taken ≡ Departs Malformed
+DepartsAs room taken fault.Memory = IsTrue room
 
 -- a value and the tokens that are left, or why there is none
 abbrev pub ReadsAs : {X : Type 0} → Bool → Taken X → Result X ReadFault → List Token → Type 0
 ReadsAs room taken (Ok value) rest = taken ≡ Took value rest
-ReadsAs room taken (Err found) rest = Departed room taken found
+ReadsAs room taken (Err found) rest = DepartsAs room taken found
 
 -- whether no token is left
 abbrev pub Ends : Result (Unit {0}) ReadFault → List Token → Type 0

@@ -1,7 +1,7 @@
 ghost use Rattle.std.specs.Prelude.{◌≡◌, true};
 ghost use Rattle.kom_records.specs.Telling.{ReadsAs};
 ghost use Rattle.kom_records.specs.Replies.{ReadsOnly};
-ghost use Rattle.kom_records.specs.Arguments.{new_name, sent, aux_changed};
+ghost use Rattle.kom_records.specs.Arguments.{new_name, message_sent, aux_changed};
 ghost use Rattle.kom_records.specs.ByNumber.{one_argument, two_arguments, three_arguments};
 ghost use Rattle.kom_records.specs.ByNumber.{arguments_of};
 ghost use Rattle.kom_records.specs.Messages.{IsMessageLine, message_line};
@@ -144,7 +144,7 @@ fn new_name(tokens: &mut Tokens<'_>) -> Result<Message, ReadFault>
 
 /// Takes the arguments of message 12.
 fn sent(tokens: &mut Tokens<'_>) -> Result<Message, ReadFault>
-    ensures { ReadsAs true (sent tokens.old) result tokens.new }
+    ensures { ReadsAs true (message_sent tokens.old) result tokens.new }
 {
     let recipient = tokens.number()?;
     let sender = tokens.number()?;

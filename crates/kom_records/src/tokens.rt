@@ -1,6 +1,6 @@
 ghost use Rattle.std.specs.Prelude.{◌≡◌, ◌≤◌, ◌^◌, length, drop, true, false};
 ghost use Rattle.kom_types.specs.calls.Arguments as argument;
-ghost use Rattle.kom_records.specs.Records.{starred};
+ghost use Rattle.kom_records.specs.Records.{is_star_next};
 ghost use Rattle.kom_records.specs.Rules as rule;
 ghost use Rattle.kom_records.specs.Telling.{Next, ReadsAs, Ends, Boxes};
 
@@ -77,7 +77,7 @@ impl<'a> Tokens<'a> {
 
     /// Whether a star is next.
     pub(crate) fn is_starred(&self) -> bool
-        ensures { result ≡ starred self.now }
+        ensures { result ≡ is_star_next self.now }
     {
         let mut ahead = self.ahead();
         match ahead.next() {

@@ -15,7 +15,7 @@ use Rattle.kom_types.specs.spellings.Words.{Words}
 use Rattle.kom_framing.specs.Writing.{Written, put_word, end_line}
 use Rattle.kom_replies.specs.Items.{with_item, words_of, Begins}
 use Rattle.kom_replies.specs.Sinks.{with_words, Keeps}
-use Rattle.kom_replies.specs.Lengths.{capped, put_length}
+use Rattle.kom_replies.specs.Lengths.{cap_at_u64, put_length}
 use Rattle.kom_replies.proofs.WrittenWords.{line_written, line_measured}
 
 -- an item's line is that of its words
@@ -71,13 +71,13 @@ item_written item written joined =
     (sym (print_is_line item))
 
 -- the lengths of an item's words are its print's
-pub item_measured : (item : Item) → with_words put_length (words_of item) 0 ≡ capped (length (print_of item))
+pub item_measured : (item : Item) → with_words put_length (words_of item) 0 ≡ cap_at_u64 (length (print_of item))
 item_measured item =
     let some = item_word item in
     let line : length (print_of item) ≡ length (line_of (some.first ∷ some.rest)) =
     ap length (print_is_line item) ∙ ap (λ (words : Words). length (line_of words)) some.is in
     ap (λ (words : Words). with_words put_length words 0) some.is ∙ line_measured some.first some.rest
-    ∙ ap capped (sym line)
+    ∙ ap cap_at_u64 (sym line)
 
 -- a writer that lost nothing since it began a line, cut back to where it stood, is what it was
 pub cut_back_again : (old begun new : Written) (place : ℕ) (joined : Bool) →

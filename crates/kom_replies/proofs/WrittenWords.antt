@@ -8,7 +8,7 @@ use Rattle.kom_types.specs.Printing.{line_of}
 use Rattle.kom_types.specs.spellings.Words.{Words, array}
 use Rattle.kom_framing.specs.Writing.{Written, put_word, end_line}
 use Rattle.kom_replies.specs.Sinks.{with_words}
-use Rattle.kom_replies.specs.Lengths.{capped, put_length}
+use Rattle.kom_replies.specs.Lengths.{cap_at_u64, put_length}
 
 pub with_words_append : {S : Type 0} (with_word : List ℕ → S → S) (xs ys : Words) (sink : S) →
     with_words with_word (xs ++ ys) sink ≡ with_words with_word ys (with_words with_word xs sink)
@@ -48,12 +48,12 @@ unfoldable pub total : Words → ℕ
 total [] = 0
 total (word ∷ words) = (length word + 1) + total words
 
-lengths_capped : (words : Words) (n : ℕ) → n ≤ 2 ^ 64 - 1 → with_words put_length words n ≡ capped (n + total words)
+lengths_capped : (words : Words) (n : ℕ) → n ≤ 2 ^ 64 - 1 → with_words put_length words n ≡ cap_at_u64 (n + total words)
 unfolding total
 lengths_capped [] n within = omega arith
 lengths_capped (word ∷ words) n within =
-    let within' : capped (n + (length word + 1)) ≤ 2 ^ 64 - 1 = omega arith in
-    let rest = lengths_capped words (capped (n + (length word + 1))) within' in
+    let within' : cap_at_u64 (n + (length word + 1)) ≤ 2 ^ 64 - 1 = omega arith in
+    let rest = lengths_capped words (cap_at_u64 (n + (length word + 1))) within' in
     omega (arith, rest)
 
 pub line_length : (word : List ℕ) (words : Words) → length (line_of (word ∷ words)) ≡ total (word ∷ words)
@@ -66,7 +66,7 @@ line_length word (next ∷ words) =
 
 -- the lengths of a line's words are the line's length
 pub line_measured : (word : List ℕ) (words : Words) →
-    with_words put_length (word ∷ words) 0 ≡ capped (length (line_of (word ∷ words)))
+    with_words put_length (word ∷ words) 0 ≡ cap_at_u64 (length (line_of (word ∷ words)))
 line_measured word words =
     let within : 0 ≤ 2 ^ 64 - 1 = omega arith in
     let counted = lengths_capped (word ∷ words) 0 within in

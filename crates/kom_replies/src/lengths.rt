@@ -1,6 +1,6 @@
 ghost use Rattle.std.specs.Prelude.{◌≡◌, ◌<◌, ◌≤◌, ◌^◌, ◌-◌, ◌+◌, length, min};
 ghost use Rattle.kom_types.specs.Printing.{print_of};
-ghost use Rattle.kom_replies.specs.Lengths.{capped};
+ghost use Rattle.kom_replies.specs.Lengths.{cap_at_u64};
 
 use crate::printer::put_words;
 use crate::sinks::Sink;
@@ -35,7 +35,7 @@ impl Length {
     /// Adds a word of so many bytes, and what is after it.
     fn add(&mut self, bytes: usize)
         requires { bytes < 2 ^ 64 - 1 }
-        ensures { self.new ≡ capped (self.old + (bytes + 1)) }
+        ensures { self.new ≡ cap_at_u64 (self.old + (bytes + 1)) }
     {
         self.0 = self.0.saturating_add(bytes as u64 + 1);
     }

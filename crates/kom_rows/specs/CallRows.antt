@@ -13,7 +13,7 @@ use Rattle.kom_rows.specs.Cast.{Cast, cast_over, one_seat}
 use Rattle.kom_model.specs.Effects.{all_fit}
 use Rattle.kom_model.specs.Db.{empty_db}
 use Rattle.kom_model.specs.Initial.{initial, initial_effects}
-use Rattle.kom_model.specs.calls.Call.{answer, done}
+use Rattle.kom_model.specs.calls.Call.{answer, done_with}
 use Rattle.kom_model.specs.calls.Guards.{refusal}
 use Rattle.kom_model.specs.calls.Conferences as Conferences
 use Rattle.kom_model.specs.calls.Persons as Persons
@@ -31,8 +31,8 @@ person name = record { name = name; password = []; flags = 128; aux_items = [] }
 abbrev pub conference : List ℕ → ℕ → NewConference
 conference name kind = record { name = name; kind = kind; aux_items = [] }
 
-abbrev pub named : ℕ → ℕ → List ℕ → ConferenceName
-named number kind name = record { name = name; kind = kind; number = number }
+abbrev pub name_of_conference : ℕ → ℕ → List ℕ → ConferenceName
+name_of_conference number kind name = record { name = name; kind = kind; number = number }
 
 -- what calls over persons and conferences come to in cases that were worked out by hand
 pub record CallRows : Type 0 where
@@ -46,19 +46,19 @@ pub record CallRows : Type 0 where
   pub login_by_the_password : (Sessions.login stranger 5 [] true).early ≡ None
   pub login_by_a_strong_session : (Sessions.login strong 5 (codes "x") true).early ≡ None
   pub logs_in : (Sessions.login stranger 5 [] true).rest
-      ≡ done (effect.LoggedIn 5 30 (codes "ceder") ∷ []) (change.Person 1 5 true ∷ [])
+      ≡ done_with (effect.LoggedIn 5 30 (codes "ceder") ∷ []) (change.Person 1 5 true ∷ [])
   pub logs_in_again : (Sessions.login anna 5 [] false).rest
-      ≡ done
+      ≡ done_with
       (effect.Counted 5 counter.TimePresent 20 ∷ effect.LoggedIn 5 30 (codes "ceder") ∷ [])
       (change.Person 1 0 false ∷ change.Person 1 5 false ∷ [])
   pub logs_out : (Sessions.logout anna).rest
-      ≡ done (effect.Counted 5 counter.TimePresent 20 ∷ []) (change.Person 1 0 false ∷ [])
-  pub nobody_logs_out : (Sessions.logout stranger).rest ≡ done [] []
+      ≡ done_with (effect.Counted 5 counter.TimePresent 20 ∷ []) (change.Person 1 0 false ∷ [])
+  pub nobody_logs_out : (Sessions.logout stranger).rest ≡ done_with [] []
   pub privileges_by_nobody : (Persons.set_priv_bits stranger 5 0).early ≡ refusal 6 0
   pub privileges_of_no_person : (Persons.set_priv_bits anna 6 0).early ≡ refusal 10 6
   pub privileges_without_strength : (Persons.set_priv_bits anna 5 0).early ≡ refusal 12 0
   pub privileges_are_set : (Persons.set_priv_bits strong 5 0).rest
-      ≡ done (effect.PersonField 5 (field.Privileges 0) ∷ []) []
+      ≡ done_with (effect.PersonField 5 (field.Privileges 0) ∷ []) []
   pub person_made : (Persons.create_person stranger (person (codes "Bo"))).rest
       ≡ record {
         reply = reply.Number 6;
@@ -109,13 +109,13 @@ pub record CallRows : Type 0 where
   pub renamed_as_another : (Conferences.change_name anna 4 (codes "administrator")).early
       ≡ refusal 21 0
   pub found_persons : (Conferences.lookup_z_name stranger (codes "a") true true).rest
-      ≡ answer (reply.ConferenceNames (named 5 144 (codes "Administrator") ∷ []))
+      ≡ answer (reply.ConferenceNames (name_of_conference 5 144 (codes "Administrator") ∷ []))
   pub found_conferences : (Conferences.lookup_z_name stranger [] false true).rest
       ≡ answer (reply.ConferenceNames
-      (named 1 0 (codes "Presentations of conferences")
-      ∷ named 2 0 (codes "Presentations of persons")
-      ∷ named 3 0 (codes "Messages of the day")
-      ∷ named 4 0 (codes "News")
+      (name_of_conference 1 0 (codes "Presentations of conferences")
+      ∷ name_of_conference 2 0 (codes "Presentations of persons")
+      ∷ name_of_conference 3 0 (codes "Messages of the day")
+      ∷ name_of_conference 4 0 (codes "News")
       ∷ []))
   pub next_above : Conferences.find_next_conf_no anna 3
       ≡ record { early = None; rest = answer (reply.Number 4) }

@@ -23,7 +23,8 @@ use Rattle.kom_types.specs.Sessions.{fresh_seat}
 use Rattle.kom_model.specs.declared.viewers.Viewer.{Viewer}
 use Rattle.kom_model.specs.Db.{Db, memberships_of, members_of}
 use Rattle.kom_model.specs.Effects.{apply_all}
-use Rattle.kom_model.specs.calls.Call.{Asked, Definition, answer, done, unguarded, decided}
+use Rattle.kom_model.specs.calls.Call.{Asked, Definition, answer, done_with, without_guard}
+use Rattle.kom_model.specs.calls.Call.{outcome_of}
 use Rattle.kom_model.specs.calls.Guards.{Guard}
 
 -- a conference of this type that person 5 supervises
@@ -82,12 +83,12 @@ abbrev pub range : ℕ → ℕ → ReadRange
 range first last = record { first = first; last = last }
 
 -- a recipient that a text was made with, of this tag and with this local number
-abbrev pub sent : ℕ → ℕ → ℕ → ℕ → Recipient
-sent text conference tag local =
+abbrev pub recipient_row : ℕ → ℕ → ℕ → ℕ → Recipient
+recipient_row text conference tag local =
     record { text = text; conference = conference; tag = tag; local = local; sender = 0; at = 20 }
 
 abbrev pub sends : ℕ → ℕ → ℕ → ℕ → Effect
-sends text conference tag local = effect.RecipientAdded (sent text conference tag local)
+sends text conference tag local = effect.RecipientAdded (recipient_row text conference tag local)
 
 -- a comment, or a footnote, to a text: by whom it was linked later, or 0, and when
 abbrev pub link : ℕ → ℕ → Bool → ℕ → ℕ → TextLink
@@ -127,16 +128,16 @@ abbrev pub adds : Bool → ℕ → List AuxRow → List Effect
 adds on_text object items = map (λ what. effect.AuxAdded on_text object what) items
 
 -- an item that is given; and a change of the items of a text or a conference
-abbrev pub given : ℕ → ℕ → ℕ → List ℕ → AuxInput
-given tag flags limit content =
+abbrev pub given_item : ℕ → ℕ → ℕ → List ℕ → AuxInput
+given_item tag flags limit content =
     record { tag = tag; flags = flags; inherit_limit = limit; content = content }
 
 abbrev pub changes : ℕ → List ℕ → List AuxInput → AuxChange
 changes object delete add = record { object = object; delete = delete; add = add }
 
 -- what a text that is made names; the text; a conference; and a person
-abbrev pub named : ℕ → ℕ → MiscInput
-named tag value = record { tag = tag; value = value }
+abbrev pub new_misc : ℕ → ℕ → MiscInput
+new_misc tag value = record { tag = tag; value = value }
 
 abbrev pub text : List ℕ → List MiscInput → List AuxInput → NewText
 text body misc items = record { body = body; misc_inputs = misc; aux_items = items }
@@ -208,7 +209,7 @@ pub record Cast : Type 0 where
 abbrev pub cast_over : Db → (ℕ → ℕ → List Seat) → Cast
 cast_over rows seats = record {
   with_effects = λ effects. apply_all effects rows;
-  made_by = λ definition. apply_all (decided definition).effects rows;
+  made_by = λ definition. apply_all (outcome_of definition).effects rows;
   asked = λ person level. asks rows (seats person level);
   stranger = asks rows (seats 0 0);
   anna = asks rows (seats 5 0);
@@ -226,10 +227,10 @@ after effects asked = record asked { db = apply_all effects asked.db }
 
 -- no guard refuses a call; and it makes these effects and changes, or has this reply
 abbrev pub comes_to : List Effect → List SessionChange → Definition
-comes_to effects changes = unguarded (done effects changes)
+comes_to effects changes = without_guard (done_with effects changes)
 
 abbrev pub answers : Reply → Definition
-answers what = unguarded (answer what)
+answers what = without_guard (answer what)
 
 -- the first guard that refuses each of these calls
 abbrev pub early_of : List Definition → List Guard

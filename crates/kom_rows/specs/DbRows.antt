@@ -75,8 +75,8 @@ sets_person =
     ∷ []
 
 -- a membership as its person, its conference and its place
-abbrev pub placed : List MembershipRow → List (ℕ × ℕ × ℕ)
-placed memberships = map (λ row. (row.person, row.conference, row.position)) memberships
+abbrev pub member_places : List MembershipRow → List (ℕ × ℕ × ℕ)
+member_places memberships = map (λ row. (row.person, row.conference, row.position)) memberships
 
 -- what the definitions of the stored rows say of cases that were worked out by hand
 pub record DbRows : Type 0 where
@@ -261,7 +261,7 @@ pub record DbRows : Type 0 where
   pub places_count_up : places_of 6 rows ≡ 0 ∷ 1 ∷ 2 ∷ []
   pub moved_past_the_end : places_of 6 (with_effect (joins 6 10 9)) ≡ 0 ∷ 1 ∷ 2 ∷ []
   pub places_of_others : places_of 7 (with_effect (joins 6 10 2)) ≡ 0 ∷ 1 ∷ 2 ∷ []
-  pub taken_out : placed (without_membership 6 6 rows.memberships)
+  pub taken_out : member_places (without_membership 6 6 rows.memberships)
       ≡ (5, 5, 0) ∷ (7, 7, 1) ∷ (8, 8, 0) ∷ (6, 10, 0) ∷ (7, 10, 2) ∷ (8, 9, 1) ∷ (7, 1, 0)
       ∷ (6, 1, 1) ∷ []
   pub limit_of_memberships : MOST_MEMBERSHIPS ≡ 2000

@@ -11,13 +11,15 @@ use Rattle.kom_types.specs.declared.replies.Reply.{Reply}
 use Rattle.kom_types.specs.declared.replies.Reply.TheVariants as reply
 use Rattle.kom_rows.specs.Cast.{Cast, cast_over, one_seat, four_persons, three_conferences, makes}
 use Rattle.kom_rows.specs.Cast.{joins, is_invited, under, sends, links, sets_fields, item}
-use Rattle.kom_rows.specs.Cast.{new_item, adds, given, changes, after, early_of, person, nobody}
+use Rattle.kom_rows.specs.Cast.{new_item, adds, given_item, changes, after, early_of, person}
+use Rattle.kom_rows.specs.Cast.{nobody}
 use Rattle.kom_rows.specs.Cast.{strong_nobody}
 use Rattle.kom_model.specs.Db.{Db, empty_db, items_of, next_item_of}
 use Rattle.kom_model.specs.Effects.{fits, apply_all, all_fit}
 use Rattle.kom_model.specs.Shown.{text_adder}
 use Rattle.kom_model.specs.calls.AuxItems.{modify_text_info, modify_conf_info}
-use Rattle.kom_model.specs.calls.Call.{Asked, Definition, answer, done, unguarded, decided}
+use Rattle.kom_model.specs.calls.Call.{Asked, Definition, answer, done_with, without_guard}
+use Rattle.kom_model.specs.calls.Call.{outcome_of}
 use Rattle.kom_model.specs.calls.Conferences.{delete_conf, get_conf_stat}
 use Rattle.kom_model.specs.calls.Guards.{refusal}
 use Rattle.kom_model.specs.calls.Texts.{get_text_stat}
@@ -109,11 +111,11 @@ abbrev pub under_invited : ℕ → List Effect
 under_invited person = under 10 6 ++ is_invited person 10 ∷ []
 
 -- an item of this tag alone; and as many fast replies
-abbrev pub tagged : ℕ → AuxInput
-tagged tag = given tag 0 0 []
+abbrev pub item_of_tag : ℕ → AuxInput
+item_of_tag tag = given_item tag 0 0 []
 
 abbrev pub replies : ℕ → List AuxInput
-replies many = replicate many (tagged 2)
+replies many = replicate many (item_of_tag 2)
 
 -- a call of a session that adds to text 1, or to 6, or deletes of 1
 abbrev pub adds_to_first : Asked → List AuxInput → Definition
@@ -139,15 +141,15 @@ abbrev pub deletes_of_bo : Asked → List ℕ → Definition
 deletes_of_bo asked deleted = modify_conf_info asked (changes 6 deleted [])
 
 -- an item refuses a call: no guard before it does, and nothing changes
-abbrev pub denied : ℕ → ℕ → Definition
-denied code status = unguarded (answer (reply.Refused code status))
+abbrev pub refused_by_item : ℕ → ℕ → Definition
+refused_by_item code status = without_guard (answer (reply.Refused code status))
 
 -- what the calls reply, and what they do
-abbrev pub replied : List Definition → List Reply
-replied definitions = map (λ definition. (decided definition).reply) definitions
+abbrev pub replies_in : List Definition → List Reply
+replies_in definitions = map (λ definition. (outcome_of definition).reply) definitions
 
 abbrev pub effects_of : Definition → List Effect
-effects_of definition = (decided definition).effects
+effects_of definition = (outcome_of definition).effects
 
 -- the items that a call adds
 abbrev pub added_item : Effect → List AuxRow
@@ -163,7 +165,7 @@ items_made definition = items_in (effects_of definition)
 
 -- the items that a call tells of
 abbrev pub items_told : Definition → List AuxRow
-items_told definition = elim (decided definition).reply [
+items_told definition = elim (outcome_of definition).reply [
   | reply.TextStat told ↦ told.aux_items
   | reply.Conference told ↦ told.aux_items
   | other ↦ []
@@ -180,12 +182,12 @@ abbrev pub with_items : ℕ → Asked → Asked
 with_items many asked = record asked { db = record rows { items = items_from 1 many } }
 
 -- the same, if all are secret
-abbrev pub hidden : ItemRow → ItemRow
-hidden row = record row { item = record (row.item) { flags = 32 } }
+abbrev pub as_secret : ItemRow → ItemRow
+as_secret row = record row { item = record (row.item) { flags = 32 } }
 
 abbrev pub with_hidden : ℕ → Asked → Asked
 with_hidden many asked = record asked {
-  db = record rows { items = map hidden (items_from 1 many) };
+  db = record rows { items = map as_secret (items_from 1 many) };
 }
 
 -- the next item of text 6, or of the conference 9, gets this number
@@ -369,9 +371,9 @@ pub record ItemRows : Type 0 where
   -- Items of a text are changed after these guards, in this order: nobody is logged in; the text is
   -- 0; it is missing; it is hidden.
   pub text_refused :
-      early_of (map (λ asked. modify_text_info asked (changes 0 (99 ∷ []) (tagged 99 ∷ [])))
+      early_of (map (λ asked. modify_text_info asked (changes 0 (99 ∷ []) (item_of_tag 99 ∷ [])))
       (stranger ∷ bo ∷ [])
-      ++ map (λ number. modify_text_info bo (changes number (99 ∷ []) (tagged 99 ∷ [])))
+      ++ map (λ number. modify_text_info bo (changes number (99 ∷ []) (item_of_tag 99 ∷ [])))
       (98 ∷ 3 ∷ 1 ∷ [])
       ++ modify_text_info strong (changes 3 [] []) ∷ [])
       ≡ refusal 6 0 ∷ refusal 15 0 ∷ refusal 14 98 ∷ refusal 14 3 ∷ None ∷ None ∷ []
@@ -379,243 +381,256 @@ pub record ItemRows : Type 0 where
   pub deletion_of_nothing :
       map (deletes_of_first bo)
       ((7 ∷ []) ∷ (0 ∷ []) ∷ (1 ∷ 99 ∷ []) ∷ (1 ∷ 1 ∷ []) ∷ (1 ∷ 2 ∷ 1 ∷ []) ∷ [])
-      ≡ denied 48 0 ∷ denied 48 0 ∷ denied 48 1 ∷ denied 48 1 ∷ denied 48 2 ∷ []
-  pub deletion_of_another : modify_text_info bo (changes 6 (2 ∷ []) []) ≡ denied 48 0
+      ≡ refused_by_item 48 0 ∷ refused_by_item 48 0 ∷ refused_by_item 48 1 ∷ refused_by_item 48 1
+      ∷ refused_by_item 48 2 ∷ []
+  pub deletion_of_another : modify_text_info bo (changes 6 (2 ∷ []) []) ≡ refused_by_item 48 0
   -- it is not shown; whether it is another's is not looked at
   pub deletion_of_the_hidden : map (deletes_of_first anna) ((2 ∷ []) ∷ (6 ∷ []) ∷ [])
-      ≡ denied 48 0 ∷ denied 48 0 ∷ []
+      ≡ refused_by_item 48 0 ∷ refused_by_item 48 0 ∷ []
   pub deletion_of_a_hidden_one : map (deletes_of_first di) ((6 ∷ []) ∷ (1 ∷ 6 ∷ []) ∷ [])
-      ≡ denied 48 0 ∷ denied 48 1 ∷ []
+      ≡ refused_by_item 48 0 ∷ refused_by_item 48 1 ∷ []
   -- it is of a kind that stays, whoever asks
   pub deletion_of_what_stays :
       deletes_of_first bo (4 ∷ []) ∷ deletes_of_first bo (5 ∷ [])
       ∷ deletes_of_first di (4 ∷ []) ∷ deletes_of_first strong (4 ∷ [])
       ∷ deletes_of_first strong (1 ∷ 5 ∷ []) ∷ []
-      ≡ denied 49 0 ∷ denied 49 0 ∷ denied 49 0 ∷ denied 49 0 ∷ denied 49 1 ∷ []
+      ≡ refused_by_item 49 0 ∷ refused_by_item 49 0 ∷ refused_by_item 49 0 ∷ refused_by_item 49 0
+      ∷ refused_by_item 49 1 ∷ []
   -- it is another's on another's text
   pub deletion_of_anothers :
       map (λ asked. deletes_of_first asked (1 ∷ [])) (anna ∷ cy ∷ not_strong ∷ [])
-      ≡ replicate 3 (denied 49 0)
-  pub deletion_by_its_maker : modify_text_info anna (changes 2 (1 ∷ []) []) ≡ denied 49 0
+      ≡ replicate 3 (refused_by_item 49 0)
+  pub deletion_by_its_maker : modify_text_info anna (changes 2 (1 ∷ []) []) ≡ refused_by_item 49 0
   -- the first entry that is refused decides
   pub deletion_in_turn :
       map (deletes_of_first di) ((5 ∷ 99 ∷ []) ∷ (99 ∷ 5 ∷ []) ∷ (4 ∷ 4 ∷ []) ∷ [])
-      ≡ denied 49 0 ∷ denied 48 0 ∷ denied 49 0 ∷ []
+      ≡ refused_by_item 49 0 ∷ refused_by_item 48 0 ∷ refused_by_item 49 0 ∷ []
   -- and deletions come before additions
   pub deletion_first :
-      modify_text_info bo (changes 1 (1 ∷ 5 ∷ []) (tagged 99 ∷ []))
-      ∷ modify_text_info bo (changes 1 (1 ∷ []) (tagged 99 ∷ [])) ∷ []
-      ≡ denied 49 1 ∷ denied 48 0 ∷ []
+      modify_text_info bo (changes 1 (1 ∷ 5 ∷ []) (item_of_tag 99 ∷ []))
+      ∷ modify_text_info bo (changes 1 (1 ∷ []) (item_of_tag 99 ∷ [])) ∷ []
+      ≡ refused_by_item 49 1 ∷ refused_by_item 48 0 ∷ []
   -- the owner, a creator, a supervisor of the author and a strong session delete
   pub deleted_by_the_owner : deletes_of_first bo (6 ∷ 1 ∷ [])
-      ≡ unguarded (done (removes true 1 (6 ∷ 1 ∷ [])) [])
+      ≡ without_guard (done_with (removes true 1 (6 ∷ 1 ∷ [])) [])
   pub deleted_by_the_creator : deletes_of_first di (3 ∷ 2 ∷ 1 ∷ [])
-      ≡ unguarded (done (removes true 1 (3 ∷ 2 ∷ 1 ∷ [])) [])
+      ≡ without_guard (done_with (removes true 1 (3 ∷ 2 ∷ 1 ∷ [])) [])
   pub deleted_by_strength : deletes_of_first strong (2 ∷ 6 ∷ [])
-      ≡ unguarded (done (removes true 1 (2 ∷ 6 ∷ [])) [])
+      ≡ without_guard (done_with (removes true 1 (2 ∷ 6 ∷ [])) [])
   pub deleted_by_supervisors :
-      replied (deletes_of_first (after (under 7 6) cy) (1 ∷ 6 ∷ [])
+      replies_in (deletes_of_first (after (under 7 6) cy) (1 ∷ 6 ∷ [])
       ∷ deletes_of_first (after (under 7 6) bo) (1 ∷ 6 ∷ [])
       ∷ deletes_of_first (after (under_members 7) cy) (1 ∷ 6 ∷ [])
       ∷ deletes_of_first (after (under_invited 7) cy) (1 ∷ 6 ∷ []) ∷ [])
       ≡ reply.Done ∷ reply.Done ∷ reply.Done ∷ reply.Refused 49 0 ∷ []
   pub deleted_without_an_author :
-      replied (map (λ asked. modify_text_info asked (changes 2 (1 ∷ 2 ∷ []) [])) (bo ∷ strong ∷ []))
+      replies_in
+      (map (λ asked. modify_text_info asked (changes 2 (1 ∷ 2 ∷ []) [])) (bo ∷ strong ∷ []))
       ≡ reply.Done ∷ reply.Done ∷ []
   -- An item that is to come is too long, of no known tag, or of one that is not for a text
   pub addition_too_long :
-      replied (map (λ long. adds_to_first bo (given 2 0 0 (replicate long 65) ∷ []))
+      replies_in (map (λ long. adds_to_first bo (given_item 2 0 0 (replicate long 65) ∷ []))
       (16384 ∷ 16385 ∷ []))
       ≡ reply.Done ∷ reply.Refused 48 0 ∷ []
   pub addition_of_no_tag :
-      map (λ tag. adds_to_first bo (tagged tag ∷ []))
+      map (λ tag. adds_to_first bo (item_of_tag tag ∷ []))
       (0 ∷ 8 ∷ 9 ∷ 10 ∷ 11 ∷ 12 ∷ 13 ∷ 14 ∷ 16 ∷ 99 ∷ [])
-      ≡ replicate 10 (denied 48 0)
+      ≡ replicate 10 (refused_by_item 48 0)
   pub addition_of_tags :
-      replied (map (λ tag. modify_text_info anna (changes 3 [] (tagged tag ∷ [])))
+      replies_in (map (λ tag. modify_text_info anna (changes 3 [] (item_of_tag tag ∷ [])))
       (1 ∷ 2 ∷ 3 ∷ 4 ∷ 5 ∷ 6 ∷ 7 ∷ 15 ∷ []))
       ≡ replicate 8 reply.Done
   -- deleted, or with a bit that means nothing
   pub addition_of_flags :
-      replied (map (λ flags. adds_to_first bo (given 2 flags 0 [] ∷ []))
+      replies_in (map (λ flags. adds_to_first bo (given_item 2 flags 0 [] ∷ []))
       (128 ∷ 4 ∷ 2 ∷ 1 ∷ 64 ∷ 32 ∷ 16 ∷ 8 ∷ 120 ∷ []))
       ≡ replicate 4 (reply.Refused 48 0) ++ replicate 5 reply.Done
   -- one too many of its kind: on the text, or of the list
   pub addition_that_stands :
-      map (λ tag. adds_to_first bo (tagged 2 ∷ tagged tag ∷ [])) (1 ∷ 15 ∷ [])
-      ≡ denied 48 1 ∷ denied 48 1 ∷ []
+      map (λ tag. adds_to_first bo (item_of_tag 2 ∷ item_of_tag tag ∷ [])) (1 ∷ 15 ∷ [])
+      ≡ refused_by_item 48 1 ∷ refused_by_item 48 1 ∷ []
   pub addition_given_twice :
-      map (λ tag. adds_to_sixth di (tagged tag ∷ tagged 2 ∷ tagged tag ∷ []))
+      map (λ tag. adds_to_sixth di (item_of_tag tag ∷ item_of_tag 2 ∷ item_of_tag tag ∷ []))
       (1 ∷ 4 ∷ 5 ∷ 6 ∷ 7 ∷ 15 ∷ [])
-      ≡ replicate 6 (denied 48 2)
+      ≡ replicate 6 (refused_by_item 48 2)
   pub addition_of_many :
-      replied (map (λ tag. adds_to_sixth di (tagged tag ∷ tagged tag ∷ tagged tag ∷ []))
+      replies_in
+      (map (λ tag. adds_to_sixth di (item_of_tag tag ∷ item_of_tag tag ∷ item_of_tag tag ∷ []))
       (2 ∷ 3 ∷ []))
       ≡ replicate 2 reply.Done
   -- that it was read is told once by each
   pub addition_read_by_another :
-      replied (map (λ asked. adds_to_first asked (tagged 7 ∷ [])) (di ∷ bo ∷ anna ∷ strong ∷ []))
+      replies_in
+      (map (λ asked. adds_to_first asked (item_of_tag 7 ∷ [])) (di ∷ bo ∷ anna ∷ strong ∷ []))
       ≡ reply.Refused 48 0 ∷ reply.Done ∷ reply.Done ∷ reply.Done ∷ []
   -- past the limit
   pub addition_past_the_limit :
-      replied (map (adds_to_sixth (with_items 99 di)) (replies 1 ∷ replies 2 ∷ [])
+      replies_in (map (adds_to_sixth (with_items 99 di)) (replies 1 ∷ replies 2 ∷ [])
       ++ map (adds_to_sixth (with_items 100 di)) ([] ∷ replies 1 ∷ []))
       ≡ reply.Done ∷ reply.Refused 48 1 ∷ reply.Done ∷ reply.Refused 48 0 ∷ []
   -- of which those count too that are not shown
   pub addition_past_the_hidden :
-      replied (map (λ many. adds_to_sixth (with_hidden many anna) (replies 1)) (99 ∷ 100 ∷ []))
+      replies_in (map (λ many. adds_to_sixth (with_hidden many anna) (replies 1)) (99 ∷ 100 ∷ []))
       ≡ reply.Done ∷ reply.Refused 48 0 ∷ []
   -- a deletion makes room for it
   pub addition_after_a_deletion :
-      replied (modify_text_info (with_items 100 di) (changes 6 (100 ∷ []) (replies 1))
+      replies_in (modify_text_info (with_items 100 di) (changes 6 (100 ∷ []) (replies 1))
       ∷ modify_text_info (with_items 100 di) (changes 6 (1 ∷ 2 ∷ []) (replies 3))
-      ∷ modify_text_info bo (changes 1 (6 ∷ []) (tagged 1 ∷ tagged 1 ∷ [])) ∷ [])
+      ∷ modify_text_info bo (changes 1 (6 ∷ []) (item_of_tag 1 ∷ item_of_tag 1 ∷ [])) ∷ [])
       ≡ reply.Done ∷ reply.Refused 48 2 ∷ reply.Refused 48 1 ∷ []
   -- it is for the owner of the text
   pub addition_by_a_reader :
-      map (λ tag. adds_to_sixth anna (tagged tag ∷ [])) (1 ∷ 4 ∷ 5 ∷ 6 ∷ 15 ∷ [])
-      ≡ replicate 5 (denied 49 0)
+      map (λ tag. adds_to_sixth anna (item_of_tag tag ∷ [])) (1 ∷ 4 ∷ 5 ∷ 6 ∷ 15 ∷ [])
+      ≡ replicate 5 (refused_by_item 49 0)
   pub addition_for_readers :
-      replied (map (λ tag. adds_to_sixth anna (tagged tag ∷ [])) (2 ∷ 3 ∷ 7 ∷ []))
+      replies_in (map (λ tag. adds_to_sixth anna (item_of_tag tag ∷ [])) (2 ∷ 3 ∷ 7 ∷ []))
       ≡ replicate 3 reply.Done
   pub addition_by_others :
-      replied (map (λ asked. adds_to_first asked (tagged 4 ∷ []))
+      replies_in (map (λ asked. adds_to_first asked (item_of_tag 4 ∷ []))
       (bo ∷ strong ∷ di ∷ cy ∷ not_strong ∷ after (under 7 6) cy ∷ after (under 7 6) bo
       ∷ after (under_members 7) cy ∷ after (under_invited 7) cy ∷ []))
       ≡ reply.Done ∷ reply.Done ∷ reply.Refused 49 0 ∷ reply.Refused 49 0 ∷ reply.Refused 49 0
       ∷ reply.Done ∷ reply.Done ∷ reply.Done ∷ reply.Refused 49 0 ∷ []
   pub addition_without_an_author :
-      replied (map (λ asked. modify_text_info asked (changes 2 [] (tagged 4 ∷ [])))
+      replies_in (map (λ asked. modify_text_info asked (changes 2 [] (item_of_tag 4 ∷ [])))
       (bo ∷ strong ∷ []))
       ≡ reply.Refused 49 0 ∷ reply.Done ∷ []
   -- but the item itself is looked at first, in each entry
   pub addition_looked_at_first :
       map (adds_to_first anna)
-      ((tagged 1 ∷ []) ∷ (given 4 128 0 [] ∷ []) ∷ (given 4 0 0 (replicate 16385 65) ∷ [])
-      ∷ (tagged 8 ∷ []) ∷ (tagged 2 ∷ tagged 15 ∷ []) ∷ [])
-      ≡ denied 48 0 ∷ denied 48 0 ∷ denied 48 0 ∷ denied 48 0 ∷ denied 48 1 ∷ []
+      ((item_of_tag 1 ∷ []) ∷ (given_item 4 128 0 [] ∷ [])
+      ∷ (given_item 4 0 0 (replicate 16385 65) ∷ [])
+      ∷ (item_of_tag 8 ∷ []) ∷ (item_of_tag 2 ∷ item_of_tag 15 ∷ []) ∷ [])
+      ≡ refused_by_item 48 0 ∷ refused_by_item 48 0 ∷ refused_by_item 48 0 ∷ refused_by_item 48 0
+      ∷ refused_by_item 48 1 ∷ []
   pub addition_in_turn :
       map (adds_to_first anna)
-      ((tagged 4 ∷ tagged 99 ∷ []) ∷ (tagged 99 ∷ tagged 4 ∷ []) ∷ (tagged 2 ∷ tagged 4 ∷ []) ∷ [])
-      ≡ denied 49 0 ∷ denied 48 0 ∷ denied 49 1 ∷ []
+      ((item_of_tag 4 ∷ item_of_tag 99 ∷ []) ∷ (item_of_tag 99 ∷ item_of_tag 4 ∷ [])
+      ∷ (item_of_tag 2 ∷ item_of_tag 4 ∷ []) ∷ [])
+      ≡ refused_by_item 49 0 ∷ refused_by_item 48 0 ∷ refused_by_item 49 1 ∷ []
   -- no number is left for it: that is looked at last
   pub addition_without_a_number :
       map (λ added. adds_to_sixth (after (sixth_after 4294967293) di) added)
-      (replies 2 ∷ (tagged 2 ∷ tagged 99 ∷ []) ∷ [])
-      ≡ denied 45 0 ∷ denied 48 1 ∷ []
+      (replies 2 ∷ (item_of_tag 2 ∷ item_of_tag 99 ∷ []) ∷ [])
+      ≡ refused_by_item 45 0 ∷ refused_by_item 48 1 ∷ []
   pub addition_with_the_last_number :
       items_made (adds_to_sixth (after (sixth_after 4294967293) di) (replies 1))
       ≡ new_item 4294967294 2 8 0 0 [] ∷ []
   pub addition_after_the_last_number :
-      replied (adds_to_sixth (after (sixth_after 4294967294) di) (replies 1)
-      ∷ adds_to_sixth (after (sixth_after 4294967294) anna) (tagged 4 ∷ [])
+      replies_in (adds_to_sixth (after (sixth_after 4294967294) di) (replies 1)
+      ∷ adds_to_sixth (after (sixth_after 4294967294) anna) (item_of_tag 4 ∷ [])
       ∷ modify_text_info (after (sixth_after 4294967294) di) (changes 6 (1 ∷ []) (replies 1))
       ∷ modify_text_info (after (sixth_after 4294967294) di) (changes 6 (1 ∷ []) []) ∷ [])
       ≡ reply.Refused 45 0 ∷ reply.Refused 49 0 ∷ reply.Refused 45 0 ∷ reply.Done ∷ []
   -- What goes goes first, in the order of the list; what comes gets the next numbers
   pub text_changed :
       modify_text_info bo
-      (changes 1 (6 ∷ 1 ∷ []) (given 1 64 3 (codes "g") ∷ given 2 32 0 (codes "h") ∷ []))
-      ≡ unguarded (done
+      (changes 1 (6 ∷ 1 ∷ []) (given_item 1 64 3 (codes "g") ∷ given_item 2 32 0 (codes "h") ∷ []))
+      ≡ without_guard (done_with
       (removes true 1 (6 ∷ 1 ∷ [])
       ++ adds true 1 (new_item 8 1 6 64 3 (codes "g") ∷ new_item 9 2 6 32 0 (codes "h") ∷ [])) [])
   -- by who asks, whoever wrote it
   pub text_changed_by_others :
-      map (λ asked. items_made (adds_to_first asked (tagged 7 ∷ []))) (anna ∷ strong ∷ [])
+      map (λ asked. items_made (adds_to_first asked (item_of_tag 7 ∷ []))) (anna ∷ strong ∷ [])
       ≡ (new_item 8 7 5 0 0 [] ∷ []) ∷ (new_item 8 7 7 0 0 [] ∷ []) ∷ []
-  pub text_not_changed : modify_text_info bo (changes 1 [] []) ≡ unguarded (done [] [])
+  pub text_not_changed : modify_text_info bo (changes 1 [] []) ≡ without_guard (done_with [] [])
   pub changes_fit :
-      all_fit (effects_of (modify_text_info bo (changes 1 (6 ∷ 1 ∷ []) (tagged 1 ∷ tagged 2 ∷ []))))
+      all_fit (effects_of
+      (modify_text_info bo (changes 1 (6 ∷ 1 ∷ []) (item_of_tag 1 ∷ item_of_tag 2 ∷ []))))
       rows
       ≡ true
   -- The same of a conference
   pub conference_refused :
-      early_of (map (λ asked. modify_conf_info asked (changes 0 (99 ∷ []) (tagged 99 ∷ [])))
+      early_of (map (λ asked. modify_conf_info asked (changes 0 (99 ∷ []) (item_of_tag 99 ∷ [])))
       (stranger ∷ bo ∷ [])
-      ++ map (λ number. modify_conf_info bo (changes number (99 ∷ []) (tagged 99 ∷ [])))
+      ++ map (λ number. modify_conf_info bo (changes number (99 ∷ []) (item_of_tag 99 ∷ [])))
       (99 ∷ 11 ∷ 10 ∷ 9 ∷ [])
       ++ modify_conf_info anna (changes 11 [] []) ∷ modify_conf_info strong (changes 11 [] []) ∷ [])
       ≡ refusal 6 0 ∷ refusal 8 0 ∷ refusal 9 99 ∷ refusal 9 11 ∷ None ∷ None ∷ None ∷ None ∷ []
   pub conference_deletion_refused :
       map (deletes_of_open bo)
       ((5 ∷ []) ∷ (2 ∷ []) ∷ (4 ∷ 4 ∷ []) ∷ (1 ∷ []) ∷ (4 ∷ 3 ∷ []) ∷ (1 ∷ 5 ∷ []) ∷ [])
-      ≡ denied 48 0 ∷ denied 48 0 ∷ denied 48 1 ∷ denied 49 0 ∷ denied 49 1 ∷ denied 49 0 ∷ []
+      ≡ refused_by_item 48 0 ∷ refused_by_item 48 0 ∷ refused_by_item 48 1 ∷ refused_by_item 49 0
+      ∷ refused_by_item 49 1 ∷ refused_by_item 49 0 ∷ []
   pub conference_deletion_of_the_hidden :
-      map (λ asked. deletes_of_open asked (4 ∷ [])) (di ∷ cy ∷ []) ≡ replicate 2 (denied 48 0)
+      map (λ asked. deletes_of_open asked (4 ∷ [])) (di ∷ cy ∷ [])
+      ≡ replicate 2 (refused_by_item 48 0)
   pub conference_deleted_of :
       deletes_of_open bo (4 ∷ []) ∷ deletes_of_open anna (4 ∷ 1 ∷ 2 ∷ [])
       ∷ deletes_of_open strong (3 ∷ 4 ∷ []) ∷ []
-      ≡ unguarded (done (removes false 9 (4 ∷ [])) [])
-      ∷ unguarded (done (removes false 9 (4 ∷ 1 ∷ 2 ∷ [])) [])
-      ∷ unguarded (done (removes false 9 (3 ∷ 4 ∷ [])) []) ∷ []
+      ≡ without_guard (done_with (removes false 9 (4 ∷ [])) [])
+      ∷ without_guard (done_with (removes false 9 (4 ∷ 1 ∷ 2 ∷ [])) [])
+      ∷ without_guard (done_with (removes false 9 (3 ∷ 4 ∷ [])) []) ∷ []
   pub conference_tags :
-      replied (map (λ tag. adds_to_open anna (tagged tag ∷ [])) (3 ∷ 10 ∷ 13 ∷ 14 ∷ []))
+      replies_in (map (λ tag. adds_to_open anna (item_of_tag tag ∷ [])) (3 ∷ 10 ∷ 13 ∷ 14 ∷ []))
       ≡ replicate 4 reply.Done
   pub conference_tags_refused :
-      map (λ tag. adds_to_open anna (tagged tag ∷ []))
+      map (λ tag. adds_to_open anna (item_of_tag tag ∷ []))
       (0 ∷ 1 ∷ 2 ∷ 4 ∷ 5 ∷ 6 ∷ 7 ∷ 8 ∷ 9 ∷ 11 ∷ 12 ∷ 15 ∷ 16 ∷ [])
-      ≡ replicate 13 (denied 48 0)
+      ≡ replicate 13 (refused_by_item 48 0)
   pub conference_tags_of_many :
-      replied (map (λ tag. adds_to_open anna (replicate 3 (tagged tag))) (3 ∷ 10 ∷ 13 ∷ 14 ∷ []))
+      replies_in
+      (map (λ tag. adds_to_open anna (replicate 3 (item_of_tag tag))) (3 ∷ 10 ∷ 13 ∷ 14 ∷ []))
       ≡ replicate 4 reply.Done
   -- a reference too is for the owner of it
   pub conference_tags_by_others :
-      map (λ tag. adds_to_open bo (tagged tag ∷ [])) (3 ∷ 10 ∷ 13 ∷ 14 ∷ [])
-      ≡ replicate 4 (denied 49 0)
+      map (λ tag. adds_to_open bo (item_of_tag tag ∷ [])) (3 ∷ 10 ∷ 13 ∷ 14 ∷ [])
+      ≡ replicate 4 (refused_by_item 49 0)
   pub conference_items_by_others :
-      replied (map (λ asked. adds_to_open asked (tagged 10 ∷ []))
+      replies_in (map (λ asked. adds_to_open asked (item_of_tag 10 ∷ []))
       (anna ∷ strong ∷ cy ∷ not_strong ∷ stranger ∷ []))
       ≡ reply.Done ∷ reply.Done ∷ reply.Refused 49 0 ∷ reply.Done ∷ reply.Refused 6 0 ∷ []
   pub conference_additions_refused :
       map (adds_to_open anna)
-      ((tagged 3 ∷ given 3 0 0 (replicate 16385 65) ∷ []) ∷ (given 3 128 0 [] ∷ [])
-      ∷ (tagged 10 ∷ tagged 10 ∷ given 3 1 0 [] ∷ []) ∷ [])
-      ≡ denied 48 1 ∷ denied 48 0 ∷ denied 48 2 ∷ []
+      ((item_of_tag 3 ∷ given_item 3 0 0 (replicate 16385 65) ∷ []) ∷ (given_item 3 128 0 [] ∷ [])
+      ∷ (item_of_tag 10 ∷ item_of_tag 10 ∷ given_item 3 1 0 [] ∷ []) ∷ [])
+      ≡ refused_by_item 48 1 ∷ refused_by_item 48 0 ∷ refused_by_item 48 2 ∷ []
   pub conference_additions_without_a_number :
-      replied (adds_to_open (after (open_after 4294967293) anna) (tagged 3 ∷ [])
-      ∷ adds_to_open (after (open_after 4294967293) anna) (tagged 3 ∷ tagged 3 ∷ [])
-      ∷ adds_to_open (after (open_after 4294967294) anna) (tagged 8 ∷ [])
-      ∷ adds_to_open (after (open_after 4294967294) anna) (tagged 3 ∷ [])
+      replies_in (adds_to_open (after (open_after 4294967293) anna) (item_of_tag 3 ∷ [])
+      ∷ adds_to_open (after (open_after 4294967293) anna) (item_of_tag 3 ∷ item_of_tag 3 ∷ [])
+      ∷ adds_to_open (after (open_after 4294967294) anna) (item_of_tag 8 ∷ [])
+      ∷ adds_to_open (after (open_after 4294967294) anna) (item_of_tag 3 ∷ [])
       ∷ adds_to_open (after (open_after 4294967294) anna) [] ∷ [])
       ≡ reply.Done ∷ reply.Refused 45 0 ∷ reply.Refused 48 0 ∷ reply.Refused 45 0 ∷ reply.Done ∷ []
   pub conference_changed :
       modify_conf_info anna
-      (changes 9 (4 ∷ 1 ∷ []) (given 14 8 7 (codes "g") ∷ given 3 0 0 (codes "h") ∷ []))
-      ≡ unguarded (done
+      (changes 9 (4 ∷ 1 ∷ []) (given_item 14 8 7 (codes "g") ∷ given_item 3 0 0 (codes "h") ∷ []))
+      ≡ without_guard (done_with
       (removes false 9 (4 ∷ 1 ∷ [])
       ++ adds false 9 (new_item 5 14 5 8 7 (codes "g") ∷ new_item 6 3 5 0 0 (codes "h") ∷ [])) [])
-  pub conference_changed_by_strength : items_made (adds_to_open strong (tagged 3 ∷ []))
+  pub conference_changed_by_strength : items_made (adds_to_open strong (item_of_tag 3 ∷ []))
       ≡ new_item 5 3 7 0 0 [] ∷ []
   pub conference_changed_after_some_left_out :
-      items_made (adds_to_open (after (open_after 50) anna) (tagged 3 ∷ []))
+      items_made (adds_to_open (after (open_after 50) anna) (item_of_tag 3 ∷ []))
       ≡ new_item 51 3 5 0 0 [] ∷ []
   -- and of a letterbox, which has one redirection
   pub letterbox_tags :
-      replied (map (λ tag. adds_to_bo bo (tagged tag ∷ [])) (3 ∷ 8 ∷ 10 ∷ 13 ∷ 14 ∷ []))
+      replies_in (map (λ tag. adds_to_bo bo (item_of_tag tag ∷ [])) (3 ∷ 8 ∷ 10 ∷ 13 ∷ 14 ∷ []))
       ≡ reply.Done ∷ reply.Refused 48 0 ∷ reply.Done ∷ reply.Done ∷ reply.Done ∷ []
   pub letterbox_tags_refused :
-      map (λ tag. adds_to_bo bo (tagged tag ∷ []))
+      map (λ tag. adds_to_bo bo (item_of_tag tag ∷ []))
       (1 ∷ 2 ∷ 4 ∷ 5 ∷ 6 ∷ 7 ∷ 9 ∷ 15 ∷ [])
-      ≡ replicate 8 (denied 48 0)
+      ≡ replicate 8 (refused_by_item 48 0)
   pub letterbox_tags_by_others :
-      map (λ tag. modify_conf_info di (changes 5 [] (tagged tag ∷ [])))
+      map (λ tag. modify_conf_info di (changes 5 [] (item_of_tag tag ∷ [])))
       (3 ∷ 8 ∷ 10 ∷ 13 ∷ 14 ∷ [])
-      ≡ replicate 5 (denied 49 0)
+      ≡ replicate 5 (refused_by_item 49 0)
   pub letterbox_tags_of_many :
-      replied (map (λ tag. modify_conf_info anna (changes 5 [] (replicate 2 (tagged tag))))
+      replies_in (map (λ tag. modify_conf_info anna (changes 5 [] (replicate 2 (item_of_tag tag))))
       (3 ∷ 8 ∷ 10 ∷ 13 ∷ 14 ∷ []))
       ≡ reply.Done ∷ reply.Refused 48 1 ∷ reply.Done ∷ reply.Done ∷ reply.Done ∷ []
   pub letterbox_changed :
-      effects_of (modify_conf_info bo (changes 6 (1 ∷ []) (given 8 0 0 (codes "g") ∷ [])))
+      effects_of (modify_conf_info bo (changes 6 (1 ∷ []) (given_item 8 0 0 (codes "g") ∷ [])))
       ≡ removes false 6 (1 ∷ []) ++ adds false 6 (new_item 3 8 6 0 0 (codes "g") ∷ [])
   pub letterbox_changed_by_others :
-      replied (adds_to_bo di (tagged 3 ∷ []) ∷ deletes_of_bo di (1 ∷ []) ∷ deletes_of_bo di (2 ∷ [])
-      ∷ deletes_of_bo anna (2 ∷ []) ∷ adds_to_bo strong (tagged 10 ∷ []) ∷ [])
+      replies_in
+      (adds_to_bo di (item_of_tag 3 ∷ []) ∷ deletes_of_bo di (1 ∷ []) ∷ deletes_of_bo di (2 ∷ [])
+      ∷ deletes_of_bo anna (2 ∷ []) ∷ adds_to_bo strong (item_of_tag 10 ∷ []) ∷ [])
       ≡ reply.Refused 49 0 ∷ reply.Refused 49 0 ∷ reply.Done ∷ reply.Refused 48 0 ∷ reply.Done ∷ []
   -- by its person no more, where another supervises it
   pub letterbox_of_another :
-      replied (adds_to_bo (after (under 5 6) bo) (tagged 10 ∷ [])
-      ∷ adds_to_bo (after (under 5 6) anna) (tagged 10 ∷ [])
+      replies_in (adds_to_bo (after (under 5 6) bo) (item_of_tag 10 ∷ [])
+      ∷ adds_to_bo (after (under 5 6) anna) (item_of_tag 10 ∷ [])
       ∷ deletes_of_bo (after (under 5 6) bo) (2 ∷ [])
       ∷ deletes_of_bo (after (under 5 6) bo) (1 ∷ [])
       ∷ deletes_of_bo (after (under 5 6) anna) (2 ∷ []) ∷ [])

@@ -20,7 +20,7 @@ use Rattle.kom_rows.specs.Cast.{under_di, range, sends, seat, after, comes_to, a
 use Rattle.kom_rows.specs.Cast.{conferences_in, persons_in, places_of}
 use Rattle.kom_model.specs.Db.{Db, empty_db, membership_of, read_of}
 use Rattle.kom_model.specs.Effects.{fits, apply_all, all_fit}
-use Rattle.kom_model.specs.calls.Call.{Asked, Definition, decided}
+use Rattle.kom_model.specs.calls.Call.{Asked, Definition, outcome_of}
 use Rattle.kom_model.specs.calls.Guards.{refusal}
 use Rattle.kom_model.specs.calls.Memberships.{change_conference, sub_member, mark_as_read}
 use Rattle.kom_model.specs.calls.Memberships.{add_member, get_members, set_membership_type}
@@ -80,8 +80,8 @@ abbrev pub tells : List Member → Definition
 tells members = answers (reply.Members members)
 
 -- a membership of Bo's as it is told: its place, its time, its conference and what was read
-abbrev pub told : ℕ → ℕ → RangesShown → Membership
-told place time ranges = record {
+abbrev pub membership_of_bo : ℕ → ℕ → RangesShown → Membership
+membership_of_bo place time ranges = record {
   position = place;
   last_time_read = time;
   conference = 9;
@@ -111,16 +111,16 @@ places_told (reply.Memberships list) = map (λ one. (one.position, one.conferenc
 places_told other = []
 
 -- what is told of Bo's memberships from a place on
-abbrev pub listed : Asked → ℕ → ℕ → List (ℕ × ℕ)
-listed asked first count =
-    places_told (decided (get_membership asked 6 first count true 0)).reply
+abbrev pub memberships_of_bo : Asked → ℕ → ℕ → List (ℕ × ℕ)
+memberships_of_bo asked first count =
+    places_told (outcome_of (get_membership asked 6 first count true 0)).reply
 
 -- Bo has read three ranges in 9, and what Bo is told of that membership then
 abbrev pub three_ranges : List ReadRange
 three_ranges = range 1 1 ∷ range 3 3 ∷ range 5 5 ∷ []
 
 abbrev pub three_told : RangesShown → Definition
-three_told ranges = answers (reply.Membership (told 2 26 ranges))
+three_told ranges = answers (reply.Membership (membership_of_bo 2 26 ranges))
 
 -- all ranges that Bo has read in 9
 abbrev pub two_and_three : RangesShown
@@ -438,17 +438,17 @@ pub record MemberRows : Type 0 where
       ≡ true ∷ false ∷ true ∷ []
   -- the effects of the calls fit
   pub calls_fit :
-      map (λ call. all_fit (decided call).effects rows)
+      map (λ call. all_fit (outcome_of call).effects rows)
       (sub_member bo 9 6 ∷ mark_as_read bo 9 (1 ∷ [])
       ∷ set_read_ranges bo 9 (range 1 2 ∷ range 3 5 ∷ []) ∷ moved_to 99 ∷ joins_at 99
       ∷ set_membership_type bo 6 9 32 ∷ [])
       ≡ replicate 6 true
   -- a membership is told whole
   pub read_told : query_read_texts bo 6 9 true 0
-      ≡ answers (reply.Membership (told 2 25 two_and_three))
+      ≡ answers (reply.Membership (membership_of_bo 2 25 two_and_three))
   -- its place is that among those that are shown
   pub read_told_to_another : query_read_texts di 6 9 true 0
-      ≡ answers (reply.Membership (told 1 25 two_and_three))
+      ≡ answers (reply.Membership (membership_of_bo 1 25 two_and_three))
   -- the first so many ranges are told; 0, and more than there are, is all
   pub first_ranges :
       map (query_read_texts (after (has_read three_ranges) bo) 6 9 true) (0 ∷ 1 ∷ 2 ∷ 3 ∷ 4 ∷ [])
@@ -465,27 +465,28 @@ pub record MemberRows : Type 0 where
   pub secret_reads :
       map (λ asked. query_read_texts (after secretive asked) 6 9 true 0)
       (bo ∷ strong ∷ anna ∷ di ∷ not_strong ∷ [])
-      ≡ answers (reply.Membership (told 2 25 two_and_three))
-      ∷ answers (reply.Membership (told 2 25 two_and_three))
-      ∷ answers (reply.Membership (told 2 0 (shown.All [])))
-      ∷ answers (reply.Membership (told 1 0 (shown.All [])))
-      ∷ answers (reply.Membership (told 1 0 (shown.All []))) ∷ []
+      ≡ answers (reply.Membership (membership_of_bo 2 25 two_and_three))
+      ∷ answers (reply.Membership (membership_of_bo 2 25 two_and_three))
+      ∷ answers (reply.Membership (membership_of_bo 2 0 (shown.All [])))
+      ∷ answers (reply.Membership (membership_of_bo 1 0 (shown.All [])))
+      ∷ answers (reply.Membership (membership_of_bo 1 0 (shown.All []))) ∷ []
   -- and no number of ranges
   pub secret_reads_counted : query_read_texts (after secretive di) 6 9 false 0
-      ≡ answers (reply.Membership (told 1 0 (shown.Count 0)))
+      ≡ answers (reply.Membership (membership_of_bo 1 0 (shown.Count 0)))
   -- its supervisor is told, and the person that is supervised
   pub secret_reads_under_another :
       map (λ asked. query_read_texts (after (under_di 6 ++ secretive) asked) 6 9 true 0)
       (di ∷ bo ∷ [])
-      ≡ answers (reply.Membership (told 1 25 two_and_three))
-      ∷ answers (reply.Membership (told 2 25 two_and_three)) ∷ []
+      ≡ answers (reply.Membership (membership_of_bo 1 25 two_and_three))
+      ∷ answers (reply.Membership (membership_of_bo 2 25 two_and_three)) ∷ []
   -- what nobody set yet has the time of its adding
   pub never_read : query_read_texts bo 6 6 true 0
-      ≡ answers (reply.Membership (record (told 1 10 (shown.All []))
+      ≡ answers (reply.Membership (record (membership_of_bo 1 10 (shown.All []))
       { conference = 6; priority = 255; added_at = 10 }))
   -- a secret membership is told to its person
   pub secret_membership_told : query_read_texts cy 7 9 true 0
-      ≡ answers (reply.Membership (record (told 0 20 (shown.All [])) { added_by = 7; kind = 32 }))
+      ≡ answers (reply.Membership
+      (record (membership_of_bo 0 20 (shown.All [])) { added_by = 7; kind = 32 }))
   -- refused in this order: nobody is logged in; the person is 0; it is none; the conference is 0;
   -- it is missing; it is hidden; the membership is hidden; there is none
   pub querying_refused :
@@ -497,34 +498,37 @@ pub record MemberRows : Type 0 where
       ∷ refusal 13 9 ∷ refusal 13 12 ∷ []
   -- all memberships by their places, to the person, the conferences' supervisor and a strong
   -- session
-  pub all_listed : map (λ asked. listed asked 0 9) (bo ∷ anna ∷ strong ∷ [])
+  pub all_listed : map (λ asked. memberships_of_bo asked 0 9) (bo ∷ anna ∷ strong ∷ [])
       ≡ replicate 3 ((0, 11) ∷ (1, 6) ∷ (2, 9) ∷ (3, 10) ∷ [])
   -- others are not told of one in a secret conference, nor the person's supervisor, and places
   -- count without it
-  pub some_listed : map (λ asked. listed asked 0 9) (cy ∷ di ∷ after (under_di 6) di ∷ [])
+  pub some_listed : map (λ asked. memberships_of_bo asked 0 9)
+      (cy ∷ di ∷ after (under_di 6) di ∷ [])
       ≡ replicate 3 ((0, 6) ∷ (1, 9) ∷ (2, 10) ∷ [])
   -- a secret membership is not told to others
   pub secret_listed :
-      map (λ asked. places_told (decided (get_membership asked 7 0 9 true 0)).reply)
+      map (λ asked. places_told (outcome_of (get_membership asked 7 0 9 true 0)).reply)
       (cy ∷ anna ∷ di ∷ [])
       ≡ ((0, 9) ∷ (1, 7) ∷ []) ∷ ((0, 9) ∷ (1, 7) ∷ []) ∷ ((0, 7) ∷ []) ∷ []
   -- but to the supervisor of the person
   pub secret_listed_to_its_supervisor :
-      places_told (decided (get_membership (after (effect.ConfField 7 (field.Supervisor 8) ∷ []) di)
+      places_told
+      (outcome_of (get_membership (after (effect.ConfField 7 (field.Supervisor 8) ∷ []) di)
       7 0 9 true 0)).reply
       ≡ (0, 9) ∷ (1, 7) ∷ []
   -- from a place among the shown ones, and so many
-  pub listed_from_a_place : listed bo 1 2 ∷ listed di 1 1 ∷ listed di 2 9 ∷ listed bo 0 0 ∷ []
+  pub listed_from_a_place : memberships_of_bo bo 1 2 ∷ memberships_of_bo di 1 1
+      ∷ memberships_of_bo di 2 9 ∷ memberships_of_bo bo 0 0 ∷ []
       ≡ ((1, 6) ∷ (2, 9) ∷ []) ∷ ((1, 9) ∷ []) ∷ ((2, 10) ∷ []) ∷ [] ∷ []
   -- one that is listed is told whole
   pub membership_told : get_membership di 6 1 1 true 0
-      ≡ answers (reply.Memberships (told 1 25 two_and_three ∷ []))
+      ≡ answers (reply.Memberships (membership_of_bo 1 25 two_and_three ∷ []))
   -- its ranges are counted, if they are not wanted
   pub membership_counted : get_membership (after (has_read three_ranges) di) 6 1 1 false 2
-      ≡ answers (reply.Memberships (told 1 26 (shown.Count 2) ∷ []))
+      ≡ answers (reply.Memberships (membership_of_bo 1 26 (shown.Count 2) ∷ []))
   -- no ranges and the time 0, if it is secret what was read
   pub membership_in_secret : get_membership (after secretive di) 6 1 1 true 0
-      ≡ answers (reply.Memberships (told 1 0 (shown.All []) ∷ []))
+      ≡ answers (reply.Memberships (membership_of_bo 1 0 (shown.All []) ∷ []))
   -- no membership at all: place 0 passes
   pub no_memberships : get_membership (after (effect.MemberGone 8 8 ∷ []) bo) 8 0 9 true 0
       ≡ answers (reply.Memberships [])

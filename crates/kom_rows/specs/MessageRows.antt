@@ -23,7 +23,7 @@ use Rattle.kom_types.specs.declared.texts.MiscInfo.TheVariants as info
 use Rattle.kom_types.specs.declared.texts.MiscInput.{MiscInput}
 use Rattle.kom_types.specs.tables.Persons.{password_hash}
 use Rattle.kom_rows.specs.Cast.{Cast, cast_over, four_persons, makes, member, under, sends, links}
-use Rattle.kom_rows.specs.Cast.{lines, item, new_item, adds, given, changes, named, text}
+use Rattle.kom_rows.specs.Cast.{lines, item, new_item, adds, given_item, changes, new_misc, text}
 use Rattle.kom_rows.specs.Cast.{new_conference, new_person, seat, asks, after, comes_to, answers}
 use Rattle.kom_rows.specs.Cast.{early_of}
 use Rattle.kom_model.specs.Db.{Db, empty_db}
@@ -133,15 +133,15 @@ abbrev pub just_in : ℕ → Asked
 just_in person = record (asked person 0) { seats = hearer 1 person 0 9 30 0 ∷ others }
 
 -- a session accepts these messages; and all sessions do
-abbrev pub accepting : ℕ → Seat → Seat
-accepting accepted seat = record seat { accepted = accepted }
+abbrev pub with_accepted : ℕ → Seat → Seat
+with_accepted accepted seat = record seat { accepted = accepted }
 
 abbrev pub all_accept : ℕ → Asked → Asked
-all_accept accepted asked = record asked { seats = map (accepting accepted) asked.seats }
+all_accept accepted asked = record asked { seats = map (with_accepted accepted) asked.seats }
 
 -- the messages of a call, each with its session
-abbrev pub sent : Asked → Call → List Delivery
-sent asked call = messages_of asked call (decision_of asked call)
+abbrev pub messages_by : Asked → Call → List Delivery
+messages_by asked call = messages_of asked call (decision_of asked call)
 
 -- a message to a session; and one to each of these
 abbrev pub one : ℕ → Message → Delivery
@@ -151,46 +151,47 @@ abbrev pub told_to : List ℕ → Message → List Delivery
 told_to sessions told = map (λ session. one session told) sessions
 
 -- what a session is sent, in order; and what each of the nine is
-abbrev pub heard : List Delivery → ℕ → List Item
-heard messages session = map (λ each. each.item) (filter (λ each. each.session == session) messages)
+abbrev pub items_sent_to : List Delivery → ℕ → List Item
+items_sent_to messages session =
+    map (λ each. each.item) (filter (λ each. each.session == session) messages)
 
 abbrev pub all_heard : Asked → Call → List (List Item)
 all_heard asked call =
-    map (heard (sent asked call)) (1 ∷ 2 ∷ 3 ∷ 4 ∷ 5 ∷ 6 ∷ 7 ∷ 8 ∷ 9 ∷ [])
+    map (items_sent_to (messages_by asked call)) (1 ∷ 2 ∷ 3 ∷ 4 ∷ 5 ∷ 6 ∷ 7 ∷ 8 ∷ 9 ∷ [])
 
 abbrev pub items_of_messages : List (List Message) → List (List Item)
 items_of_messages told = map (map (λ each. queue.Message each)) told
 
 -- how many sessions get a message of a call if all accept these
-abbrev pub counted : ℕ → Asked → Call → ℕ
-counted accepted asked call = length (sent (all_accept accepted asked) call)
+abbrev pub message_count : ℕ → Asked → Call → ℕ
+message_count accepted asked call = length (messages_by (all_accept accepted asked) call)
 
 -- each message by a call of its own, if all sessions accept what is told of its number
 abbrev pub each_counted : (ℕ → ℕ) → List ℕ
 each_counted accepts =
-    counted (accepts 5) anna (call.ChangeName 9 (codes "New"))
-    ∷ counted (accepts 7) strong call.SyncKom
-    ∷ counted (accepts 8) bo (call.SubMember 9 6)
-    ∷ counted (accepts 9) stranger (call.Login 5 [] false)
-    ∷ counted (accepts 12) anna (call.SendMessage 0 (codes "Hi"))
-    ∷ counted (accepts 13) anna call.Logout
-    ∷ counted (accepts 14) bo (call.DeleteText 1)
-    ∷ counted (accepts 15) di (call.CreateText (text [] (named 0 9 ∷ []) []))
-    ∷ counted (accepts 16) bo (call.AddRecipient 1 7 1)
-    ∷ counted (accepts 17) bo (call.SubRecipient 1 9)
-    ∷ counted (accepts 18) anna (call.AddMember 11 5 100 0 0)
-    ∷ counted (accepts 19) bo (call.SetUserArea 6 1)
-    ∷ counted (accepts 20) anna (call.SetPresentation 9 1)
-    ∷ counted (accepts 21) anna (call.SetEtcMotd 9 1)
-    ∷ counted (accepts 22) di (call.ModifyTextInfo (changes 1 [] (given 2 0 0 [] ∷ [])))
+    message_count (accepts 5) anna (call.ChangeName 9 (codes "New"))
+    ∷ message_count (accepts 7) strong call.SyncKom
+    ∷ message_count (accepts 8) bo (call.SubMember 9 6)
+    ∷ message_count (accepts 9) stranger (call.Login 5 [] false)
+    ∷ message_count (accepts 12) anna (call.SendMessage 0 (codes "Hi"))
+    ∷ message_count (accepts 13) anna call.Logout
+    ∷ message_count (accepts 14) bo (call.DeleteText 1)
+    ∷ message_count (accepts 15) di (call.CreateText (text [] (new_misc 0 9 ∷ []) []))
+    ∷ message_count (accepts 16) bo (call.AddRecipient 1 7 1)
+    ∷ message_count (accepts 17) bo (call.SubRecipient 1 9)
+    ∷ message_count (accepts 18) anna (call.AddMember 11 5 100 0 0)
+    ∷ message_count (accepts 19) bo (call.SetUserArea 6 1)
+    ∷ message_count (accepts 20) anna (call.SetPresentation 9 1)
+    ∷ message_count (accepts 21) anna (call.SetEtcMotd 9 1)
+    ∷ message_count (accepts 22) di (call.ModifyTextInfo (changes 1 [] (given_item 2 0 0 [] ∷ [])))
     ∷ []
 
-abbrev pub renamed : ℕ → List ℕ → List ℕ → Message
-renamed conference old new =
+abbrev pub name_changed : ℕ → List ℕ → List ℕ → Message
+name_changed conference old new =
     message.NewName (record { conference = conference; old_name = old; new_name = new })
 
-abbrev pub said : ℕ → ℕ → List ℕ → Message
-said recipient sender what =
+abbrev pub said_to : ℕ → ℕ → List ℕ → Message
+said_to recipient sender what =
     message.SendMessage (record { recipient = recipient; sender = sender; text = what })
 
 abbrev pub items_changed : ℕ → List AuxRow → List AuxRow → Message
@@ -270,8 +271,8 @@ made_told author line_count char_count infos items = message.NewText 6 (record {
 -- Di writes to 9 and, shown to few, to Anna: a comment to 1, with a secret item and one that hides
 -- her
 abbrev pub dis_text : Call
-dis_text = call.CreateText (text (10 ∷ []) (named 0 9 ∷ named 15 5 ∷ named 2 1 ∷ [])
-    (given 2 32 0 (codes "g") ∷ given 3 16 0 (codes "h") ∷ []))
+dis_text = call.CreateText (text (10 ∷ []) (new_misc 0 9 ∷ new_misc 15 5 ∷ new_misc 2 1 ∷ [])
+    (given_item 2 32 0 (codes "g") ∷ given_item 3 16 0 (codes "h") ∷ []))
 
 -- what others are told of its items: what the comment inherits comes last
 abbrev pub dis_items : List AuxRow
@@ -279,13 +280,13 @@ dis_items = new_item 2 3 0 16 0 (codes "h") ∷ item 3 2 8 64 0 (codes "a") ∷ 
 
 -- Anna writes to Cy and, as a copy, to 10, with a secret item
 abbrev pub annas_text : Call
-annas_text = call.CreateText (text (codes "Hi") (named 0 7 ∷ named 1 10 ∷ [])
-    (given 2 32 0 (codes "g") ∷ []))
+annas_text = call.CreateText (text (codes "Hi") (new_misc 0 7 ∷ new_misc 1 10 ∷ [])
+    (given_item 2 32 0 (codes "g") ∷ []))
 
 -- somebody writes without being named to 9 and, shown to few, to Di, with a secret item
 abbrev pub anonymous_text : Call
-anonymous_text = call.CreateAnonymousText (text [] (named 0 9 ∷ named 15 8 ∷ [])
-    (given 2 32 0 (codes "g") ∷ []))
+anonymous_text = call.CreateAnonymousText (text [] (new_misc 0 9 ∷ new_misc 15 8 ∷ [])
+    (given_item 2 32 0 (codes "g") ∷ []))
 
 abbrev pub plain_text : List MiscInput → Call
 plain_text recipients = call.CreateText (text [] recipients [])
@@ -354,52 +355,56 @@ few_are_there = record (hears 5 0) {
 pub record WorkedMessages : Type 0 where
   pub all_are_made : all_fit made_rows empty_db ≡ true
   -- Message 5: to all that see the conference, under its old name and its new one
-  pub renamed_to_all : sent anna (call.ChangeName 9 (codes "New"))
-      ≡ told_to (3 ∷ 4 ∷ 5 ∷ 6 ∷ 7 ∷ 8 ∷ []) (renamed 9 (codes "Open") (codes "New"))
+  pub renamed_to_all : messages_by anna (call.ChangeName 9 (codes "New"))
+      ≡ told_to (3 ∷ 4 ∷ 5 ∷ 6 ∷ 7 ∷ 8 ∷ []) (name_changed 9 (codes "Open") (codes "New"))
   -- to the caller too, if its session accepts it
-  pub renamed_to_the_caller : sent (hears 5 0) (call.ChangeName 9 (codes "New"))
-      ≡ told_to (1 ∷ 3 ∷ 4 ∷ 5 ∷ 6 ∷ 7 ∷ 8 ∷ []) (renamed 9 (codes "Open") (codes "New"))
+  pub renamed_to_the_caller : messages_by (hears 5 0) (call.ChangeName 9 (codes "New"))
+      ≡ told_to (1 ∷ 3 ∷ 4 ∷ 5 ∷ 6 ∷ 7 ∷ 8 ∷ []) (name_changed 9 (codes "Open") (codes "New"))
   -- a secret one to who supervises it, is a member, or is strong
-  pub renamed_in_secret : sent anna (call.ChangeName 10 (codes "New"))
-      ≡ told_to (3 ∷ 4 ∷ 5 ∷ 7 ∷ []) (renamed 10 (codes "Board") (codes "New"))
+  pub renamed_in_secret : messages_by anna (call.ChangeName 10 (codes "New"))
+      ≡ told_to (3 ∷ 4 ∷ 5 ∷ 7 ∷ []) (name_changed 10 (codes "Board") (codes "New"))
   -- a protected one is seen by all, and a letterbox is
-  pub renamed_protected : sent anna (call.ChangeName 11 (codes "New"))
-      ≡ told_to (3 ∷ 4 ∷ 5 ∷ 6 ∷ 7 ∷ 8 ∷ []) (renamed 11 (codes "Closed") (codes "New"))
-  pub renamed_letterbox : sent bo (call.ChangeName 6 (codes "Bob"))
-      ≡ told_to (3 ∷ 4 ∷ 5 ∷ 6 ∷ 7 ∷ 8 ∷ []) (renamed 6 (codes "Bo") (codes "Bob"))
+  pub renamed_protected : messages_by anna (call.ChangeName 11 (codes "New"))
+      ≡ told_to (3 ∷ 4 ∷ 5 ∷ 6 ∷ 7 ∷ 8 ∷ []) (name_changed 11 (codes "Closed") (codes "New"))
+  pub renamed_letterbox : messages_by bo (call.ChangeName 6 (codes "Bob"))
+      ≡ told_to (3 ∷ 4 ∷ 5 ∷ 6 ∷ 7 ∷ 8 ∷ []) (name_changed 6 (codes "Bo") (codes "Bob"))
   -- also to the name that it has
-  pub renamed_alike : sent anna (call.ChangeName 9 (codes "Open"))
-      ≡ told_to (3 ∷ 4 ∷ 5 ∷ 6 ∷ 7 ∷ 8 ∷ []) (renamed 9 (codes "Open") (codes "Open"))
+  pub renamed_alike : messages_by anna (call.ChangeName 9 (codes "Open"))
+      ≡ told_to (3 ∷ 4 ∷ 5 ∷ 6 ∷ 7 ∷ 8 ∷ []) (name_changed 9 (codes "Open") (codes "Open"))
   -- not by a call that is refused
   pub not_renamed :
-      map (λ name. sent anna (call.ChangeName 9 name)) ([] ∷ codes "bo" ∷ codes "board" ∷ [])
+      map (λ name. messages_by anna (call.ChangeName 9 name)) ([] ∷ codes "bo" ∷ codes "board" ∷ [])
       ≡ replicate 3 []
   pub not_renamed_by_others :
-      map (λ asked. sent asked (call.ChangeName 9 (codes "New"))) (stranger ∷ bo ∷ asked 6 255 ∷ [])
+      map (λ asked. messages_by asked (call.ChangeName 9 (codes "New")))
+      (stranger ∷ bo ∷ asked 6 255 ∷ [])
       ≡ replicate 3 []
   -- Message 7: to all
-  pub synced : sent strong call.SyncKom ≡ told_to (3 ∷ 4 ∷ 6 ∷ 7 ∷ 8 ∷ []) message.SyncDatabase
-  pub synced_to_the_caller : sent (hears 7 255) call.SyncKom
+  pub synced : messages_by strong call.SyncKom
+      ≡ told_to (3 ∷ 4 ∷ 6 ∷ 7 ∷ 8 ∷ []) message.SyncDatabase
+  pub synced_to_the_caller : messages_by (hears 7 255) call.SyncKom
       ≡ told_to (1 ∷ 3 ∷ 4 ∷ 6 ∷ 7 ∷ 8 ∷ []) message.SyncDatabase
-  pub not_synced : map (λ asked. sent asked call.SyncKom) (stranger ∷ cy ∷ not_strong ∷ [])
+  pub not_synced : map (λ asked. messages_by asked call.SyncKom) (stranger ∷ cy ∷ not_strong ∷ [])
       ≡ replicate 3 []
   -- Message 8: to who left, whoever ended the membership
-  pub left_alone : sent bo (call.SubMember 9 6) ≡ told_to (4 ∷ []) (message.LeaveConference 9)
+  pub left_alone : messages_by bo (call.SubMember 9 6)
+      ≡ told_to (4 ∷ []) (message.LeaveConference 9)
   pub left_through_another :
-      map (λ person. sent anna (call.SubMember 9 person)) (5 ∷ 6 ∷ 7 ∷ 8 ∷ [])
+      map (λ person. messages_by anna (call.SubMember 9 person)) (5 ∷ 6 ∷ 7 ∷ 8 ∷ [])
       ≡ told_to (3 ∷ []) (message.LeaveConference 9)
       ∷ told_to (4 ∷ []) (message.LeaveConference 9)
       ∷ told_to (6 ∷ 7 ∷ []) (message.LeaveConference 9)
       ∷ told_to (8 ∷ []) (message.LeaveConference 9) ∷ []
-  pub left_with_the_caller : sent (hears 6 0) (call.SubMember 9 6)
+  pub left_with_the_caller : messages_by (hears 6 0) (call.SubMember 9 6)
       ≡ told_to (1 ∷ 4 ∷ []) (message.LeaveConference 9)
-  pub left_in_secret : sent anna (call.SubMember 10 6)
+  pub left_in_secret : messages_by anna (call.SubMember 10 6)
       ≡ told_to (4 ∷ []) (message.LeaveConference 10)
-  pub invitation_ended : sent di (call.SubMember 11 8)
+  pub invitation_ended : messages_by di (call.SubMember 11 8)
       ≡ told_to (8 ∷ []) (message.LeaveConference 11)
   -- not from one's letterbox, nor through one who may not, nor of one who is no member
   pub not_left :
-      sent bo (call.SubMember 6 6) ∷ sent bo (call.SubMember 9 7) ∷ sent anna (call.SubMember 12 6)
+      messages_by bo (call.SubMember 6 6) ∷ messages_by bo (call.SubMember 9 7)
+      ∷ messages_by anna (call.SubMember 12 6)
       ∷ []
       ≡ replicate 3 []
   -- once for each membership that ends with its conference
@@ -408,14 +413,15 @@ pub record WorkedMessages : Type 0 where
       ([] ∷ [] ∷ (message.LeaveConference 9 ∷ []) ∷ (message.LeaveConference 9 ∷ []) ∷ []
       ∷ (message.LeaveConference 9 ∷ []) ∷ (message.LeaveConference 9 ∷ [])
       ∷ (message.LeaveConference 9 ∷ []) ∷ [] ∷ [])
-  pub left_with_none : sent anna (call.DeleteConf 12) ≡ []
-  pub not_deleted : sent bo (call.DeleteConf 9) ∷ sent di (call.DeleteConf 10) ∷ [] ≡ replicate 2 []
+  pub left_with_none : messages_by anna (call.DeleteConf 12) ≡ []
+  pub not_deleted : messages_by bo (call.DeleteConf 9) ∷ messages_by di (call.DeleteConf 10) ∷ []
+      ≡ replicate 2 []
   -- A letterbox goes: first each of its person's sessions logs out, and then the memberships end
   pub bo_went : all_heard bo (call.DeleteConf 6)
       ≡ items_of_messages
       ([] ∷ [] ∷ bo_logs_out ∷ (bo_logs_out ++ bo_leaves) ∷ bo_logs_out ∷ bo_logs_out ∷ bo_logs_out
       ∷ (bo_logs_out ++ message.LeaveConference 6 ∷ []) ∷ [] ∷ [])
-  pub bo_heard_it : heard (sent (hears 6 0) (call.DeleteConf 6)) 1
+  pub bo_heard_it : items_sent_to (messages_by (hears 6 0) (call.DeleteConf 6)) 1
       ≡ map (λ each. queue.Message each) (bo_logs_out ++ bo_leaves)
   pub bo_went_through_the_strong : all_heard strong (call.DeleteConf 6)
       ≡ items_of_messages
@@ -427,70 +433,78 @@ pub record WorkedMessages : Type 0 where
       ([] ∷ [] ∷ di_logs_out ∷ di_logs_out ∷ di_logs_out ∷ di_logs_out ∷ di_logs_out
       ∷ (di_logs_out ++ di_leaves) ∷ [] ∷ [])
   -- and of one that logged in at this moment
-  pub just_went : heard (sent (just_in 6) (call.DeleteConf 6)) 3
+  pub just_went : items_sent_to (messages_by (just_in 6) (call.DeleteConf 6)) 3
       ≡ map (λ each. queue.Message each) bo_logs_out
   -- Message 9: to all that were logged in before
-  pub logged_in : sent stranger (call.Login 5 [] false)
+  pub logged_in : messages_by stranger (call.Login 5 [] false)
       ≡ told_to (3 ∷ 4 ∷ 6 ∷ 7 ∷ 8 ∷ []) (message.Login 5 1)
-  pub logged_in_from_nobody : sent (hears 0 0) (call.Login 5 [] false)
+  pub logged_in_from_nobody : messages_by (hears 0 0) (call.Login 5 [] false)
       ≡ told_to (3 ∷ 4 ∷ 6 ∷ 7 ∷ 8 ∷ []) (message.Login 5 1)
   -- not of an invisible login, nor of one that is refused
-  pub logged_in_invisibly : sent stranger (call.Login 5 [] true) ≡ []
+  pub logged_in_invisibly : messages_by stranger (call.Login 5 [] true) ≡ []
   pub not_logged_in :
-      sent stranger (call.Login 5 (codes "x") false) ∷ sent stranger (call.Login 9 [] false)
-      ∷ sent cy (call.Login 5 (codes "x") false) ∷ []
+      messages_by stranger (call.Login 5 (codes "x") false)
+      ∷ messages_by stranger (call.Login 9 [] false)
+      ∷ messages_by cy (call.Login 5 (codes "x") false) ∷ []
       ≡ replicate 3 []
   -- one over another: first that logs out
   pub logged_in_over_another : all_heard (hears 7 255) (call.Login 8 (codes "x") false)
       ≡ items_of_messages
       (cy_then_di ∷ [] ∷ cy_then_di ∷ cy_then_di ∷ (message.Logout 7 1 ∷ []) ∷ cy_then_di
       ∷ cy_then_di ∷ cy_then_di ∷ [] ∷ [])
-  pub logged_in_again : heard (sent (hears 5 0) (call.Login 5 [] false)) 1
+  pub logged_in_again : items_sent_to (messages_by (hears 5 0) (call.Login 5 [] false)) 1
       ≡ queue.Message (message.Logout 5 1) ∷ queue.Message (message.Login 5 1) ∷ []
   -- the one that logs out is told of, though the next logs in invisibly
-  pub logged_in_invisibly_over_another : sent (hears 7 255) (call.Login 8 (codes "x") true)
+  pub logged_in_invisibly_over_another : messages_by (hears 7 255) (call.Login 8 (codes "x") true)
       ≡ told_to (1 ∷ 3 ∷ 4 ∷ 5 ∷ 6 ∷ 7 ∷ 8 ∷ []) (message.Logout 7 1)
   -- Message 12: to all
-  pub said_to_all : sent anna (call.SendMessage 0 (codes "Hi"))
-      ≡ told_to (3 ∷ 4 ∷ 6 ∷ 7 ∷ 8 ∷ []) (said 0 5 (codes "Hi"))
-  pub said_to_the_caller : sent (hears 5 0) (call.SendMessage 0 (codes "Hi"))
-      ≡ told_to (1 ∷ 3 ∷ 4 ∷ 6 ∷ 7 ∷ 8 ∷ []) (said 0 5 (codes "Hi"))
+  pub said_to_all : messages_by anna (call.SendMessage 0 (codes "Hi"))
+      ≡ told_to (3 ∷ 4 ∷ 6 ∷ 7 ∷ 8 ∷ []) (said_to 0 5 (codes "Hi"))
+  pub said_to_the_caller : messages_by (hears 5 0) (call.SendMessage 0 (codes "Hi"))
+      ≡ told_to (1 ∷ 3 ∷ 4 ∷ 6 ∷ 7 ∷ 8 ∷ []) (said_to 0 5 (codes "Hi"))
   -- or to the members of a conference that are not passive, or are passive inversely
-  pub said_to_members : sent anna (call.SendMessage 9 (codes "Hi"))
-      ≡ told_to (4 ∷ 8 ∷ []) (said 9 5 (codes "Hi"))
-  pub said_in_secret : sent strong (call.SendMessage 10 []) ≡ told_to (4 ∷ []) (said 10 7 [])
-  pub said_to_persons : map (λ letterbox. sent di (call.SendMessage letterbox (codes "Hi")))
+  pub said_to_members : messages_by anna (call.SendMessage 9 (codes "Hi"))
+      ≡ told_to (4 ∷ 8 ∷ []) (said_to 9 5 (codes "Hi"))
+  pub said_in_secret : messages_by strong (call.SendMessage 10 [])
+      ≡ told_to (4 ∷ []) (said_to 10 7 [])
+  pub said_to_persons : map (λ letterbox. messages_by di (call.SendMessage letterbox (codes "Hi")))
       (5 ∷ 6 ∷ 7 ∷ 8 ∷ [])
-      ≡ told_to (3 ∷ []) (said 5 8 (codes "Hi")) ∷ told_to (4 ∷ 8 ∷ []) (said 6 8 (codes "Hi"))
-      ∷ told_to (6 ∷ 7 ∷ []) (said 7 8 (codes "Hi")) ∷ told_to (8 ∷ []) (said 8 8 (codes "Hi")) ∷ []
+      ≡ told_to (3 ∷ []) (said_to 5 8 (codes "Hi"))
+      ∷ told_to (4 ∷ 8 ∷ []) (said_to 6 8 (codes "Hi"))
+      ∷ told_to (6 ∷ 7 ∷ []) (said_to 7 8 (codes "Hi"))
+      ∷ told_to (8 ∷ []) (said_to 8 8 (codes "Hi")) ∷ []
   -- also to who was only invited
-  pub said_to_the_invited : sent anna (call.SendMessage 11 []) ≡ told_to (8 ∷ []) (said 11 5 [])
-  pub not_said : sent stranger (call.SendMessage 0 []) ∷ sent di (call.SendMessage 10 [])
-      ∷ sent anna (call.SendMessage 12 []) ∷ []
+  pub said_to_the_invited : messages_by anna (call.SendMessage 11 [])
+      ≡ told_to (8 ∷ []) (said_to 11 5 [])
+  pub not_said : messages_by stranger (call.SendMessage 0 [])
+      ∷ messages_by di (call.SendMessage 10 [])
+      ∷ messages_by anna (call.SendMessage 12 []) ∷ []
       ≡ replicate 3 []
   -- Message 13: to all that were logged in before, the one that logs out among them
-  pub logged_out : sent anna call.Logout
+  pub logged_out : messages_by anna call.Logout
       ≡ told_to (3 ∷ 4 ∷ 5 ∷ 6 ∷ 7 ∷ 8 ∷ []) (message.Logout 5 1)
-  pub logged_out_itself : sent (hears 5 0) call.Logout
+  pub logged_out_itself : messages_by (hears 5 0) call.Logout
       ≡ told_to (1 ∷ 3 ∷ 4 ∷ 5 ∷ 6 ∷ 7 ∷ 8 ∷ []) (message.Logout 5 1)
-  pub logged_out_at_once : sent (just_in 5) call.Logout
+  pub logged_out_at_once : messages_by (just_in 5) call.Logout
       ≡ told_to (3 ∷ 4 ∷ 5 ∷ 6 ∷ 7 ∷ 8 ∷ []) (message.Logout 5 1)
-  pub nobody_logged_out : sent stranger call.Logout ∷ sent (hears 0 0) call.Logout ∷ []
+  pub nobody_logged_out : messages_by stranger call.Logout ∷ messages_by (hears 0 0) call.Logout
+      ∷ []
       ≡ replicate 2 []
   -- by a disconnect too, of oneself or of another, which still gets it
-  pub disconnected_itself : map (λ session. sent bo (call.Disconnect session)) (0 ∷ 1 ∷ [])
+  pub disconnected_itself : map (λ session. messages_by bo (call.Disconnect session)) (0 ∷ 1 ∷ [])
       ≡ replicate 2 (told_to (3 ∷ 4 ∷ 5 ∷ 6 ∷ 7 ∷ 8 ∷ []) (message.Logout 6 1))
-  pub disconnected_another : map (λ session. sent bo (call.Disconnect session)) (4 ∷ 5 ∷ [])
+  pub disconnected_another : map (λ session. messages_by bo (call.Disconnect session)) (4 ∷ 5 ∷ [])
       ≡ told_to (3 ∷ 4 ∷ 5 ∷ 6 ∷ 7 ∷ 8 ∷ []) (message.Logout 6 4)
       ∷ told_to (3 ∷ 4 ∷ 5 ∷ 6 ∷ 7 ∷ 8 ∷ []) (message.Logout 6 5) ∷ []
-  pub disconnected_invisible : sent strong (call.Disconnect 8)
+  pub disconnected_invisible : messages_by strong (call.Disconnect 8)
       ≡ told_to (3 ∷ 4 ∷ 5 ∷ 6 ∷ 7 ∷ 8 ∷ []) (message.Logout 8 8)
   -- nobody logs out where nobody is logged in, nor by a call that is refused
-  pub nobody_disconnected : sent stranger (call.Disconnect 0) ∷ sent strong (call.Disconnect 2)
-      ∷ sent anna (call.Disconnect 4) ∷ sent strong (call.Disconnect 9) ∷ []
+  pub nobody_disconnected : messages_by stranger (call.Disconnect 0)
+      ∷ messages_by strong (call.Disconnect 2)
+      ∷ messages_by anna (call.Disconnect 4) ∷ messages_by strong (call.Disconnect 9) ∷ []
       ≡ replicate 4 []
   -- Message 14: to who reads the text and takes one of its recipients, as it is told to each
-  pub first_deleted : sent bo (call.DeleteText 1)
+  pub first_deleted : messages_by bo (call.DeleteText 1)
       ≡ one 3 (first_told (in_open 1 ++ in_board 1)
       (inherited_item ∷ hiding_item 0 ∷ annas_item ∷ []))
       ∷ one 4 (first_told (in_open 1 ++ in_board 1 ++ to_few 8 1)
@@ -498,154 +512,160 @@ pub record WorkedMessages : Type 0 where
       ∷ one 8 (first_told (in_open 1 ++ to_few 8 1)
       (inherited_item ∷ secret_item ∷ hiding_item 8 ∷ annas_item ∷ [])) ∷ []
   -- its author takes none of its recipients; a strong session is told all, and takes no more
-  pub second_deleted : sent (hears 5 0) (call.DeleteText 2)
+  pub second_deleted : messages_by (hears 5 0) (call.DeleteText 2)
       ≡ one 4 (second_told (to_cy 1 ++ in_board 2) (bos_item ∷ []))
       ∷ one 6 (second_told (to_cy 1) (bos_item ∷ []))
       ∷ one 7 (second_told (to_cy 1 ++ in_board 2) (annas_secret ∷ bos_item ∷ [])) ∷ []
-  pub third_deleted : sent anna (call.DeleteText 3) ≡ one 4 third_told ∷ []
+  pub third_deleted : messages_by anna (call.DeleteText 3) ≡ one 4 third_told ∷ []
   -- without an author, shown to few
-  pub fourth_deleted : sent strong (call.DeleteText 4)
+  pub fourth_deleted : messages_by strong (call.DeleteText 4)
       ≡ one 3 (fourth_told (in_open 2)) ∷ one 4 (fourth_told (in_open 2 ++ to_few 6 1))
       ∷ one 8 (fourth_told (in_open 2 ++ to_few 6 1)) ∷ []
-  pub fifth_deleted : sent bo (call.DeleteText 5) ≡ []
-  pub no_text_deleted : sent cy (call.DeleteText 1) ∷ sent di (call.DeleteText 3) ∷ []
+  pub fifth_deleted : messages_by bo (call.DeleteText 5) ≡ []
+  pub no_text_deleted : messages_by cy (call.DeleteText 1) ∷ messages_by di (call.DeleteText 3) ∷ []
       ≡ replicate 2 []
   -- Message 15: as the entry makes it
-  pub text_of_di : sent (hears 8 0) dis_text
+  pub text_of_di : messages_by (hears 8 0) dis_text
       ≡ one 3 (made_told 8 1 1 (in_open 3 ++ to_few 5 1 ++ info.CommentTo 1 ∷ []) dis_items)
       ∷ told_to (4 ∷ 5 ∷ []) (made_told 8 1 1 (in_open 3 ++ info.CommentTo 1 ∷ []) dis_items)
-  pub text_of_anna : sent (hears 5 0) annas_text
+  pub text_of_anna : messages_by (hears 5 0) annas_text
       ≡ told_to (4 ∷ 5 ∷ []) (made_told 5 0 2 (to_cy 2 ++ in_board 4) [])
       ++ one 6 (made_told 5 0 2 (to_cy 2) [])
       ∷ one 7 (made_told 5 0 2 (to_cy 2 ++ in_board 4) (new_item 1 2 5 32 0 (codes "g") ∷ [])) ∷ []
   -- without an author: its maker is not told of a recipient that is shown to few, but of its item
-  pub text_without_an_author : sent (hears 6 0) anonymous_text
+  pub text_without_an_author : messages_by (hears 6 0) anonymous_text
       ≡ one 1 (made_told 0 0 0 (in_open 3) (new_item 1 2 6 32 0 (codes "g") ∷ []))
       ∷ one 3 (made_told 0 0 0 (in_open 3) [])
       ∷ told_to (4 ∷ 5 ∷ [])
       (made_told 0 0 0 (in_open 3) (new_item 1 2 6 32 0 (codes "g") ∷ []))
       ++ one 8 (made_told 0 0 0 (in_open 3 ++ to_few 8 2) []) ∷ []
   -- the author owns its items
-  pub text_to_its_author : heard (sent (hears 6 0)
-      (call.CreateText (text [] (named 0 9 ∷ named 15 8 ∷ []) (given 2 48 0 [] ∷ [])))) 1
+  pub text_to_its_author : items_sent_to (messages_by (hears 6 0)
+      (call.CreateText (text [] (new_misc 0 9 ∷ new_misc 15 8 ∷ []) (given_item 2 48 0 [] ∷ [])))) 1
       ≡ queue.Message (made_told 6 0 0 (in_open 3 ++ to_few 8 2) (new_item 1 2 6 48 0 [] ∷ [])) ∷ []
   -- also to who was only invited; not to who is passive, and not where there is nobody
-  pub text_to_the_invited : sent anna (plain_text (named 0 11 ∷ []))
+  pub text_to_the_invited : messages_by anna (plain_text (new_misc 0 11 ∷ []))
       ≡ one 8 (made_told 5 0 0 (info.Recipient 11 ∷ info.Local 1 ∷ []) []) ∷ []
-  pub text_to_nobody : map (λ recipients. sent anna (plain_text recipients))
-      ([] ∷ (named 0 12 ∷ []) ∷ (named 2 1 ∷ []) ∷ [])
+  pub text_to_nobody : map (λ recipients. messages_by anna (plain_text recipients))
+      ([] ∷ (new_misc 0 12 ∷ []) ∷ (new_misc 2 1 ∷ []) ∷ [])
       ≡ replicate 3 []
   pub no_text_made :
-      sent stranger (plain_text (named 0 9 ∷ []))
-      ∷ sent di (plain_text (named 0 9 ∷ named 0 10 ∷ []))
-      ∷ sent anna (call.CreateText (text [] (named 0 9 ∷ []) (given 99 0 0 [] ∷ []))) ∷ []
+      messages_by stranger (plain_text (new_misc 0 9 ∷ []))
+      ∷ messages_by di (plain_text (new_misc 0 9 ∷ new_misc 0 10 ∷ []))
+      ∷ messages_by anna (call.CreateText (text [] (new_misc 0 9 ∷ []) (given_item 99 0 0 [] ∷ [])))
+      ∷ []
       ≡ replicate 3 []
   -- Message 16: to who takes the conference
-  pub recipient_added : sent bo (call.AddRecipient 1 7 1)
+  pub recipient_added : messages_by bo (call.AddRecipient 1 7 1)
       ≡ told_to (6 ∷ 7 ∷ []) (message.NewRecipient 1 7 1)
-  pub recipient_added_for_few : sent bo (call.AddRecipient 1 11 15)
+  pub recipient_added_for_few : messages_by bo (call.AddRecipient 1 11 15)
       ≡ told_to (8 ∷ []) (message.NewRecipient 1 11 15)
   -- though it did not read the text before; not to who is passive there
-  pub recipient_added_from_secret : sent anna (call.AddRecipient 3 9 0)
+  pub recipient_added_from_secret : messages_by anna (call.AddRecipient 3 9 0)
       ≡ told_to (3 ∷ 4 ∷ []) (message.NewRecipient 3 9 0)
-  pub recipient_added_for_nobody : sent anna (call.AddRecipient 3 12 0) ≡ []
+  pub recipient_added_for_nobody : messages_by anna (call.AddRecipient 3 12 0) ≡ []
   pub no_recipient_added :
-      sent bo (call.AddRecipient 1 9 0) ∷ sent bo (call.AddRecipient 1 11 2)
-      ∷ sent di (call.AddRecipient 3 9 0) ∷ []
+      messages_by bo (call.AddRecipient 1 9 0) ∷ messages_by bo (call.AddRecipient 1 11 2)
+      ∷ messages_by di (call.AddRecipient 3 9 0) ∷ []
       ≡ replicate 3 []
   -- Message 17: with the type that it had
-  pub recipient_went : sent bo (call.SubRecipient 1 9)
+  pub recipient_went : messages_by bo (call.SubRecipient 1 9)
       ≡ told_to (3 ∷ 4 ∷ []) (message.SubRecipient 1 9 0)
-  pub copy_recipient_went : sent anna (call.SubRecipient 1 10)
+  pub copy_recipient_went : messages_by anna (call.SubRecipient 1 10)
       ≡ told_to (4 ∷ []) (message.SubRecipient 1 10 1)
-  pub blind_recipient_went : sent bo (call.SubRecipient 1 8)
+  pub blind_recipient_went : messages_by bo (call.SubRecipient 1 8)
       ≡ told_to (8 ∷ []) (message.SubRecipient 1 8 15)
   pub no_recipient_went :
-      sent anna (call.SubRecipient 1 8) ∷ sent cy (call.SubRecipient 1 9)
-      ∷ sent bo (call.SubRecipient 1 11) ∷ []
+      messages_by anna (call.SubRecipient 1 8) ∷ messages_by cy (call.SubRecipient 1 9)
+      ∷ messages_by bo (call.SubRecipient 1 11) ∷ []
       ≡ replicate 3 []
   -- Message 18: of a new membership, to its person
-  pub joined : sent anna (call.AddMember 11 5 100 0 0)
+  pub joined : messages_by anna (call.AddMember 11 5 100 0 0)
       ≡ told_to (3 ∷ []) (message.NewMembership 5 11)
-  pub joined_through_another : sent (hears 6 0) (call.AddMember 12 8 100 0 96)
+  pub joined_through_another : messages_by (hears 6 0) (call.AddMember 12 8 100 0 96)
       ≡ told_to (8 ∷ []) (message.NewMembership 8 12)
-  pub joined_by_strength : sent strong (call.AddMember 10 7 100 0 64)
+  pub joined_by_strength : messages_by strong (call.AddMember 10 7 100 0 64)
       ≡ told_to (6 ∷ 7 ∷ []) (message.NewMembership 7 10)
   -- not of one that was there, set again or left as it is; nor by a call that is refused
   pub not_joined :
-      sent bo (call.AddMember 9 6 1 0 64) ∷ sent anna (call.AddMember 9 6 1 0 64)
-      ∷ sent di (call.AddMember 10 8 1 0 0) ∷ sent bo (call.AddMember 11 6 1 0 0) ∷ []
+      messages_by bo (call.AddMember 9 6 1 0 64) ∷ messages_by anna (call.AddMember 9 6 1 0 64)
+      ∷ messages_by di (call.AddMember 10 8 1 0 0) ∷ messages_by bo (call.AddMember 11 6 1 0 0) ∷ []
       ≡ replicate 4 []
   -- Message 19: to the person
-  pub area_set : sent bo (call.SetUserArea 6 1) ≡ told_to (4 ∷ []) (message.NewUserArea 6 0 1)
-  pub area_set_again : map (λ text. sent
+  pub area_set : messages_by bo (call.SetUserArea 6 1)
+      ≡ told_to (4 ∷ []) (message.NewUserArea 6 0 1)
+  pub area_set_again : map (λ text. messages_by
       (after (effect.PersonField 6 (person_field.UserArea 3) ∷ []) bo) (call.SetUserArea 6 text))
       (0 ∷ 1 ∷ 3 ∷ [])
       ≡ told_to (4 ∷ []) (message.NewUserArea 6 3 0) ∷ told_to (4 ∷ []) (message.NewUserArea 6 3 1)
       ∷ told_to (4 ∷ []) (message.NewUserArea 6 3 3) ∷ []
-  pub area_set_by_another : sent (hears 7 255) (call.SetUserArea 8 5)
+  pub area_set_by_another : messages_by (hears 7 255) (call.SetUserArea 8 5)
       ≡ told_to (8 ∷ []) (message.NewUserArea 8 0 5)
-  pub no_area_set : sent anna (call.SetUserArea 6 1) ∷ sent di (call.SetUserArea 8 3) ∷ []
+  pub no_area_set : messages_by anna (call.SetUserArea 6 1) ∷ messages_by di (call.SetUserArea 8 3)
+      ∷ []
       ≡ replicate 2 []
   -- Message 20, and 21: to who sees the conference, whether it reads the text or not
-  pub presented : sent anna (call.SetPresentation 9 3)
+  pub presented : messages_by anna (call.SetPresentation 9 3)
       ≡ told_to (3 ∷ 4 ∷ 6 ∷ 7 ∷ 8 ∷ []) (message.NewPresentation 9 0 3)
-  pub presented_in_secret : sent anna (call.SetPresentation 10 3)
+  pub presented_in_secret : messages_by anna (call.SetPresentation 10 3)
       ≡ told_to (3 ∷ 4 ∷ 7 ∷ []) (message.NewPresentation 10 0 3)
-  pub presented_again : sent
+  pub presented_again : messages_by
       (after (effect.ConfField 9 (field.Presentation 3) ∷ effect.ConfField 9 (field.Motd 2) ∷ [])
       anna) (call.SetPresentation 9 0)
       ≡ told_to (3 ∷ 4 ∷ 6 ∷ 7 ∷ 8 ∷ []) (message.NewPresentation 9 3 0)
-  pub door_set : sent (hears 6 0) (call.SetEtcMotd 6 1)
+  pub door_set : messages_by (hears 6 0) (call.SetEtcMotd 6 1)
       ≡ told_to (1 ∷ 3 ∷ 4 ∷ 6 ∷ 7 ∷ 8 ∷ []) (message.NewMotd 6 0 1)
-  pub door_set_again : sent
+  pub door_set_again : messages_by
       (after (effect.ConfField 10 (field.Presentation 3) ∷ effect.ConfField 10 (field.Motd 2) ∷ [])
       anna) (call.SetEtcMotd 10 1)
       ≡ told_to (3 ∷ 4 ∷ 7 ∷ []) (message.NewMotd 10 2 1)
-  pub not_presented : sent bo (call.SetPresentation 9 1) ∷ sent bo (call.SetEtcMotd 9 1)
-      ∷ sent anna (call.SetPresentation 9 98) ∷ []
+  pub not_presented : messages_by bo (call.SetPresentation 9 1)
+      ∷ messages_by bo (call.SetEtcMotd 9 1)
+      ∷ messages_by anna (call.SetPresentation 9 98) ∷ []
       ≡ replicate 3 []
   -- Message 22: what each is shown of the items, from before and as they are added
-  pub items_told_to_each : sent bo (call.ModifyTextInfo
-      (changes 1 (1 ∷ []) (given 6 32 0 (codes "i") ∷ [])))
+  pub items_told_to_each : messages_by bo (call.ModifyTextInfo
+      (changes 1 (1 ∷ []) (given_item 6 32 0 (codes "i") ∷ [])))
       ≡ one 3 (items_changed 1 (inherited_item ∷ []) [])
       ∷ told_to (4 ∷ 8 ∷ [])
       (items_changed 1 (inherited_item ∷ []) (new_item 5 6 6 32 0 (codes "i") ∷ []))
   -- not where nothing is shown
-  pub secret_item_went : sent di (call.ModifyTextInfo (changes 1 (2 ∷ []) []))
+  pub secret_item_went : messages_by di (call.ModifyTextInfo (changes 1 (2 ∷ []) []))
       ≡ told_to (4 ∷ 8 ∷ []) (items_changed 1 (secret_item ∷ []) [])
-  pub secret_item_added : sent (hears 7 0)
-      (call.ModifyTextInfo (changes 1 [] (given 2 32 0 (codes "i") ∷ [])))
+  pub secret_item_added : messages_by (hears 7 0)
+      (call.ModifyTextInfo (changes 1 [] (given_item 2 32 0 (codes "i") ∷ [])))
       ≡ told_to (4 ∷ 8 ∷ []) (items_changed 1 [] (new_item 5 2 7 32 0 (codes "i") ∷ []))
   -- without its creator, where that is hidden
-  pub hiding_item_went : sent di (call.ModifyTextInfo (changes 1 (3 ∷ []) []))
+  pub hiding_item_went : messages_by di (call.ModifyTextInfo (changes 1 (3 ∷ []) []))
       ≡ one 3 (items_changed 1 (hiding_item 0 ∷ []) [])
       ∷ told_to (4 ∷ 8 ∷ []) (items_changed 1 (hiding_item 8 ∷ []) [])
-  pub hiding_item_added : sent di
-      (call.ModifyTextInfo (changes 1 [] (given 2 16 0 [] ∷ given 2 0 0 [] ∷ [])))
+  pub hiding_item_added : messages_by di
+      (call.ModifyTextInfo (changes 1 [] (given_item 2 16 0 [] ∷ given_item 2 0 0 [] ∷ [])))
       ≡ one 3 (items_changed 1 [] (new_item 5 2 0 16 0 [] ∷ new_item 6 2 8 0 0 [] ∷ []))
       ∷ told_to (4 ∷ 8 ∷ [])
       (items_changed 1 [] (new_item 5 2 8 16 0 [] ∷ new_item 6 2 8 0 0 [] ∷ []))
   -- in the order of the effects
-  pub items_went_in_turn : sent di (call.ModifyTextInfo (changes 1 (3 ∷ 1 ∷ []) []))
+  pub items_went_in_turn : messages_by di (call.ModifyTextInfo (changes 1 (3 ∷ 1 ∷ []) []))
       ≡ one 3 (items_changed 1 (hiding_item 0 ∷ inherited_item ∷ []) [])
       ∷ told_to (4 ∷ 8 ∷ []) (items_changed 1 (hiding_item 8 ∷ inherited_item ∷ []) [])
   -- a strong session is shown all; the author takes no recipient
-  pub item_of_the_second_went : sent (hears 5 0) (call.ModifyTextInfo (changes 2 (1 ∷ []) []))
+  pub item_of_the_second_went : messages_by (hears 5 0)
+      (call.ModifyTextInfo (changes 2 (1 ∷ []) []))
       ≡ one 7 (items_changed 2 (annas_secret ∷ []) []) ∷ []
   -- to its creator, who does not own the text, and to no other who does not
   pub item_told_to_its_creator :
-      map (λ flags. sent bo (call.ModifyTextInfo (changes 2 [] (given 2 flags 0 [] ∷ []))))
+      map (λ flags. messages_by bo
+      (call.ModifyTextInfo (changes 2 [] (given_item 2 flags 0 [] ∷ []))))
       (48 ∷ 16 ∷ [])
       ≡ told_to (4 ∷ 7 ∷ []) (items_changed 2 [] (new_item 3 2 6 48 0 [] ∷ []))
       ∷ (one 4 (items_changed 2 [] (new_item 3 2 6 16 0 [] ∷ []))
       ∷ one 6 (items_changed 2 [] (new_item 3 2 0 16 0 [] ∷ []))
       ∷ one 7 (items_changed 2 [] (new_item 3 2 6 16 0 [] ∷ [])) ∷ []) ∷ []
   pub no_items_told :
-      sent (hears 6 0) (call.ModifyTextInfo (changes 1 [] []))
-      ∷ sent (hears 6 0) (call.ModifyTextInfo (changes 5 [] (given 2 0 0 [] ∷ [])))
-      ∷ sent anna (call.ModifyTextInfo (changes 1 (1 ∷ []) []))
-      ∷ sent di (call.ModifyTextInfo (changes 1 [] (given 99 0 0 [] ∷ []))) ∷ []
+      messages_by (hears 6 0) (call.ModifyTextInfo (changes 1 [] []))
+      ∷ messages_by (hears 6 0) (call.ModifyTextInfo (changes 5 [] (given_item 2 0 0 [] ∷ [])))
+      ∷ messages_by anna (call.ModifyTextInfo (changes 1 (1 ∷ []) []))
+      ∷ messages_by di (call.ModifyTextInfo (changes 1 [] (given_item 99 0 0 [] ∷ []))) ∷ []
       ≡ replicate 4 []
   -- A message goes to who accepts its number, and to nobody else
   pub accepted_alone : each_counted (λ number. 2 ^ number)
@@ -653,16 +673,16 @@ pub record WorkedMessages : Type 0 where
   pub not_accepted : each_counted (λ number. all_messages - 2 ^ number) ≡ replicate 15 0
   pub none_accepted : each_counted (λ number. 0) ≡ replicate 15 0
   -- Other calls send nothing
-  pub sends_nothing : map (sent (hears 5 0))
+  pub sends_nothing : map (messages_by (hears 5 0))
       (call.WhoAmI ∷ call.Enable 255 ∷ call.ChangeConference 9 ∷ call.AcceptAsync (5 ∷ [])
       ∷ call.UserActive ∷ call.GetText 1 0 5 ∷ call.SetSupervisor 9 5 ∷ call.SetConfType 9 160
       ∷ call.AddComment 3 1 ∷ call.SubComment 2 1 ∷ call.AddFootnote 3 2 ∷ call.MarkText 1 7
       ∷ call.MarkAsRead 9 (1 ∷ []) ∷ call.SetMembershipType 5 9 0
-      ∷ call.ModifyConfInfo (changes 9 [] (given 10 0 0 [] ∷ []))
+      ∷ call.ModifyConfInfo (changes 9 [] (given_item 10 0 0 [] ∷ []))
       ∷ call.CreateConf (new_conference 8 []) ∷ call.CreatePerson (new_person [])
       ∷ call.Refused 2 0 ∷ [])
       ≡ replicate 18 []
-  pub shutdown_sends_nothing : sent (hears 7 255) (call.ShutdownKom 0) ≡ []
+  pub shutdown_sends_nothing : messages_by (hears 7 255) (call.ShutdownKom 0) ≡ []
   -- Call 43: of a strong session
   pub sync_comes_to : definition_of strong call.SyncKom ≡ comes_to [] []
   pub sync_refused :

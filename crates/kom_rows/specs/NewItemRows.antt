@@ -10,14 +10,15 @@ use Rattle.kom_types.specs.declared.effects.Effect.TheVariants as effect
 use Rattle.kom_types.specs.declared.replies.Reply.TheVariants as reply
 use Rattle.kom_types.specs.declared.texts.MiscInput.{MiscInput}
 use Rattle.kom_types.specs.tables.Persons.{password_hash}
-use Rattle.kom_rows.specs.Cast.{cast_over, one_seat, links, item, new_item, adds, given}
-use Rattle.kom_rows.specs.Cast.{named, text, new_conference, new_person, after, early_of}
+use Rattle.kom_rows.specs.Cast.{cast_over, one_seat, links, item, new_item, adds, given_item}
+use Rattle.kom_rows.specs.Cast.{new_misc, text, new_conference, new_person, after, early_of}
 use Rattle.kom_model.specs.Effects.{all_fit}
 use Rattle.kom_model.specs.Db.{items_of}
 use Rattle.kom_model.specs.Initial.{initial}
-use Rattle.kom_rows.specs.ItemRows.{cast, rows, of_first, of_sixth, of_bo, tagged, replies, denied}
+use Rattle.kom_rows.specs.ItemRows.{cast, rows, of_first, of_sixth, of_bo, item_of_tag, replies}
+use Rattle.kom_rows.specs.ItemRows.{refused_by_item}
 use Rattle.kom_rows.specs.ItemRows.{removes, effects_of, items_made}
-use Rattle.kom_model.specs.calls.Call.{Asked, Definition, done, unguarded}
+use Rattle.kom_model.specs.calls.Call.{Asked, Definition, done_with, without_guard}
 use Rattle.kom_model.specs.calls.Conferences.{create_conf, delete_conf}
 use Rattle.kom_model.specs.calls.Guards.{refusal}
 use Rattle.kom_model.specs.calls.NewTexts.{create_text, create_anonymous_text}
@@ -30,10 +31,10 @@ abbrev pub made_with : List MiscInput → List AuxInput → List AuxRow
 made_with misc items = items_made (create_text bo (text [] misc items))
 
 abbrev pub to_fourth : MiscInput
-to_fourth = named 2 4
+to_fourth = new_misc 2 4
 
 abbrev pub to_fifth : MiscInput
-to_fifth = named 2 5
+to_fifth = new_misc 2 5
 
 -- what a new comment inherits of text 4, and of text 5, from these numbers on
 abbrev pub p : ℕ → AuxRow
@@ -79,24 +80,26 @@ abbrev pub first_text : Definition
 first_text =
     create_text beginner
     (text (codes "a") []
-    (given 3 64 0 (codes "p") ∷ given 3 64 1 (codes "q") ∷ given 3 64 2 (codes "r") ∷ []))
+    (given_item 3 64 0 (codes "p") ∷ given_item 3 64 1 (codes "q") ∷ given_item 3 64 2 (codes "r")
+    ∷ []))
 
 abbrev pub second_text : Definition
 second_text =
-    create_text (then first_text beginner) (text (codes "b") (named 2 1 ∷ []) [])
+    create_text (then first_text beginner) (text (codes "b") (new_misc 2 1 ∷ []) [])
 
 abbrev pub third_text : Definition
 third_text =
-    create_text (then second_text (then first_text beginner)) (text (codes "c") (named 2 2 ∷ []) [])
+    create_text (then second_text (then first_text beginner))
+    (text (codes "c") (new_misc 2 2 ∷ []) [])
 
 -- what becomes of the items of what is made and of what is deleted, in cases that were worked out
 -- by hand
 pub record NewItemRows : Type 0 where
   -- Who makes a text owns it, and its items come after what it names
   pub text_made :
-      create_text bo (text (codes "Hi") (named 0 9 ∷ [])
-      (given 1 0 0 (codes "g") ∷ given 7 16 9 [] ∷ given 15 0 0 [] ∷ []))
-      ≡ unguarded (record {
+      create_text bo (text (codes "Hi") (new_misc 0 9 ∷ [])
+      (given_item 1 0 0 (codes "g") ∷ given_item 7 16 9 [] ∷ given_item 15 0 0 [] ∷ []))
+      ≡ without_guard (record {
         reply = reply.Number 7;
         effects =
             effect.TextAdded 7 6 30 (codes "Hi")
@@ -117,8 +120,8 @@ pub record NewItemRows : Type 0 where
   -- also where it has no author
   pub anonymous_text_made :
       create_anonymous_text bo
-      (text (codes "Hi") [] (given 4 0 0 [] ∷ given 2 0 0 (codes "g") ∷ []))
-      ≡ unguarded (record {
+      (text (codes "Hi") [] (given_item 4 0 0 [] ∷ given_item 2 0 0 (codes "g") ∷ []))
+      ≡ without_guard (record {
         reply = reply.Number 7;
         effects =
             effect.TextAdded 7 0 30 (codes "Hi")
@@ -127,38 +130,40 @@ pub record NewItemRows : Type 0 where
       })
   pub items_of_a_text_refused :
       map (λ items. create_text bo (text [] [] items))
-      ((tagged 1 ∷ tagged 1 ∷ []) ∷ (tagged 99 ∷ []) ∷ (tagged 2 ∷ tagged 8 ∷ [])
-      ∷ (given 2 128 0 [] ∷ []) ∷ (tagged 7 ∷ tagged 7 ∷ []) ∷ replies 101
-      ∷ (given 2 0 0 (replicate 16385 65) ∷ []) ∷ [])
-      ≡ denied 48 1 ∷ denied 48 0 ∷ denied 48 1 ∷ denied 48 0 ∷ denied 48 1 ∷ denied 48 100
-      ∷ denied 48 0 ∷ []
+      ((item_of_tag 1 ∷ item_of_tag 1 ∷ []) ∷ (item_of_tag 99 ∷ [])
+      ∷ (item_of_tag 2 ∷ item_of_tag 8 ∷ [])
+      ∷ (given_item 2 128 0 [] ∷ []) ∷ (item_of_tag 7 ∷ item_of_tag 7 ∷ []) ∷ replies 101
+      ∷ (given_item 2 0 0 (replicate 16385 65) ∷ []) ∷ [])
+      ≡ refused_by_item 48 1 ∷ refused_by_item 48 0 ∷ refused_by_item 48 1 ∷ refused_by_item 48 0
+      ∷ refused_by_item 48 1 ∷ refused_by_item 48 100
+      ∷ refused_by_item 48 0 ∷ []
   pub items_of_an_anonymous_text_refused :
       map (λ items. create_anonymous_text bo (text [] [] items))
-      ((tagged 1 ∷ tagged 1 ∷ []) ∷ (tagged 99 ∷ []) ∷ [])
-      ≡ denied 48 1 ∷ denied 48 0 ∷ []
+      ((item_of_tag 1 ∷ item_of_tag 1 ∷ []) ∷ (item_of_tag 99 ∷ []) ∷ [])
+      ≡ refused_by_item 48 1 ∷ refused_by_item 48 0 ∷ []
   -- after all that is named, and after the numbers
   pub items_of_a_text_last :
-      early_of (create_text bo (text [] (named 0 99 ∷ []) (tagged 99 ∷ []))
-      ∷ create_text stranger (text [] [] (tagged 99 ∷ []))
+      early_of (create_text bo (text [] (new_misc 0 99 ∷ []) (item_of_tag 99 ∷ []))
+      ∷ create_text stranger (text [] [] (item_of_tag 99 ∷ []))
       ∷ create_text (record bo { db = record rows { next_text = 4294967295 } })
-      (text [] [] (tagged 99 ∷ [])) ∷ [])
+      (text [] [] (item_of_tag 99 ∷ [])) ∷ [])
       ≡ refusal 9 99 ∷ refusal 6 0 ∷ refusal 45 0 ∷ []
   -- A comment inherits: without a limit for ever, else once less, and not at the last time
   pub inherited_by_a_comment : made_with (to_fourth ∷ []) []
       ≡ p 1 ∷ q 2 ∷ t 3 ∷ di_read 4 ∷ u 5 ∷ []
   -- after what is given
   pub inherited_after_the_given :
-      made_with (named 0 9 ∷ to_fourth ∷ []) (given 3 64 2 (codes "g") ∷ tagged 7 ∷ [])
+      made_with (new_misc 0 9 ∷ to_fourth ∷ []) (given_item 3 64 2 (codes "g") ∷ item_of_tag 7 ∷ [])
       ≡ new_item 1 3 6 64 2 (codes "g") ∷ new_item 2 7 6 0 0 [] ∷ p 3 ∷ q 4 ∷ t 5 ∷ di_read 6 ∷ u 7
       ∷ []
   -- from each text in the order of naming, and once what stands once
   pub inherited_in_turn :
       map (λ misc. made_with misc [])
-      ((to_fourth ∷ to_fifth ∷ []) ∷ (to_fifth ∷ named 0 9 ∷ to_fourth ∷ []) ∷ [])
+      ((to_fourth ∷ to_fifth ∷ []) ∷ (to_fifth ∷ new_misc 0 9 ∷ to_fourth ∷ []) ∷ [])
       ≡ (p 1 ∷ q 2 ∷ t 3 ∷ di_read 4 ∷ u 5 ∷ bo_read 6 ∷ w 7 ∷ [])
       ∷ (v 1 ∷ di_read 2 ∷ bo_read 3 ∷ w 4 ∷ p 5 ∷ q 6 ∷ u 7 ∷ []) ∷ []
   pub inherited_beside_the_given :
-      made_with (to_fourth ∷ to_fifth ∷ []) (tagged 1 ∷ tagged 7 ∷ [])
+      made_with (to_fourth ∷ to_fifth ∷ []) (item_of_tag 1 ∷ item_of_tag 7 ∷ [])
       ≡ new_item 1 1 6 0 0 [] ∷ new_item 2 7 6 0 0 [] ∷ p 3 ∷ q 4 ∷ di_read 5 ∷ u 6 ∷ w 7 ∷ []
   -- not past the limit
   pub inherited_to_the_limit :
@@ -168,15 +173,15 @@ pub record NewItemRows : Type 0 where
   -- from no other text, and by no footnote
   pub none_inherited :
       map (λ misc. made_with misc [])
-      ([] ∷ (named 2 1 ∷ []) ∷ (named 4 5 ∷ []) ∷ (named 2 6 ∷ named 4 1 ∷ []) ∷ [])
+      ([] ∷ (new_misc 2 1 ∷ []) ∷ (new_misc 4 5 ∷ []) ∷ (new_misc 2 6 ∷ new_misc 4 1 ∷ []) ∷ [])
       ≡ replicate 4 []
   -- by one without an author too
   pub inherited_without_an_author :
-      items_made (create_anonymous_text di (text [] (to_fifth ∷ []) (tagged 7 ∷ [])))
+      items_made (create_anonymous_text di (text [] (to_fifth ∷ []) (item_of_tag 7 ∷ [])))
       ≡ new_item 1 7 8 0 0 [] ∷ v 2 ∷ bo_read 3 ∷ w 4 ∷ []
   -- a text that becomes a comment later inherits nothing
   pub comment_inherits_nothing :
-      add_comment di 6 4 ≡ unguarded (done (links 6 4 false 8 30 ∷ []) [])
+      add_comment di 6 4 ≡ without_guard (done_with (links 6 4 false 8 30 ∷ []) [])
   pub comment_fits :
       all_fit (effects_of (create_text bo (text [] (to_fourth ∷ to_fifth ∷ []) (replies 98)))) rows
       ≡ true
@@ -188,8 +193,9 @@ pub record NewItemRows : Type 0 where
       ∷ (new_item 1 3 5 64 0 (codes "p") ∷ []) ∷ []
   -- Who makes a conference owns it
   pub conference_made :
-      create_conf anna (new_conference 8 (given 10 0 0 (codes "g") ∷ given 3 32 5 [] ∷ []))
-      ≡ unguarded (record {
+      create_conf anna
+      (new_conference 8 (given_item 10 0 0 (codes "g") ∷ given_item 3 32 5 [] ∷ []))
+      ≡ without_guard (record {
         reply = reply.Number 12;
         effects =
             effect.ConfAdded 12 (codes "New") 8 30 5 5
@@ -199,18 +205,21 @@ pub record NewItemRows : Type 0 where
       })
   pub items_of_a_conference_refused :
       map (λ items. create_conf anna (new_conference 8 items))
-      ((tagged 8 ∷ []) ∷ (tagged 10 ∷ tagged 1 ∷ []) ∷ (given 10 2 0 [] ∷ [])
-      ∷ replicate 101 (tagged 10) ∷ [])
-      ≡ denied 48 0 ∷ denied 48 1 ∷ denied 48 0 ∷ denied 48 100 ∷ []
+      ((item_of_tag 8 ∷ []) ∷ (item_of_tag 10 ∷ item_of_tag 1 ∷ []) ∷ (given_item 10 2 0 [] ∷ [])
+      ∷ replicate 101 (item_of_tag 10) ∷ [])
+      ≡ refused_by_item 48 0 ∷ refused_by_item 48 1 ∷ refused_by_item 48 0 ∷ refused_by_item 48 100
+      ∷ []
   pub items_of_a_conference_last :
-      early_of (create_conf anna (record (new_conference 8 (tagged 8 ∷ [])) { name = codes "open" })
+      early_of (create_conf anna
+      (record (new_conference 8 (item_of_tag 8 ∷ [])) { name = codes "open" })
       ∷ create_conf (record anna { db = record rows { next_conference = 65536 } })
-      (new_conference 8 (tagged 8 ∷ [])) ∷ [])
+      (new_conference 8 (item_of_tag 8 ∷ [])) ∷ [])
       ≡ refusal 20 0 ∷ refusal 45 0 ∷ []
   -- and who makes a person owns its letterbox; if nobody does, the person made the items
   pub person_made :
-      create_person stranger (new_person (given 8 0 0 (codes "g") ∷ given 10 0 0 (codes "h") ∷ []))
-      ≡ unguarded (record {
+      create_person stranger
+      (new_person (given_item 8 0 0 (codes "g") ∷ given_item 10 0 0 (codes "h") ∷ []))
+      ≡ without_guard (record {
         reply = reply.Number 12;
         effects =
             effect.ConfAdded 12 (codes "Eva") 152 30 12 12 ∷ effect.PersonAdded 12 7168 0 30
@@ -220,8 +229,8 @@ pub record NewItemRows : Type 0 where
         changes = [];
       })
   pub person_made_by_another :
-      create_person anna (new_person (tagged 8 ∷ []))
-      ≡ unguarded (record {
+      create_person anna (new_person (item_of_tag 8 ∷ []))
+      ≡ without_guard (record {
         reply = reply.Number 12;
         effects =
             effect.ConfAdded 12 (codes "Eva") 152 30 5 12 ∷ effect.PersonAdded 12 7168 0 30
@@ -232,29 +241,31 @@ pub record NewItemRows : Type 0 where
       })
   pub items_of_a_person_refused :
       map (λ items. create_person stranger (new_person items))
-      ((tagged 8 ∷ tagged 8 ∷ []) ∷ (tagged 1 ∷ []) ∷ (tagged 10 ∷ given 3 128 0 [] ∷ []) ∷ [])
-      ≡ denied 48 1 ∷ denied 48 0 ∷ denied 48 1 ∷ []
+      ((item_of_tag 8 ∷ item_of_tag 8 ∷ []) ∷ (item_of_tag 1 ∷ [])
+      ∷ (item_of_tag 10 ∷ given_item 3 128 0 [] ∷ []) ∷ [])
+      ≡ refused_by_item 48 1 ∷ refused_by_item 48 0 ∷ refused_by_item 48 1 ∷ []
   pub items_of_a_person_last :
-      early_of (create_person stranger (record (new_person (tagged 1 ∷ [])) { name = codes "bo" })
+      early_of (create_person stranger
+      (record (new_person (item_of_tag 1 ∷ [])) { name = codes "bo" })
       ∷ create_person (record anna { db = record rows { next_conference = 65536 } })
-      (new_person (tagged 1 ∷ [])) ∷ [])
+      (new_person (item_of_tag 1 ∷ [])) ∷ [])
       ≡ refusal 21 0 ∷ refusal 45 0 ∷ []
   -- what is made fits
   pub made_fit :
       map (λ definition. all_fit (effects_of definition) rows)
-      (create_conf anna (new_conference 8 (tagged 10 ∷ tagged 10 ∷ []))
-      ∷ create_person stranger (new_person (tagged 8 ∷ [])) ∷ [])
+      (create_conf anna (new_conference 8 (item_of_tag 10 ∷ item_of_tag 10 ∷ []))
+      ∷ create_person stranger (new_person (item_of_tag 8 ∷ [])) ∷ [])
       ≡ true ∷ true ∷ []
   -- A text goes after its items, which go after links, recipients and marks
   pub text_deleted : delete_text bo 1
-      ≡ unguarded (done
+      ≡ without_guard (done_with
       (effect.LinkGone 5 1 false ∷ effect.RecipientGone 1 9 ∷ effect.MarkGone 5 1
       ∷ removes true 1 (1 ∷ 2 ∷ 3 ∷ 4 ∷ 5 ∷ 6 ∷ []) ++ effect.TextGone 1 ∷ []) [])
   pub text_with_an_item_deleted : effects_of (delete_text di 6)
       ≡ effect.RecipientGone 6 9 ∷ effect.AuxGone true 6 1 ∷ effect.TextGone 6 ∷ []
   -- a conference likewise
   pub conference_deleted : delete_conf anna 9
-      ≡ unguarded (done
+      ≡ without_guard (done_with
       (effect.RecipientGone 1 9 ∷ effect.RecipientGone 2 9 ∷ effect.RecipientGone 4 9
       ∷ effect.RecipientGone 5 9 ∷ effect.RecipientGone 6 9
       ∷ removes false 9 (1 ∷ 2 ∷ 3 ∷ 4 ∷ []) ++ effect.ConfGone 9 ∷ []) [])

@@ -17,14 +17,14 @@ use Rattle.kom_types.specs.declared.texts.MiscInfo.{MiscInfo}
 use Rattle.kom_types.specs.declared.texts.MiscInfo.TheVariants as info
 use Rattle.kom_types.specs.declared.texts.TextStat.{TextStat}
 use Rattle.kom_rows.specs.Cast.{Cast, cast_over, four_persons, three_conferences, makes, member}
-use Rattle.kom_rows.specs.Cast.{under, under_di, range, sent, sends, links, lines, fields}
+use Rattle.kom_rows.specs.Cast.{under, under_di, range, recipient_row, sends, links, lines, fields}
 use Rattle.kom_rows.specs.Cast.{sets_fields, seat, after, comes_to, answers, early_of, person}
 use Rattle.kom_rows.specs.Cast.{nobody, strong_nobody, conferences_in, persons_in, places_of}
 use Rattle.kom_model.specs.Db.{Db, empty_db, conference_of, person_of, text_of, recipients_of}
 use Rattle.kom_model.specs.Db.{marks_of, marks_on, read_of, created_by, next_created_of}
 use Rattle.kom_model.specs.Effects.{fits, apply_all, all_fit}
 use Rattle.kom_model.specs.Shown.{told_count, working_shown}
-use Rattle.kom_model.specs.calls.Call.{Asked, Definition, decided}
+use Rattle.kom_model.specs.calls.Call.{Asked, Definition, outcome_of}
 use Rattle.kom_model.specs.calls.Conferences.{set_presentation, set_etc_motd, set_supervisor}
 use Rattle.kom_model.specs.calls.Conferences.{set_permitted_submitters, set_super_conf}
 use Rattle.kom_model.specs.calls.Conferences.{set_conf_type, set_garb_nice, set_expire}
@@ -36,7 +36,8 @@ use Rattle.kom_model.specs.calls.Texts.{get_text_stat}
 -- a recipient that somebody added later
 abbrev pub sends_later : ℕ → ℕ → ℕ → ℕ → ℕ → ℕ → Effect
 sends_later text conference tag local sender at =
-    effect.RecipientAdded (record (sent text conference tag local) { sender = sender; at = at })
+    effect.RecipientAdded
+    (record (recipient_row text conference tag local) { sender = sender; at = at })
 
 -- The four persons and the three conferences. Bo is in 11, his letterbox and 9; Di is in Bo's
 -- letterbox and then in hers; Cy is secretly in 9 and then in her letterbox; Anna was invited to 9
@@ -202,45 +203,45 @@ tells_bo reads fetches marks conferences =
 -- of a reply: how many members; the first local number and how many follow; how many memberships;
 -- how many marks; the first number among the texts that a person made and how many follow
 abbrev pub members_told : Definition → ℕ
-members_told definition = elim (decided definition).reply [
+members_told definition = elim (outcome_of definition).reply [
   | reply.Conference told ↦ told.members
   | other ↦ 0
 ]
 
 abbrev pub locals_told : Definition → ℕ × ℕ
-locals_told definition = elim (decided definition).reply [
+locals_told definition = elim (outcome_of definition).reply [
   | reply.Conference told ↦ (told.first_local, told.texts)
   | other ↦ (0, 0)
 ]
 
 abbrev pub conferences_told : Definition → ℕ
-conferences_told definition = elim (decided definition).reply [
+conferences_told definition = elim (outcome_of definition).reply [
   | reply.Person told ↦ told.conferences
   | other ↦ 0
 ]
 
 abbrev pub marks_told : Definition → ℕ
-marks_told definition = elim (decided definition).reply [
+marks_told definition = elim (outcome_of definition).reply [
   | reply.Person told ↦ told.marks
   | reply.TextStat told ↦ told.marks
   | other ↦ 0
 ]
 
 abbrev pub created_told : Definition → ℕ × ℕ
-created_told definition = elim (decided definition).reply [
+created_told definition = elim (outcome_of definition).reply [
   | reply.Person told ↦ (told.first_created_local, told.created_texts)
   | other ↦ (0, 0)
 ]
 
 abbrev pub infos_told : Definition → List MiscInfo
-infos_told definition = elim (decided definition).reply [
+infos_told definition = elim (outcome_of definition).reply [
   | reply.TextStat told ↦ told.misc_infos
   | other ↦ []
 ]
 
 -- who supervises a conference, as it is told
 abbrev pub supervisor_told : Definition → ℕ
-supervisor_told definition = elim (decided definition).reply [
+supervisor_told definition = elim (outcome_of definition).reply [
   | reply.Conference told ↦ told.supervisor
   | other ↦ 0
 ]
@@ -488,7 +489,7 @@ pub record ShownRows : Type 0 where
       ≡ None ∷ None ∷ refusal 12 9 ∷ []
   -- the effects of deletions fit
   pub deletions_fit :
-      map (λ call. all_fit (decided call).effects rows)
+      map (λ call. all_fit (outcome_of call).effects rows)
       (delete_conf anna 9 ∷ delete_conf anna 10 ∷ delete_conf bo 6 ∷ delete_conf strong 7
       ∷ delete_conf di 8 ∷ [])
       ≡ replicate 5 true

@@ -25,8 +25,8 @@ tokens_of line = elim (line_form side.Client (line ++ 10 ∷ [])) [
 ]
 
 -- a line that reads as this call
-abbrev pub read : ℕ → Call → Option Request
-read reference call = Some (record { reference = reference; call = call })
+abbrev pub reads_as : ℕ → Call → Option Request
+reads_as reference call = Some (record { reference = reference; call = call })
 
 -- what the definitions say of streams and items that were worked out by hand
 pub record StreamRows : Type 0 where
@@ -83,31 +83,32 @@ pub record StreamRows : Type 0 where
   pub any_tokens : reading_of (Digits (codes "7") ∷ Digits (codes "999")
       ∷ Text (codes "a\n{ 1 }") ∷ []) ≡ Some (record { reference = 7; call = Refused 2 0 })
   pub good_call : reading_of (tokens_of (codes "1 100 6 7 100 0 01000001"))
-      ≡ read 1 (call.AddMember 6 7 100 0 65)
+      ≡ reads_as 1 (call.AddMember 6 7 100 0 65)
   pub flags_of_a_login : reading_of (tokens_of (codes "2 62 5 0H 1"))
-      ≡ read 2 (call.Login 5 [] true)
+      ≡ reads_as 2 (call.Login 5 [] true)
   pub four_bits_of_a_type : reading_of (tokens_of (codes "1 21 6 0001"))
-      ≡ read 1 (call.SetConfType 6 16)
+      ≡ reads_as 1 (call.SetConfType 6 16)
   pub eight_bits_of_a_type : reading_of (tokens_of (codes "1 21 6 00001000"))
-      ≡ read 1 (call.SetConfType 6 8)
+      ≡ reads_as 1 (call.SetConfType 6 8)
   pub five_bits_of_a_type : reading_of (tokens_of (codes "1 21 6 00010")) ≡ None
   pub array_of_numbers : reading_of (tokens_of (codes "1 80 3 { 5 12 15 }"))
-      ≡ read 1 (call.AcceptAsync (5 ∷ 12 ∷ 15 ∷ []))
-  pub empty_in_braces : reading_of (tokens_of (codes "1 80 0 { }")) ≡ read 1 (call.AcceptAsync [])
-  pub empty_by_a_star : reading_of (tokens_of (codes "1 80 0 *")) ≡ read 1 (call.AcceptAsync [])
+      ≡ reads_as 1 (call.AcceptAsync (5 ∷ 12 ∷ 15 ∷ []))
+  pub empty_in_braces : reading_of (tokens_of (codes "1 80 0 { }"))
+      ≡ reads_as 1 (call.AcceptAsync [])
+  pub empty_by_a_star : reading_of (tokens_of (codes "1 80 0 *")) ≡ reads_as 1 (call.AcceptAsync [])
   pub contents_left_out : reading_of (tokens_of (codes "1 80 3 *")) ≡ None
-  pub array_too_long : reading_of (tokens_of (codes "1 80 2049 { }")) ≡ read 1 (Refused 46 0)
-  pub array_too_long_alone : reading_of (tokens_of (codes "1 80 2049")) ≡ read 1 (Refused 46 0)
+  pub array_too_long : reading_of (tokens_of (codes "1 80 2049 { }")) ≡ reads_as 1 (Refused 46 0)
+  pub array_too_long_alone : reading_of (tokens_of (codes "1 80 2049")) ≡ reads_as 1 (Refused 46 0)
   pub fewer_than_said : reading_of (tokens_of (codes "1 80 2 { 5 }")) ≡ None
   pub more_than_said : reading_of (tokens_of (codes "1 80 1 { 5 12 }")) ≡ None
-  pub no_truth_value : reading_of (tokens_of (codes "1 76 0H 2")) ≡ read 1 (Refused 61 0)
+  pub no_truth_value : reading_of (tokens_of (codes "1 76 0H 2")) ≡ reads_as 1 (Refused 61 0)
   pub fault_to_the_left : reading_of (tokens_of (codes "1 76 5 2 1")) ≡ None
   pub long_truth_value : reading_of (tokens_of (codes "1 83 01 0000000000 9"))
-      ≡ read 1 (call.WhoIsOnDynamic true false 9)
+      ≡ reads_as 1 (call.WhoIsOnDynamic true false 9)
   pub priority_too_high : reading_of (tokens_of (codes "1 100 6 7 256 0 00000000")) ≡ None
   pub links_and_items : reading_of (tokens_of (codes
       "1 86 5HHello 3 { 0 6 1 7 2 1 } 1 { 1 00000000 0 10Htext/plain }"))
-      ≡ read 1 (call.CreateText (record {
+      ≡ reads_as 1 (call.CreateText (record {
         body = codes "Hello";
         misc_inputs = record { tag = 0; value = 6 } ∷ record { tag = 1; value = 7 }
             ∷ record { tag = 2; value = 1 } ∷ [];
@@ -115,19 +116,19 @@ pub record StreamRows : Type 0 where
             ∷ [];
       }))
   pub time_of_a_link : reading_of (tokens_of (codes "1 86 0H 1 { 9 0 0 0 1 0 70 4 0 0 } 0 *"))
-      ≡ read 1 (call.CreateText (record {
+      ≡ reads_as 1 (call.CreateText (record {
         body = [];
         misc_inputs = record { tag = 9; value = 0 } ∷ [];
         aux_items = [];
       }))
   pub no_truth_value_in_a_time : reading_of (tokens_of (codes
       "1 86 0H 1 { 9 0 0 0 1 0 70 4 0 2 } 0 *"))
-      ≡ read 1 (Refused 61 0)
+      ≡ reads_as 1 (Refused 61 0)
   pub tag_of_no_link : reading_of (tokens_of (codes "1 86 0H 1 { 10 1 } 0 *")) ≡ None
   pub ranges : reading_of (tokens_of (codes "1 110 6 2 { 1 4 6 9 }"))
-      ≡ read 1 (call.SetReadRanges 6
+      ≡ reads_as 1 (call.SetReadRanges 6
       (record { first = 1; last = 4 } ∷ record { first = 6; last = 9 } ∷ []))
-  pub call_of_no_table : reading_of (tokens_of (codes "1 41 5 5")) ≡ read 1 (Refused 2 0)
+  pub call_of_no_table : reading_of (tokens_of (codes "1 41 5 5")) ≡ reads_as 1 (Refused 2 0)
   pub printed : flat_map print_of (item.Hello ∷ item.Reply 1 (reply.Number 1)
       ∷ item.Reply 7 (reply.Refused 2 0) ∷ item.Fault ∷ [])
       ≡ codes "LysKOM\n=1 1\n%7 2 0\n%%Protocol error.\n"

@@ -10,7 +10,7 @@ use Rattle.kom_types.specs.declared.texts.LocalText.{LocalText}
 use Rattle.kom_types.specs.declared.texts.Mapping.{Mapping}
 use Rattle.kom_types.specs.Names.{fold, clash, words_of, finds, is_name}
 use Rattle.kom_types.specs.Mappings.{mapping_up, mapping_down}
-use Rattle.kom_types.specs.AuxItems.{AuxRefusal, refused_change, inherited, items_from}
+use Rattle.kom_types.specs.AuxItems.{AuxRefusal, refused_change, inherit, items_from}
 
 -- a text with the local number that is its own number
 abbrev pub same : ℕ → LocalText
@@ -20,8 +20,8 @@ same number = record { local = number; text = number }
 abbrev pub nine_texts : List LocalText
 nine_texts = map same (1 ∷ 2 ∷ 4 ∷ 5 ∷ 6 ∷ 7 ∷ 8 ∷ 9 ∷ 10 ∷ [])
 
-abbrev pub mapped : ℕ → ℕ → Bool → Block → Mapping
-mapped begin end later block =
+abbrev pub mapping_of : ℕ → ℕ → Bool → Block → Mapping
+mapping_of begin end later block =
     record { begin = begin; end = end; later_texts_exist = later; block = block }
 
 -- person 5 owns the object, and person 7 does not
@@ -31,8 +31,8 @@ owner = record { person = 5; owns = true }
 abbrev pub reader : Adder
 reader = record { person = 7; owns = false }
 
-abbrev pub given : ℕ → ℕ → ℕ → List ℕ → AuxInput
-given tag flags limit content =
+abbrev pub given_item : ℕ → ℕ → ℕ → List ℕ → AuxInput
+given_item tag flags limit content =
     record { tag = tag; flags = flags; inherit_limit = limit; content = content }
 
 abbrev pub refusal : ℕ → ℕ → Option AuxRefusal
@@ -40,7 +40,9 @@ refusal code index = Some (record { code = code; index = index })
 
 -- three cross-references that are inherited, as person 5 adds them at moment 0
 abbrev pub three_given : List AuxInput
-three_given = given 3 64 0 (codes "p") ∷ given 3 64 1 (codes "q") ∷ given 3 64 2 (codes "r") ∷ []
+three_given =
+    given_item 3 64 0 (codes "p") ∷ given_item 3 64 1 (codes "q") ∷ given_item 3 64 2 (codes "r")
+    ∷ []
 
 abbrev pub three_items : List AuxRow
 three_items = items_from 1 5 0 three_given
@@ -63,44 +65,50 @@ pub record TableRows : Type 0 where
   pub no_word : is_name (codes " (only this)") ≡ false
   pub good_name : is_name (197 ∷ codes "re (x)") ≡ true
   pub sparse_upwards : mapping_up nine_texts 11 1 4
-      ≡ mapped 1 6 true (Sparse (map same (1 ∷ 2 ∷ 4 ∷ 5 ∷ [])))
-  pub dense_upwards : mapping_up nine_texts 11 4 3 ≡ mapped 4 7 true (Dense 4 (4 ∷ 5 ∷ 6 ∷ []))
-  pub first_in_a_gap : mapping_up nine_texts 11 3 2 ≡ mapped 3 6 true (Dense 4 (4 ∷ 5 ∷ []))
-  pub none_above : mapping_up nine_texts 11 11 5 ≡ mapped 11 11 false (Sparse [])
-  pub all_upwards : mapping_up nine_texts 11 1 255 ≡ mapped 1 11 false (Sparse nine_texts)
-  pub none_asked : mapping_up nine_texts 11 1 0 ≡ mapped 1 1 true (Sparse [])
-  pub two_downwards : mapping_down nine_texts 11 0 2 ≡ mapped 9 11 true (Dense 9 (9 ∷ 10 ∷ []))
-  pub below_a_ceiling : mapping_down nine_texts 11 3 2 ≡ mapped 1 3 false (Dense 1 (1 ∷ 2 ∷ []))
-  pub ceiling_too_high : mapping_down nine_texts 11 99 1 ≡ mapped 10 11 true (Dense 10 (10 ∷ []))
-  pub none_asked_below : mapping_down nine_texts 11 5 0 ≡ mapped 5 5 true (Sparse [])
-  pub unknown_tag : refused_change object.Text owner [] [] (given 9 0 0 [] ∷ []) ≡ refusal 48 0
-  pub letterboxes_alone : refused_change object.Conference owner [] [] (given 8 0 0 [] ∷ [])
+      ≡ mapping_of 1 6 true (Sparse (map same (1 ∷ 2 ∷ 4 ∷ 5 ∷ [])))
+  pub dense_upwards : mapping_up nine_texts 11 4 3 ≡ mapping_of 4 7 true (Dense 4 (4 ∷ 5 ∷ 6 ∷ []))
+  pub first_in_a_gap : mapping_up nine_texts 11 3 2 ≡ mapping_of 3 6 true (Dense 4 (4 ∷ 5 ∷ []))
+  pub none_above : mapping_up nine_texts 11 11 5 ≡ mapping_of 11 11 false (Sparse [])
+  pub all_upwards : mapping_up nine_texts 11 1 255 ≡ mapping_of 1 11 false (Sparse nine_texts)
+  pub none_asked : mapping_up nine_texts 11 1 0 ≡ mapping_of 1 1 true (Sparse [])
+  pub two_downwards : mapping_down nine_texts 11 0 2 ≡ mapping_of 9 11 true (Dense 9 (9 ∷ 10 ∷ []))
+  pub below_a_ceiling : mapping_down nine_texts 11 3 2 ≡ mapping_of 1 3 false (Dense 1 (1 ∷ 2 ∷ []))
+  pub ceiling_too_high : mapping_down nine_texts 11 99 1
+      ≡ mapping_of 10 11 true (Dense 10 (10 ∷ []))
+  pub none_asked_below : mapping_down nine_texts 11 5 0 ≡ mapping_of 5 5 true (Sparse [])
+  pub unknown_tag : refused_change object.Text owner [] [] (given_item 9 0 0 [] ∷ []) ≡ refusal 48 0
+  pub letterboxes_alone : refused_change object.Conference owner [] [] (given_item 8 0 0 [] ∷ [])
       ≡ refusal 48 0
-  pub one_of_its_tag : refused_change object.Text owner [] [] (given 1 0 0 [] ∷ given 1 0 0 [] ∷ [])
+  pub one_of_its_tag : refused_change object.Text owner [] []
+      (given_item 1 0 0 [] ∷ given_item 1 0 0 [] ∷ [])
       ≡ refusal 48 1
-  pub deleted_flag : refused_change object.Text owner [] [] (given 2 128 0 [] ∷ []) ≡ refusal 48 0
-  pub not_the_owner : refused_change object.Text reader [] [] (given 2 0 0 [] ∷ given 4 0 0 [] ∷ [])
+  pub deleted_flag : refused_change object.Text owner [] [] (given_item 2 128 0 [] ∷ [])
+      ≡ refusal 48 0
+  pub not_the_owner : refused_change object.Text reader [] []
+      (given_item 2 0 0 [] ∷ given_item 4 0 0 [] ∷ [])
       ≡ refusal 49 1
-  pub reader_of_a_text : refused_change object.Text reader [] [] (given 3 0 0 [] ∷ []) ≡ None
-  pub reader_of_a_conference : refused_change object.Conference reader [] [] (given 3 0 0 [] ∷ [])
+  pub reader_of_a_text : refused_change object.Text reader [] [] (given_item 3 0 0 [] ∷ []) ≡ None
+  pub reader_of_a_conference : refused_change object.Conference reader [] []
+      (given_item 3 0 0 [] ∷ [])
       ≡ refusal 49 0
   pub room_after_deletion :
-      refused_change object.Text owner (items_from 1 5 0 (given 1 0 0 [] ∷ [])) (1 ∷ [])
-      (given 1 0 0 [] ∷ []) ≡ None
+      refused_change object.Text owner (items_from 1 5 0 (given_item 1 0 0 [] ∷ [])) (1 ∷ [])
+      (given_item 1 0 0 [] ∷ []) ≡ None
   pub deleted_twice : refused_change object.Text owner three_items (1 ∷ 2 ∷ 1 ∷ []) []
       ≡ refusal 48 2
   pub no_such_number : refused_change object.Text owner three_items (4 ∷ []) [] ≡ refusal 48 0
   pub of_another : refused_change object.Text reader three_items (1 ∷ []) [] ≡ refusal 49 0
   pub secret_of_another :
-      refused_change object.Text reader (items_from 1 5 0 (given 2 32 0 [] ∷ [])) (1 ∷ []) []
+      refused_change object.Text reader (items_from 1 5 0 (given_item 2 32 0 [] ∷ [])) (1 ∷ []) []
       ≡ refusal 48 0
   pub read_confirm_stays :
-      refused_change object.Text owner (items_from 1 5 0 (given 7 0 0 [] ∷ [])) (1 ∷ []) []
+      refused_change object.Text owner (items_from 1 5 0 (given_item 7 0 0 [] ∷ [])) (1 ∷ []) []
       ≡ refusal 49 0
-  pub inherited_by_a_comment : inherited [] three_items
-      ≡ items_from 1 5 0 (given 3 64 0 (codes "p") ∷ given 3 64 1 (codes "r") ∷ [])
-  pub inherited_once_more : inherited [] (inherited [] three_items)
-      ≡ items_from 1 5 0 (given 3 64 0 (codes "p") ∷ [])
+  pub inherited_by_a_comment : inherit [] three_items
+      ≡ items_from 1 5 0 (given_item 3 64 0 (codes "p") ∷ given_item 3 64 1 (codes "r") ∷ [])
+  pub inherited_once_more : inherit [] (inherit [] three_items)
+      ≡ items_from 1 5 0 (given_item 3 64 0 (codes "p") ∷ [])
   pub one_of_a_tag_is_not_inherited :
-      inherited (items_from 1 7 0 (given 1 0 0 [] ∷ [])) (items_from 1 5 0 (given 1 64 0 [] ∷ []))
-      ≡ items_from 1 7 0 (given 1 0 0 [] ∷ [])
+      inherit (items_from 1 7 0 (given_item 1 0 0 [] ∷ []))
+      (items_from 1 5 0 (given_item 1 64 0 [] ∷ []))
+      ≡ items_from 1 7 0 (given_item 1 0 0 [] ∷ [])

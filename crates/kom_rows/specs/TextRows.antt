@@ -17,7 +17,7 @@ use Rattle.kom_types.specs.declared.texts.NewText.{NewText}
 use Rattle.kom_types.specs.declared.texts.Recipient.{Recipient}
 use Rattle.kom_model.specs.declared.viewers.Viewer.{Viewer}
 use Rattle.kom_rows.specs.Cast.{Cast, cast_over, one_seat, after, makes, makes_person, joins}
-use Rattle.kom_rows.specs.Cast.{person, nobody, strong_nobody, sent, sends, link, named}
+use Rattle.kom_rows.specs.Cast.{person, nobody, strong_nobody, recipient_row, sends, link, new_misc}
 use Rattle.kom_model.specs.Db.{Db, next_text_of, next_local_of, next_created_of, locals_of}
 use Rattle.kom_model.specs.Db.{created_by}
 use Rattle.kom_model.specs.Effects.{fits, apply_all, all_fit}
@@ -25,7 +25,7 @@ use Rattle.kom_model.specs.Effects.{most_links}
 use Rattle.kom_model.specs.Initial.{initial}
 use Rattle.kom_model.specs.Rights.{reads, may_submit}
 use Rattle.kom_model.specs.Shown.{shows_recipient}
-use Rattle.kom_model.specs.calls.Call.{Asked, answer, done}
+use Rattle.kom_model.specs.calls.Call.{Asked, answer, done_with}
 use Rattle.kom_model.specs.calls.Guards.{Guard, refusal}
 use Rattle.kom_model.specs.calls.NewTexts.{create_text, create_anonymous_text}
 use Rattle.kom_model.specs.calls.Texts as Texts
@@ -117,7 +117,7 @@ at local text = record { local = local; text = text }
 -- whether text 1 shows that it was sent to 8, if it has this author and this person added that
 abbrev pub shows_blind : Viewer → ℕ → ℕ → Bool
 shows_blind viewer author sender =
-    shows_recipient rows viewer author (record (sent 1 8 15 1) { sender = sender })
+    shows_recipient rows viewer author (record (recipient_row 1 8 15 1) { sender = sender })
 
 -- who may look: the supervisor, a stranger, a member, nobody, and who is shown all
 abbrev pub viewers : List Viewer
@@ -182,7 +182,8 @@ pub record TextRows : Type 0 where
       (1 ∷ 2 ∷ 5 ∷ 4294967295 ∷ [])
       ≡ false ∷ true ∷ true ∷ false ∷ []
   pub recipient_past_the_limit :
-      map (λ many. fits (sends 4 6 0 4) (with_recipients bo (replicate many (sent 4 10 0 1))).db)
+      map (λ many. fits (sends 4 6 0 4)
+      (with_recipients bo (replicate many (recipient_row 4 10 0 1))).db)
       (99 ∷ 100 ∷ [])
       ≡ true ∷ false ∷ []
   pub comment_past_the_limit :
@@ -221,16 +222,16 @@ pub record TextRows : Type 0 where
       ≡ true ∷ false ∷ true ∷ false ∷ true ∷ []
   pub shown_to_its_author : shows_blind (person 7) 7 0 ≡ true
   pub shown_to_its_sender : shows_blind (person 7) 5 7 ≡ true
-  pub shown_to_all : shows_recipient rows (person 7) 5 (sent 2 8 0 2) ≡ true
+  pub shown_to_all : shows_recipient rows (person 7) 5 (recipient_row 2 8 0 2) ≡ true
   -- calls that make texts
-  pub text_made : create_text bo (text lines (named 0 6 ∷ named 2 1 ∷ []))
+  pub text_made : create_text bo (text lines (new_misc 0 6 ∷ new_misc 2 1 ∷ []))
       ≡ record {
         early = None;
         rest = record {
           reply = reply.Number 6;
           effects =
               effect.TextAdded 6 7 30 lines
-              ∷ effect.RecipientAdded (record (sent 6 6 0 4) { at = 30 })
+              ∷ effect.RecipientAdded (record (recipient_row 6 6 0 4) { at = 30 })
               ∷ effect.LinkAdded (link 6 1 false 0 30)
               ∷ effect.ConfField 6 (field.LastWritten 30)
               ∷ effect.Created 7 2 6
@@ -242,47 +243,48 @@ pub record TextRows : Type 0 where
       }
   pub effects_fit :
       all_fit
-      (create_text bo (text lines (named 0 6 ∷ named 2 1 ∷ named 4 4 ∷ []))).rest.effects rows
+      (create_text bo (text lines (new_misc 0 6 ∷ new_misc 2 1 ∷ new_misc 4 4 ∷ []))).rest.effects
+      rows
       ≡ true
   pub nothing_counted : (create_text bo (text [] [])).rest.effects
       ≡ effect.TextAdded 6 7 30 [] ∷ effect.Created 7 2 6 ∷ []
-  pub text_without_author : create_anonymous_text bo (text lines (named 1 9 ∷ []))
+  pub text_without_author : create_anonymous_text bo (text lines (new_misc 1 9 ∷ []))
       ≡ record {
         early = None;
         rest = record {
           reply = reply.Number 6;
           effects =
               effect.TextAdded 6 0 30 lines
-              ∷ effect.RecipientAdded (record (sent 6 9 1 1) { at = 30 })
+              ∷ effect.RecipientAdded (record (recipient_row 6 9 1 1) { at = 30 })
               ∷ effect.ConfField 9 (field.LastWritten 30)
               ∷ [];
           changes = [];
         };
       }
-  pub nobody_writes : refuses (asked 0 0) (named 0 0 ∷ []) ≡ refusal 6 0
-  pub no_recipient : refuses bo (named 0 0 ∷ []) ≡ refusal 8 0
-  pub missing_recipient : refuses bo (named 15 10 ∷ []) ≡ refusal 9 10
-  pub recipient_named_twice : refuses bo (named 0 6 ∷ named 1 6 ∷ []) ≡ refusal 27 6
-  pub may_not_submit : refuses bo (named 0 8 ∷ []) ≡ refusal 11 8
-  pub takes_no_anonymous : refuses_anonymous bo (named 0 6 ∷ []) ≡ refusal 47 6
-  pub named_twice_is_first : refuses_anonymous bo (named 0 9 ∷ named 1 9 ∷ named 0 6 ∷ [])
+  pub nobody_writes : refuses (asked 0 0) (new_misc 0 0 ∷ []) ≡ refusal 6 0
+  pub no_recipient : refuses bo (new_misc 0 0 ∷ []) ≡ refusal 8 0
+  pub missing_recipient : refuses bo (new_misc 15 10 ∷ []) ≡ refusal 9 10
+  pub recipient_named_twice : refuses bo (new_misc 0 6 ∷ new_misc 1 6 ∷ []) ≡ refusal 27 6
+  pub may_not_submit : refuses bo (new_misc 0 8 ∷ []) ≡ refusal 11 8
+  pub takes_no_anonymous : refuses_anonymous bo (new_misc 0 6 ∷ []) ≡ refusal 47 6
+  pub named_twice_is_first : refuses_anonymous bo (new_misc 0 9 ∷ new_misc 1 9 ∷ new_misc 0 6 ∷ [])
       ≡ refusal 27 9
-  pub submitting_is_first : refuses_anonymous bo (named 0 8 ∷ []) ≡ refusal 11 8
-  pub no_parent : refuses bo (named 2 0 ∷ []) ≡ refusal 15 0
-  pub hidden_parent : refuses bo (named 2 2 ∷ named 0 0 ∷ []) ≡ refusal 14 2
-  pub parent_named_twice : refuses bo (named 2 1 ∷ named 2 1 ∷ []) ≡ refusal 28 1
-  pub footnote_to_nothing : refuses bo (named 4 0 ∷ []) ≡ refusal 15 0
-  pub footnote_to_another : refuses bo (named 4 1 ∷ []) ≡ refusal 37 1
-  pub footnote_by_strength : refuses strong (named 4 4 ∷ []) ≡ refusal 37 4
-  pub footnote_without_author : refuses_anonymous bo (named 4 4 ∷ []) ≡ refusal 37 4
-  pub footnote_named_twice : refuses bo (named 4 4 ∷ named 4 4 ∷ []) ≡ refusal 29 4
-  pub comment_and_footnote : refuses bo (named 2 4 ∷ named 4 4 ∷ []) ≡ None
+  pub submitting_is_first : refuses_anonymous bo (new_misc 0 8 ∷ []) ≡ refusal 11 8
+  pub no_parent : refuses bo (new_misc 2 0 ∷ []) ≡ refusal 15 0
+  pub hidden_parent : refuses bo (new_misc 2 2 ∷ new_misc 0 0 ∷ []) ≡ refusal 14 2
+  pub parent_named_twice : refuses bo (new_misc 2 1 ∷ new_misc 2 1 ∷ []) ≡ refusal 28 1
+  pub footnote_to_nothing : refuses bo (new_misc 4 0 ∷ []) ≡ refusal 15 0
+  pub footnote_to_another : refuses bo (new_misc 4 1 ∷ []) ≡ refusal 37 1
+  pub footnote_by_strength : refuses strong (new_misc 4 4 ∷ []) ≡ refusal 37 4
+  pub footnote_without_author : refuses_anonymous bo (new_misc 4 4 ∷ []) ≡ refusal 37 4
+  pub footnote_named_twice : refuses bo (new_misc 4 4 ∷ new_misc 4 4 ∷ []) ≡ refusal 29 4
+  pub comment_and_footnote : refuses bo (new_misc 2 4 ∷ new_misc 4 4 ∷ []) ≡ None
   pub other_tags :
-      map (λ tag. refuses bo (named 0 6 ∷ named tag 0 ∷ [])) (3 ∷ 5 ∷ 6 ∷ 7 ∷ 8 ∷ 9 ∷ [])
+      map (λ tag. refuses bo (new_misc 0 6 ∷ new_misc tag 0 ∷ [])) (3 ∷ 5 ∷ 6 ∷ 7 ∷ 8 ∷ 9 ∷ [])
       ≡ refusal 25 1 ∷ refusal 25 1 ∷ refusal 25 1 ∷ refusal 25 1 ∷ refusal 25 1 ∷ refusal 25 1 ∷ []
   pub last_number : refuses (bo_at 4294967294) [] ≡ None
-  pub past_the_last_number : refuses (bo_at 4294967295) (named 0 6 ∷ []) ≡ refusal 45 0
-  pub past_the_last_local : refuses (bo_after (sends 2 6 0 4294967294 ∷ [])) (named 0 6 ∷ [])
+  pub past_the_last_number : refuses (bo_at 4294967295) (new_misc 0 6 ∷ []) ≡ refusal 45 0
+  pub past_the_last_local : refuses (bo_after (sends 2 6 0 4294967294 ∷ [])) (new_misc 0 6 ∷ [])
       ≡ refusal 45 0
   pub past_the_last_created :
       map (λ guards. guards (bo_after (writes 6 7 [] ∷ effect.Created 7 4294967294 6 ∷ [])) [])
@@ -294,7 +296,7 @@ pub record TextRows : Type 0 where
       ≡ 1048576 ∷ 4294967294 ∷ 100 ∷ 1000 ∷ 100 ∷ 2000 ∷ []
   pub recipients_at_the_limit :
       map (λ many. (Texts.add_recipient
-      (with_recipients bo (replicate many (sent 4 10 0 1))) 4 6 0).early) (99 ∷ 100 ∷ [])
+      (with_recipients bo (replicate many (recipient_row 4 10 0 1))) 4 6 0).early) (99 ∷ 100 ∷ [])
       ≡ None ∷ refusal 33 4 ∷ []
   pub comments_at_the_limit :
       map (λ many. (Texts.add_comment
@@ -309,9 +311,11 @@ pub record TextRows : Type 0 where
       (link 9 2 true 0 20 ∷ link 1 9 true 0 20 ∷ link 9 2 false 0 20 ∷ [])
       ≡ refusal 35 2 ∷ refusal 35 1 ∷ None ∷ []
   pub parent_at_the_limit :
-      refuses (with_links bo (replicate 1000 (link 9 1 false 0 20))) (named 2 1 ∷ []) ≡ refusal 34 1
+      refuses (with_links bo (replicate 1000 (link 9 1 false 0 20))) (new_misc 2 1 ∷ [])
+      ≡ refusal 34 1
   pub footnoted_at_the_limit :
-      refuses (with_links bo (replicate 100 (link 9 4 true 0 20))) (named 4 4 ∷ []) ≡ refusal 35 4
+      refuses (with_links bo (replicate 100 (link 9 4 true 0 20))) (new_misc 4 4 ∷ [])
+      ≡ refusal 35 4
   pub marks_at_the_limit :
       map (λ many. (Texts.mark_text (with_marks many) 1 0).early) (1999 ∷ 2000 ∷ [])
       ≡ None ∷ refusal 36 0 ∷ []
@@ -345,7 +349,7 @@ pub record TextRows : Type 0 where
   pub text_deleted : Texts.delete_text anna 1
       ≡ record {
         early = None;
-        rest = done
+        rest = done_with
             (effect.LinkGone 2 1 false
             ∷ effect.LinkGone 3 1 false
             ∷ effect.LinkGone 2 1 true
@@ -364,8 +368,8 @@ pub record TextRows : Type 0 where
   pub recipient_added : Texts.add_recipient cy 4 8 15
       ≡ record {
         early = None;
-        rest = done
-            (effect.RecipientAdded (record (sent 4 8 15 3) { sender = 9; at = 30 })
+        rest = done_with
+            (effect.RecipientAdded (record (recipient_row 4 8 15 3) { sender = 9; at = 30 })
             ∷ effect.ConfField 8 (field.LastWritten 30)
             ∷ [])
             [];
@@ -376,38 +380,39 @@ pub record TextRows : Type 0 where
   pub recipient_refused : (Texts.add_recipient bo 4 8 0).early ≡ refusal 11 8
   pub recipient_missing : (Texts.add_recipient bo 4 10 2).early ≡ refusal 9 10
   pub recipient_taken : Texts.sub_recipient bo 4 6
-      ≡ record { early = None; rest = done (effect.RecipientGone 4 6 ∷ []) [] }
+      ≡ record { early = None; rest = done_with (effect.RecipientGone 4 6 ∷ []) [] }
   pub recipient_of_a_supervisor : (Texts.sub_recipient anna 4 6).early ≡ None
   pub recipient_of_a_sender :
       (Texts.sub_recipient
-      (bo_after (effect.RecipientAdded (record (sent 5 8 15 3) { sender = 7 }) ∷ [])) 5 8).early
+      (bo_after (effect.RecipientAdded (record (recipient_row 5 8 15 3) { sender = 7 }) ∷ [])) 5
+      8).early
       ≡ None
   pub recipient_not_taken : (Texts.sub_recipient bo 1 6).early ≡ refusal 12 1
   pub recipient_not_shown : (Texts.sub_recipient bo 1 8).early ≡ refusal 30 8
   pub recipient_not_there : (Texts.sub_recipient bo 1 10).early ≡ refusal 30 10
   pub recipient_zero : (Texts.sub_recipient bo 1 0).early ≡ refusal 8 0
   pub comment_added : Texts.add_comment bo 4 1
-      ≡ record { early = None; rest = done (effect.LinkAdded (link 4 1 false 7 30) ∷ []) [] }
+      ≡ record { early = None; rest = done_with (effect.LinkAdded (link 4 1 false 7 30) ∷ []) [] }
   pub comment_to_itself : (Texts.add_comment bo 4 4).early ≡ refusal 12 4
   pub hidden_comments_itself : (Texts.add_comment bo 2 2).early ≡ refusal 14 2
   pub commented_already : (Texts.add_comment anna 2 1).early ≡ refusal 28 2
   pub comment_taken : Texts.sub_comment anna 2 1
-      ≡ record { early = None; rest = done (effect.LinkGone 2 1 false ∷ []) [] }
+      ≡ record { early = None; rest = done_with (effect.LinkGone 2 1 false ∷ []) [] }
   pub no_comment : (Texts.sub_comment anna 1 2).early ≡ refusal 31 1
   pub comment_of_another : (Texts.sub_comment cy 2 1).early ≡ refusal 12 2
   pub footnote_added : Texts.add_footnote anna 1 2
-      ≡ record { early = None; rest = done (effect.LinkAdded (link 1 2 true 5 30) ∷ []) [] }
+      ≡ record { early = None; rest = done_with (effect.LinkAdded (link 1 2 true 5 30) ∷ []) [] }
   pub footnote_of_two_authors :
       map (λ asked. (Texts.add_footnote asked 4 1).early) (anna ∷ bo ∷ strong ∷ [])
       ≡ refusal 37 1 ∷ refusal 37 1 ∷ refusal 37 1 ∷ []
   pub footnote_to_itself : (Texts.add_footnote bo 1 1).early ≡ refusal 12 1
   pub footnote_already : (Texts.add_footnote anna 2 1).early ≡ refusal 29 2
   pub footnote_taken : Texts.sub_footnote anna 2 1
-      ≡ record { early = None; rest = done (effect.LinkGone 2 1 true ∷ []) [] }
+      ≡ record { early = None; rest = done_with (effect.LinkGone 2 1 true ∷ []) [] }
   pub no_footnote : (Texts.sub_footnote anna 1 2).early ≡ refusal 32 1
   pub footnote_of_another : (Texts.sub_footnote cy 2 1).early ≡ refusal 12 2
   pub mark_set : Texts.mark_text bo 5 3
-      ≡ record { early = None; rest = done (effect.MarkSet 7 5 3 ∷ []) [] }
+      ≡ record { early = None; rest = done_with (effect.MarkSet 7 5 3 ∷ []) [] }
   pub mark_of_a_hidden_text : (Texts.mark_text bo 2 3).early ≡ refusal 14 2
   pub marks_told : Texts.get_marks bo
       ≡ record {
@@ -419,7 +424,7 @@ pub record TextRows : Type 0 where
       ≡ answer (reply.Marks
       (record { text = 1; kind = 100 } ∷ record { text = 4; kind = 0 } ∷ []))
   pub mark_taken : Texts.unmark_text bo 1
-      ≡ record { early = None; rest = done (effect.MarkGone 7 1 ∷ []) [] }
+      ≡ record { early = None; rest = done_with (effect.MarkGone 7 1 ∷ []) [] }
   pub no_mark : map (λ text. (Texts.unmark_text bo text).early) (0 ∷ 5 ∷ 6 ∷ [])
       ≡ refusal 15 0 ∷ refusal 44 5 ∷ refusal 44 6 ∷ []
   -- mappings and numbers

@@ -10,7 +10,7 @@ use Rattle.kom_letters.specs.Charsets.{letters_of}
 use Rattle.kom_letters.specs.Lines.{IsHarmless, BeginsWithBlank}
 use Rattle.kom_letters.specs.Showing.{shown_text}
 use Rattle.kom_links.specs.Doors.{SinkView}
-use Rattle.kom_links.specs.Outside.{grown}
+use Rattle.kom_links.specs.Outside.{with_bytes}
 use Rattle.kom_links.specs.Talk.{IsPrefix}
 use Rattle.kom_screen.specs.declared.fronts.Front.{Front}
 use Rattle.kom_screen.specs.declared.fronts.Front.TheVariants as front
@@ -78,11 +78,11 @@ line_feed_if is_open = if is_open then 10 ∷ [] else []
 
 -- bytes are put to a screen, on a line of their own
 abbrev pub put_on : Seen → List ℕ → Option (List ℕ)
-put_on seen bytes = grown bytes (grown (line_feed_if seen.is_open) seen.sink.put)
+put_on seen bytes = with_bytes bytes (with_bytes (line_feed_if seen.is_open) seen.sink.put)
 
 -- where it is told, it has some bytes more at its end
 abbrev pub Grows : Option (List ℕ) → Option (List ℕ) → Type 0
-Grows old new = (more : List ℕ) × (new ≡ grown more old)
+Grows old new = (more : List ℕ) × (new ≡ with_bytes more old)
 
 -- A text is put to a screen on a line of its own, and what is put behind it.
 pub record Puts (old : Seen) (letters behind : List ℕ) (new : Seen) : Type 0 where

@@ -1,7 +1,7 @@
 ghost use Rattle.std.specs.Prelude.{◌≡◌, ◌∷◌, [], IfOk, OnOk, string_bytes, true, false};
 ghost use Rattle.std.specs.Str.{chars};
 ghost use Rattle.kom_links.specs.Doors.{IsNewSink};
-ghost use Rattle.kom_links.specs.Outside.{grown};
+ghost use Rattle.kom_links.specs.Outside.{with_bytes};
 ghost use Rattle.kom_screen.specs.Screens.{Grows, IsPiece, IsScreenOf, Puts, letters_behind};
 ghost use Rattle.kom_screen.specs.Screens.{line_feed_if};
 
@@ -153,7 +153,7 @@ impl<S: Sink> Screen<S> {
         ensures grows { Grows self.old.sink.put self.new.sink.put }
         ensures closed { self.new.is_open ≡ false }
         ensures puts { OnOk result
-            (self.new.sink.put ≡ grown (line_feed_if self.old.is_open) self.old.sink.put) }
+            (self.new.sink.put ≡ with_bytes (line_feed_if self.old.is_open) self.old.sink.put) }
     {
         if !self.is_open {
             return Ok(());

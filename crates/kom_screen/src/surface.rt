@@ -1,6 +1,6 @@
 ghost use Rattle.std.specs.Prelude.{◌≡◌, OnOk, false};
 ghost use Rattle.kom_links.specs.Doors.{IsNewSink};
-ghost use Rattle.kom_links.specs.Outside.{grown};
+ghost use Rattle.kom_links.specs.Outside.{with_bytes};
 ghost use Rattle.kom_screen.specs.Screens.{Grows, IsPut, IsScreenOf};
 
 use crate::screen_fault::ScreenFault;
@@ -56,7 +56,7 @@ impl<S: Sink> Surface<S> {
     pub(crate) fn put(&mut self, bytes: &[u8]) -> Result<(), ScreenFault>
         requires { IsPut self.old.columns bytes.now }
         ensures columns { self.new.columns ≡ self.old.columns }
-        ensures puts { OnOk result (self.new.sink.put ≡ grown bytes.now self.old.sink.put) }
+        ensures puts { OnOk result (self.new.sink.put ≡ with_bytes bytes.now self.old.sink.put) }
         ensures grows { Grows self.old.sink.put self.new.sink.put }
     {
         if self.has_failed {

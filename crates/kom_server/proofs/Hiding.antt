@@ -7,7 +7,8 @@ use Rattle.noninterference.specs.Hiding.{IsHiding}
 use Rattle.noninterference.proofs.Along.{all-hide}
 use Rattle.kom_links.specs.Doors.{GateView}
 use Rattle.kom_links.specs.Outside.{LinkView}
-use Rattle.kom_server.specs.Runs.{IsRun, IsHidingRun}
+use Rattle.kom_serving.specs.Runs.{IsRun}
+use Rattle.kom_server.specs.Runs.{IsHidingRun}
 
 pub opened_hides : (state : State) → IsOpening state → (history : List Record) → IsHiding state history
 opened_hides state opening history = all-hide state history opening.2

@@ -5,14 +5,14 @@ use Rattle.kom_types.specs.declared.acts.Act.{Act}
 use Rattle.kom_types.specs.declared.acts.Act.TheVariants as act
 use Rattle.kom_types.specs.declared.acts.Record.{Record}
 use Rattle.kom_types.specs.declared.session_changes.SessionChange.{SessionChange}
-use Rattle.kom_types.specs.Sessions.{Limits, waiting_limits, queued}
-use Rattle.kom_model.specs.After.{acted, after, deliveries, decision_at, moment_of, with_session, queue_all}
+use Rattle.kom_types.specs.Sessions.{Limits, waiting_limits, queue}
+use Rattle.kom_model.specs.After.{after_act, after, deliveries, decision_at, moment_of, with_session, queue_all}
 use Rattle.kom_model.specs.After.{make_change, make_changes}
 use Rattle.kom_model.specs.Db.{Db}
 use Rattle.kom_model.specs.Legal.{state_after}
 use Rattle.kom_model.specs.Effects.{apply_all}
 use Rattle.kom_model.specs.Sending.{Delivery}
-use Rattle.kom_model.specs.State.{State, opening}
+use Rattle.kom_model.specs.State.{State, opening_state}
 use Rattle.kom_server.specs.Statuses.{is_flush}
 
 or_none : (b : Bool) → (b || false) ≡ b
@@ -31,7 +31,7 @@ queue_keeps : (limits : Limits) (sent : List Delivery) (state : State) →
     (queue_all limits sent state).store_refused ≡ state.store_refused
 queue_keeps limits [] state = refl
 queue_keeps limits (one ∷ sent) state =
-    queue_keeps limits sent (with_session one.session (queued limits state.entries one.item) state)
+    queue_keeps limits sent (with_session one.session (queue limits state.entries one.item) state)
 
 changes_keep : (moment : ℕ) (changes : List SessionChange) (state : State) →
     (make_changes moment changes state).store_refused ≡ state.store_refused
@@ -47,7 +47,7 @@ acted_refused : (state : State) (pass moment session : ℕ) (what : Act) (short 
       session = session;
       short = short;
     } in
-    (acted state made).store_refused ≡ (state.store_refused || was_refused made)
+    (after_act state made).store_refused ≡ (state.store_refused || was_refused made)
 acted_refused state pass moment session (act.Connect user host) short = sym (or_none state.store_refused)
 acted_refused state pass moment session (act.Call caller reference call) true = sym (or_none state.store_refused)
 acted_refused state pass moment session (act.Call caller reference call) false =
@@ -64,7 +64,7 @@ acted_refused state pass moment session (act.Close caller) short = sym (or_none 
 after_refused : (state : State) (made : Record) →
     (after state made).store_refused ≡ (state.store_refused || was_refused made)
 after_refused state made =
-    queue_keeps waiting_limits (deliveries state made) (acted state made)
+    queue_keeps waiting_limits (deliveries state made) (after_act state made)
     ∙ acted_refused state made.entry.pass made.entry.moment made.session made.entry.act made.short
 
 refused_along : (state : State) (history : List Record) →
@@ -77,5 +77,5 @@ refused_along state (made ∷ history) =
 
 -- from a server before its first entry on
 pub refused_since : (db : Db) (history : List Record) →
-    (state_after (opening db) history).store_refused ≡ list_any was_refused history
-refused_since db history = refused_along (opening db) history
+    (state_after (opening_state db) history).store_refused ≡ list_any was_refused history
+refused_since db history = refused_along (opening_state db) history

@@ -1,5 +1,5 @@
 -- What serving on a server that a store keeps, or none keeps, comes to.
-use Rattle.std.proofs.Common.{◌≡◌, ◌≢◌, ◌⊎◌, ◌↔◌, inl, inr, ℕ, suc, ◌+◌, Bool, true, false, ◌&&◌, ◌||◌, List, [], ◌∷◌}
+use Rattle.std.proofs.Common.{◌≡◌, ◌≢◌, ◌⊎◌, ◌↔◌, inl, inr, ℕ, Bool, true, false, ◌&&◌, ◌||◌, List, [], ◌∷◌}
 use Rattle.std.proofs.Common.{map, Option, Some, None, refl, sym, ap, subst, arith, ◌∙◌}
 use Rattle.std.proofs.lemmas.Bool.{false≢true}
 use Rattle.std.specs.Option.{IfSome}
@@ -11,10 +11,10 @@ use Rattle.kom_types.specs.declared.acts.Record.{Record}
 use Rattle.kom_commands.specs.declared.cases.Cases.{Cases}
 use Rattle.kom_commands.specs.declared.numbers.AtPort.{AtPort}
 use Rattle.kom_links.specs.declared.world_counts.WorldCounts.{WorldCounts}
-use Rattle.kom_links.specs.WorldCounts.{with_clock, with_disk}
+use Rattle.kom_links.specs.WorldCounts.{with_disk}
 use Rattle.kom_model.specs.Db.{Db}
 use Rattle.kom_model.specs.Legal.{state_after}
-use Rattle.kom_model.specs.State.{State, opening}
+use Rattle.kom_model.specs.State.{State, opening_state}
 use Rattle.hall_desk.specs.Acts.{IsOpening}
 use Rattle.kom_journal.specs.Journals.{JournalView}
 use Rattle.kom_book.specs.Books.{BookView, Leads, disk_in, state_in}
@@ -22,7 +22,7 @@ use Rattle.kom_book.specs.Stores.{IfBoth, IsNotRefused}
 use Rattle.kom_book.specs.declared.ticked.Ticked.{Ticked}
 use Rattle.store_check.specs.Stores.{IsNoStore, IfFound, IsWrong}
 use Rattle.store_check.proofs.Causes.{memory_wrong}
-use Rattle.kom_server.specs.Runs.{AsksPlace, with_clocks}
+use Rattle.kom_server.specs.Runs.{AsksPlace}
 use Rattle.kom_server.specs.Statuses.{is_flush, HasRefused, StoreFails, HoldsNoStore}
 use Rattle.kom_server.proofs.Refusing.{was_refused, refused_since}
 
@@ -38,7 +38,7 @@ both_some P Q None one other = tt
 both_some P Q (Some x) one other = (one, other)
 
 -- a server before its first entry is that over its rows
-pub opened_from : (state : State) → IsOpening state → state ≡ opening state.db
+pub opened_from : (state : State) → IsOpening state → state ≡ opening_state state.db
 opened_from state (db, is, sound) = rw is refl
 
 -- what is there has a fact that it has where it is told
@@ -92,13 +92,6 @@ pub wrong_or_served : {T : Type 0} (end : Option T) (cases : Cases) → (is_some
 wrong_or_served None cases wrong = inl (memory_wrong cases (wrong refl))
 wrong_or_served (Some x) cases wrong = inr refl
 
--- one clock more
-pub clocks_more : (number : ℕ) (counts : WorldCounts) →
-    with_clocks (number + 1) counts ≡ with_clock (with_clocks number counts)
-clocks_more number counts =
-    let more : suc number ≡ number + 1 = omega arith in
-    subst (λ (n : ℕ). with_clocks n counts ≡ with_clock (with_clocks number counts)) more refl
-
 -- what is asked for where nothing is served
 pub asks_none : (port : Option AtPort) (counts : WorldCounts) → AsksPlace port false counts counts
 asks_none None counts = inl refl
@@ -138,7 +131,7 @@ refused_end (Some x) history_of marked same = (λ both. sym same ∙ both.1, λ 
 module _ {D : Type 0} (faults : D → ℕ) where
   -- where a history that led from a server before its first entry marks the store
   pub marked_by : (opening_book book : BookView D) (history : List (Ticked D)) (db : Db) →
-      state_in opening_book ≡ opening db → Leads faults opening_book history book →
+      state_in opening_book ≡ opening_state db → Leads faults opening_book history book →
       (state_in book).store_refused ≡ list_any was_refused (map (λ entry. entry.made) history)
   marked_by opening_book book history db opens leads =
       ap (λ (state : State). state.store_refused) leads.led.state

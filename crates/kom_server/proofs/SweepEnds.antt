@@ -1,5 +1,5 @@
 -- What the end of a sweep says of the exit status.
-use Rattle.std.proofs.Common.{◌≡◌, ◌≢◌, ◌⊎◌, inl, inr, ℕ, Bool, true, false, ◌||◌, refl, sym, ◌∙◌}
+use Rattle.std.proofs.Common.{◌≡◌, ◌≢◌, ◌⊎◌, inl, inr, ℕ, Bool, true, false, ◌||◌, refl, ◌∙◌}
 use Rattle.std.proofs.lemmas.Bool.{false≢true, true≢false}
 use Rattle.kom_commands.specs.declared.cases.Cases.{Cases}
 use Rattle.kom_commands.specs.Reports.{HasText, sweep_lines}

@@ -1,5 +1,5 @@
 -- A whole sweep: one pass made the acts of a desk, and the hall was closed.
-use Rattle.std.proofs.Common.{◌≡◌, ◌⊎◌, ℕ, ◌+◌, ◌<◌, ◌≤◌, inl, inr, Bool, true, eqb, List, [], ◌∷◌, ◌++◌, map, All}
+use Rattle.std.proofs.Common.{◌≡◌, ℕ, ◌+◌, ◌<◌, ◌≤◌, inl, inr, Bool, true, eqb, List, [], ◌∷◌, ◌++◌, map, All}
 use Rattle.std.proofs.Common.{Option, refl, sym, ap, subst, ◌∙◌, arith, append-nil}
 use Rattle.std.specs.List.{AllByRecursion}
 use Rattle.std.proofs.lemmas.Bool.{cases_eq, eq-eqb}
@@ -16,7 +16,7 @@ use Rattle.kom_model.proofs.Prefixes.{gives_prefixes}
 use Rattle.kom_state_lock.specs.Views.{entries_of}
 use Rattle.kom_state_lock.specs.Passes.{HallModel, PassModel, new_pass, IsClosed}
 use Rattle.kom_sweep.specs.declared.ends.SweepEnd.{SweepEnd}
-use Rattle.kom_sweep.specs.Acting.{seen}
+use Rattle.kom_sweep.specs.Acting.{sight}
 use Rattle.kom_sweep.specs.Sweeps.{IsSweep}
 use Rattle.hall_desk.specs.Acts.{IsLed, IsOpening}
 use Rattle.hall_desk.specs.Passes.{PassView, pass_view, of_pass}
@@ -26,7 +26,7 @@ use Rattle.hall_desk.proofs.Histories.{of_pass-append}
 use Rattle.kom_server.specs.Runs.{AsksClock}
 use Rattle.kom_server.specs.Sweeps.{new_desk, IsOnlyDesk, IsSweepRun}
 use Rattle.kom_server.proofs.Hiding.{opened_hides}
-use Rattle.kom_server.proofs.WholeRuns.{all_zero, entries_made}
+use Rattle.kom_serving.proofs.WholeRuns.{all_zero, entries_made}
 
 -- where each record is of pass 0, its records are all
 all_own : (history : List Record) → AllByRecursion (λ made. made.entry.pass < 1) history → of_pass 0 history ≡ history
@@ -135,7 +135,7 @@ module _ {B E : Type 0} (made : E → Record) (server : B → State) (pass_of : 
       first ≡ new_pass hall.table 0 → own ≡ new_pass hall.table 1 → desk.start ≡ server hall.opening →
       desk.pass ≡ pass_view made first → desk.answers ≡ [] → GoesOn desk desk' → pass_view made left ≡ desk'.pass →
       Stands desk' → IsNothing before →
-      IsSweep person password told (seen (desk_view desk) before 1) (desk_view desk') gave ending →
+      IsSweep person password told (sight (desk_view desk) before 1) (desk_view desk') gave ending →
       IsSweepRun (server hall.opening) person password told (map made last.seen) last.drawn (gave ∷ []) ending
   sweep_closed hall items value last first left own desk desk' person password told before gave ending two opening led'
       closed all strangers is is' start pass none on left_is stands fresh sweeps =
@@ -159,7 +159,7 @@ module _ {B E : Type 0} (made : E → Record) (server : B → State) (pass_of : 
         gave = gave;
         unread = fresh;
         clock = refl;
-        sweeps = subst (λ (view : DeskView). IsSweep person password told (seen view before 1) (desk_view desk') gave
+        sweeps = subst (λ (view : DeskView). IsSweep person password told (sight view before 1) (desk_view desk') gave
             ending) (view_new made hall first desk is pass none) sweeps;
       }
 

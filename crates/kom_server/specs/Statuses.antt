@@ -15,7 +15,8 @@ use Rattle.kom_commands.specs.Words.{IsSpelled, serves, names_store}
 use Rattle.kom_commands.specs.Sweeps.{SweepsBy, SaysSweep}
 use Rattle.kom_journal.specs.Images.{as_read}
 use Rattle.store_check.specs.Stores.{Fails, IsNoStore}
-use Rattle.kom_server.specs.Runs.{Opens, AsksPort, AsksClock}
+use Rattle.kom_serving.specs.Runs.{AsksPort}
+use Rattle.kom_server.specs.Runs.{Opens, AsksClock}
 
 -- the words are a command that serves sessions
 abbrev pub Serves : List (List ℕ) → Type 0

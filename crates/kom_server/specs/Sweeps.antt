@@ -14,7 +14,7 @@ use Rattle.noninterference.specs.Hiding.{IsHiding}
 use Rattle.hall_desk.specs.Desks.{Kept, Stands, desk_view}
 use Rattle.kom_sweep.specs.declared.ends.SweepEnd.{SweepEnd}
 use Rattle.kom_sweep.specs.declared.ends.SweepEnd.TheVariants as end
-use Rattle.kom_sweep.specs.Acting.{seen}
+use Rattle.kom_sweep.specs.Acting.{sight}
 use Rattle.kom_sweep.specs.Sweeps.{IsSweep}
 use Rattle.store_check.specs.Stores.{IsWrong, IsUnswept}
 
@@ -57,7 +57,7 @@ pub record IsSweepRun (start : State) (person : ℕ) (password : List ℕ) (firs
   pub gave : Option (List ℕ)
   pub unread : IsNothing before
   pub clock : clocks ≡ gave ∷ []
-  pub sweeps : IsSweep person password first (seen new_desk before 1) (desk_view desk) gave ending
+  pub sweeps : IsSweep person password first (sight new_desk before 1) (desk_view desk) gave ending
 
 -- What the end of a sweep makes of its cases, and what is put to the sink: both counts, where the
 -- store did not fail and memory for that did not run out.

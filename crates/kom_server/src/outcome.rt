@@ -1,10 +1,7 @@
-ghost use Rattle.std.specs.Prelude.{◌≡◌, false};
-ghost use Rattle.kom_state_lock.specs.Views.{is_served};
-
 use hall_desk::Acts;
 use kom_book::Book;
 use kom_links::World;
-use kom_state_lock::Pass;
+use kom_serving::Closing;
 
 /// What a run leaves.
 pub struct Outcome<W: World>
@@ -32,25 +29,5 @@ impl<W: World> Drop for Outcome<W> {
             end,
         } = self;
         drop((sink, disk, end));
-    }
-}
-
-/// A pass that has seen the whole history, the gates with the links that were given back, and the
-/// clocks.
-pub struct Closing<B: Acts + Drop, W: World> {
-    pub pass: Pass<B>,
-    pub gates: Vec<W::Gate>,
-    pub clocks: Vec<W::Clock>,
-    // It can be let go.
-    ghost free: { is_served pass.turn ≡ false },
-}
-
-impl<B: Acts + Drop, W: World> Drop for Closing<B, W> {
-    fn drop(self) {
-        let Closing {
-            pass: _,
-            gates: _,
-            clocks: _,
-        } = self;
     }
 }

@@ -5,13 +5,12 @@ ghost use Rattle.kom_journal.specs.Journals.{EndsAtGate};
 ghost use Rattle.kom_book.specs.Books.{state_in, disk_in};
 ghost use Rattle.store_check.specs.Stores.{IsUnswept, Fails};
 
-use crate::outcome::Closing;
-use crate::standard::Left;
 use hall_desk::Acts;
 use kom_book::Book;
 use kom_commands::Cases;
 use kom_disk::Disk;
 use kom_links::World;
+use kom_serving::{Closing, Left};
 
 /// What a command came to: its cases, the disk that was opened, and what was opened to serve.
 #[derive(Drop)]

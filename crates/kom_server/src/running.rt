@@ -16,13 +16,15 @@ ghost use Rattle.kom_links.specs.Doors.{IsNewSink};
 ghost use Rattle.kom_links.specs.WorldCounts.{with_sink, with_disk};
 ghost use Rattle.kom_model.specs.Db.{Db};
 ghost use Rattle.kom_model.specs.Initial.{initial};
-ghost use Rattle.kom_model.specs.State.{opening};
+ghost use Rattle.kom_model.specs.State.{opening_state};
 ghost use Rattle.kom_journal.specs.Images.{AreFor, StandsFor, images, images_at};
 ghost use Rattle.kom_journal.specs.Images.{moment as moment_on};
 ghost use Rattle.store_check.specs.Stores.{IsNoStore, IfFound, IsWrong, IsUnswept};
 ghost use Rattle.store_check.specs.Stores.{IsReported};
-ghost use Rattle.kom_server.specs.Runs.{new_server, usage, Opens, IsHidingRun, IsFirstReading};
-ghost use Rattle.kom_server.specs.Runs.{HasFailed, IsOverAt, gates_at, IsFirstMoment};
+ghost use Rattle.kom_serving.specs.Runs.{IsFirstReading};
+ghost use Rattle.kom_server.specs.Runs.{new_server, usage, Opens, IsHidingRun};
+ghost use Rattle.kom_serving.specs.Runs.{HasFailed};
+ghost use Rattle.kom_server.specs.Runs.{IsOverAt, gates_at, IsFirstMoment};
 ghost use Rattle.kom_server.specs.Statuses.{Serves, NamesStore, ServesStore, OpensStore};
 ghost use Rattle.kom_server.specs.Statuses.{StoreFails, HasRefused, Asks, serve_over, opens_store};
 ghost use Rattle.kom_server.specs.Statuses.{HoldsNoStore, Sweeps};
@@ -32,15 +34,15 @@ ghost use Rattle.kom_server.specs.Sweeps.{IsSweepRun, IsMetBy, IsEndAt};
 ghost use Rattle.kom_sweep.specs.declared.ends.SweepEnd.{SweepEnd};
 
 use crate::loads::load;
-use crate::outcome::{Closing, Outcome};
+use crate::outcome::Outcome;
 use crate::ran::{Ran, settle};
-use crate::standard::serve_standard;
 use crate::store_runs::{init, serve_store};
 use crate::sweep_runs::sweep_store;
 use kom_book::Book;
 use kom_commands::{Cases, Command, command_of, put_text};
 use kom_disk::Disk;
 use kom_links::{Clock, Gate, Sink, World, has_risen};
+use kom_serving::serve_standard;
 use kom_types::Words;
 use std::alloc::Global;
 use std::sync::Wait;
@@ -115,16 +117,16 @@ pub fn run<R: Threads + Wait + Sync, W: World<Gate: Gate<Link: Send>>>(
     ensures over { (store : List ℕ) (port : Option PortModel) → ServesStore words.now store port
         → IfSome result.end (λ closing. (db : Db)
         × IfFound W.Disk.tells (W.view world.old).files store (StandsFor db)
-        × IsHidingRun W.Gate.Link.view (opening db)
+        × IsHidingRun W.Gate.Link.view (opening_state db)
         (map (λ entry. entry.made) closing.pass.seen) closing.pass.drawn
         (map (λ gate. W.Gate.view gate) closing.gates.items)
         (map (λ clock. W.Clock.gave clock) closing.clocks.items)
-        × (result.status ≡ 0 → IsOverAt port (opening db)
+        × (result.status ≡ 0 → IsOverAt port (opening_state db)
         (map (λ entry. entry.made) closing.pass.seen)
         (map (λ gate. W.Gate.view gate) closing.gates.items))
         × (length closing.gates.items ≡ gates_at port)
         × IfSome result.disk (HasServed (moment_on W.Disk.moment) (images_at W.Disk.images_at)
-        W.Disk.tells W.Disk.faults W.Disk.size (opening db) closing.pass.seen)) }
+        W.Disk.tells W.Disk.faults W.Disk.size (opening_state db) closing.pass.seen)) }
 
     // Whether it is a store. Where it is told to be none, the status is 4, unless its disk or the
     // world failed or memory ran out; and neither a clock nor a gate was asked for.
@@ -172,13 +174,13 @@ pub fn run<R: Threads + Wait + Sync, W: World<Gate: Gate<Link: Send>>>(
         → SweepsBy words.now store person password → IfSome result.end (λ closing. (db : Db)
         × (ending : SweepEnd)
         × IfFound W.Disk.tells (W.view world.old).files store (StandsFor db)
-        × IsSweepRun (opening db) person password (W.view world.old).moment
+        × IsSweepRun (opening_state db) person password (W.view world.old).moment
         (map (λ entry. entry.made) closing.pass.seen) closing.pass.drawn
         (map (λ clock. W.Clock.gave clock) closing.clocks.items) ending
         × (result.status ≢ 3 → IsEndAt ending result.status (W.Sink.view result.sink))
         × (closing.gates.items ≡ [])
         × IfSome result.disk (HasServed (moment_on W.Disk.moment) (images_at W.Disk.images_at)
-        W.Disk.tells W.Disk.faults W.Disk.size (opening db) closing.pass.seen)) }
+        W.Disk.tells W.Disk.faults W.Disk.size (opening_state db) closing.pass.seen)) }
     ensures swept { Sweeps words.now → (result.status ≡ 3) ⊎ ((result.status ≡ 4)
         ⊎ ((result.status ≡ 6) ⊎ IsSome result.end)) }
     ensures unreported { Sweeps words.now → (result.status ≢ 0) → (result.status ≢ 7)
@@ -258,16 +260,16 @@ fn carry_out<R: Threads + Wait + Sync, W: World<Gate: Gate<Link: Send>>>(
     ensures over { (store : List ℕ) (port : Option PortModel) → slice_get words.now 1 ≡ Some store
         → command ≡ serve_over port → IfSome result.end (λ closing. (db : Db)
         × IfFound W.Disk.tells (W.view world.old).files store (StandsFor db)
-        × IsHidingRun W.Gate.Link.view (opening db)
+        × IsHidingRun W.Gate.Link.view (opening_state db)
         (map (λ entry. entry.made) closing.pass.seen) closing.pass.drawn
         (map (λ gate. W.Gate.view gate) closing.gates.items)
         (map (λ clock. W.Clock.gave clock) closing.clocks.items)
-        × (IsWrong result.cases ⊎ IsOverAt port (opening db)
+        × (IsWrong result.cases ⊎ IsOverAt port (opening_state db)
         (map (λ entry. entry.made) closing.pass.seen)
         (map (λ gate. W.Gate.view gate) closing.gates.items))
         × (length closing.gates.items ≡ gates_at port)
         × IfSome result.disk (HasServed (moment_on W.Disk.moment) (images_at W.Disk.images_at)
-        W.Disk.tells W.Disk.faults W.Disk.size (opening db) closing.pass.seen)) }
+        W.Disk.tells W.Disk.faults W.Disk.size (opening_state db) closing.pass.seen)) }
 
     // What was found and made.
     ensures no_store { (store : List ℕ) → slice_get words.now 1 ≡ Some store
@@ -303,13 +305,13 @@ fn carry_out<R: Threads + Wait + Sync, W: World<Gate: Gate<Link: Send>>>(
         → command ≡ said.Sweep person → IfSome result.end (λ closing. (db : Db)
         × (ending : SweepEnd)
         × IfFound W.Disk.tells (W.view world.old).files store (StandsFor db)
-        × IsSweepRun (opening db) person password (W.view world.old).moment
+        × IsSweepRun (opening_state db) person password (W.view world.old).moment
         (map (λ entry. entry.made) closing.pass.seen) closing.pass.drawn
         (map (λ clock. W.Clock.gave clock) closing.clocks.items) ending
         × IsMetBy ending result.cases (W.Sink.view sink.new)
         × (result.cases.is_unfit ≡ false) × (closing.gates.items ≡ [])
         × IfSome result.disk (HasServed (moment_on W.Disk.moment) (images_at W.Disk.images_at)
-        W.Disk.tells W.Disk.faults W.Disk.size (opening db) closing.pass.seen)) }
+        W.Disk.tells W.Disk.faults W.Disk.size (opening_state db) closing.pass.seen)) }
     ensures swept { (person : ℕ) → command ≡ said.Sweep person → IsWrong result.cases
         ⊎ IsSome result.end }
 {

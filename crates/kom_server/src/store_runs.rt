@@ -7,7 +7,7 @@ ghost use Rattle.kom_links.specs.Outside.{Rose};
 ghost use Rattle.kom_links.specs.WorldCounts.{with_disk, with_clock};
 ghost use Rattle.kom_model.specs.Db.{Db};
 ghost use Rattle.kom_model.specs.Initial.{initial};
-ghost use Rattle.kom_model.specs.State.{opening};
+ghost use Rattle.kom_model.specs.State.{opening_state};
 ghost use Rattle.kom_journal.specs.Images.{AreFor, StandsFor, images, images_at};
 ghost use Rattle.kom_journal.specs.Images.{moment as moment_on};
 ghost use Rattle.kom_commands.specs.Reports.{HasText, made_line};
@@ -15,21 +15,20 @@ ghost use Rattle.hall_desk.specs.Acts.{IsOpening};
 ghost use Rattle.kom_book.specs.Books.{IsPlain, StandsNow, state_in};
 ghost use Rattle.store_check.specs.Stores.{IsNoStore, IfFound, IsWrong, IsUnswept, Fails};
 ghost use Rattle.store_check.specs.Stores.{is_of_content, is_memory};
-ghost use Rattle.kom_server.specs.Runs.{IsRun, IsHidingRun, HasFailed, AsksPlace, gates_at};
+ghost use Rattle.kom_serving.specs.Runs.{IsRun, HasFailed};
+ghost use Rattle.kom_server.specs.Runs.{IsHidingRun, AsksPlace, gates_at};
 ghost use Rattle.kom_server.specs.Runs.{IsOverAt, IsWithin, IsFirstMoment};
 ghost use Rattle.kom_server.specs.Statuses.{StoreFails, HasRefused, HoldsNoStore};
 ghost use Rattle.kom_server.specs.Stops.{HasServed};
 
-use crate::outcome::Closing;
-use crate::ports::serve_port;
 use crate::ran::{Ran, settle, unopened};
-use crate::standard::{Left, serve_standard, unserved};
 use hall_desk::Acts;
 use kom_book::Book;
 use kom_commands::{AtPort, Cases, MADE, put_text};
 use kom_disk::Disk;
 use kom_journal::OpenFault;
 use kom_links::{Clock, Gate, World, has_risen};
+use kom_serving::{Left, serve_port, serve_standard, unserved};
 use std::alloc::Global;
 use std::sync::Wait;
 use std::thread::Threads;
@@ -72,16 +71,16 @@ pub(crate) fn serve_store<R: Threads + Wait + Sync, W: World<Gate: Gate<Link: Se
     // What was served.
     ensures over { IfSome result.end (λ closing. (db : Db)
         × IfFound W.Disk.tells (W.view world.old).files path.now (StandsFor db)
-        × IsHidingRun W.Gate.Link.view (opening db)
+        × IsHidingRun W.Gate.Link.view (opening_state db)
         (map (λ entry. entry.made) closing.pass.seen) closing.pass.drawn
         (map (λ gate. W.Gate.view gate) closing.gates.items)
         (map (λ clock. W.Clock.gave clock) closing.clocks.items)
-        × (IsWrong result.cases ⊎ IsOverAt port (opening db)
+        × (IsWrong result.cases ⊎ IsOverAt port (opening_state db)
         (map (λ entry. entry.made) closing.pass.seen)
         (map (λ gate. W.Gate.view gate) closing.gates.items))
         × (length closing.gates.items ≡ gates_at port)
         × IfSome result.disk (HasServed (moment_on W.Disk.moment) (images_at W.Disk.images_at)
-        W.Disk.tells W.Disk.faults W.Disk.size (opening db) closing.pass.seen)) }
+        W.Disk.tells W.Disk.faults W.Disk.size (opening_state db) closing.pass.seen)) }
 {
     let Ok(disk) = world.open_disk(path) else {
         return unopened(has_risen(before, world.faults()));

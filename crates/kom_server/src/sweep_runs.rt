@@ -7,7 +7,7 @@ ghost use Rattle.kom_links.specs.Doors.{IsNewSink};
 ghost use Rattle.kom_links.specs.Outside.{Rose};
 ghost use Rattle.kom_links.specs.WorldCounts.{with_disk};
 ghost use Rattle.kom_model.specs.Db.{Db};
-ghost use Rattle.kom_model.specs.State.{opening};
+ghost use Rattle.kom_model.specs.State.{opening_state};
 ghost use Rattle.kom_journal.specs.Images.{StandsFor, images_at};
 ghost use Rattle.kom_journal.specs.Images.{moment as moment_on};
 ghost use Rattle.kom_book.specs.Books.{IsPlain, StandsNow, state_in};
@@ -63,13 +63,13 @@ pub(crate) fn sweep_store<R: Wait, W: World>(
     // What was swept, and what is put to the sink.
     ensures swept { IfSome result.end (λ closing. (db : Db) × (ending : Ending)
         × IfFound W.Disk.tells (W.view world.old).files path.now (StandsFor db)
-        × IsSweepRun (opening db) person password.now (W.view world.old).moment
+        × IsSweepRun (opening_state db) person password.now (W.view world.old).moment
         (map (λ entry. entry.made) closing.pass.seen) closing.pass.drawn
         (map (λ clock. W.Clock.gave clock) closing.clocks.items) ending
         × IsMetBy ending result.cases (W.Sink.view sink.new)
         × (result.cases.is_unfit ≡ false) × (closing.gates.items ≡ [])
         × IfSome result.disk (HasServed (moment_on W.Disk.moment) (images_at W.Disk.images_at)
-        W.Disk.tells W.Disk.faults W.Disk.size (opening db) closing.pass.seen)) }
+        W.Disk.tells W.Disk.faults W.Disk.size (opening_state db) closing.pass.seen)) }
 {
     let Ok(disk) = world.open_disk(path) else {
         return unopened(false);

@@ -5,17 +5,16 @@ ghost use Rattle.kom_links.specs.Outside.{IsNothing};
 ghost use Rattle.kom_sweep.specs.declared.ends.SweepEnd.TheVariants as end;
 ghost use Rattle.kom_state_lock.specs.Views.{is_served};
 ghost use Rattle.kom_state_lock.specs.Passes.{AreNewPasses};
-ghost use Rattle.kom_sweep.specs.Acting.{seen};
+ghost use Rattle.kom_sweep.specs.Acting.{sight};
 ghost use Rattle.kom_sweep.specs.Sweeps.{IsSweep};
 ghost use Rattle.hall_desk.specs.Acts.{IsOpening};
 ghost use Rattle.hall_desk.specs.Desks.{GoesOn, Stands, desk_view};
 ghost use Rattle.kom_server.specs.Runs.{AsksClock};
 ghost use Rattle.kom_server.specs.Sweeps.{IsSweepRun};
 
-use crate::outcome::Closing;
-use crate::standard::{Left, unserved};
 use hall_desk::{Acts, HallDesk};
 use kom_links::{Clock, World};
+use kom_serving::{Closing, Left, unserved};
 use kom_state_lock::{Hall, Pass};
 use kom_sweep::{SweepEnd, sweep};
 use std::alloc::Global;
@@ -109,7 +108,7 @@ fn sweep_new<R: Wait, B: Acts, C: Clock>(
     ensures on { GoesOn desk.old desk.new }
     ensures stands { Stands desk.new }
     ensures sweeps { IsSweep person password.now (C.first clock.old)
-        (seen (desk_view desk.old) (C.gave clock.old) 1) (desk_view desk.new) (C.gave clock.new)
+        (sight (desk_view desk.old) (C.gave clock.old) 1) (desk_view desk.new) (C.gave clock.new)
         result }
 {
     let ending = sweep(alloc, desk, clock, person, password);

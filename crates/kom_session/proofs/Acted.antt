@@ -22,17 +22,18 @@ use Rattle.kom_links.specs.declared.deeds.Deed.TheVariants as deed
 use Rattle.kom_types.specs.declared.answers.NotMade.{NotMade}
 use Rattle.kom_types.specs.declared.answers.NotMade.TheVariants as fault
 use Rattle.kom_links.specs.declared.served.SessionEnd.TheVariants as end
-use Rattle.kom_links.specs.Answers.{said, concerns}
+use Rattle.kom_links.specs.Answers.{without_value, concerns}
 use Rattle.kom_links.specs.Records.{is_open, IsOpen}
 use Rattle.kom_links.specs.DeskCalls.{DeskView, record_of, IsTold, StaysForAll, Connects as ConnectsOf, Calls, Acts}
-use Rattle.kom_links.specs.Talk.{Step, Connects, Asks, Breaks, steps_of, printed}
+use Rattle.kom_links.specs.Talk.{Step, Connects, Asks, Breaks, steps_of, print_of_drains}
 use Rattle.kom_session.specs.declared.phase.Phase.{Phase}
 use Rattle.kom_session.specs.declared.phase.Phase.TheVariants as phase
 use Rattle.kom_session.specs.declared.phase.Stage.{Stage}
 use Rattle.kom_session.specs.declared.phase.Stage.TheVariants as stage
 use Rattle.kom_session.specs.Course.{IsRecent, IsCourse}
 use Rattle.kom_session.specs.Kept.{IsEarly, IsAtStream, IsStage, IsKept, IsAtRest, IsTaking, IsFaulty}
-use Rattle.kom_session.specs.Known.{Known, Seen, state, seen, noted, with_line, phase_after, HasRoom, LeavesOthers}
+use Rattle.kom_session.specs.Known.{Known, Seen, state, sight, note_fault, with_line, phase_after, HasRoom}
+use Rattle.kom_session.specs.Known.{LeavesOthers}
 use Rattle.kom_session.specs.Left.{IsSending}
 use Rattle.kom_session.specs.Serving.{Party, Nobody, Somebody, Past, IsFaultAfter, AreCalled, Plans}
 use Rattle.kom_session.specs.Serving.{IsPhase, IsSince, IsServed, IsHeard}
@@ -54,9 +55,9 @@ act_pushes : {X : Type 0} {start : Seen} {past : Past} {known : Known} {now : Se
     desk.mine ≡ now.desk.mine ++ made ∷ [] → StaysForAll now.desk.gave_to desk.gave_to
     → IsTold now.desk deed answer desk → concerns known.session deed ≡ true →
     IsPhase reached s.waited s.place (s.recent ++ step ∷ []) →
-    (IsSending (with_answer known.cause (said answer))
-    → IsSince reached known.session (s.more ++ (deed, said answer) ∷ [])) →
-    Pushes s desk gave made [] step deed (said answer) reached
+    (IsSending (with_answer known.cause (without_value answer))
+    → IsSince reached known.session (s.more ++ (deed, without_value answer) ∷ [])) →
+    Pushes s desk gave made [] step deed (without_value answer) reached
 act_pushes {known = known} {now = now} s desk gave made step deed answer reached of e mine given told
     here is_phase since = record {
       mine = mine;
@@ -78,10 +79,10 @@ act_refused : {X : Type 0} {start : Seen} {past : Past} {known : Known} {now : S
     (deed : Deed) (reason : NotMade) (reached : Phase) → known.session ≢ 0 →
     StaysForAll now.desk.gave_to desk.gave_to → IsTold {X = X} now.desk deed (Err reason) desk
     → concerns known.session deed ≡ true → IsPhase reached s.waited s.place s.recent →
-    (IsSending (noted known.cause reason)
+    (IsSending (note_fault known.cause reason)
     → IsSince reached known.session (s.more ++ (deed, Err reason) ∷ [])) →
-    IsServed start past (record known { cause = noted known.cause reason; phase = reached })
-    (seen desk now.link gave)
+    IsServed start past (record known { cause = note_fault known.cause reason; phase = reached })
+    (sight desk now.link gave)
 act_refused {known = known} {now = now} s desk gave deed reason reached some given told here is_phase
     since =
     served_still s desk gave deed (Err reason) reached
@@ -200,7 +201,7 @@ pub call_made : {X : Type 0} {start : Seen} {known : Known} {now : Seen} (line :
     → reading_of line.tokens ≡ Some (record { reference = reference; call = call }) →
     (moment : ℕ) (done : X) (desk : DeskView) (gave : Option (List ℕ))
     → Calls now.desk moment (act.Call known.session reference call) known.session (Ok done) desk →
-    IsKept start (record known { phase = with_line known.phase }) (seen desk now.link gave)
+    IsKept start (record known { phase = with_line known.phase }) (sight desk now.link gave)
 call_made {X} {start} {known} {now} line reference call t reading moment done desk gave calls =
     let n = line_next line t in
     let s = n.served in
@@ -224,7 +225,7 @@ call_made {X} {start} {known} {now} line reference call t reading moment done de
           (phase_called known.phase s.waited s.place s.recent request t.room s.phase)
           (λ sending. sound_since known.cause (IsSince (with_line known.phase) known.session
           (s.more ++ (deed.Call known.session, Ok tt) ∷ [])) t.sound sending))
-          known.pending (s.owed ∙ ap printed (sym (calls.given known.session)))
+          known.pending (s.owed ∙ ap print_of_drains (sym (calls.given known.session)))
           (record {
             some = s.party.some;
             course =
@@ -244,7 +245,7 @@ call_made {X} {start} {known} {now} line reference call t reading moment done de
           });
       stage =
           subst (λ (stage : Stage). IsStage stage start past
-          (record known { phase = with_line known.phase }) (seen desk now.link gave))
+          (record known { phase = with_line known.phase }) (sight desk now.link gave))
           (sym t.serving)
           (record {
             units = n.units ++ unit.Line line ∷ [];
@@ -285,7 +286,7 @@ after_phase fault.Memory waited place recent = tt
 
 after_since : (cause : Option NotMade) (reason : NotMade) (session : ℕ)
     (answers : List (Deed × Result ⊤ NotMade)) → cause ≡ None
-    → IsSending (noted cause reason) → IsSince (phase_after reason) session answers
+    → IsSending (note_fault cause reason) → IsSince (phase_after reason) session answers
 after_since (Some first) reason session answers none sending = absurd (cc none)
 after_since None (fault.Gone why.Absent) session answers none sending = absurd sending
 after_since None (fault.Gone why.Dropped) session answers none sending = tt
@@ -302,10 +303,10 @@ pub call_last : {X : Type 0} {start : Seen} {known : Known} {now : Seen} (line :
     (Err reason) desk →
     IsKept start
     (record known {
-      cause = noted known.cause reason;
+      cause = note_fault known.cause reason;
       phase = phase_after reason;
       stage = stage.Last end.End;
-    }) (seen desk now.link gave)
+    }) (sight desk now.link gave)
 call_last {X} {known = known} line reference call t moment reason desk gave calls =
     let n = line_next line t in
     let s = n.served in
@@ -336,7 +337,7 @@ pub told_broken : {X : Type 0} {place : ℕ} {start : Seen} {known : Known} {now
     → (moment : ℕ) (done : X) (desk : DeskView) (gave : Option (List ℕ)) →
     Acts now.desk moment (act.Broken known.session) known.session (Ok done) desk →
     IsKept start (record known { phase = phase.Owing; stage = stage.Last (end.Broken place) })
-    (seen desk now.link gave)
+    (sight desk now.link gave)
 told_broken {X} {place} {start} {known} {now} f moment done desk gave acts =
     let made : Record =
     record_of now.desk.pass moment (act.Broken known.session) known.session false in
@@ -350,7 +351,7 @@ told_broken {X} {place} {start} {known} {now} f moment done desk gave acts =
           (act_pushes {X = X} s desk gave made Breaks (deed.Broken known.session) (Ok done)
           phase.Owing refl (own_step-same known.session Breaks []) acts.added acts.given acts.rest
           (eq-eqb known.session known.session refl) tt (λ sending. tt))
-          known.pending (s.owed ∙ ap printed (sym (acts.given known.session)))
+          known.pending (s.owed ∙ ap print_of_drains (sym (acts.given known.session)))
           (record {
             some = s.party.some;
             course =
@@ -380,10 +381,10 @@ pub untold_broken : {X : Type 0} {place : ℕ} {start : Seen} {known : Known} {n
     Acts {X = X} now.desk moment (act.Broken known.session) known.session (Err reason) desk →
     IsKept start
     (record known {
-      cause = noted known.cause reason;
+      cause = note_fault known.cause reason;
       phase = phase.Owing;
       stage = stage.Last (end.Broken place);
-    }) (seen desk now.link gave)
+    }) (sight desk now.link gave)
 untold_broken {X} {place} {start} {known} {now} f moment reason desk gave acts =
     let s = f.served in
     record {
@@ -584,7 +585,7 @@ connect_leaves : {start : Seen} (known : Known) {now : Seen} → LeavesOthers kn
     → known.session ≡ 0
     → (session : ℕ) (moment : ℕ) (user host : List ℕ) (desk : DeskView) (gave : Option (List ℕ)) →
     ConnectsOf now.desk moment user host (Ok session) desk
-    → LeavesOthers session start (seen desk now.link gave)
+    → LeavesOthers session start (sight desk now.link gave)
 connect_leaves {start} known {now} others none session moment user host desk gave connects =
     record {
       pass = connects.pass ∙ others.pass;
@@ -606,7 +607,7 @@ pub greeting_connected : {start : Seen} {known : Known} {now : Seen} (user : Lis
     (session moment : ℕ) (desk : DeskView) (gave : Option (List ℕ))
     → ConnectsOf now.desk moment user now.link.host (Ok session) desk →
     IsKept start (record known { session = session; phase = phase.Due 0 })
-    (seen desk now.link gave)
+    (sight desk now.link gave)
 greeting_connected {start} {known} {now} user t session moment desk gave connects =
     let f = greeting_first user t in
     let fed = f.fed in
@@ -637,7 +638,7 @@ greeting_connected {start} {known} {now} user t session moment desk gave connect
         own = (inl refl, tt);
         taken = s.taken;
         put = s.put;
-        owed = s.owed ∙ sym (ap printed connects.given.0);
+        owed = s.owed ∙ sym (ap print_of_drains connects.given.0);
         party = record {
           some = connects.new_number.0;
           course =
@@ -679,7 +680,7 @@ greeting_connected {start} {known} {now} user t session moment desk gave connect
       };
       stage =
           subst (λ (stage : Stage). IsStage stage start past
-          (record known { session = session; phase = phase.Due 0 }) (seen desk now.link gave))
+          (record known { session = session; phase = phase.Due 0 }) (sight desk now.link gave))
           (sym t.serving)
           (record {
             units = unit.Hello user ∷ [];
@@ -710,14 +711,14 @@ pub greeting_refused : {start : Seen} {known : Known} {now : Seen} (user : List 
     (moment : ℕ) (reason : NotMade) (desk : DeskView) (gave : Option (List ℕ))
     → ConnectsOf now.desk moment user now.link.host (Err reason) desk →
     IsKept start
-    (record known { cause = noted known.cause reason; stage = stage.Over end.End })
-    (seen desk now.link gave)
+    (record known { cause = note_fault known.cause reason; stage = stage.Over end.End })
+    (sight desk now.link gave)
 greeting_refused {start} {known} {now} user t moment reason desk gave connects =
     let f = greeting_first user t in
     let s = f.served in
     let none = s.party.none in
-    let fault : noted known.cause reason ≡ Some reason =
-    ap (λ (first : Option NotMade). noted first reason) t.sound in
+    let fault : note_fault known.cause reason ≡ Some reason =
+    ap (λ (first : Option NotMade). note_fault first reason) t.sound in
     let nothing : known.pending ≡ [] = second_nil s.bytes known.pending s.owed in
     record {
       past = record { fed = f.fed; party = Nobody [] };
@@ -739,10 +740,10 @@ greeting_refused {start} {known} {now} user t moment reason desk gave connects =
           known.splitting (stage.Over end.End) known.bad;
       stage = record {
         plan =
-            refused_plan (noted known.cause reason) reason f.fed
-            (record known { cause = noted known.cause reason; stage = stage.Over end.End }) fault
+            refused_plan (note_fault known.cause reason) reason f.fed
+            (record known { cause = note_fault known.cause reason; stage = stage.Over end.End }) fault
             nothing (nothing, (refl, inr connects.why));
-        heard = heard_some (noted known.cause reason) reason start (seen desk now.link gave) fault;
+        heard = heard_some (note_fault known.cause reason) reason start (sight desk now.link gave) fault;
         sent = subst (λ reached. IsAtRest reached) (sym s.party.calm) tt;
       };
     }

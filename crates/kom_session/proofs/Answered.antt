@@ -7,18 +7,18 @@ use Rattle.std.proofs.lemmas.Grind.{flat_map-append}
 use Rattle.std.proofs.lemmas.List.Elements.{filter-append}
 use Rattle.kom_links.specs.declared.deeds.Deed.{Deed}
 use Rattle.kom_types.specs.declared.answers.NotMade.{NotMade}
-use Rattle.kom_links.specs.Answers.{Answer, concerns, fault_in, faults_of, first_of, refused, is_ask, asks_in}
+use Rattle.kom_links.specs.Answers.{Answer, concerns, fault_in, faults_of, first_of, first_fault_of, is_ask, asks_in}
 use Rattle.kom_links.specs.Answers.{flush_made, drained_empty, IsFlushedAfter, IsSettledAfter, sends, HasRefused}
 use Rattle.kom_session.specs.declared.phase.Phase.{Phase}
 use Rattle.kom_session.specs.declared.phase.Phase.TheVariants as phase
-use Rattle.kom_session.specs.Known.{noted}
+use Rattle.kom_session.specs.Known.{note_fault}
 use Rattle.kom_session.specs.Left.{IsSending}
 use Rattle.kom_session.specs.Serving.{IsSince}
 
 -- the first fault, after one answer more that concerns the session
 abbrev pub with_answer : Option NotMade → Result ⊤ NotMade → Option NotMade
 with_answer cause (Ok done) = cause
-with_answer cause (Err fault) = noted cause fault
+with_answer cause (Err fault) = note_fault cause fault
 
 -- ---- the first fault
 
@@ -36,13 +36,13 @@ if_same true x = refl
 if_same false x = refl
 
 first_push : (faults : List NotMade) (fault : NotMade)
-    → first_of (faults ++ fault ∷ []) ≡ noted (first_of faults) fault
+    → first_of (faults ++ fault ∷ []) ≡ note_fault (first_of faults) fault
 first_push [] fault = refl
 first_push (first ∷ faults) fault = refl
 
 -- what was done is no fault of anyone
 pub refused_ok : (session : ℕ) (answers : List Answer) (deed : Deed)
-    → refused session (answers ++ (deed, Ok tt) ∷ []) ≡ refused session answers
+    → first_fault_of session (answers ++ (deed, Ok tt) ∷ []) ≡ first_fault_of session answers
 refused_ok session answers deed =
     ap first_of (faults_push session answers deed (Ok tt)
     ∙ ap (λ rest. faults_of session answers ++ rest) (if_same (concerns session deed) [])
@@ -50,7 +50,7 @@ refused_ok session answers deed =
 
 pub refused_err : (session : ℕ) (answers : List Answer) (deed : Deed) (fault : NotMade)
     → concerns session deed ≡ true →
-    refused session (answers ++ (deed, Err fault) ∷ []) ≡ noted (refused session answers) fault
+    first_fault_of session (answers ++ (deed, Err fault) ∷ []) ≡ note_fault (first_fault_of session answers) fault
 refused_err session answers deed fault here =
     ap first_of (faults_push session answers deed (Err fault)
     ∙ ap (λ (test : Bool). faults_of session answers ++ (if test then fault ∷ [] else [])) here)
@@ -58,15 +58,15 @@ refused_err session answers deed fault here =
 
 pub refused_push : (session : ℕ) (answers : List Answer) (deed : Deed)
     (answer : Result ⊤ NotMade) → concerns session deed ≡ true →
-    refused session (answers ++ (deed, answer) ∷ []) ≡ with_answer (refused session answers) answer
+    first_fault_of session (answers ++ (deed, answer) ∷ []) ≡ with_answer (first_fault_of session answers) answer
 refused_push session answers deed (Ok done) here = refused_ok session answers deed
 refused_push session answers deed (Err fault) here = refused_err session answers deed fault here
 
 -- where no fault was answered before, and none is noted now, none was answered
 pub unrefused_push : (answers : List Answer) (deed : Deed) (answer : Result ⊤ NotMade)
-    (cause : Option NotMade) → (cause ≡ None → (number : ℕ) → refused number answers ≡ None)
+    (cause : Option NotMade) → (cause ≡ None → (number : ℕ) → first_fault_of number answers ≡ None)
     → with_answer cause answer ≡ None →
-    (number : ℕ) → refused number (answers ++ (deed, answer) ∷ []) ≡ None
+    (number : ℕ) → first_fault_of number (answers ++ (deed, answer) ∷ []) ≡ None
 unrefused_push answers deed (Ok done) cause none e number =
     refused_ok number answers deed ∙ none e number
 unrefused_push answers deed (Err fault) None none e number = absurd (cc e)
@@ -106,7 +106,7 @@ refusal_kept session answers more (before, rest, what, why, e, is) = (
 )
 
 -- a flush that was made after a fault
-pub flushed_after : (session : ℕ) (answers : List Answer) → refused session answers ≢ None
+pub flushed_after : (session : ℕ) (answers : List Answer) → first_fault_of session answers ≢ None
     → IsFlushedAfter session (answers ++ flush_made ∷ [])
 flushed_after session answers some = (answers, [], refl, some)
 

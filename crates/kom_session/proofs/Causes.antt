@@ -8,7 +8,7 @@ use Rattle.kom_types.specs.declared.answers.NotMade.TheVariants as fault
 use Rattle.kom_links.specs.declared.served.SessionEnd.{SessionEnd}
 use Rattle.kom_links.specs.declared.served.SessionEnd.TheVariants as end
 use Rattle.kom_links.specs.Outside.{Rose}
-use Rattle.kom_session.specs.Ends.{IsEndOf, HasCause, TellsFault, end_at, ending_of, ending}
+use Rattle.kom_session.specs.Ends.{IsEndOf, HasCause, TellsFault, end_at, ending_of, ending_with}
 use Rattle.kom_session.specs.Known.{Known, Seen}
 use Rattle.kom_session.specs.Serving.{Party, Nobody, Somebody, Past, Plans, IsHeard}
 use Rattle.kom_session.specs.Kept.{IsOver}
@@ -112,7 +112,7 @@ pub has_cause : (risen : Bool) (planned : SessionEnd) (cause : Option NotMade) (
     (ended : Bool) → IsPlanned planned → (risen ≡ true → Rose before after)
     → (risen ≡ false → Rose before after → ⊥) →
     (planned ≡ end.LinkFault → risen ≡ true) → (planned ≡ end.End → cause ≡ None → ended ≡ true)
-    → HasCause before after cause ended (ending risen planned cause)
+    → HasCause before after cause ended (ending_with risen planned cause)
 has_cause true planned cause before after ended is_planned rises still lost told = record {
   link_fault = λ e. rises refl;
   rose = λ rose. refl;
@@ -170,7 +170,7 @@ pub tells_fault : {start : Seen} {past : Past} {known : Known} {now : Seen} {pla
     (risen : Bool) (before after : ℕ) (cause : Option NotMade)
     → (risen ≡ true → Rose before after) → (planned ≡ end.LinkFault → risen ≡ true)
     → (cause ≡ None → known.cause ≡ None) →
-    TellsFault before after cause past.fed (ending risen planned cause)
+    TellsFault before after cause past.fed (ending_with risen planned cause)
 tells_fault over true before after cause rises lost first place found none no_cause =
     absurd (none (rises refl))
 tells_fault over false before after (Some reason) rises lost first place found none no_cause =

@@ -11,12 +11,12 @@ use Rattle.kom_links.specs.declared.served.SessionEnd.TheVariants as end
 use Rattle.kom_links.specs.Doors.{Gains}
 use Rattle.kom_links.specs.DeskCalls.{DeskView, record_of}
 use Rattle.kom_links.specs.DeskCalls.{Closes as ClosesOf}
-use Rattle.kom_links.specs.Outside.{Rose, grown, IsNothing}
+use Rattle.kom_links.specs.Outside.{Rose, with_bytes, IsNothing}
 use Rattle.kom_links.specs.Talk.{AreTimed}
 use Rattle.kom_session.specs.declared.phase.Stage.{Stage}
 use Rattle.kom_session.specs.declared.phase.Stage.TheVariants as stage
-use Rattle.kom_session.specs.Ends.{HasCause, TellsFault, ending}
-use Rattle.kom_session.specs.Known.{Known, Seen, seen}
+use Rattle.kom_session.specs.Ends.{HasCause, TellsFault, ending_with}
+use Rattle.kom_session.specs.Known.{Known, Seen, sight}
 use Rattle.kom_session.specs.Serving.{Past, IsServed, ServesLink}
 use Rattle.kom_session.specs.Kept.{IsOver, IsStage, IfClosed, AddsClose}
 use Rattle.kom_session.proofs.Answered.{with_answer}
@@ -27,7 +27,7 @@ use Rattle.kom_session.proofs.Times.{timed_none, timed_more, timed_skip}
 
 -- what is told, where nothing was before
 told_so : (bytes : List ℕ) (before after : Option (List ℕ)) → IsNothing before
-    → after ≡ grown bytes before → IfSome after (λ told. told ≡ bytes)
+    → after ≡ with_bytes bytes before → IfSome after (λ told. told ≡ bytes)
 told_so bytes None after nothing e =
     subst (λ (told : Option (List ℕ)). IfSome told (λ told. told ≡ bytes)) (sym e) tt
 told_so bytes (Some first) after nothing e =
@@ -40,10 +40,10 @@ served_link : {start : Seen} {past : Past} {known : Known} {now : Seen} {planned
     → (IsTrue risen ↔ Rose start.link.faults now.link.faults) →
     (desk : DeskView) (gave : Option (List ℕ)) (cause : Option NotMade)
     → (cause ≡ None → known.cause ≡ None) →
-    Told start past.fed known.session cause known.phase (seen desk now.link gave)
-    (ending risen planned cause) →
-    ServesLink start (record { session = known.session; end = ending risen planned cause })
-    (seen desk now.link gave)
+    Told start past.fed known.session cause known.phase (sight desk now.link gave)
+    (ending_with risen planned cause) →
+    ServesLink start (record { session = known.session; end = ending_with risen planned cause })
+    (sight desk now.link gave)
 served_link {start} {past} {known} {now} {planned} over risen rises desk gave cause first told =
     let lost : planned ≡ end.LinkFault → risen ≡ true = λ e. rises.1 (heard_lost over e) in
     record {
@@ -63,7 +63,7 @@ served_link {start} {past} {known} {now} {planned} over risen rises desk gave ca
           ),
           subst
               (λ (first : Option NotMade). TellsFault start.link.faults now.link.faults first
-              past.fed (ending risen planned cause)) (sym told.cause_is)
+              past.fed (ending_with risen planned cause)) (sym told.cause_is)
               (tells_fault over risen start.link.faults now.link.faults cause rises.0 lost first),
           told.talk,
         ),
@@ -77,7 +77,7 @@ served_link {start} {past} {known} {now} {planned} over risen rises desk gave ca
         told.answers,
         subst
             (λ (first : Option NotMade). HasCause start.link.faults now.link.faults first
-            now.link.ended (ending risen planned cause)) (sym told.cause_is)
+            now.link.ended (ending_with risen planned cause)) (sym told.cause_is)
             (has_cause risen planned cause start.link.faults now.link.faults now.link.ended
             (over_planned over) rises.0 (λ e rose. let so = rises.1 rose in cc) lost
             (λ e none. heard_ended over e (first none))),
@@ -117,7 +117,7 @@ first_kept (Some first) (Err reason) e = absurd (cc e)
 pub closed_none : (risen : Bool) (planned : SessionEnd) (known : Known) (desk : DeskView)
     (gave : Option (List ℕ)) → known.stage ≡ stage.Over planned → known.session ≡ 0 →
     IfClosed risen known desk gave
-    (record { session = known.session; end = ending risen planned known.cause }) desk gave
+    (record { session = known.session; end = ending_with risen planned known.cause }) desk gave
 closed_none risen planned known desk gave over none start link rises (added, mine, timed) kept =
     let is = over_now planned over kept.stage in
     served_link is risen rises desk gave known.cause (λ none. none)
@@ -132,7 +132,7 @@ pub closed_some : (risen : Bool) (planned : SessionEnd) (known : Known) (desk de
     IfClosed risen known desk gave
     (record {
       session = known.session;
-      end = ending risen planned (with_answer known.cause answer);
+      end = ending_with risen planned (with_answer known.cause answer);
     }) desk' gave'
 closed_some risen planned known desk desk' gave gave' over some moment answer closes gains start
     link rises (added, mine, timed) kept =

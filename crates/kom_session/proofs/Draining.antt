@@ -12,7 +12,7 @@ use Rattle.kom_links.specs.DeskCalls.{Drains as DrainsOf}
 use Rattle.kom_links.specs.Doors.{Gains}
 use Rattle.kom_session.specs.declared.phase.Phase.TheVariants as phase
 use Rattle.kom_session.specs.Kept.{Goes, IsOn}
-use Rattle.kom_session.specs.Known.{Known, Seen, state, seen, noted, after_fault}
+use Rattle.kom_session.specs.Known.{Known, Seen, state, sight, note_fault, after_fault}
 use Rattle.kom_session.specs.Serving.{Past, IsServed}
 use Rattle.kom_session.proofs.Going.{goes_record, goes_refused}
 use Rattle.kom_session.proofs.Served.{served_calm, served_known, drained_some, drained_none, drain_refused}
@@ -28,7 +28,7 @@ pub drain_gave : (known : Known) → IsOn known.stage → known.phase ≡ phase.
     → DrainsOf {X = ⊤} now.desk moment known.session items (Ok tt) desk → Gains now.gave moment gave →
     Goes (state known now)
     (state (record known { pending = known.pending ++ flat_map print_of items })
-    (seen desk now.link gave))
+    (sight desk now.link gave))
 drain_gave known on draining now moment items desk gave drains gains =
     goes_record (deed.Drain known.session (is_nothing items)) (Ok tt)
     (record_of now.desk.pass moment (act.Drain known.session) known.session false) gains
@@ -41,14 +41,14 @@ drain_gave known on draining now moment items desk gave drains gains =
       stage =
           on_later start kept.past known now
           (record known { pending = known.pending ++ flat_map print_of items })
-          (seen desk now.link gave) refl refl refl refl (λ early. early) (λ denied. denied)
+          (sight desk now.link gave) refl refl refl refl (λ early. early) (λ denied. denied)
           known.stage on kept.stage;
     })
 
 pub drain_nothing : (known : Known) → IsOn known.stage → known.phase ≡ phase.Draining →
     (now : Seen) (moment : ℕ) (desk : DeskView) (gave : Option (List ℕ))
     → DrainsOf {X = ⊤} now.desk moment known.session [] (Ok tt) desk → Gains now.gave moment gave →
-    Goes (state known now) (state (record known { phase = phase.Calm }) (seen desk now.link gave))
+    Goes (state known now) (state (record known { phase = phase.Calm }) (sight desk now.link gave))
 drain_nothing known on draining now moment desk gave drains gains =
     goes_record (deed.Drain known.session (is_nothing [])) (Ok tt)
     (record_of now.desk.pass moment (act.Drain known.session) known.session false) gains
@@ -60,7 +60,7 @@ drain_nothing known on draining now moment desk gave drains gains =
           drains;
       stage =
           on_later start kept.past known now (record known { phase = phase.Calm })
-          (seen desk now.link gave) refl refl refl refl (λ early. tt) (λ denied. absurd (cc denied))
+          (sight desk now.link gave) refl refl refl refl (λ early. tt) (λ denied. absurd (cc denied))
           known.stage on kept.stage;
     })
 
@@ -72,10 +72,10 @@ pub drain_denied : (known : Known) → IsOn known.stage → known.phase ≡ phas
     Goes (state known now)
     (state
     (record known {
-      cause = noted known.cause reason;
+      cause = note_fault known.cause reason;
       phase = phase.Denied;
       stage = after_fault known.stage;
-    }) (seen desk now.link gave))
+    }) (sight desk now.link gave))
 drain_denied known on draining now moment reason items desk gave drains gains =
     goes_refused (deed.Drain known.session (is_nothing items)) (Err reason) moment gains
     (λ some. refl) drains.rest.none_added drains.rest.tells
@@ -87,7 +87,7 @@ drain_denied known on draining now moment reason items desk gave drains gains =
           served_known (drain_refused kept.served some moment reason items desk gave drains)
           known.splitting (after_fault known.stage) known.bad;
       stage =
-          fault_stage kept.served some on kept.stage reason phase.Denied (seen desk now.link gave);
+          fault_stage kept.served some on kept.stage reason phase.Denied (sight desk now.link gave);
     })
 
 -- ---- what is pending

@@ -18,18 +18,19 @@ use Rattle.kom_types.specs.declared.answers.NotMade.{NotMade}
 use Rattle.kom_types.specs.declared.answers.NotMade.TheVariants as fault
 use Rattle.kom_links.specs.declared.served.SessionEnd.{SessionEnd}
 use Rattle.kom_links.specs.declared.served.SessionEnd.TheVariants as end
-use Rattle.kom_links.specs.Answers.{Answer, refused}
-use Rattle.kom_links.specs.Outside.{Look, grown}
+use Rattle.kom_links.specs.Answers.{Answer, first_fault_of}
+use Rattle.kom_links.specs.Outside.{Look, with_bytes}
 use Rattle.kom_links.specs.Doors.{Gains}
 use Rattle.kom_links.specs.Records.{is_connect, is_open, has_connect, has_close, IsOpen}
 use Rattle.kom_links.specs.DeskCalls.{DeskView, record_of, is_lock_full, IsLockFault, IsConnectFault}
 use Rattle.kom_links.specs.DeskCalls.{Closes as ClosesOf}
-use Rattle.kom_links.specs.Talk.{Step, Closes, steps_of, printed, lines_before, IsPrefix, IsDrained, AreTimed, IsTalk}
+use Rattle.kom_links.specs.Talk.{Step, Closes, steps_of, print_of_drains, lines_before, IsPrefix, IsDrained, AreTimed}
+use Rattle.kom_links.specs.Talk.{IsTalk}
 use Rattle.kom_session.specs.declared.phase.Phase.{Phase}
 use Rattle.kom_session.specs.declared.phase.Phase.TheVariants as phase
 use Rattle.kom_session.specs.Course.{IsSettled}
-use Rattle.kom_session.specs.Ends.{IsOwn, IsUntouched, given_to, end_at, ending}
-use Rattle.kom_session.specs.Known.{Known, Seen, seen, LeavesOthers, noted}
+use Rattle.kom_session.specs.Ends.{IsOwn, IsUntouched, given_to, end_at, ending_with}
+use Rattle.kom_session.specs.Known.{Known, Seen, sight, LeavesOthers, note_fault}
 use Rattle.kom_session.specs.Left.{IsSending}
 use Rattle.kom_session.specs.Serving.{Party, Nobody, Somebody, Past, owed_to, IsFaultAfter, IsSomebody, IsParty}
 use Rattle.kom_session.specs.Serving.{IsPhase, IsSince, IsServed, Plans}
@@ -79,7 +80,7 @@ silent_facts : (risen : Bool) (planned : SessionEnd) (cause : Option NotMade)
     → MayPut fed bytes →
     Plans planned cause (record { fed = fed; party = Nobody told }) known →
     (planned ≡ end.LinkFault → risen ≡ true) → (planned ≡ end.End → cause ≡ None → ended ≡ true)
-    → SilentFacts (ending risen planned cause) fed bytes ended
+    → SilentFacts (ending_with risen planned cause) fed bytes ended
 silent_facts true planned cause fed told bytes ended known e may plan lost has_ended = may
 silent_facts false end.End None fed told bytes ended known e may
     (none, (greeting, sound, nothing)) lost
@@ -114,7 +115,7 @@ silent_facts false (end.Full number) cause fed told bytes ended known e may plan
     absurd plan
 
 session_at_fault : (why : NotMade) (fed bytes : List ℕ) (ended : Bool) (requests : List Request)
-    (broken : Bool) (steps : List Step) (given : List (List Item)) → bytes ≡ printed given
+    (broken : Bool) (steps : List Step) (given : List (List Item)) → bytes ≡ print_of_drains given
     → EndFacts (end_at why) fed bytes ended requests broken steps given
 session_at_fault (fault.Gone why.Absent) fed bytes ended requests broken steps given all = tt
 session_at_fault (fault.Gone why.Dropped) fed bytes ended requests broken steps given all = all
@@ -126,10 +127,10 @@ session_at_fault fault.Memory fed bytes ended requests broken steps given all = 
 session_facts : (risen : Bool) (planned : SessionEnd) (cause : Option NotMade)
     (fed user bytes : List ℕ) (ended : Bool) (requests : List Request) (broken : Bool)
     (known : Known) (steps : List Step) (given : List (List Item)) →
-    bytes ++ known.pending ≡ printed given → (known.phase ≡ phase.Calm → IsSettled steps)
+    bytes ++ known.pending ≡ print_of_drains given → (known.phase ≡ phase.Calm → IsSettled steps)
     → Plans planned cause (record { fed = fed; party = Somebody user requests broken }) known →
     (planned ≡ end.LinkFault → risen ≡ true) → (planned ≡ end.End → cause ≡ None → ended ≡ true)
-    → EndFacts (ending risen planned cause) fed bytes ended requests broken steps given
+    → EndFacts (ending_with risen planned cause) fed bytes ended requests broken steps given
 session_facts true planned cause fed user bytes ended requests broken known steps given e settled
     plan lost has_ended = tt
 session_facts false end.End None fed user bytes ended requests broken known steps given e settled
@@ -137,21 +138,21 @@ session_facts false end.End None fed user bytes ended requests broken known step
       has_ended refl refl,
       sound,
       count,
-      all_put (printed given) bytes known.pending e none,
+      all_put (print_of_drains given) bytes known.pending e none,
       settled
           calm,
     )
 session_facts false end.End (Some reason) fed user bytes ended requests broken known steps given e
     settled (none, done) lost has_ended =
     session_at_fault reason fed bytes ended requests broken steps given
-    (all_put (printed given) bytes known.pending e none)
+    (all_put (print_of_drains given) bytes known.pending e none)
 session_facts false (end.Broken place) None fed user bytes ended requests broken known steps given e
     settled (none, (told, fault, calm)) lost has_ended =
-    (told, fault.0, fault.1, all_put (printed given) bytes known.pending e none, settled calm)
+    (told, fault.0, fault.1, all_put (print_of_drains given) bytes known.pending e none, settled calm)
 session_facts false (end.Broken place) (Some reason) fed user bytes ended requests broken known
     steps given e settled (none, done) lost has_ended =
     session_at_fault reason fed bytes ended requests broken steps given
-    (all_put (printed given) bytes known.pending e none)
+    (all_put (print_of_drains given) bytes known.pending e none)
 session_facts false end.LinkFault cause fed user bytes ended requests broken known steps given e
     settled plan lost has_ended = absurd (cc (lost refl))
 session_facts false end.Memory None fed user bytes ended requests broken known steps given e settled
@@ -171,7 +172,7 @@ session_facts false (end.Full number) cause fed user bytes ended requests broken
 plan_later : (planned : SessionEnd) (cause : Option NotMade) (reason : NotMade)
     (fed user : List ℕ) (requests : List Request) (broken : Bool) (known : Known) →
     Plans planned cause (record { fed = fed; party = Somebody user requests broken }) known
-    → Plans planned (noted cause reason)
+    → Plans planned (note_fault cause reason)
     (record { fed = fed; party = Somebody user requests broken }) known
 plan_later planned (Some first) reason fed user requests broken known plan = plan
 plan_later end.End None reason fed user requests broken known plan = (plan.0, tt)
@@ -216,8 +217,8 @@ pub record Told (start : Seen) (fed : List ℕ) (session : ℕ) (cause : Option 
   pub own : AllByRecursion (IsOwn session) added
   pub connects : session ≢ 0 → IsTrue (has_connect session added)
   pub timed : AreTimed start.gave after.gave added
-  pub taken : after.link.taken ≡ grown fed start.link.taken
-  pub put : after.link.put ≡ grown bytes start.link.put
+  pub taken : after.link.taken ≡ with_bytes fed start.link.taken
+  pub put : after.link.put ≡ with_bytes bytes start.link.put
   pub talk : IsTalk start.link.host fed bytes after.link.ended added session
       (given_to session (after.desk.gave_to session)) final after.desk.lock_full
   pub waits : IfSome after.link.reads
@@ -225,7 +226,7 @@ pub record Told (start : Seen) (fed : List ℕ) (session : ℕ) (cause : Option 
       (steps_of session added (given_to session (after.desk.gave_to session))) looks)
   pub drained : session ≢ 0 → reached ≡ phase.Calm
       → IsDrained (steps_of session added (given_to session (after.desk.gave_to session)))
-  pub cause_is : refused session more ≡ cause
+  pub cause_is : first_fault_of session more ≡ cause
   pub since : session ≢ 0 → IsSending cause → IsSince reached session more
   pub others : LeavesOthers session start after
   pub untouched : IsUntouched start.link
@@ -243,20 +244,20 @@ pub silent_told : {start : Seen} {past : Past} {known : Known} {now : Seen} {pla
     → known.session ≡ 0 → (risen : Bool) → AreTimed start.gave now.gave s.added →
     (planned ≡ end.LinkFault → risen ≡ true)
     → (planned ≡ end.End → known.cause ≡ None → now.link.ended ≡ true)
-    → Told start past.fed known.session known.cause known.phase now (ending risen planned known.cause)
+    → Told start past.fed known.session known.cause known.phase now (ending_with risen planned known.cause)
 silent_told {start} {past} {known} {now} {planned} s over none risen timed lost has_ended =
     go past.party s.party s.owed over.plan
   where
     go : (party : Party) → IsParty past.fed party start known now s.added
         → s.bytes ++ known.pending ≡ owed_to party (now.desk.gave_to known.session) →
         Plans planned known.cause (record { fed = past.fed; party = party }) known
-        → Told start past.fed known.session known.cause known.phase now (ending risen planned known.cause)
+        → Told start past.fed known.session known.cause known.phase now (ending_with risen planned known.cause)
     go (Nobody told) is owed plan =
         let talk : IsTalk start.link.host past.fed s.bytes now.link.ended [] 0
         (given_to 0 (now.desk.gave_to known.session))
-        (ending risen planned known.cause) now.desk.lock_full
+        (ending_with risen planned known.cause) now.desk.lock_full
         =
-        talk_silent (ending risen planned known.cause) start.link.host past.fed s.bytes
+        talk_silent (ending_with risen planned known.cause) start.link.host past.fed s.bytes
         now.link.ended now.desk.lock_full
         (silent_facts risen planned known.cause past.fed told s.bytes now.link.ended known owed
         (may_put past.fed told s.bytes known.pending owed is.may_tell) plan lost has_ended) in
@@ -277,7 +278,7 @@ silent_told {start} {past} {known} {now} {planned} s over none risen timed lost 
           talk =
               subst (λ (session : ℕ). IsTalk start.link.host past.fed s.bytes
               now.link.ended [] session (given_to session (now.desk.gave_to known.session))
-              (ending risen planned known.cause) now.desk.lock_full) (sym none) talk;
+              (ending_with risen planned known.cause) now.desk.lock_full) (sym none) talk;
           waits = waits_so now.link.reads s.waited s.place s.recent [] steps s.looked;
           drained = λ some calm. absurd (some none);
           cause_is = s.cause;
@@ -326,7 +327,7 @@ pub session_told : {start : Seen} {past : Past} {known : Known} {now : Seen} {pl
     (planned ≡ end.LinkFault → risen ≡ true)
     → (planned ≡ end.End → with_answer known.cause answer ≡ None → now.link.ended ≡ true) →
     Told start past.fed known.session (with_answer known.cause answer) known.phase
-    (seen desk now.link gave) (ending risen planned (with_answer known.cause answer))
+    (sight desk now.link gave) (ending_with risen planned (with_answer known.cause answer))
 session_told {start} {past} {known} {now} {planned} s over some risen timed moment answer desk gave
     closes gains lost has_ended = go past.party s.party s.owed over.plan answer closes has_ended
   where
@@ -336,7 +337,7 @@ session_told {start} {past} {known} {now} {planned} s over some risen timed mome
     leaves : (answer : Result ⊤ NotMade) → ClosesOf now.desk moment known.session answer desk
         → ((number : ℕ) → number ≢ known.session
         → is_open number desk.mine ≡ is_open number now.desk.mine)
-        → LeavesOthers known.session start (seen desk now.link gave)
+        → LeavesOthers known.session start (sight desk now.link gave)
     leaves answer closes opened =
         others_trans s.others
         (act_leaves known.session now desk gave closes.rest.pass
@@ -363,7 +364,7 @@ session_told {start} {past} {known} {now} {planned} s over some risen timed mome
         ∙ append_assoc start.desk.answers s.more ((deed.Close known.session, answer) ∷ [])
 
     cause : (answer : Result ⊤ NotMade)
-        → refused known.session (s.more ++ (deed.Close known.session, answer) ∷ [])
+        → first_fault_of known.session (s.more ++ (deed.Close known.session, answer) ∷ [])
         ≡ with_answer known.cause answer
     cause answer =
         refused_push known.session s.more (deed.Close known.session) answer
@@ -383,7 +384,7 @@ session_told {start} {past} {known} {now} {planned} s over some risen timed mome
         → (answer : Result ⊤ NotMade) → ClosesOf now.desk moment known.session answer desk →
         (planned ≡ end.End → with_answer known.cause answer ≡ None → now.link.ended ≡ true)
         → Told start past.fed known.session (with_answer known.cause answer) known.phase
-        (seen desk now.link gave) (ending risen planned (with_answer known.cause answer))
+        (sight desk now.link gave) (ending_with risen planned (with_answer known.cause answer))
     go (Nobody told) is owed plan answer closes has_ended = absurd (some is.none)
     go (Somebody user requests broken) is owed plan (Ok done) closes has_ended =
         let last : Record =
@@ -413,8 +414,8 @@ session_told {start} {past} {known} {now} {planned} s over some risen timed mome
           talk =
               subst (λ (given : List (List Item)). IsTalk start.link.host past.fed s.bytes
               now.link.ended (s.added ++ last ∷ []) known.session given
-              (ending risen planned known.cause) desk.lock_full) (sym now_given)
-              (talk_closed (ending risen planned known.cause) past.fed
+              (ending_with risen planned known.cause) desk.lock_full) (sym now_given)
+              (talk_closed (ending_with risen planned known.cause) past.fed
               s.bytes now.link.ended desk.lock_full now.desk.pass moment some is.course
               is.first.greeting is.first.calls (known.pending, owed)
               (flat past.fed requests broken is.at_fault)
@@ -465,11 +466,11 @@ session_told {start} {past} {known} {now} {planned} s over some risen timed mome
           talk =
               subst (λ (given : List (List Item)). IsTalk start.link.host past.fed s.bytes
               now.link.ended s.added known.session given
-              (ending risen planned (noted known.cause reason)) desk.lock_full) (sym now_given)
-              (talk_open (ending risen planned (noted known.cause reason)) past.fed s.bytes
+              (ending_with risen planned (note_fault known.cause reason)) desk.lock_full) (sym now_given)
+              (talk_open (ending_with risen planned (note_fault known.cause reason)) past.fed s.bytes
               now.link.ended desk.lock_full some is.course is.first.greeting is.first.calls
               (known.pending, owed) (flat past.fed requests broken is.at_fault)
-              (session_facts risen planned (noted known.cause reason) past.fed
+              (session_facts risen planned (note_fault known.cause reason) past.fed
               user s.bytes now.link.ended requests broken known
               (steps_of known.session s.added given) given owed
               (λ calm. subst (λ steps. IsSettled steps) (sym s.steps)

@@ -18,7 +18,7 @@ use Rattle.kom_links.specs.DeskCalls.{Flushes as FlushesOf}
 use Rattle.kom_session.specs.declared.phase.Phase.{Phase}
 use Rattle.kom_session.specs.declared.phase.Phase.TheVariants as phase
 use Rattle.kom_session.specs.declared.phase.Stage.TheVariants as stage
-use Rattle.kom_session.specs.Known.{Known, Seen, state, seen, noted, with_flush, after_fault}
+use Rattle.kom_session.specs.Known.{Known, Seen, state, sight, note_fault, with_flush, after_fault}
 use Rattle.kom_session.specs.Serving.{Party, Nobody, Somebody, Past, owed_to, IsParty, IsServed, AreCalled, IsRefused}
 use Rattle.kom_session.specs.Serving.{Plans, IsHeard}
 use Rattle.kom_session.specs.Kept.{IsEarly, IsAtRest, IsKept, Goes, IsOn, MayFlush, IfFlushed, IfAsked}
@@ -60,14 +60,14 @@ flushed_ok known on may now moment desk gave flushes gains =
       served =
           flush_made kept.served (flushes_some kept.served may) moment tt desk gave flushes;
       stage = on_later start kept.past known now (record known { phase = with_flush known.phase })
-          (seen desk now.link gave) refl refl refl refl (flush_early known.phase)
+          (sight desk now.link gave) refl refl refl refl (flush_early known.phase)
           (flush_denied known.phase) known.stage on kept.stage;
     })
 
 pub flushed_err : (known : Known) → IsOn known.stage → MayFlush known → (reason : NotMade)
     → IfFlushed known (Err reason)
     (record known {
-      cause = noted known.cause reason;
+      cause = note_fault known.cause reason;
       phase = phase.Denied;
       stage = after_fault known.stage;
     })
@@ -76,13 +76,13 @@ flushed_err known on may reason now moment desk gave flushes gains =
   where
     after : NotMade → Known
     after reason = record known {
-      cause = noted known.cause reason;
+      cause = note_fault known.cause reason;
       phase = phase.Denied;
       stage = after_fault known.stage;
     }
 
     kept : (reason : NotMade) → FlushesOf {X = ⊤} now.desk moment (Err reason) desk →
-        (start : Seen) → IsKept start known now → IsKept start (after reason) (seen desk now.link gave)
+        (start : Seen) → IsKept start known now → IsKept start (after reason) (sight desk now.link gave)
     kept reason flushes start k =
         let some : known.session ≢ 0 = flushes_some k.served may in
         record {
@@ -91,19 +91,19 @@ flushed_err known on may reason now moment desk gave flushes gains =
               served_known (flush_refused k.served some moment reason desk gave flushes)
               known.splitting (after_fault known.stage) known.bad;
           stage = fault_stage k.served some on k.stage reason phase.Denied
-              (seen desk now.link gave);
+              (sight desk now.link gave);
         }
 
     still : (reason : NotMade) → FlushesOf {X = ⊤} now.desk moment (Err reason) desk
         → desk.mine ≡ now.desk.mine →
-        Goes (state known now) (state (after reason) (seen desk now.link gave))
+        Goes (state known now) (state (after reason) (sight desk now.link gave))
     still reason flushes same =
         goes_refused deed.Flush (Err reason) moment gains (λ some. refl) same flushes.tells
         (kept reason flushes)
 
     go : (reason : NotMade) → FlushesOf {X = ⊤} now.desk moment (Err reason) desk
         → AddsNoneOrShort now.desk moment reason desk →
-        Goes (state known now) (state (after reason) (seen desk now.link gave))
+        Goes (state known now) (state (after reason) (sight desk now.link gave))
     go (fault.Gone why.Stopped) flushes (inl same) = still (fault.Gone why.Stopped) flushes same
     go (fault.Gone why.Stopped) flushes (inr short) =
         goes_record deed.Flush (Err (fault.Gone why.Stopped))
@@ -118,7 +118,7 @@ flushed_err known on may reason now moment desk gave flushes gains =
 -- ---- the question whether the desk is stopped
 
 noted_again : (cause : Option NotMade) (reason : NotMade) → is_some cause ≡ true
-    → noted cause reason ≡ cause
+    → note_fault cause reason ≡ cause
 noted_again None reason some = absurd (cc some)
 noted_again (Some first) reason some = refl
 
@@ -130,7 +130,7 @@ asked_same known on answer same now desk asks =
     (λ start kept. record {
       past = kept.past;
       served = served_asked kept.served answer desk asks same;
-      stage = on_later start kept.past known now known (seen desk now.link now.gave) refl refl refl
+      stage = on_later start kept.past known now known (sight desk now.link now.gave) refl refl refl
           refl (λ early. early) (λ e. e) known.stage on kept.stage;
     })
 
@@ -147,7 +147,7 @@ pub asked_some : (known : Known) → IsOn known.stage → known.session ≢ 0
     → (answer : Result Bool NotMade) (reason : NotMade) → said_stopped answer ≡ Err reason →
     IfAsked known answer
     (record known {
-      cause = noted known.cause reason;
+      cause = note_fault known.cause reason;
       phase = phase.Owing;
       stage = after_fault known.stage;
     })
@@ -160,7 +160,7 @@ asked_some known on some answer reason said now desk asks =
           (asked_fault kept.served answer reason desk asks said phase.Owing (inl (some, refl)))
           known.splitting (after_fault known.stage) known.bad;
       stage = fault_stage kept.served some on kept.stage reason phase.Owing
-          (seen desk now.link now.gave);
+          (sight desk now.link now.gave);
     })
 
 -- why a question is answered with a fault, a connect may be refused
@@ -186,7 +186,7 @@ heard_some (Some reason) before after some = tt
 pub asked_none : (known : Known) → known.stage ≡ stage.Serving → known.session ≡ 0
     → (answer : Result Bool NotMade) (reason : NotMade) → said_stopped answer ≡ Err reason →
     IfAsked known answer
-    (record known { cause = noted known.cause reason; stage = stage.Over end.End })
+    (record known { cause = note_fault known.cause reason; stage = stage.Over end.End })
 asked_none known serving none answer reason said now desk asks =
     goes_answer deed.Ask (said_stopped answer) (λ some. refl) asks.mine asks.answers
     (λ start kept.
@@ -199,13 +199,13 @@ asked_none known serving none answer reason said now desk asks =
           known.splitting (stage.Over end.End) known.bad;
       stage = record {
         plan =
-            subst (λ (cause : Option NotMade). Plans end.End (noted cause reason) kept.past
-            (record known { cause = noted known.cause reason; stage = stage.Over end.End }))
+            subst (λ (cause : Option NotMade). Plans end.End (note_fault cause reason) kept.past
+            (record known { cause = note_fault known.cause reason; stage = stage.Over end.End }))
             (sym at.sound)
             (plan kept.past.fed kept.past.party (now.desk.gave_to known.session) kept.served.bytes
             kept.served.owed (nobody start kept.past known now kept.served none at.units at.called)
             (asked_connect answer reason said asks.why));
-        heard = heard_some (noted known.cause reason) start.link now.link
+        heard = heard_some (note_fault known.cause reason) start.link now.link
             (noted_some known.cause reason);
         sent = subst IsAtRest (sym (served_calm kept.served none)) tt;
       };

@@ -9,7 +9,7 @@ use Rattle.kom_links.specs.declared.link.Took.{Took}
 use Rattle.kom_links.specs.DeskCalls.{DeskView}
 use Rattle.kom_links.specs.Doors.{Gains}
 use Rattle.kom_links.specs.Outside.{LinkView}
-use Rattle.kom_session.specs.Known.{Known, Seen, State, state, seen}
+use Rattle.kom_session.specs.Known.{Known, Seen, State, state, sight}
 use Rattle.kom_session.specs.Kept.{IsKept, Goes, IfStill, IfWritten, IfFlushed}
 use Rattle.kom_session.proofs.Times.{timed_none, timed_more, timed_skip, timed_append}
 
@@ -46,7 +46,7 @@ written_then p q = λ now link writes. goes_trans (p now link writes) (q (record
 pub flushed_then : {old mid new : Known} {answer : Result ⊤ NotMade}
     → IfFlushed old answer mid → IfStill mid new → IfFlushed old answer new
 flushed_then p q = λ now moment desk gave flushes gains.
-    goes_trans (p now moment desk gave flushes gains) (q (seen desk now.link gave))
+    goes_trans (p now moment desk gave flushes gains) (q (sight desk now.link gave))
 
 -- only the link changed
 pub goes_link : {known known' : Known} {now : Seen} {link : LinkView}
@@ -68,8 +68,8 @@ pub goes_answer : {known known' : Known} {now : Seen} {desk : DeskView}
     (deed : Deed) (answer : Result ⊤ NotMade)
     → (known.session ≢ 0 → known'.session ≡ known.session) →
     desk.mine ≡ now.desk.mine → desk.answers ≡ now.desk.answers ++ (deed, answer) ∷ [] →
-    ((start : Seen) → IsKept start known now → IsKept start known' (seen desk now.link now.gave))
-    → Goes (state known now) (state known' (seen desk now.link now.gave))
+    ((start : Seen) → IsKept start known now → IsKept start known' (sight desk now.link now.gave))
+    → Goes (state known now) (state known' (sight desk now.link now.gave))
 goes_answer {known} {known'} {now} {desk} deed answer same mine tells kept = record {
   kept = kept;
   added = [];
@@ -85,8 +85,8 @@ pub goes_refused : {known known' : Known} {now : Seen} {desk : DeskView} {gave :
     (deed : Deed) (answer : Result ⊤ NotMade) (moment : ℕ) → Gains now.gave moment gave
     → (known.session ≢ 0 → known'.session ≡ known.session) →
     desk.mine ≡ now.desk.mine → desk.answers ≡ now.desk.answers ++ (deed, answer) ∷ [] →
-    ((start : Seen) → IsKept start known now → IsKept start known' (seen desk now.link gave))
-    → Goes (state known now) (state known' (seen desk now.link gave))
+    ((start : Seen) → IsKept start known now → IsKept start known' (sight desk now.link gave))
+    → Goes (state known now) (state known' (sight desk now.link gave))
 goes_refused {known} {known'} {now} {desk} {gave} deed answer moment gains same mine tells kept =
     record {
       kept = kept;
@@ -105,8 +105,8 @@ pub goes_record : {known known' : Known} {now : Seen} {desk : DeskView} {gave : 
     → (known.session ≢ 0 → known'.session ≡ known.session) →
     desk.mine ≡ now.desk.mine ++ made ∷ []
     → desk.answers ≡ now.desk.answers ++ (deed, answer) ∷ [] →
-    ((start : Seen) → IsKept start known now → IsKept start known' (seen desk now.link gave))
-    → Goes (state known now) (state known' (seen desk now.link gave))
+    ((start : Seen) → IsKept start known now → IsKept start known' (sight desk now.link gave))
+    → Goes (state known now) (state known' (sight desk now.link gave))
 goes_record {known} {known'} {now} {desk} {gave} deed answer made gains same mine tells kept =
     record {
       kept = kept;

@@ -7,7 +7,7 @@ use Rattle.kom_types.specs.declared.answers.NotMade.{NotMade}
 use Rattle.kom_links.specs.DeskCalls.{DeskView}
 use Rattle.kom_links.specs.Doors.{Gains}
 use Rattle.kom_session.specs.Kept.{IsKept, Goes, Leads}
-use Rattle.kom_session.specs.Known.{Known, Seen, State, state, seen}
+use Rattle.kom_session.specs.Known.{Known, Seen, State, state, sight}
 use Rattle.kom_session.proofs.Times.{timed_none, timed_more, timed_skip}
 
 -- nothing was done outside
@@ -30,8 +30,8 @@ pub leads_refused : {Held : Seen → Type 0} {known known' : Known} {now : Seen}
     {gave : Option (List ℕ)} (deed : Deed) (answer : Result ⊤ NotMade) (moment : ℕ)
     → Gains now.gave moment gave → (known.session ≢ 0 → known'.session ≡ known.session) →
     desk.mine ≡ now.desk.mine → desk.answers ≡ now.desk.answers ++ (deed, answer) ∷ [] →
-    ((start : Seen) → Held start → IsKept start known' (seen desk now.link gave))
-    → Leads Held (state known now) (state known' (seen desk now.link gave))
+    ((start : Seen) → Held start → IsKept start known' (sight desk now.link gave))
+    → Leads Held (state known now) (state known' (sight desk now.link gave))
 leads_refused {Held} {known} {known'} {now} {desk} {gave} deed answer moment gains same mine tells kept =
     record {
       kept = kept;
@@ -50,8 +50,8 @@ pub leads_record : {Held : Seen → Type 0} {known known' : Known} {now : Seen} 
     → (known.session ≢ 0 → known'.session ≡ known.session) →
     desk.mine ≡ now.desk.mine ++ made ∷ []
     → desk.answers ≡ now.desk.answers ++ (deed, answer) ∷ [] →
-    ((start : Seen) → Held start → IsKept start known' (seen desk now.link gave))
-    → Leads Held (state known now) (state known' (seen desk now.link gave))
+    ((start : Seen) → Held start → IsKept start known' (sight desk now.link gave))
+    → Leads Held (state known now) (state known' (sight desk now.link gave))
 leads_record {Held} {known} {known'} {now} {desk} {gave} deed answer made gains same mine tells kept =
     record {
       kept = kept;

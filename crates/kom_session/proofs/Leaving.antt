@@ -9,7 +9,7 @@ use Rattle.kom_links.specs.Answers.{Answer}
 use Rattle.kom_links.specs.Talk.{Step, IsDrained}
 use Rattle.kom_session.specs.declared.phase.Phase.{Phase}
 use Rattle.kom_session.specs.declared.phase.Phase.TheVariants as phase
-use Rattle.kom_session.specs.Ends.{end_at, ending}
+use Rattle.kom_session.specs.Ends.{end_at, ending_with}
 use Rattle.kom_session.specs.Known.{Seen}
 use Rattle.kom_session.specs.Left.{IsSentAll, IfSending, IsSending}
 use Rattle.kom_session.specs.Serving.{IsSince, steps_in}
@@ -41,7 +41,7 @@ IfPlanned end.Memory P = Unit {0}
 
 sending_so : (risen : Bool) (planned : SessionEnd) (cause : Option NotMade) (P : Type 0)
     → IsPlanned planned → (planned ≡ end.LinkFault → risen ≡ true)
-    → IfPlanned planned (IsSending cause → P) → IfSending (ending risen planned cause) P
+    → IfPlanned planned (IsSending cause → P) → IfSending (ending_with risen planned cause) P
 sending_so true planned cause P is_planned lost sends = tt
 sending_so false end.End None P is_planned lost sends = tt
 sending_so false end.End (Some reason) P is_planned lost sends = at_fault reason P sends
@@ -81,9 +81,9 @@ planned_so end.Memory reached P Q sent so = tt
 -- what was left, once the session was closed
 pub left_link : {start : Seen} {fed : List ℕ} {session : ℕ} {cause : Option NotMade}
     {reached : Phase} {after : Seen} (risen : Bool) (planned : SessionEnd)
-    (told : Told start fed session cause reached after (ending risen planned cause)) →
+    (told : Told start fed session cause reached after (ending_with risen planned cause)) →
     IsPlanned planned → (planned ≡ end.LinkFault → risen ≡ true) → IsSent planned reached
-    → session ≢ 0 → IfSending (ending risen planned cause)
+    → session ≢ 0 → IfSending (ending_with risen planned cause)
     (IsSentAll (steps_in after session told.added) session told.more)
 left_link {session = session} {cause = cause} {reached = reached} {after = after} risen planned told
     is_planned lost sent some =

@@ -10,7 +10,7 @@ use Rattle.kom_types.specs.declared.answers.NotMade.TheVariants as fault
 use Rattle.kom_links.specs.Outside.{LinkView}
 use Rattle.kom_links.specs.Records.{is_connect, is_close, has_connect, has_close, is_open}
 use Rattle.kom_links.specs.DeskCalls.{DeskView, record_of, AddsNoneOrShort, Flushes, AsksStopped}
-use Rattle.kom_session.specs.Known.{Seen, seen, Puts, LeavesOthers}
+use Rattle.kom_session.specs.Known.{Seen, sight, Puts, LeavesOthers}
 
 -- ---- who is open
 
@@ -104,7 +104,7 @@ flushed_open old moment (Err why) new flushes number some =
 pub flush_leaves : {X : Type 0} (session : ℕ) (now : Seen) (moment : ℕ)
     (answer : Result X NotMade) (desk : DeskView) (gave : Option (List ℕ))
     → Flushes now.desk moment answer desk →
-    LeavesOthers session now (seen desk now.link gave)
+    LeavesOthers session now (sight desk now.link gave)
 flush_leaves session now moment answer desk gave flushes = record {
   pass = flushes.pass;
   host = refl;
@@ -119,7 +119,7 @@ pub act_leaves : (session : ℕ) (now : Seen) (desk : DeskView) (gave : Option (
     ((number : ℕ) → (session ≢ 0 → number ≢ session)
     → desk.gave_to number ≡ now.desk.gave_to number) →
     ((number : ℕ) → number ≢ session → is_open number desk.mine ≡ is_open number now.desk.mine) →
-    LeavesOthers session now (seen desk now.link gave)
+    LeavesOthers session now (sight desk now.link gave)
 act_leaves session now desk gave pass given opened = record {
   pass = pass;
   host = refl;

@@ -10,14 +10,14 @@ use Rattle.kom_types.specs.declared.items.Item.{Item}
 use Rattle.kom_types.specs.Reading.{Request}
 use Rattle.kom_links.specs.DeskCalls.{DeskView, StaysForAll, record_of}
 use Rattle.kom_links.specs.Records.{is_open, IsOpen}
-use Rattle.kom_links.specs.Talk.{Step, Flushes, Drains, Settles, steps_of, printed}
+use Rattle.kom_links.specs.Talk.{Step, Flushes, Drains, Settles, steps_of, print_of_drains}
 use Rattle.kom_session.specs.declared.phase.Phase.{Phase}
 use Rattle.kom_session.specs.declared.phase.Phase.TheVariants as phase
 use Rattle.kom_session.specs.declared.phase.Stage.{Stage}
 use Rattle.kom_session.specs.declared.phase.Stage.TheVariants as stage
 use Rattle.kom_session.specs.Course.{is_still, IsSettled, IsRecent, IsCourse}
 use Rattle.kom_session.specs.Ends.{IsOwn}
-use Rattle.kom_session.specs.Known.{Known, Seen, seen}
+use Rattle.kom_session.specs.Known.{Known, Seen, sight}
 use Rattle.kom_session.specs.Serving.{Party, Nobody, Somebody, Past, IsPhase, IsServed, IsParty, owed_to}
 use Rattle.kom_session.specs.Kept.{IsStage, IsKept, IsFlush, PassesBy}
 use Rattle.kom_session.proofs.Courses.{open_push, course_flushed, recent_other, flushed_push}
@@ -148,7 +148,7 @@ first_step step rest steps e none = cc (e, none)
 served_passes : {start : Seen} {fed : List ℕ} {known : Known} {now : Seen} (party : Party)
     (s : IsServed start (record { fed = fed; party = party }) known now) → known.session ≢ 0
     → (desk : DeskView) (gave : Option (List ℕ)) → PassesBy now.desk desk →
-    IsServed start (record { fed = fed; party = party }) known (seen desk now.link gave)
+    IsServed start (record { fed = fed; party = party }) known (sight desk now.link gave)
 served_passes (Nobody told) s some desk gave passes = absurd (some s.party.none)
 served_passes {start} {fed} {known} {now} (Somebody user requests broken) s some desk gave passes =
     record {
@@ -165,7 +165,7 @@ served_passes {start} {fed} {known} {now} (Somebody user requests broken) s some
       own = own_passes known.session s.added passes.flushes s.own passes.all;
       taken = s.taken;
       put = s.put;
-      owed = s.owed ∙ ap printed (sym (passes.given known.session));
+      owed = s.owed ∙ ap print_of_drains (sym (passes.given known.session));
       party = record {
         some = some;
         course =
@@ -215,7 +215,7 @@ served_passes {start} {fed} {known} {now} (Somebody user requests broken) s some
 -- the stage looks at no desk
 stage_passes : (start : Seen) (past : Past) (known : Known) (now : Seen) (desk : DeskView)
     (gave : Option (List ℕ)) (stage : Stage) → IsStage stage start past known now
-    → IsStage stage start past known (seen desk now.link gave)
+    → IsStage stage start past known (sight desk now.link gave)
 stage_passes start past known now desk gave stage.Serving is = is
 stage_passes start past known now desk gave (stage.Last ending) is = is
 stage_passes start past known now desk gave (stage.Over ending) is =
@@ -223,7 +223,7 @@ stage_passes start past known now desk gave (stage.Over ending) is =
 
 pub kept_passes : (start : Seen) (known : Known) (now : Seen) (desk : DeskView)
     (gave : Option (List ℕ)) → known.session ≢ 0 → PassesBy now.desk desk → IsKept start known now
-    → IsKept start known (seen desk now.link gave)
+    → IsKept start known (sight desk now.link gave)
 kept_passes start known now desk gave some passes kept = record {
   past = kept.past;
   served = served_passes kept.past.party kept.served some desk gave passes;
@@ -235,7 +235,7 @@ kept_passes start known now desk gave some passes kept = record {
 party_alike : (party : Party) (start : Seen) (fed : List ℕ) (known : Known) (now : Seen) (added : List Record)
     (desk : DeskView) (gave : Option (List ℕ)) → desk.mine ≡ now.desk.mine
     → StaysForAll now.desk.gave_to desk.gave_to → IsParty fed party start known now added
-    → IsParty fed party start known (seen desk now.link gave) added
+    → IsParty fed party start known (sight desk now.link gave) added
 party_alike (Nobody told) start fed known now added desk gave mine given is = is
 party_alike (Somebody user requests broken) start fed known now added desk gave mine given is = record {
   some = is.some;
@@ -250,13 +250,13 @@ party_alike (Somebody user requests broken) start fed known now added desk gave 
 owed_alike : (party : Party) (lists lists' : List (List Item)) → lists' ≡ lists
     → owed_to party lists ≡ owed_to party lists'
 owed_alike (Nobody told) lists lists' e = refl
-owed_alike (Somebody user requests broken) lists lists' e = ap printed (sym e)
+owed_alike (Somebody user requests broken) lists lists' e = ap print_of_drains (sym e)
 
 -- A desk that shows the same and a clock that tells something else keep what is kept.
 pub kept_alike : (start : Seen) (known : Known) (now : Seen) (desk : DeskView) (gave : Option (List ℕ))
     → desk.mine ≡ now.desk.mine → StaysForAll now.desk.gave_to desk.gave_to
     → desk.answers ≡ now.desk.answers → desk.pass ≡ now.desk.pass → IsKept start known now
-    → IsKept start known (seen desk now.link gave)
+    → IsKept start known (sight desk now.link gave)
 kept_alike start known now desk gave mine given answers pass kept = record {
   past = kept.past;
   served = record {

@@ -12,8 +12,8 @@ use Rattle.kom_links.specs.declared.link.Got.{Got}
 use Rattle.kom_links.specs.declared.link.Got.TheVariants as got
 use Rattle.kom_links.specs.declared.served.SessionEnd.{SessionEnd}
 use Rattle.kom_links.specs.declared.served.SessionEnd.TheVariants as end
-use Rattle.kom_links.specs.Outside.{Look, LinkView, Reads, Rose, IsNothing, grown, read_bytes, is_not_yet}
-use Rattle.kom_links.specs.Talk.{Step, steps_of, requests_in, printed}
+use Rattle.kom_links.specs.Outside.{Look, LinkView, Reads, Rose, IsNothing, with_bytes, read_bytes, is_not_yet}
+use Rattle.kom_links.specs.Talk.{Step, steps_of, requests_in, print_of_drains}
 use Rattle.kom_session.specs.declared.phase.Phase.{Phase}
 use Rattle.kom_session.specs.declared.phase.Phase.TheVariants as phase
 use Rattle.kom_session.specs.declared.phase.Stage.{Stage}
@@ -57,7 +57,7 @@ answered_push waited before (first ∷ looks) last place more look (steps, is, f
 
 -- what is told, where nothing was before
 pub told_is : (bytes told : List ℕ) (before after : Option (List ℕ)) → IsNothing before
-    → after ≡ grown bytes before → after ≡ Some told → told ≡ bytes
+    → after ≡ with_bytes bytes before → after ≡ Some told → told ≡ bytes
 told_is bytes told None after nothing e some = absurd (cc (e, some))
 told_is bytes told (Some first) after nothing e some =
     let same : first ++ bytes ≡ told =
@@ -147,7 +147,7 @@ module _ {start : Seen} {past : Past} {known : Known} {now : Seen}
                 ∙ ap length course.asked
                 ∙ all.1,
             elim calm.0 [ inl none ↦ absurd (some none) | inr settled ↦ settled ],
-            owed ∙ ap printed (sym given),
+            owed ∙ ap print_of_drains (sym given),
           )
 
   -- the link was read
@@ -171,8 +171,8 @@ module _ {start : Seen} {past : Past} {known : Known} {now : Seen}
         answers = s.answers;
         own = s.own;
         taken =
-            reads.taken ∙ ap (grown piece) s.taken ∙ grown-append past.fed piece start.link.taken
-            ∙ ap (λ fed. grown fed start.link.taken) (sym grows);
+            reads.taken ∙ ap (with_bytes piece) s.taken ∙ grown-append past.fed piece start.link.taken
+            ∙ ap (λ fed. with_bytes fed start.link.taken) (sym grows);
         put = reads.put ∙ s.put;
         owed = s.owed;
         party = party past.party s.party at.called;

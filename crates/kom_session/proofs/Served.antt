@@ -16,18 +16,18 @@ use Rattle.kom_links.specs.declared.deeds.Deed.{Deed}
 use Rattle.kom_links.specs.declared.deeds.Deed.TheVariants as deed
 use Rattle.kom_types.specs.declared.answers.NotMade.{NotMade}
 use Rattle.kom_types.specs.declared.answers.NotMade.TheVariants as fault
-use Rattle.kom_links.specs.Answers.{Answer, said, said_stopped, is_nothing, concerns, refused}
-use Rattle.kom_links.specs.Outside.{Look, LinkView, grown}
+use Rattle.kom_links.specs.Answers.{Answer, without_value, said_stopped, is_nothing, concerns, first_fault_of}
+use Rattle.kom_links.specs.Outside.{Look, LinkView, with_bytes}
 use Rattle.kom_links.specs.Records.{is_open, IsOpen}
 use Rattle.kom_links.specs.DeskCalls.{DeskView, record_of, AddsNoneOrShort, AsksStopped}
 use Rattle.kom_links.specs.DeskCalls.{Drains as DrainsOf, Flushes as FlushesOf}
-use Rattle.kom_links.specs.Talk.{Step, Flushes, Drains, steps_of, printed}
+use Rattle.kom_links.specs.Talk.{Step, Flushes, Drains, steps_of, print_of_drains}
 use Rattle.kom_session.specs.declared.phase.Phase.{Phase}
 use Rattle.kom_session.specs.declared.phase.Phase.TheVariants as phase
 use Rattle.kom_session.specs.declared.phase.Stage.{Stage}
 use Rattle.kom_session.specs.Course.{IsFlushed, IsSettled, IsCourse}
 use Rattle.kom_session.specs.Ends.{IsOwn}
-use Rattle.kom_session.specs.Known.{Known, Seen, seen, Puts, LeavesOthers, noted, with_flush}
+use Rattle.kom_session.specs.Known.{Known, Seen, sight, Puts, LeavesOthers, note_fault, with_flush}
 use Rattle.kom_session.specs.Left.{IsSending}
 use Rattle.kom_session.specs.Serving.{Party, Nobody, Somebody, Past, owed_to, IsSomebody, IsParty, IsPhase, IsSince}
 use Rattle.kom_session.specs.Serving.{IsServed}
@@ -110,7 +110,7 @@ second_nil [] second e = e
 second_nil (one ∷ first) second e = absurd (cc e)
 
 pub grown-append : (first second : List ℕ) (told : Option (List ℕ))
-    → grown second (grown first told) ≡ grown (first ++ second) told
+    → with_bytes second (with_bytes first told) ≡ with_bytes (first ++ second) told
 grown-append first second None = refl
 grown-append first second (Some before) = ap Some (append_assoc before first second)
 
@@ -130,7 +130,7 @@ served_sent {start} {past} {known} {now} s bytes pending link e puts = record {
   answers = s.answers;
   own = s.own;
   taken = puts.taken ∙ s.taken;
-  put = puts.put ∙ ap (grown bytes) s.put ∙ grown-append s.bytes bytes start.link.put;
+  put = puts.put ∙ ap (with_bytes bytes) s.put ∙ grown-append s.bytes bytes start.link.put;
   owed = append_assoc s.bytes bytes pending ∙ ap (λ rest. s.bytes ++ rest) (sym e) ∙ s.owed;
   party = same_party start known now s.added past.fed past.party (record known { pending = pending })
       (record now { link = link }) s.party refl (served_calm s) refl refl;
@@ -194,10 +194,10 @@ pub record Answers {start : Seen} {past : Past} {known : Known} {now : Seen}
 pub served_still : {start : Seen} {past : Past} {known : Known} {now : Seen}
     (s : IsServed start past known now) (desk : DeskView) (gave : Option (List ℕ)) (deed : Deed)
     (answer : Result ⊤ NotMade) (reached : Phase) → Answers s desk deed answer reached
-    → LeavesOthers known.session now (seen desk now.link gave)
+    → LeavesOthers known.session now (sight desk now.link gave)
     → IsServed start past
     (record known { cause = with_answer known.cause answer; phase = reached })
-    (seen desk now.link gave)
+    (sight desk now.link gave)
 served_still {start} {past} {known} {now} s desk gave deed answer reached a leaves = record {
   added = s.added;
   more = s.more ++ (deed, answer) ∷ [];
@@ -215,7 +215,7 @@ served_still {start} {past} {known} {now} s desk gave deed answer reached a leav
   owed = s.owed ∙ ap (owed_to past.party) (sym a.given);
   party = same_party start known now s.added past.fed past.party
       (record known { cause = with_answer known.cause answer; phase = reached })
-      (seen desk now.link gave) s.party refl a.calm a.mine a.given;
+      (sight desk now.link gave) s.party refl a.calm a.mine a.given;
   steps = ap (steps_of known.session s.added) a.given ∙ s.steps;
   looked = s.looked;
   phase = a.is_phase;
@@ -233,10 +233,10 @@ served_still {start} {past} {known} {now} s desk gave deed answer reached a leav
 pub served_asked : {start : Seen} {past : Past} {known : Known} {now : Seen}
     → IsServed start past known now → (answer : Result Bool NotMade) (desk : DeskView)
     → AsksStopped now.desk answer desk → with_answer known.cause (said_stopped answer) ≡ known.cause
-    → IsServed start past known (seen desk now.link now.gave)
+    → IsServed start past known (sight desk now.link now.gave)
 served_asked {start} {past} {known} {now} s answer desk asks same =
     subst (λ (cause : Option NotMade). IsServed start past (record known { cause = cause })
-    (seen desk now.link now.gave)) same
+    (sight desk now.link now.gave)) same
     (served_still s desk now.gave deed.Ask (said_stopped answer) known.phase
     (record {
       mine = asks.mine;
@@ -257,8 +257,8 @@ pub asked_fault : {start : Seen} {past : Past} {known : Known} {now : Seen}
     (desk : DeskView) → AsksStopped now.desk answer desk → said_stopped answer ≡ Err fault →
     (reached : Phase) → ((known.session ≢ 0) × (reached ≡ phase.Owing))
     ⊎ ((known.session ≡ 0) × (reached ≡ known.phase)) →
-    IsServed start past (record known { cause = noted known.cause fault; phase = reached })
-    (seen desk now.link now.gave)
+    IsServed start past (record known { cause = note_fault known.cause fault; phase = reached })
+    (sight desk now.link now.gave)
 asked_fault {start} {past} {known} {now} s answer fault desk asks said reached which =
     served_still s desk now.gave deed.Ask (Err fault) reached
     (record {
@@ -312,7 +312,7 @@ pub record Pushes {start : Seen} {past : Past} {known : Known} {now : Seen}
   pub is_phase : IsPhase reached s.waited s.place (s.recent ++ step ∷ [])
   pub since : IsSending (with_answer known.cause answer)
       → IsSince reached known.session (s.more ++ (deed, answer) ∷ [])
-  pub leaves : LeavesOthers known.session now (seen desk now.link gave)
+  pub leaves : LeavesOthers known.session now (sight desk now.link gave)
 
 pub push : {start : Seen} {known : Known} {now : Seen} (fed user : List ℕ)
     (requests requests' : List Request) (broken broken' : Bool) →
@@ -320,7 +320,7 @@ pub push : {start : Seen} {known : Known} {now : Seen} (fed user : List ℕ)
     → (desk : DeskView) (gave : Option (List ℕ)) (made : Record) (lists : List (List Item))
     (step : Step) (deed : Deed) (answer : Result ⊤ NotMade) (reached : Phase) →
     Pushes s desk gave made lists step deed answer reached → (pending : List ℕ) →
-    s.bytes ++ pending ≡ printed (desk.gave_to known.session) →
+    s.bytes ++ pending ≡ print_of_drains (desk.gave_to known.session) →
     IsSomebody start.link.host fed user requests' broken' known.session desk.mine
     (s.added ++ made ∷ []) (desk.gave_to known.session) →
     IsServed start (record { fed = fed; party = Somebody user requests' broken' })
@@ -328,7 +328,7 @@ pub push : {start : Seen} {known : Known} {now : Seen} (fed user : List ℕ)
       pending = pending;
       cause = with_answer known.cause answer;
       phase = reached;
-    }) (seen desk now.link gave)
+    }) (sight desk now.link gave)
 push {start} {known} {now} fed user requests requests' broken broken' s desk gave made lists step
     deed answer reached pushes pending owed party = record {
       added = s.added ++ made ∷ [];
@@ -379,16 +379,16 @@ flush_more : {X : Type 0} {start : Seen} {known : Known} {now : Seen} (fed user 
     (gave : Option (List ℕ)) → FlushesOf now.desk moment answer desk →
     desk.mine ≡ now.desk.mine ++ record_of now.desk.pass moment act.Flush 0 short ∷ []
     → (reached : Phase) → IsPhase reached s.waited s.place (s.recent ++ Flushes ∷ []) →
-    (IsSending (with_answer known.cause (said answer))
-    → IsSince reached known.session (s.more ++ (deed.Flush, said answer) ∷ [])) →
+    (IsSending (with_answer known.cause (without_value answer))
+    → IsSince reached known.session (s.more ++ (deed.Flush, without_value answer) ∷ [])) →
     IsServed start (record { fed = fed; party = Somebody user requests broken })
-    (record known { cause = with_answer known.cause (said answer); phase = reached })
-    (seen desk now.link gave)
+    (record known { cause = with_answer known.cause (without_value answer); phase = reached })
+    (sight desk now.link gave)
 flush_more {start = start} {known = known} {now = now} fed user requests broken s moment answer
     short desk gave flushes mine reached is_phase since =
     let made : Record = record_of now.desk.pass moment act.Flush 0 short in
     push fed user requests requests broken broken s desk gave made [] Flushes deed.Flush
-    (said answer) reached
+    (without_value answer) reached
     (record {
       mine = mine;
       given = flushes.given known.session ∙ sym (append-nil (now.desk.gave_to known.session));
@@ -400,7 +400,7 @@ flush_more {start = start} {known = known} {now = now} fed user requests broken 
       since = since;
       leaves = flush_leaves known.session now moment answer desk gave flushes;
     })
-    known.pending (s.owed ∙ ap printed (sym (flushes.given known.session)))
+    known.pending (s.owed ∙ ap print_of_drains (sym (flushes.given known.session)))
     (record {
       some = s.party.some;
       course =
@@ -424,7 +424,7 @@ flush_phase phase.Draining waited place recent = flushed_push recent
 flush_phase phase.Denied waited place recent = tt
 
 flush_since : (reached : Phase) (session : ℕ) (more : List Answer)
-    → IsSince reached session more → refused session more ≢ None
+    → IsSince reached session more → first_fault_of session more ≢ None
     → IsSince (with_flush reached) session (more ++ (deed.Flush, Ok tt) ∷ [])
 flush_since phase.Calm session more since some = flushed_after session more some
 flush_since (phase.Due lines) session more since some = flushed_after session more some
@@ -438,14 +438,14 @@ pub flush_made : {X : Type 0} {start : Seen} {past : Past} {known : Known} {now 
     (moment : ℕ) (done : X) (desk : DeskView) (gave : Option (List ℕ))
     → FlushesOf now.desk moment (Ok done) desk →
     IsServed start past (record known { phase = with_flush known.phase })
-    (seen desk now.link gave)
+    (sight desk now.link gave)
 flush_made {X} {start} {past} {known} {now} s some moment done desk gave flushes =
     go past.party s
   where
     go : (party : Party)
         → (s : IsServed start (record { fed = past.fed; party = party }) known now) →
         IsServed start (record { fed = past.fed; party = party })
-        (record known { phase = with_flush known.phase }) (seen desk now.link gave)
+        (record known { phase = with_flush known.phase }) (sight desk now.link gave)
     go (Nobody told) s = absurd (some s.party.none)
     go (Somebody user requests broken) s =
         flush_more past.fed user requests broken s moment (Ok done) false desk gave flushes
@@ -459,16 +459,16 @@ pub flush_refused : {X : Type 0} {start : Seen} {past : Past} {known : Known} {n
     → IsServed start past known now → known.session ≢ 0 →
     (moment : ℕ) (reason : NotMade) (desk : DeskView) (gave : Option (List ℕ))
     → FlushesOf {X = X} now.desk moment (Err reason) desk →
-    IsServed start past (record known { cause = noted known.cause reason; phase = phase.Denied })
-    (seen desk now.link gave)
+    IsServed start past (record known { cause = note_fault known.cause reason; phase = phase.Denied })
+    (sight desk now.link gave)
 flush_refused {X} {start} {past} {known} {now} s some moment reason desk gave flushes =
     go past.party s reason flushes flushes.none_added
   where
     still : (reason : NotMade) → FlushesOf {X = X} now.desk moment (Err reason) desk
         → desk.mine ≡ now.desk.mine →
         IsServed start past
-        (record known { cause = noted known.cause reason; phase = phase.Denied })
-        (seen desk now.link gave)
+        (record known { cause = note_fault known.cause reason; phase = phase.Denied })
+        (sight desk now.link gave)
     still reason flushes same =
         served_still s desk gave deed.Flush (Err reason) phase.Denied
         (record {
@@ -487,8 +487,8 @@ flush_refused {X} {start} {past} {known} {now} s some moment reason desk gave fl
         (party : Party)
         → (s : IsServed start (record { fed = past.fed; party = party }) known now) →
         IsServed start (record { fed = past.fed; party = party })
-        (record known { cause = noted known.cause reason; phase = phase.Denied })
-        (seen desk now.link gave)
+        (record known { cause = note_fault known.cause reason; phase = phase.Denied })
+        (sight desk now.link gave)
     short reason flushes mine (Nobody told) s = absurd (some s.party.none)
     short reason flushes mine (Somebody user requests broken) s =
         flush_more {X = X} past.fed user requests broken s moment (Err reason) true desk gave
@@ -499,8 +499,8 @@ flush_refused {X} {start} {past} {known} {now} s some moment reason desk gave fl
         → FlushesOf {X = X} now.desk moment (Err reason) desk
         → AddsNoneOrShort now.desk moment reason desk →
         IsServed start past
-        (record known { cause = noted known.cause reason; phase = phase.Denied })
-        (seen desk now.link gave)
+        (record known { cause = note_fault known.cause reason; phase = phase.Denied })
+        (sight desk now.link gave)
     go party s (fault.Gone why.Stopped) flushes (inl same) =
         still (fault.Gone why.Stopped) flushes same
     go party s (fault.Gone why.Stopped) flushes (inr mine) =
@@ -514,10 +514,10 @@ flush_refused {X} {start} {past} {known} {now} s some moment reason desk gave fl
 -- ---- a drain
 
 printed_push : (lists : List (List Item)) (items : List Item)
-    → printed (lists ++ items ∷ []) ≡ printed lists ++ flat_map print_of items
+    → print_of_drains (lists ++ items ∷ []) ≡ print_of_drains lists ++ flat_map print_of items
 printed_push lists items =
     flat_map-append (flat_map print_of) lists (items ∷ [])
-    ∙ ap (λ rest. printed lists ++ rest) (append-nil (flat_map print_of items))
+    ∙ ap (λ rest. print_of_drains lists ++ rest) (append-nil (flat_map print_of items))
 
 -- what was given comes after what is pending
 drained : {X : Type 0} {start : Seen} {fed : List ℕ} {known : Known} {now : Seen}
@@ -530,7 +530,7 @@ drained : {X : Type 0} {start : Seen} {fed : List ℕ} {known : Known} {now : Se
     (s.more ++ (deed.Drain known.session (is_nothing items), Ok tt) ∷ [])) →
     IsServed start (record { fed = fed; party = party })
     (record known { pending = known.pending ++ flat_map print_of items; phase = reached })
-    (seen desk now.link gave)
+    (sight desk now.link gave)
 drained (Nobody told) s some moment done items desk gave drains reached is_phase since =
     absurd (some s.party.none)
 drained {X} {start} {fed} {known} {now} (Somebody user requests broken) s some moment done
@@ -557,7 +557,7 @@ drained {X} {start} {fed} {known} {now} (Somebody user requests broken) s some m
     (known.pending ++ flat_map print_of items)
     (sym (append_assoc s.bytes known.pending (flat_map print_of items))
     ∙ ap (λ first. first ++ flat_map print_of items) s.owed
-    ∙ sym (printed_push (now.desk.gave_to known.session) items) ∙ ap printed (sym drains.given.0))
+    ∙ sym (printed_push (now.desk.gave_to known.session) items) ∙ ap print_of_drains (sym drains.given.0))
     (record {
       some = some;
       course =
@@ -577,7 +577,7 @@ pub drained_some : {X : Type 0} {start : Seen} {past : Past} {known : Known} {no
     (moment : ℕ) (done : X) (items : List Item) (desk : DeskView) (gave : Option (List ℕ))
     → DrainsOf now.desk moment known.session items (Ok done) desk →
     IsServed start past
-    (record known { pending = known.pending ++ flat_map print_of items }) (seen desk now.link gave)
+    (record known { pending = known.pending ++ flat_map print_of items }) (sight desk now.link gave)
 drained_some {past = past} {known = known} s some draining moment done items desk gave drains =
     drained past.party s some moment done items desk gave drains known.phase
     (subst (λ reached. IsPhase reached s.waited s.place (s.recent ++ Drains items ∷ []))
@@ -592,13 +592,13 @@ pub drained_none : {X : Type 0} {start : Seen} {past : Past} {known : Known} {no
     (s : IsServed start past known now) → known.session ≢ 0 → known.phase ≡ phase.Draining →
     (moment : ℕ) (done : X) (desk : DeskView) (gave : Option (List ℕ))
     → DrainsOf now.desk moment known.session [] (Ok done) desk →
-    IsServed start past (record known { phase = phase.Calm }) (seen desk now.link gave)
+    IsServed start past (record known { phase = phase.Calm }) (sight desk now.link gave)
 drained_none {X} {start} {past} {known} {now} s some draining moment done desk gave drains =
     let flushed : IsFlushed s.recent =
     subst (λ reached. IsPhase reached s.waited s.place s.recent) draining s.phase in
     let settled : IsSettled (s.recent ++ Drains [] ∷ []) = settled_drained s.recent flushed in
     subst (λ (pending : List ℕ). IsServed start past
-    (record known { pending = pending; phase = phase.Calm }) (seen desk now.link gave))
+    (record known { pending = pending; phase = phase.Calm }) (sight desk now.link gave))
     (append-nil known.pending)
     (drained past.party s some moment done [] desk gave drains phase.Calm (
       inr (settled_after s.place (s.recent ++ Drains [] ∷ []) settled),
@@ -612,8 +612,8 @@ pub drain_refused : {X : Type 0} {start : Seen} {past : Past} {known : Known} {n
     (s : IsServed start past known now) → known.session ≢ 0 →
     (moment : ℕ) (fault : NotMade) (items : List Item) (desk : DeskView) (gave : Option (List ℕ))
     → DrainsOf {X = X} now.desk moment known.session items (Err fault) desk →
-    IsServed start past (record known { cause = noted known.cause fault; phase = phase.Denied })
-    (seen desk now.link gave)
+    IsServed start past (record known { cause = note_fault known.cause fault; phase = phase.Denied })
+    (sight desk now.link gave)
 drain_refused {X} {known = known} {now = now} s some moment fault items desk gave drains =
     served_still s desk gave (deed.Drain known.session (is_nothing items)) (Err fault) phase.Denied
     (record {

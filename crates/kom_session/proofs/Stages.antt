@@ -9,7 +9,7 @@ use Rattle.kom_session.specs.declared.phase.Phase.{Phase}
 use Rattle.kom_session.specs.declared.phase.Phase.TheVariants as phase
 use Rattle.kom_session.specs.declared.phase.Stage.{Stage}
 use Rattle.kom_session.specs.declared.phase.Stage.TheVariants as stage
-use Rattle.kom_session.specs.Known.{Known, Seen, Keeps, noted, after_fault}
+use Rattle.kom_session.specs.Known.{Known, Seen, Keeps, note_fault, after_fault}
 use Rattle.kom_session.specs.Serving.{Party, Somebody, Past, Plans, IsRefused, IsFinal, IsServed}
 use Rattle.kom_session.specs.Kept.{IsEarly, IsAtStream, IsLast, IsStage, IsOn}
 use Rattle.kom_session.proofs.Served.{somebody}
@@ -31,13 +31,13 @@ keeps_trans p q = record {
 }
 
 -- a fault that was noted is one
-pub noted_some : (cause : Option NotMade) (fault : NotMade) → noted cause fault ≢ None
+pub noted_some : (cause : Option NotMade) (fault : NotMade) → note_fault cause fault ≢ None
 noted_some None fault = λ e. cc e
 noted_some (Some first) fault = λ e. cc e
 
 pub keeps_noted : (known : Known) → known.session ≢ 0
     → (fault : NotMade) (reached : Phase) (stage : Stage) →
-    Keeps known (record known { cause = noted known.cause fault; phase = reached; stage = stage })
+    Keeps known (record known { cause = note_fault known.cause fault; phase = reached; stage = stage })
 keeps_noted known some fault reached stage =
     record {
       session = refl;
@@ -82,7 +82,7 @@ pub fault_stage : {start : Seen} {past : Past} {known : Known} {now : Seen}
     → IsStage known.stage start past known now → (fault : NotMade) (reached : Phase) (now' : Seen)
     → IsStage (after_fault known.stage) start past
     (record known {
-      cause = noted known.cause fault;
+      cause = note_fault known.cause fault;
       phase = reached;
       stage = after_fault known.stage;
     }) now'
@@ -90,7 +90,7 @@ fault_stage {start} {past} {known} {now} s some on is fault reached now' = go kn
   where
     after : Stage → Known
     after stage = record known {
-      cause = noted known.cause fault;
+      cause = note_fault known.cause fault;
       phase = reached;
       stage = stage;
     }

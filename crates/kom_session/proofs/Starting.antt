@@ -2,7 +2,7 @@
 use Rattle.std.proofs.Common.{◌≡◌, ℕ, false, inl, List, [], Option, Some, None, refl, sym, ap, subst, append-nil}
 use Rattle.std.specs.Prelude.{IfSome}
 use Rattle.kom_framing.specs.Splitting.{Splitting, IsAt}
-use Rattle.kom_links.specs.Outside.{Look, grown}
+use Rattle.kom_links.specs.Outside.{Look, with_bytes}
 use Rattle.kom_session.specs.declared.phase.Phase.TheVariants as phase
 use Rattle.kom_session.specs.declared.phase.Stage.TheVariants as stage
 use Rattle.kom_session.specs.Ends.{IsUntouched}
@@ -12,7 +12,7 @@ use Rattle.kom_session.specs.Waits.{AreAnswered}
 use Rattle.kom_session.specs.Kept.{IsKept}
 use Rattle.kom_session.proofs.Others.{others_none}
 
-grown-nil : (told : Option (List ℕ)) → grown [] told ≡ told
+grown-nil : (told : Option (List ℕ)) → with_bytes [] told ≡ told
 grown-nil None = refl
 grown-nil (Some before) = ap Some (append-nil before)
 

@@ -17,7 +17,8 @@ use Rattle.kom_links.specs.declared.served.SessionEnd.TheVariants as end
 use Rattle.kom_links.specs.DeskCalls.{record_of}
 use Rattle.kom_links.specs.Talk.{Step, Connects, Asks, Breaks, Flushes, Drains, Closes, steps_of, records_of}
 use Rattle.kom_links.specs.Talk.{requests_in, drains_in, breaks_in, Begins, EndsClosed, IsCutShort, lines_before}
-use Rattle.kom_links.specs.Talk.{printed, IsPrefix, is_quiet, IsDrained, IsBroken, MayBreak, Written, AtItsEnd}
+use Rattle.kom_links.specs.Talk.{print_of_drains, IsPrefix, is_quiet, IsDrained, IsBroken, MayBreak, WasWritten}
+use Rattle.kom_links.specs.Talk.{AtItsEnd}
 use Rattle.kom_links.specs.Talk.{IsSpaced, IsTalk}
 use Rattle.kom_session.specs.Course.{is_still, IsSettled, IsAtFault, IsConnected, IsCourse}
 use Rattle.kom_session.proofs.Steps.{requests_in-append, drains_in-append, breaks_in-append, append_split, steps_push}
@@ -30,16 +31,16 @@ abbrev pub EndFacts : SessionEnd → List ℕ → List ℕ → Bool → List Req
     → List (List Item) → Type 0
 EndFacts end.End input output ended requests fault steps given =
     (ended ≡ true) × (fault_of input ≡ None)
-    × (length requests ≡ length (stream_of input).lines) × (output ≡ printed given)
+    × (length requests ≡ length (stream_of input).lines) × (output ≡ print_of_drains given)
     × IsSettled steps
 EndFacts (end.Broken place) input output ended requests fault steps given =
     (fault ≡ true) × (fault_of input ≡ Some place)
-    × (length requests ≡ lines_before place (stream_of input).lines) × (output ≡ printed given)
+    × (length requests ≡ lines_before place (stream_of input).lines) × (output ≡ print_of_drains given)
     × IsSettled steps
-EndFacts end.Dropped input output ended requests fault steps given = output ≡ printed given
-EndFacts end.Overrun input output ended requests fault steps given = output ≡ printed given
-EndFacts end.Stopped input output ended requests fault steps given = output ≡ printed given
-EndFacts (end.Full number) input output ended requests fault steps given = output ≡ printed given
+EndFacts end.Dropped input output ended requests fault steps given = output ≡ print_of_drains given
+EndFacts end.Overrun input output ended requests fault steps given = output ≡ print_of_drains given
+EndFacts end.Stopped input output ended requests fault steps given = output ≡ print_of_drains given
+EndFacts (end.Full number) input output ended requests fault steps given = output ≡ print_of_drains given
 EndFacts end.LinkFault input output ended requests fault steps given = Unit {0}
 EndFacts end.Memory input output ended requests fault steps given = Unit {0}
 
@@ -225,7 +226,7 @@ talk_of : (end : SessionEnd) (host user input output : List ℕ) (ended full : B
     (stream_of input).greeting ≡ Some user →
     map Some requests
     ≡ map (λ line. reading_of line.tokens) (take (length requests) (stream_of input).lines) →
-    IsPrefix output (printed given) →
+    IsPrefix output (print_of_drains given) →
     (fault ≡ true
     → ((place : ℕ) × (fault_of input ≡ Some place)
     × (length requests ≡ lines_before place (stream_of input).lines))) →
@@ -250,7 +251,7 @@ talk_of end host user input output ended full session requests fault pass given 
           ≡ map (λ line. reading_of line.tokens)
           (take (length requests) (stream_of input).lines)) (sym asked) calls;
       breaks = may_break input requests fault (steps_of session pass given) asked at broken;
-      written = subst (λ records. Written input output records given) (sym own) written;
+      written = subst (λ records. WasWritten input output records given) (sym own) written;
       at_end =
           subst (λ records. AtItsEnd end input output ended records
           (steps_of session pass given) given) (sym own)
@@ -282,7 +283,7 @@ pub talk_open : {session : ℕ} {host user : List ℕ} {requests : List
     (stream_of input).greeting ≡ Some user →
     map Some requests
     ≡ map (λ line. reading_of line.tokens) (take (length requests) (stream_of input).lines) →
-    IsPrefix output (printed given) →
+    IsPrefix output (print_of_drains given) →
     (fault ≡ true
     → ((place : ℕ) × (fault_of input ≡ Some place)
     × (length requests ≡ lines_before place (stream_of input).lines))) →
@@ -302,7 +303,7 @@ pub talk_closed : {session : ℕ} {host user : List ℕ} {requests : List
     (stream_of input).greeting ≡ Some user →
     map Some requests
     ≡ map (λ line. reading_of line.tokens) (take (length requests) (stream_of input).lines) →
-    IsPrefix output (printed given) →
+    IsPrefix output (print_of_drains given) →
     (fault ≡ true
     → ((place : ℕ) × (fault_of input ≡ Some place)
     × (length requests ≡ lines_before place (stream_of input).lines))) →

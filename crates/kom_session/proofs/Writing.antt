@@ -11,10 +11,10 @@ use Rattle.kom_framing.specs.Writing.{Written}
 use Rattle.kom_links.specs.declared.link.Took.{Took}
 use Rattle.kom_links.specs.declared.link.Took.TheVariants as took
 use Rattle.kom_links.specs.declared.served.SessionEnd.TheVariants as end
-use Rattle.kom_links.specs.Outside.{LinkView, Writes, written_bytes, grown}
+use Rattle.kom_links.specs.Outside.{LinkView, Writes, written_bytes, with_bytes}
 use Rattle.kom_session.specs.declared.machine.Machine.{Machine}
 use Rattle.kom_session.specs.declared.phase.Stage.TheVariants as stage
-use Rattle.kom_session.specs.Known.{Known, Puts, known, unwritten, unprinted}
+use Rattle.kom_session.specs.Known.{Known, Puts, known_by, to_write, to_print}
 use Rattle.kom_session.specs.Kept.{IsOn, IfWritten}
 use Rattle.kom_session.proofs.Going.{goes_link}
 use Rattle.kom_session.proofs.Served.{served_sent, served_known}
@@ -24,7 +24,7 @@ use Rattle.kom_session.proofs.Reading.{rose_since}
 puts : (before : LinkView) (from bytes : List ℕ) (answer : Took) (after : LinkView)
     → Writes before from answer after → written_bytes answer from ≡ bytes → Puts before bytes after
 puts before from bytes answer after writes e = record {
-  put = writes.put ∙ ap (λ bytes. grown bytes before.put) e;
+  put = writes.put ∙ ap (λ bytes. with_bytes bytes before.put) e;
   taken = writes.taken;
   ended = writes.ended;
   host = writes.host;
@@ -109,15 +109,15 @@ printed_more written before after rest rest' e less more =
 -- Items were printed after what is unwritten.
 pub printed_known : (old mid : Machine) (writer : Written) (printed : ℕ)
     → mid ≡ record old { writer = mid.writer; written = mid.written }
-    → unwritten mid ≡ unwritten old → mid.written ≤ length mid.writer.bytes →
+    → to_write mid ≡ to_write old → mid.written ≤ length mid.writer.bytes →
     writer.bytes ++ flat_map print_of (drop printed mid.items.items)
-    ≡ mid.writer.bytes ++ flat_map print_of (unprinted mid)
+    ≡ mid.writer.bytes ++ flat_map print_of (to_print mid)
     → length mid.writer.bytes ≤ length writer.bytes →
-    known (record mid { writer = writer; printed = printed }) ≡ known old
+    known_by (record mid { writer = writer; printed = printed }) ≡ known_by old
 printed_known old mid writer printed same kept inside e grows =
-    ap (λ pending. record (known mid) { pending = pending })
+    ap (λ pending. record (known_by mid) { pending = pending })
     (printed_more mid.written writer.bytes mid.writer.bytes
-    (flat_map print_of (unprinted mid)) (flat_map print_of (drop printed mid.items.items)) e
+    (flat_map print_of (to_print mid)) (flat_map print_of (drop printed mid.items.items)) e
     (omega (arith, inside, grows)) inside)
-    ∙ ap known same
-    ∙ ap (λ bytes. record (known old) { pending = bytes ++ flat_map print_of (unprinted old) }) kept
+    ∙ ap known_by same
+    ∙ ap (λ bytes. record (known_by old) { pending = bytes ++ flat_map print_of (to_print old) }) kept

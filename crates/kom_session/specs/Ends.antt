@@ -88,6 +88,6 @@ ending_of end.LinkFault (Some fault) = end_at fault
 ending_of (end.Full number) (Some fault) = end_at fault
 
 -- the same, with whether the link failed
-abbrev pub ending : Bool → SessionEnd → Option NotMade → SessionEnd
-ending true planned cause = end.LinkFault
-ending false planned cause = ending_of planned cause
+abbrev pub ending_with : Bool → SessionEnd → Option NotMade → SessionEnd
+ending_with true planned cause = end.LinkFault
+ending_with false planned cause = ending_of planned cause

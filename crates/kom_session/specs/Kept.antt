@@ -27,7 +27,7 @@ use Rattle.kom_session.specs.declared.phase.Phase.{Phase}
 use Rattle.kom_session.specs.declared.phase.Phase.TheVariants as phase
 use Rattle.kom_session.specs.declared.phase.Stage.{Stage}
 use Rattle.kom_session.specs.declared.phase.Stage.TheVariants as stage
-use Rattle.kom_session.specs.Known.{Known, Seen, State, state, seen, known, unprinted, HasRoom}
+use Rattle.kom_session.specs.Known.{Known, Seen, State, state, sight, known_by, to_print, HasRoom}
 use Rattle.kom_session.specs.Known.{Keeps}
 use Rattle.kom_session.specs.Serving.{Somebody, Past, IsFaultAfter, AreCalled, Plans, IsHeard}
 use Rattle.kom_session.specs.Serving.{IsFinal, IsServed, ServesLink}
@@ -150,7 +150,7 @@ pub record IsFaulty (place : ℕ) (start : Seen) (here : State) : Type 0 where
 -- it is served since some start, over this desk and clock and a link at this host
 abbrev pub CanGo : Known → DeskView → Option (List ℕ) → Type 0
 CanGo known desk gave =
-    (start : Seen) × (link : LinkView) × IsKept start known (seen desk link gave)
+    (start : Seen) × (link : LinkView) × IsKept start known (sight desk link gave)
 
 -- The link may be read: all that came was called, settled and written.
 pub record MayRead (known : Known) : Type 0 where
@@ -177,7 +177,7 @@ MayAsk known = known.session ≡ 0 → known.stage ≡ stage.Serving
 -- a session may be drained: it was flushed, and all items that it was given were printed
 pub record MayDrain (machine : Machine) : Type 0 where
   pub flushed : machine.phase ≡ phase.Draining
-  pub all_printed : unprinted machine ≡ []
+  pub all_printed : to_print machine ≡ []
 
 -- the service is over
 abbrev pub IsDone : Stage → Type 0
@@ -205,12 +205,12 @@ IfWritten old from answer new = (now : Seen) (link : LinkView) → Writes now.li
 abbrev pub IfFlushed : Known → Result ⊤ NotMade → Known → Type 0
 IfFlushed old answer new = (now : Seen) (moment : ℕ) (desk : DeskView) (gave : Option (List ℕ))
     → Flushes now.desk moment answer desk → Gains now.gave moment gave
-    → Goes (state old now) (state new (seen desk now.link gave))
+    → Goes (state old now) (state new (sight desk now.link gave))
 
 -- the desk was asked whether it is stopped alone
 abbrev pub IfAsked : Known → Result Bool NotMade → Known → Type 0
 IfAsked old answer new = (now : Seen) (desk : DeskView) → AsksStopped now.desk answer desk
-    → Goes (state old now) (state new (seen desk now.link now.gave))
+    → Goes (state old now) (state new (sight desk now.link now.gave))
 
 -- nothing was done outside
 abbrev pub IfStill : Known → Known → Type 0
@@ -233,7 +233,7 @@ pub record PassesBy (old new : DeskView) : Type 0 where
 abbrev pub IfMade : List ℕ → Known → DeskView → Option (List ℕ) → Known → DeskView
     → Option (List ℕ) → Type 0
 IfMade host old desk gave new desk' gave' = (link : LinkView) → link.host ≡ host
-    → Goes (state old (seen desk link gave)) (state new (seen desk' link gave'))
+    → Goes (state old (sight desk link gave)) (state new (sight desk' link gave'))
 
 -- The service was closed: since each start from which it was kept, over whatever link, it is served
 -- as the contract of serve_link says; `risen` tells whether that link failed since.
@@ -243,7 +243,7 @@ IfClosed risen old desk gave result desk' gave' = (start : Seen) (link : LinkVie
     → (IsTrue risen ↔ Rose start.link.faults link.faults)
     → ((added : List Record) × (desk.mine ≡ start.desk.mine ++ added)
     × AreTimed start.gave gave added)
-    → IsKept start old (seen desk link gave) → ServesLink start result (seen desk' link gave')
+    → IsKept start old (sight desk link gave) → ServesLink start result (sight desk' link gave')
 
 -- A session was closed, if there is one: no record was added to a desk, or the session's Close,
 -- which has a reading of the clock.

@@ -9,7 +9,7 @@ use Rattle.kom_types.specs.declared.answers.NotMade.{NotMade}
 use Rattle.kom_types.specs.declared.answers.NotMade.TheVariants as fault
 use Rattle.kom_links.specs.declared.served.SessionEnd.TheVariants as end
 use Rattle.kom_links.specs.DeskCalls.{DeskView}
-use Rattle.kom_links.specs.Outside.{LinkView, grown}
+use Rattle.kom_links.specs.Outside.{LinkView, with_bytes}
 use Rattle.kom_links.specs.Records.{is_open}
 use Rattle.kom_session.specs.declared.machine.Machine.{Machine}
 use Rattle.kom_session.specs.declared.phase.Phase.{Phase}
@@ -31,18 +31,18 @@ pub record Known : Type 0 where
   pub bad : Option ℕ
 
 -- the items of a machine that are yet to be printed
-abbrev pub unprinted : Machine → List Item
-unprinted machine = drop machine.printed machine.items.items
+abbrev pub to_print : Machine → List Item
+to_print machine = drop machine.printed machine.items.items
 
 -- the bytes of a machine that are yet to be written
-abbrev pub unwritten : Machine → List ℕ
-unwritten machine = drop machine.written machine.writer.bytes
+abbrev pub to_write : Machine → List ℕ
+to_write machine = drop machine.written machine.writer.bytes
 
 -- what a machine knows
-abbrev pub known : Machine → Known
-known machine = record {
+abbrev pub known_by : Machine → Known
+known_by machine = record {
   splitting = machine.splitter;
-  pending = unwritten machine ++ flat_map print_of (unprinted machine);
+  pending = to_write machine ++ flat_map print_of (to_print machine);
   session = machine.session;
   cause = machine.cause;
   phase = machine.phase;
@@ -56,8 +56,8 @@ pub record Seen : Type 0 where
   pub link : LinkView
   pub gave : Option (List ℕ)
 
-abbrev pub seen : DeskView → LinkView → Option (List ℕ) → Seen
-seen desk link gave = record { desk = desk; link = link; gave = gave }
+abbrev pub sight : DeskView → LinkView → Option (List ℕ) → Seen
+sight desk link gave = record { desk = desk; link = link; gave = gave }
 
 -- What is known of a link, and what is seen of its desk, link and clock.
 pub record State : Type 0 where
@@ -68,9 +68,9 @@ abbrev pub state : Known → Seen → State
 state known seen = record { known = known; seen = seen }
 
 -- the first fault that was answered, after this one
-abbrev pub noted : Option NotMade → NotMade → Option NotMade
-noted (Some first) fault = Some first
-noted None fault = Some fault
+abbrev pub note_fault : Option NotMade → NotMade → Option NotMade
+note_fault (Some first) fault = Some first
+note_fault None fault = Some fault
 
 -- one more line can be called before it must be settled
 abbrev pub HasRoom : Phase → Type 0
@@ -122,7 +122,7 @@ pub record Keeps (old new : Known) : Type 0 where
 
 -- These bytes were put to a link, and nothing else changed of it, but that it may have failed.
 pub record Puts (before : LinkView) (bytes : List ℕ) (after : LinkView) : Type 0 where
-  pub put : after.put ≡ grown bytes before.put
+  pub put : after.put ≡ with_bytes bytes before.put
   pub taken : after.taken ≡ before.taken
   pub ended : after.ended ≡ before.ended
   pub host : after.host ≡ before.host

@@ -14,11 +14,12 @@ use Rattle.kom_types.specs.declared.answers.NotMade.{NotMade}
 use Rattle.kom_links.specs.declared.served.Served.{Served}
 use Rattle.kom_links.specs.declared.served.SessionEnd.{SessionEnd}
 use Rattle.kom_links.specs.declared.served.SessionEnd.TheVariants as end
-use Rattle.kom_links.specs.Outside.{LinkView, Rose, grown}
+use Rattle.kom_links.specs.Outside.{LinkView, Rose, with_bytes}
 use Rattle.kom_links.specs.Records.{IsOpen, has_connect}
 use Rattle.kom_links.specs.DeskCalls.{DeskView, IsConnectFault}
-use Rattle.kom_links.specs.Answers.{Answer, refused, IsFlushedAfter, IsSettledAfter, HasRefused}
-use Rattle.kom_links.specs.Talk.{Step, steps_of, lines_before, printed, AreTimed, IsTalk}
+use Rattle.kom_links.specs.Answers.{Answer, first_fault_of, IsFlushedAfter, IsSettledAfter}
+use Rattle.kom_links.specs.Answers.{HasRefused}
+use Rattle.kom_links.specs.Talk.{Step, steps_of, lines_before, print_of_drains, AreTimed, IsTalk}
 use Rattle.kom_session.specs.declared.phase.Phase.{Phase}
 use Rattle.kom_session.specs.declared.phase.Phase.TheVariants as phase
 use Rattle.kom_session.specs.Course.{IsFlushed, IsSettled, IsRecent, IsCourse}
@@ -41,7 +42,7 @@ pub record Past : Type 0 where
 -- what is to be put in all
 abbrev pub owed_to : Party → List (List Item) → List ℕ
 owed_to (Nobody told) given = told
-owed_to (Somebody user requests broken) given = printed given
+owed_to (Somebody user requests broken) given = print_of_drains given
 
 -- the stream's greeting is of this user, and its first lines are these calls
 pub record AreFirst (fed user : List ℕ) (requests : List Request) : Type 0 where
@@ -110,16 +111,16 @@ pub record IsServed (start : Seen) (past : Past) (known : Known) (now : Seen) : 
   pub mine : now.desk.mine ≡ start.desk.mine ++ added
   pub answers : now.desk.answers ≡ start.desk.answers ++ more
   pub own : AllByRecursion (IsOwn known.session) added
-  pub taken : now.link.taken ≡ grown past.fed start.link.taken
-  pub put : now.link.put ≡ grown bytes start.link.put
+  pub taken : now.link.taken ≡ with_bytes past.fed start.link.taken
+  pub put : now.link.put ≡ with_bytes bytes start.link.put
   pub owed : bytes ++ known.pending ≡ owed_to past.party (now.desk.gave_to known.session)
   pub party : IsParty past.fed past.party start known now added
   pub steps : steps_of known.session added (now.desk.gave_to known.session) ≡ place ++ recent
   pub looked : IfSome now.link.reads (λ looks. AreAnswered false [] looks waited place)
   pub phase : IsPhase known.phase waited place recent
-  pub cause : refused known.session more ≡ known.cause
+  pub cause : first_fault_of known.session more ≡ known.cause
   pub unrefused : known.session ≡ 0 → known.cause ≡ None →
-      (number : ℕ) → refused number more ≡ None
+      (number : ℕ) → first_fault_of number more ≡ None
   pub since : known.session ≢ 0 → IsSending known.cause → IsSince known.phase known.session more
   pub others : LeavesOthers known.session start now
   pub untouched : IsUntouched start.link
@@ -207,7 +208,8 @@ pub record ServesLink (old : Seen) (result : Served) (new : Seen) : Type 0 where
   pub talk : Adds old.desk new.desk (λ added answers. AllByRecursion (IsOwn result.session) added
       × AreTimed old.gave new.gave added
       × (input output : List ℕ) × HasCarried new.link input output
-      × TellsFault old.link.faults new.link.faults (refused result.session answers) input result.end
+      × TellsFault old.link.faults new.link.faults
+      (first_fault_of result.session answers) input result.end
       × IsTalk old.link.host input output new.link.ended added result.session
       (given_to result.session (new.desk.gave_to result.session)) result.end new.desk.lock_full)
   pub session : Adds old.desk new.desk (λ added answers.
@@ -215,7 +217,7 @@ pub record ServesLink (old : Seen) (result : Served) (new : Seen) : Type 0 where
   pub waits : Adds old.desk new.desk (λ added answers.
       IfSome new.link.reads (NoneWaits (steps_in new result.session added)))
   pub cause : Adds old.desk new.desk (λ added answers. HasCause old.link.faults new.link.faults
-      (refused result.session answers) new.link.ended result.end)
+      (first_fault_of result.session answers) new.link.ended result.end)
   pub left : Adds old.desk new.desk (λ added answers. result.session ≢ 0 →
       IfSending result.end (IsSentAll (steps_in new result.session added) result.session answers))
   pub others : LeavesOthers result.session old new

@@ -5,7 +5,7 @@ use Rattle.kom_types.specs.declared.items.Item.{Item}
 use Rattle.kom_types.specs.Stream.{stream_of}
 use Rattle.kom_links.specs.Outside.{Look}
 use Rattle.kom_links.specs.Talk.{Step, Connects, Asks, Breaks, Flushes, Drains, Closes, requests_in}
-use Rattle.kom_links.specs.Talk.{printed, Settles}
+use Rattle.kom_links.specs.Talk.{print_of_drains, Settles}
 use Rattle.kom_session.specs.Course.{IsSettled}
 
 -- what the drains among some steps gave, a list for each
@@ -23,7 +23,7 @@ abbrev pub IsAnsweredBy : Option (List ℕ) → Look → List Step → Type 0
 IsAnsweredBy None look steps = (steps ≡ []) × (look.put ≡ [])
 IsAnsweredBy (Some user) look steps =
     (length (requests_in steps) ≡ length (stream_of look.taken).lines)
-    × IsSettled steps × (look.put ≡ printed (given_in steps))
+    × IsSettled steps × (look.put ≡ print_of_drains (given_in steps))
 
 -- As a link was read, no greeting had come, and nothing was done or put; or each complete line was
 -- called, the last of these was settled, and what was put is the whole print of what the drains

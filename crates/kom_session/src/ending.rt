@@ -1,5 +1,5 @@
 ghost use Rattle.std.specs.Prelude.{◌≡◌};
-ghost use Rattle.kom_session.specs.Ends.{end_at, ending};
+ghost use Rattle.kom_session.specs.Ends.{end_at, ending_with};
 
 use kom_links::SessionEnd;
 use kom_types::{NotMade, Why};
@@ -7,7 +7,7 @@ use kom_types::{NotMade, Why};
 /// The end of a service that was to end so: a fault of the link goes before all, and the desk's
 /// first fault before all but out of memory.
 pub(crate) fn end_of(risen: bool, planned: SessionEnd, cause: Option<NotMade>) -> SessionEnd
-    ensures { result ≡ ending risen planned cause }
+    ensures { result ≡ ending_with risen planned cause }
 {
     if risen {
         return SessionEnd::LinkFault;

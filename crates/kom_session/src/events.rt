@@ -8,7 +8,7 @@ ghost use Rattle.kom_links.specs.declared.link.Took.{Took};
 ghost use Rattle.kom_links.specs.declared.link.Took.TheVariants as took;
 ghost use Rattle.kom_links.specs.DeskCalls.{DeskView};
 ghost use Rattle.kom_links.specs.Outside.{written_bytes};
-ghost use Rattle.kom_session.specs.Known.{Seen, seen, known, unwritten, noted, after_fault};
+ghost use Rattle.kom_session.specs.Known.{Seen, sight, known_by, to_write, note_fault, after_fault};
 ghost use Rattle.kom_session.specs.declared.phase.Phase.TheVariants as phase;
 ghost use Rattle.kom_session.specs.declared.phase.Stage.TheVariants as stage;
 ghost use Rattle.kom_session.specs.Kept.{MayRead, MayFlush, MayAsk, IsOn, IsDone, IfRead};
@@ -23,9 +23,9 @@ use kom_types::{NotMade, Why};
 impl Machine {
     /// A read gave this piece, the first bytes of its buffer.
     pub fn fed(&mut self, piece: &[u8])
-        requires { MayRead (known self.old) }
+        requires { MayRead (known_by self.old) }
         ensures { (buffer : List ℕ) (count : ℕ) → piece.now ≡ take count buffer
-            → IfRead (known self.old) buffer (got.Some count) (known self.new) }
+            → IfRead (known_by self.old) buffer (got.Some count) (known_by self.new) }
     {
         match self.splitter.feed(piece) {
             Ok(()) => {}
@@ -37,10 +37,10 @@ impl Machine {
 
     /// A read found nothing, so that a session is to be settled again.
     pub fn waited(&mut self)
-        requires { MayRead (known self.old) }
+        requires { MayRead (known_by self.old) }
         ensures reads { (buffer : List ℕ)
-            → IfRead (known self.old) buffer got.NotYet (known self.new) }
-        ensures serving { (known self.new).stage ≡ stage.Serving }
+            → IfRead (known_by self.old) buffer got.NotYet (known_by self.new) }
+        ensures serving { (known_by self.new).stage ≡ stage.Serving }
     {
         if self.session != 0 {
             self.phase = Phase::Due(0);
@@ -49,28 +49,29 @@ impl Machine {
 
     /// A read found the end of the stream.
     pub fn ended(&mut self)
-        requires { MayRead (known self.old) }
-        ensures { (buffer : List ℕ) → IfRead (known self.old) buffer got.End (known self.new) }
+        requires { MayRead (known_by self.old) }
+        ensures { (buffer : List ℕ) →
+            IfRead (known_by self.old) buffer got.End (known_by self.new) }
     {
         self.stage = Stage::Over(SessionEnd::End);
     }
 
     /// A read failed.
     pub fn unread(&mut self)
-        requires { MayRead (known self.old) }
+        requires { MayRead (known_by self.old) }
         ensures { (buffer : List ℕ)
-            → IfRead (known self.old) buffer got.Failed (known self.new) }
+            → IfRead (known_by self.old) buffer got.Failed (known_by self.new) }
     {
         self.stage = Stage::Over(SessionEnd::LinkFault);
     }
 
     /// A write took so many of the unwritten bytes; 0 where it took none.
     pub fn wrote(&mut self, count: usize)
-        requires on { IsOn (known self.old).stage }
-        requires some { count ≤ length (unwritten self.old) }
+        requires on { IsOn (known_by self.old).stage }
+        requires some { count ≤ length (to_write self.old) }
         ensures { (answer : Took)
-            → written_bytes answer (unwritten self.old) ≡ take count (unwritten self.old)
-            → IfWritten (known self.old) (unwritten self.old) answer (known self.new) }
+            → written_bytes answer (to_write self.old) ≡ take count (to_write self.old)
+            → IfWritten (known_by self.old) (to_write self.old) answer (known_by self.new) }
     {
         self.written = place_after(self.writer.bytes(), self.written, count);
         self.rest();
@@ -78,26 +79,27 @@ impl Machine {
 
     /// A write failed.
     pub fn unwritable(&mut self)
-        requires { IsOn (known self.old).stage }
-        ensures { IfWritten (known self.old) (unwritten self.old) took.Failed (known self.new) }
+        requires { IsOn (known_by self.old).stage }
+        ensures { IfWritten (known_by self.old) (to_write self.old) took.Failed
+            (known_by self.new) }
     {
         self.stage = Stage::Over(SessionEnd::LinkFault);
     }
 
     /// Memory ran out.
     pub fn out_of_memory(&mut self)
-        requires { IsOn (known self.old).stage }
-        ensures still { IfStill (known self.old) (known self.new) }
-        ensures over { IsDone (known self.new).stage }
+        requires { IsOn (known_by self.old).stage }
+        ensures still { IfStill (known_by self.old) (known_by self.new) }
+        ensures over { IsDone (known_by self.new).stage }
     {
         self.stage = Stage::Over(SessionEnd::Memory);
     }
 
     /// The desk was asked for a flush, and answered so.
     pub fn flushed(&mut self, answer: Result<(), NotMade>)
-        requires on { IsOn (known self.old).stage }
-        requires may { MayFlush (known self.old) }
-        ensures { IfFlushed (known self.old) answer (known self.new) }
+        requires on { IsOn (known_by self.old).stage }
+        requires may { MayFlush (known_by self.old) }
+        ensures { IfFlushed (known_by self.old) answer (known_by self.new) }
     {
         match answer {
             Ok(()) => {
@@ -113,9 +115,9 @@ impl Machine {
 
     /// The desk was asked whether it is stopped, and answered so.
     pub fn asked(&mut self, answer: Result<bool, NotMade>)
-        requires on { IsOn (known self.old).stage }
-        requires may { MayAsk (known self.old) }
-        ensures { IfAsked (known self.old) answer (known self.new) }
+        requires on { IsOn (known_by self.old).stage }
+        requires may { MayAsk (known_by self.old) }
+        ensures { IfAsked (known_by self.old) answer (known_by self.new) }
     {
         match answer {
             Ok(false) => {}
@@ -127,15 +129,15 @@ impl Machine {
     /// Others flushed the desk, or were told so: that does the service of a session no harm.
     pub fn passed(&self)
         ensures { (start now : Seen) (desk : DeskView) (gave : Option (List ℕ))
-            → (known self.now).session ≢ 0 → PassesBy now.desk desk
-            → IsKept start (known self.now) now
-            → IsKept start (known self.now) (seen desk now.link gave) }
+            → (known_by self.now).session ≢ 0 → PassesBy now.desk desk
+            → IsKept start (known_by self.now) now
+            → IsKept start (known_by self.now) (sight desk now.link gave) }
     {}
 
     /// Keeps the first fault that the desk answered.
     pub(crate) fn note(&mut self, fault: NotMade)
-        ensures { known self.new ≡ record (known self.old) {
-          cause = noted (known self.old).cause fault;
+        ensures { known_by self.new ≡ record (known_by self.old) {
+          cause = note_fault (known_by self.old).cause fault;
         } }
     {
         if self.cause.is_none() {
@@ -145,10 +147,10 @@ impl Machine {
 
     /// The desk refused a flush or a drain.
     pub(crate) fn deny(&mut self, fault: NotMade)
-        ensures { known self.new ≡ record (known self.old) {
-          cause = noted (known self.old).cause fault;
+        ensures { known_by self.new ≡ record (known_by self.old) {
+          cause = note_fault (known_by self.old).cause fault;
           phase = phase.Denied;
-          stage = after_fault (known self.old).stage;
+          stage = after_fault (known_by self.old).stage;
         } }
     {
         self.note(fault);
@@ -159,10 +161,10 @@ impl Machine {
     /// The server is stopped, or the desk answered a fault that is of no session: what waits is
     /// sent, once more where it is being sent already. Only the first fault counts.
     fn stop(&mut self, fault: NotMade)
-        requires on { IsOn (known self.old).stage }
-        requires may { MayAsk (known self.old) }
+        requires on { IsOn (known_by self.old).stage }
+        requires may { MayAsk (known_by self.old) }
         ensures { (answer : Result Bool NotMade) → said_stopped answer ≡ Err fault
-            → IfAsked (known self.old) answer (known self.new) }
+            → IfAsked (known_by self.old) answer (known_by self.new) }
     {
         if self.cause.is_some() {
             return;

@@ -1,7 +1,7 @@
 ghost use Rattle.std.specs.Prelude.{◌≡◌, ◌≢◌, ◌≤◌, [], length, drop, true, false, None};
 ghost use Rattle.kom_links.specs.Outside.{LinkView};
 ghost use Rattle.kom_session.specs.Ends.{IsUntouched};
-ghost use Rattle.kom_session.specs.Known.{Seen, known, unwritten, unprinted, HasRoom};
+ghost use Rattle.kom_session.specs.Known.{Seen, known_by, to_write, to_print, HasRoom};
 ghost use Rattle.kom_session.specs.Kept.{IsKept, MayRead, MayAct, MayFlush, MayAsk, MayDrain};
 ghost use Rattle.kom_session.specs.Kept.{IsDone, IsOn};
 ghost use Rattle.kom_session.specs.declared.machine.Wants.TheVariants as wants;
@@ -74,8 +74,8 @@ impl Drop for Machine {
 impl Machine {
     /// A machine for a link that was not read.
     pub fn new(alloc: Global) -> Machine
-        ensures kept { (now : Seen) → IsUntouched now.link → IsKept now (known result) now }
-        ensures serving { (known result).stage ≡ stage.Serving }
+        ensures kept { (now : Seen) → IsUntouched now.link → IsKept now (known_by result) now }
+        ensures serving { (known_by result).stage ≡ stage.Serving }
     {
         Machine {
             alloc,
@@ -94,29 +94,29 @@ impl Machine {
 
     /// The session, 0 for none.
     pub fn session(&self) -> u32
-        ensures { result ≡ (known self.now).session }
+        ensures { result ≡ (known_by self.now).session }
     {
         self.session
     }
 
     /// What was printed and is yet to be written.
     pub fn unwritten(&self) -> &[u8]
-        ensures { result.now ≡ unwritten self.now }
+        ensures { result.now ≡ to_write self.now }
     {
         self.writer.bytes().get(self.written..).unwrap_or(&[])
     }
 
     /// Whether the service is over.
     pub fn is_over(&self) -> bool
-        ensures over { result ≡ true → IsDone (known self.now).stage }
-        ensures on { result ≡ false → IsOn (known self.now).stage }
+        ensures over { result ≡ true → IsDone (known_by self.now).stage }
+        ensures on { result ≡ false → IsOn (known_by self.now).stage }
     {
         matches!(self.stage, Stage::Over(_))
     }
 
     /// Whether a unit may be called, or the stream's fault told.
     pub fn may_act(&self) -> bool
-        ensures { result ≡ true → MayAct (known self.now) }
+        ensures { result ≡ true → MayAct (known_by self.now) }
     {
         self.stage == Stage::Serving && has_room(self.phase) && self.has_act()
     }
@@ -124,15 +124,15 @@ impl Machine {
     /// Whether the session may be drained: it was flushed, and all that it was given was printed.
     pub fn may_drain(&self) -> bool
         ensures drain { result ≡ true → MayDrain self.now }
-        ensures on { result ≡ true → IsOn (known self.now).stage }
+        ensures on { result ≡ true → IsOn (known_by self.now).stage }
     {
         !self.is_over() && self.phase == Phase::Draining && self.printed >= self.items.len()
     }
 
     /// Whether it may be told of a flush: there is a session, and it is not over.
     pub fn may_flush(&self) -> bool
-        ensures flush { result ≡ true → MayFlush (known self.now) }
-        ensures on { result ≡ true → IsOn (known self.now).stage }
+        ensures flush { result ≡ true → MayFlush (known_by self.now) }
+        ensures on { result ≡ true → IsOn (known_by self.now).stage }
     {
         !self.is_over() && self.session != 0
     }
@@ -140,8 +140,8 @@ impl Machine {
     /// Whether it may be told whether the desk is stopped: without a session only while the stream
     /// is served.
     pub fn may_ask(&self) -> bool
-        ensures ask { result ≡ true → MayAsk (known self.now) }
-        ensures on { result ≡ true → IsOn (known self.now).stage }
+        ensures ask { result ≡ true → MayAsk (known_by self.now) }
+        ensures on { result ≡ true → IsOn (known_by self.now).stage }
     {
         match self.stage {
             Stage::Serving => true,
@@ -158,12 +158,12 @@ impl Machine {
     /// What it wants next: what was printed is written before anything else, and the link is read
     /// where nothing else is left.
     pub fn wants(&self) -> Wants
-        ensures read { result ≡ wants.Read → MayRead (known self.now) }
-        ensures act { result ≡ wants.Act → MayAct (known self.now) }
-        ensures flush { result ≡ wants.Flush → MayFlush (known self.now) }
+        ensures read { result ≡ wants.Read → MayRead (known_by self.now) }
+        ensures act { result ≡ wants.Act → MayAct (known_by self.now) }
+        ensures flush { result ≡ wants.Flush → MayFlush (known_by self.now) }
         ensures drain { result ≡ wants.Drain → MayDrain self.now }
-        ensures over { result ≡ wants.End → IsDone (known self.now).stage }
-        ensures on { result ≢ wants.End → IsOn (known self.now).stage }
+        ensures over { result ≡ wants.End → IsDone (known_by self.now).stage }
+        ensures on { result ≢ wants.End → IsOn (known_by self.now).stage }
     {
         match self.stage {
             Stage::Over(_) => Wants::End,
@@ -176,8 +176,8 @@ impl Machine {
 impl Machine {
     /// Whether something is yet to be printed or written.
     pub(crate) fn has_pending(&self) -> bool
-        ensures none { result ≡ false → (known self.now).pending ≡ [] }
-        ensures printed { result ≡ false → unprinted self.now ≡ [] }
+        ensures none { result ≡ false → (known_by self.now).pending ≡ [] }
+        ensures printed { result ≡ false → to_print self.now ≡ [] }
     {
         self.written < self.writer.bytes().len() || self.printed < self.items.len()
     }
@@ -185,9 +185,9 @@ impl Machine {
     /// Whether a unit is complete, or the stream is at fault.
     pub(crate) fn has_act(&self) -> bool
         ensures some { result ≡ true
-            → (known self.now).splitting.held ≡ [] → (known self.now).bad ≢ None }
+            → (known_by self.now).splitting.held ≡ [] → (known_by self.now).bad ≢ None }
         ensures none { result ≡ false
-            → ((known self.now).splitting.held ≡ []) × ((known self.now).bad ≡ None) }
+            → ((known_by self.now).splitting.held ≡ []) × ((known_by self.now).bad ≡ None) }
     {
         self.splitter.has_unit() || self.bad.is_some()
     }
@@ -195,7 +195,7 @@ impl Machine {
     fn wants_of_last(&self) -> Wants
         ensures read { result ≢ wants.Read }
         ensures act { result ≢ wants.Act }
-        ensures flush { result ≡ wants.Flush → MayFlush (known self.now) }
+        ensures flush { result ≡ wants.Flush → MayFlush (known_by self.now) }
         ensures drain { result ≡ wants.Drain → MayDrain self.now }
         ensures on { result ≢ wants.End }
     {
@@ -211,9 +211,9 @@ impl Machine {
 
     fn wants_of_stream(&self) -> Wants
         requires { self.now.stage ≡ stage.Serving }
-        ensures read { result ≡ wants.Read → MayRead (known self.now) }
-        ensures act { result ≡ wants.Act → MayAct (known self.now) }
-        ensures flush { result ≡ wants.Flush → MayFlush (known self.now) }
+        ensures read { result ≡ wants.Read → MayRead (known_by self.now) }
+        ensures act { result ≡ wants.Act → MayAct (known_by self.now) }
+        ensures flush { result ≡ wants.Flush → MayFlush (known_by self.now) }
         ensures drain { result ≡ wants.Drain → MayDrain self.now }
         ensures on { result ≢ wants.End }
     {

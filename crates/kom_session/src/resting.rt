@@ -1,7 +1,7 @@
 //! What a machine does at the end of each step: it prints, and sees whether all was sent.
 ghost use Rattle.std.specs.Prelude.{◌≡◌, ◌≤◌, ◌++◌, flat_map, drop, length, true};
 ghost use Rattle.kom_types.specs.Printing.{print_of};
-ghost use Rattle.kom_session.specs.Known.{known, unwritten};
+ghost use Rattle.kom_session.specs.Known.{known_by, to_write};
 ghost use Rattle.kom_session.specs.Kept.{IfStill, IsAtRest};
 
 use crate::machine::Machine;
@@ -16,8 +16,9 @@ const BLOCK: usize = 65_536;
 
 impl Machine {
     /// Prints what it was given, and is over where all that waited was sent.
+    #[inline(always)]
     pub fn rest(&mut self)
-        ensures { IfStill (known self.old) (known self.new) }
+        ensures { IfStill (known_by self.old) (known_by self.new) }
     {
         if self.print_more().is_err() {
             self.run_out();
@@ -27,8 +28,9 @@ impl Machine {
     }
 
     /// Prints items after what is unwritten, until a block is full.
+    #[inline(always)]
     fn print_more(&mut self) -> Result<(), Memory>
-        ensures { known self.new ≡ known self.old }
+        ensures { known_by self.new ≡ known_by self.old }
     {
         if self.printed >= self.items.len() {
             return Ok(());
@@ -43,7 +45,7 @@ impl Machine {
           writer = self.new.writer;
           written = self.new.written;
         } }
-        ensures kept { unwritten self.new ≡ unwritten self.old }
+        ensures kept { to_write self.new ≡ to_write self.old }
         ensures inside { self.new.written ≤ length self.new.writer.bytes }
     {
         if self.writer.bytes().len() <= self.written {
@@ -54,7 +56,7 @@ impl Machine {
 
     /// Memory ran out, where it is not over yet.
     fn run_out(&mut self)
-        ensures { IfStill (known self.old) (known self.new) }
+        ensures { IfStill (known_by self.old) (known_by self.new) }
     {
         match self.stage {
             Stage::Over(_) => {}
@@ -63,8 +65,9 @@ impl Machine {
     }
 
     /// It is over where nothing is left to be sent at its last stage.
+    #[inline(always)]
     fn see_whether_sent(&mut self)
-        ensures { IfStill (known self.old) (known self.new) }
+        ensures { IfStill (known_by self.old) (known_by self.new) }
     {
         if let Stage::Last(end) = self.stage {
             if !self.has_pending() && is_at_rest(self.phase) {
@@ -84,7 +87,8 @@ fn is_at_rest(phase: Phase) -> bool
     }
 }
 
-/// Prints items, from this one on, until a block is full.
+/// Prints items, from this one on, until a block is full. Most steps have none to print.
+#[inline(never)]
 fn print_block(items: &[Item], printed: &mut usize, writer: &mut Writer) -> Result<(), Memory>
     ensures same { writer.new.bytes ++ flat_map print_of (drop printed.new items.now)
         ≡ writer.old.bytes ++ flat_map print_of (drop printed.old items.now) }

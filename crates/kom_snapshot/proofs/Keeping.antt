@@ -25,13 +25,13 @@ use Rattle.kom_types.specs.declared.texts.TextRow.{TextRow}
 use Rattle.kom_types.specs.tables.Conferences as Conferences
 use Rattle.kom_types.specs.tables.Conferences.{number_of_conference, fresh_conference, with_name, with_local_drawn}
 use Rattle.kom_types.specs.tables.Persons as Persons
-use Rattle.kom_types.specs.tables.Persons.{number_of_person, fresh_person, with_hash, logged_in, counted}
-use Rattle.kom_types.specs.tables.Persons.{with_created_drawn, last_count, raised}
+use Rattle.kom_types.specs.tables.Persons.{number_of_person, fresh_person, with_hash, logged_in, count_up}
+use Rattle.kom_types.specs.tables.Persons.{with_created_drawn, last_count, raise_by}
 use Rattle.kom_types.specs.tables.Texts as Texts
 use Rattle.kom_types.specs.tables.Texts.{number_of_text, fresh_text, with_created_local}
 use Rattle.kom_model.specs.Db.{Db, empty_db, conference_of, person_of, text_of, next_local_of}
 use Rattle.kom_model.specs.Db.{next_item_of}
-use Rattle.kom_model.specs.Effects.{fits, made, apply, apply_all, member_row, without_number, may_number}
+use Rattle.kom_model.specs.Effects.{fits, after_effect, apply, apply_all, member_row, without_number, may_number}
 use Rattle.kom_model.specs.Initial.{initial, initial_effects}
 use Rattle.kom_model.specs.Whole.{IsWhole, has_drawn_local, has_drawn_item}
 use Rattle.kom_model.proofs.whole.Appended.{alike-same}
@@ -135,10 +135,10 @@ module _ (row : PersonRow) (listed : IsListedPerson row) where
   person-drawn local last = person-as (with_created_drawn local row) (next-drawn local last) listed.user listed.no_user
       listed.sessions refl refl refl refl refl refl refl
 
-  bounded : (by count : ℕ) → raised by count ≤ last_count
+  bounded : (by count : ℕ) → raise_by by count ≤ last_count
   bounded by count = omega arith
 
-  person-counted : (what : Counter) (by : ℕ) → IsListedPerson (counted what by row)
+  person-counted : (what : Counter) (by : ℕ) → IsListedPerson (count_up what by row)
   person-counted counter.TimePresent by = record {
     next_created = listed.next_created;
     user = listed.user;
@@ -392,8 +392,8 @@ module _ (db : Db) (whole : IsWhole db) (listed : IsListed db) where
       (λ row found. (all-found IsListedConference _ db.conferences row listed.conferences found).next_local.0) next
 
   recipient-added : (given : Recipient) → fits (effect.RecipientAdded given) db ≡ true →
-      IsListed (made (effect.RecipientAdded given) db)
-  unfolding fits made
+      IsListed (after_effect (effect.RecipientAdded given) db)
+  unfolding fits after_effect
   recipient-added given fit =
       let draws = and_parts _ _ (and_parts _ _ fit).0 in
       let drawn = and_parts (nat_le (next_local_of db given.conference) given.local)
@@ -449,8 +449,8 @@ module _ (db : Db) (whole : IsWhole db) (listed : IsListed db) where
       (λ row found. (all-found IsListedConference _ db.conferences row listed.conferences found).next_item.0) next
 
   item-added : (on_text : Bool) (object : ℕ) (item : AuxRow) → fits (effect.AuxAdded on_text object item) db ≡ true →
-      IsListed (made (effect.AuxAdded on_text object item) db)
-  unfolding fits made
+      IsListed (after_effect (effect.AuxAdded on_text object item) db)
+  unfolding fits after_effect
   item-added on_text object item fit =
       let room = and_parts _ _ (and_parts _ _ fit).0 in
       let last = and_parts _ _ (and_parts _ _ room.0).0 in
@@ -468,21 +468,21 @@ module _ (db : Db) (whole : IsWhole db) (listed : IsListed db) where
     where
       drawn : (on_text : Bool) → (let given : ItemRow = record { on_text = on_text; object = object; item = item } in
           IsListed (record db { items = db.items ++ given ∷ [] })) → item.number ≤ LAST_DRAWN →
-          IsListed (made (effect.AuxAdded on_text object item) db)
+          IsListed (after_effect (effect.AuxAdded on_text object item) db)
       drawn true rows last = text-changed _ rows object (Texts.with_item_drawn item.number)
           (text-drawn item.number last)
       drawn false rows last = conference-changed _ rows object (Conferences.with_item_drawn item.number)
           (λ row here. record { next_local = here.next_local; next_item = next-drawn item.number last })
 
   created-listed : (person local text : ℕ) → fits (effect.Created person local text) db ≡ true →
-      IsListed (made (effect.Created person local text) db)
-  unfolding fits made text_of
+      IsListed (after_effect (effect.Created person local text) db)
+  unfolding fits after_effect text_of
   created-listed person local text fit = by (row_of number_of_text text db.texts) fit
     where
       by : (found : Option TextRow) → (elim found [
         | None ↦ false
         | Some row ↦ is_some (person_of db person) && may_number db person local row
-      ]) ≡ true → IsListed (made (effect.Created person local text) db)
+      ]) ≡ true → IsListed (after_effect (effect.Created person local text) db)
       by None fit = absurd (true≢false (sym fit))
       by (Some row) fit =
           let last = (and_parts _ (nat_le local LAST_DRAWN) (and_parts _ (may_number db person local row) fit).1).1 in
@@ -493,8 +493,8 @@ module _ (db : Db) (whole : IsWhole db) (listed : IsListed db) where
           (λ row here. person-drawn row here local (leb-true local LAST_DRAWN last))
 
   text-added : (number author at : ℕ) (body : List ℕ) → fits (effect.TextAdded number author at body) db ≡ true →
-      IsListed (made (effect.TextAdded number author at body) db)
-  unfolding fits made
+      IsListed (after_effect (effect.TextAdded number author at body) db)
+  unfolding fits after_effect
   text-added number author at body fit =
       let numbers = and_parts (nat_le db.next_text number) (nat_le number LAST_DRAWN)
       (and_parts _ _ (and_parts _ _ fit).0).0 in
@@ -505,26 +505,26 @@ module _ (db : Db) (whole : IsWhole db) (listed : IsListed db) where
       (record { positive = positive; lines = refl; next_item = first-next }) listed.texts)
 
   member-set : (person conference position priority added_by added_at kind : ℕ) →
-      IsListed (made (effect.MemberSet person conference position priority added_by added_at kind) db)
-  unfolding made
+      IsListed (after_effect (effect.MemberSet person conference position priority added_by added_at kind) db)
+  unfolding after_effect
   member-set person conference position priority added_by added_at kind =
       let given = member_row person conference position priority added_by added_at kind in
       others-listed db listed _ (with-placed given db.memberships (whole.memberships.once person conference)
       listed.placed) refl refl refl refl refl refl
 
-  member-gone : (person conference : ℕ) → IsListed (made (effect.MemberGone person conference) db)
-  unfolding made
+  member-gone : (person conference : ℕ) → IsListed (after_effect (effect.MemberGone person conference) db)
+  unfolding after_effect
   member-gone person conference = others-listed db listed _ (without-placed person conference db.memberships
       (whole.memberships.once person conference) listed.placed) refl refl refl refl refl refl
 
   read-set : (person conference at : ℕ) (ranges : List ReadRange) →
-      IsListed (made (effect.ReadSet person conference at ranges) db)
-  unfolding made
+      IsListed (after_effect (effect.ReadSet person conference at ranges) db)
+  unfolding after_effect
   read-set person conference at ranges = others-listed db listed _
       (read-placed person conference at db.memberships listed.placed) refl refl refl refl refl refl
 
-  person-gone : (number : ℕ) → IsListed (made (effect.PersonGone number) db)
-  unfolding made
+  person-gone : (number : ℕ) → IsListed (after_effect (effect.PersonGone number) db)
+  unfolding after_effect
   person-gone number =
       let left = map (without_number number) db.texts in
       let texts = texts-listed db listed left db.next_text listed.begun
@@ -532,8 +532,8 @@ module _ (db : Db) (whole : IsWhole db) (listed : IsListed db) where
       persons-listed (record db { texts = left }) texts (without_row number_of_person number db.persons)
       (all-kept IsListedPerson _ db.persons listed.persons)
 
-  pub made-listed : (what : Effect) → fits what db ≡ true → IsListed (made what db)
-  unfolding fits made
+  pub made-listed : (what : Effect) → fits what db ≡ true → IsListed (after_effect what db)
+  unfolding fits after_effect
   made-listed (effect.ConfAdded number name kind at creator supervisor) fit =
       conferences-listed db listed _ (number + 1)
       (all-with_row number_of_conference IsListedConference (fresh_conference number name kind at creator supervisor)
@@ -556,7 +556,7 @@ module _ (db : Db) (whole : IsWhole db) (listed : IsListed db) where
   made-listed (effect.LoggedIn number at user) fit = person-changed db listed number (logged_in at user)
       (λ row here. person-login row here at user
       (leb-true (length user) LONGEST_USER_NAME (and_parts _ (nat_le (length user) LONGEST_USER_NAME) fit).1))
-  made-listed (effect.Counted number what by) fit = person-changed db listed number (counted what by)
+  made-listed (effect.Counted number what by) fit = person-changed db listed number (count_up what by)
       (λ row here. person-counted row here what by)
   made-listed (effect.TextAdded number author at body) fit = text-added number author at body fit
   made-listed (effect.TextGone number) fit = texts-listed db listed (without_row number_of_text number db.texts)
@@ -582,12 +582,12 @@ module _ (db : Db) (whole : IsWhole db) (listed : IsListed db) where
   made-listed (effect.Created person local text) fit = created-listed person local text fit
 
 pub effect-listed : (what : Effect) (db : Db) → fits what db ≡ true → IsWhole db → IsListed db →
-    IsListed (made what db)
+    IsListed (after_effect what db)
 effect-listed what db fit whole listed = made-listed db whole listed what fit
 
 -- an effect that does not fit changes nothing
 apply-listed : (what : Effect) (db : Db) → IsWhole db → IsListed db → IsListed (apply what db)
-apply-listed what db whole listed = cond_both (fits what db) (made what db) db IsListed
+apply-listed what db whole listed = cond_both (fits what db) (after_effect what db) db IsListed
     (λ fit. effect-listed what db fit whole listed) (λ fit. listed)
 
 pub effects-listed : (effects : List Effect) (db : Db) → IsWhole db → IsListed db → IsListed (apply_all effects db)

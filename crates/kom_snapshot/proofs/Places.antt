@@ -8,7 +8,7 @@ use Rattle.std.proofs.lemmas.Bool.{cases_Bool, cases_eq, cases_lt, ne_eqb, eq-eq
 use Rattle.std.proofs.lemmas.Bool.{and_parts}
 use Rattle.std.proofs.lemmas.Bool.Decides.{nat_tests}
 use Rattle.kom_types.specs.declared.memberships.MembershipRow.{MembershipRow}
-use Rattle.kom_types.specs.tables.Memberships.{is_membership, membership_of, closed_up, opened, at_place, count_of}
+use Rattle.kom_types.specs.tables.Memberships.{is_membership, membership_of, closed_up, with_gap, at_place, count_of}
 use Rattle.kom_types.specs.tables.Memberships.{with_membership, without_membership, with_new, set_again}
 use Rattle.read_ranges.specs.Reads.{read_at}
 use Rattle.kom_model.proofs.whole.Counts.{all-of, none-counted, all-weaker}
@@ -146,11 +146,11 @@ module _ (person place : ℕ) where
 
   -- a place is made where all count up
   pub opened-gap : (rows : List MembershipRow) → ArePlaced rows → place ≤ count_of person rows →
-      HasGap (opened person place rows)
+      HasGap (with_gap person place rows)
   opened-gap rows placed within = record {
     own = λ q. ⊎_elim
         (λ (below : q < place).
-        let same : count_at person q (opened person place rows) ≡ count_at person q rows =
+        let same : count_at person q (with_gap person place rows) ≡ count_at person q rows =
         count-changed (is_at person q) (is_at person q) up rows
         (all-of _ (up-at q q (λ at. moved_up-below at q below)) rows) in
         omega (
@@ -159,26 +159,26 @@ module _ (person place : ℕ) where
           placed person q,
           up-count person rows,
           lifted (count_of person rows) q (omega (arith, below, within)),
-          lifted (count_of person (opened person place rows) + 1) q
+          lifted (count_of person (with_gap person place rows) + 1) q
               (omega (arith, below, within, up-count person rows)),
           elsewhere q (λ e. omega (arith, below, e)),
         ))
         (λ (above : place ≤ q). ⊎_elim
         (λ (is : place ≡ q).
-        let none : count_at person q (opened person place rows) ≡ 0 = rw (← is)
+        let none : count_at person q (with_gap person place rows) ≡ 0 = rw (← is)
         (count-changed (λ row. false) (is_at person place) up rows (all-of _ up-gone rows) ∙ no-one rows) in
         let free : one_if (place == q) ≡ 1 = rw (eq-eqb place q is) refl in
         omega (
           arith,
           none,
           free,
-          lifted (count_of person (opened person place rows) + 1) q
+          lifted (count_of person (with_gap person place rows) + 1) q
               (omega (arith, is, within, up-count person rows)),
         ))
         (λ (apart : place ≡ q → ⊥).
         let later : (q - 1) + 1 ≡ q = omega (arith, above, apart) in
-        let same : count_at person q (opened person place rows) ≡ count_at person (q - 1) rows =
-        subst (λ n. count_at person n (opened person place rows) ≡ count_at person (q - 1) rows) later
+        let same : count_at person q (with_gap person place rows) ≡ count_at person (q - 1) rows =
+        subst (λ n. count_at person n (with_gap person place rows) ≡ count_at person (q - 1) rows) later
         (count-changed (is_at person (q - 1)) (is_at person ((q - 1) + 1)) up rows
         (all-of _ (up-at ((q - 1) + 1) (q - 1)
         (λ at. moved_up-above at (q - 1) (omega (arith, above, apart)))) rows)) in
@@ -189,7 +189,7 @@ module _ (person place : ℕ) where
           placed person (q - 1),
           elsewhere q apart,
           lifted (count_of person rows) (q - 1) less,
-          lifted (count_of person (opened person place rows) + 1) q
+          lifted (count_of person (with_gap person place rows) + 1) q
               (omega (arith, less, later, up-count person rows)),
         ))
         (λ (more : count_of person rows ≤ q - 1). omega (
@@ -198,14 +198,14 @@ module _ (person place : ℕ) where
           placed person (q - 1),
           elsewhere q apart,
           beyond (count_of person rows) (q - 1) more,
-          beyond (count_of person (opened person place rows) + 1) q
+          beyond (count_of person (with_gap person place rows) + 1) q
               (omega (arith, more, later, up-count person rows)),
         ))
         (cases_lt (q - 1) (count_of person rows)))
         (cases_eq place q))
         (cases_lt q place);
     others = λ other q apart.
-        let same : count_at other q (opened person place rows) ≡ count_at other q rows =
+        let same : count_at other q (with_gap person place rows) ≡ count_at other q rows =
         count-changed (is_at other q) (is_at other q) up rows (all-of _ (up-other other q apart) rows) in
         same ∙ placed other q ∙ ap (λ n. one_if (nat_lt q n)) (sym (up-count other rows));
   } where
@@ -425,8 +425,8 @@ new-placed : (given : MembershipRow) (rows : List MembershipRow) → ArePlaced r
 new-placed given rows placed =
     let place : ℕ = min given.position (count_of given.person rows) in
     let put : MembershipRow = at_place place given in
-    split-placed put (opened given.person place rows) (with_new given rows)
-    (λ test. count-append test (opened given.person place rows) (put ∷ [])
+    split-placed put (with_gap given.person place rows) (with_new given rows)
+    (λ test. count-append test (with_gap given.person place rows) (put ∷ [])
     ∙ omega (arith, count-cons test put []))
     (opened-gap given.person place rows placed (omega arith))
 
@@ -452,7 +452,7 @@ module _ (given old : MembershipRow) (rows : List MembershipRow)
   key-down at row = rw (down-person given.person at row, down-conference given.person at row) refl
 
   abbrev table : List MembershipRow → List MembershipRow
-  table rows = opened given.person place (closed_up given.person old.position rows)
+  table rows = with_gap given.person place (closed_up given.person old.position rows)
 
   table-filter : (test : MembershipRow → Bool) →
       ((at : ℕ) (row : MembershipRow) → test (up given.person at row) ≡ test row) →

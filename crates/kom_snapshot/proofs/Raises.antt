@@ -1,6 +1,6 @@
 -- Counters that may be raised leave rows whole, protected and listed.
-use Rattle.std.proofs.Common.{◌≡◌, ℕ, ◌+◌, ◌<◌, ◌≤◌, true, false, cond, ◌==◌, List, [], ◌∷◌}
-use Rattle.std.proofs.Common.{Some, None, refl, sym, ◌∙◌, subst, arith, inl, inr, eqb-true}
+use Rattle.std.proofs.Common.{◌≡◌, ℕ, ◌+◌, true, cond, ◌==◌, List, [], ◌∷◌}
+use Rattle.std.proofs.Common.{Some, None, refl, subst, arith, inl, inr, eqb-true}
 use Rattle.std.specs.Prelude.{IsTrue}
 use Rattle.std.specs.List.{AllByRecursion}
 use Rattle.std.proofs.lemmas.Bool.{cases_Bool, and_parts}

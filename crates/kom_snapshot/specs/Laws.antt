@@ -2,7 +2,7 @@
 use Rattle.std.specs.Prelude.{◌≡◌, ℕ, true, List, Some}
 use Rattle.kom_types.specs.declared.effects.Effect.{Effect}
 use Rattle.kom_model.specs.Db.{Db, empty_db}
-use Rattle.kom_model.specs.Effects.{IsProtected, fits, made, apply_all}
+use Rattle.kom_model.specs.Effects.{IsProtected, fits, after_effect, apply_all}
 use Rattle.kom_model.specs.Initial.{initial}
 use Rattle.kom_model.specs.Whole.{IsWhole}
 use Rattle.kom_types.specs.declared.raised.Raised.{Raised}
@@ -17,7 +17,7 @@ use Rattle.kom_snapshot.specs.Snapshot.{Snapshot, stands_for}
 pub record StandListed : Type 0 where
   pub empty : IsListed empty_db
   pub one : (what : Effect) (db : Db) → fits what db ≡ true → IsWhole db → IsListed db
-      → IsListed (made what db)
+      → IsListed (after_effect what db)
   pub all : (effects : List Effect) (db : Db) → IsWhole db → IsListed db
       → IsListed (apply_all effects db)
   pub initial : (password : List ℕ) (moment : ℕ) → IsListed (initial password moment)

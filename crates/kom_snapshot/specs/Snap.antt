@@ -104,19 +104,19 @@ effects_of db =
     ++ map (λ row. effect.MarkSet row.person row.text row.kind) db.marks
     ++ map (λ row. effect.AuxAdded row.on_text row.object row.item) db.items
 
-abbrev pub raised : RaisedCounter → ℕ → ℕ → Raised
-raised counter object next = record { counter = counter; object = object; next = next }
+abbrev pub raise_to : RaisedCounter → ℕ → ℕ → Raised
+raise_to counter object next = record { counter = counter; object = object; next = next }
 
 -- each counter, in the order of the objects
 abbrev pub raised_of : Db → List Raised
 raised_of db =
-    raised counter.Conferences 0 db.next_conference
-    ∷ raised counter.Texts 0 db.next_text
-    ∷ map (λ row. raised counter.Locals row.number row.next_local) db.conferences
-    ++ map (λ row. raised counter.Created row.number row.next_created) db.persons
-    ++ map (λ row. raised counter.TextItems row.number row.next_item) db.texts
-    ++ map (λ row. raised counter.ConferenceItems row.number row.next_item) db.conferences
-    ++ map (λ row. raised counter.Sessions row.number row.sessions) db.persons
+    raise_to counter.Conferences 0 db.next_conference
+    ∷ raise_to counter.Texts 0 db.next_text
+    ∷ map (λ row. raise_to counter.Locals row.number row.next_local) db.conferences
+    ++ map (λ row. raise_to counter.Created row.number row.next_created) db.persons
+    ++ map (λ row. raise_to counter.TextItems row.number row.next_item) db.texts
+    ++ map (λ row. raise_to counter.ConferenceItems row.number row.next_item) db.conferences
+    ++ map (λ row. raise_to counter.Sessions row.number row.sessions) db.persons
 
 -- The snapshot of stored rows.
 unfoldable pub snap : Db → Snapshot

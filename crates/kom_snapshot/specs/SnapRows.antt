@@ -22,7 +22,7 @@ use Rattle.kom_model.specs.Effects.{apply_all, all_fit}
 use Rattle.kom_model.specs.Initial.{initial}
 use Rattle.kom_types.specs.declared.raised.Raised.{Raised}
 use Rattle.kom_types.specs.declared.raised.RaisedCounter.TheVariants as counter
-use Rattle.kom_snapshot.specs.Snap.{snap, raised}
+use Rattle.kom_snapshot.specs.Snap.{snap, raise_to}
 use Rattle.kom_model.specs.Raising.{may_raise}
 use Rattle.kom_snapshot.specs.Snapshot.{Snapshot, stands_for}
 
@@ -51,8 +51,8 @@ item number = record {
   content = codes "x";
 }
 
-abbrev pub read : ℕ → ℕ → ReadRange
-read first last = record { first = first; last = last }
+abbrev pub range : ℕ → ℕ → ReadRange
+range first last = record { first = first; last = last }
 
 -- The history of some rows: a conference, two persons, and what they did. The last text, the last
 -- local number and the last aux-item are gone again; a person's first membership is no more at the
@@ -85,7 +85,7 @@ history =
     ∷ effect.LinkAdded (comment 7 3)
     ∷ effect.Created 5 1 7
     ∷ effect.Created 5 6 3
-    ∷ effect.ReadSet 6 1 50 (read 1 2 ∷ read 3 4 ∷ read 8 9 ∷ [])
+    ∷ effect.ReadSet 6 1 50 (range 1 2 ∷ range 3 4 ∷ range 8 9 ∷ [])
     ∷ effect.MarkSet 6 7 1
     ∷ effect.MarkSet 5 3 2
     ∷ effect.MarkSet 6 3 3
@@ -198,7 +198,7 @@ rows = record {
       ∷ (record (member_row 6 1 0 100 12 50 128) { added_by = 5 })
       ∷ member_row 6 5 2 50 13 13 0 ∷ [];
   reads = read_row 6 6 [] ∷ read_row 5 5 []
-      ∷ read_row 6 1 (read 1 4 ∷ read 8 9 ∷ []) ∷ read_row 6 5 [] ∷ [];
+      ∷ read_row 6 1 (range 1 4 ∷ range 8 9 ∷ []) ∷ read_row 6 5 [] ∷ [];
   texts = text_row 3 30 (codes "one") 0 6 2 ∷ text_row 7 31 (10 ∷ 10 ∷ []) 2 1 1 ∷ [];
   recipients = recipient 7 1 2 ∷ recipient 3 6 4 ∷ recipient 3 1 5 ∷ [];
   links = comment 7 3 ∷ [];
@@ -248,7 +248,7 @@ listed_effects =
     ∷ effect.MemberSet 5 5 0 255 5 10 0
     ∷ effect.ReadSet 5 5 10 []
     ∷ effect.MemberSet 6 1 0 100 5 12 128
-    ∷ effect.ReadSet 6 1 50 (read 1 4 ∷ read 8 9 ∷ [])
+    ∷ effect.ReadSet 6 1 50 (range 1 4 ∷ range 8 9 ∷ [])
     ∷ effect.MemberSet 6 5 2 50 6 13 0
     ∷ effect.ReadSet 6 5 13 []
     ∷ effect.MarkSet 6 7 4
@@ -260,20 +260,20 @@ listed_effects =
 
 abbrev pub listed_counters : List Raised
 listed_counters =
-    raised counter.Conferences 0 7
-    ∷ raised counter.Texts 0 10
-    ∷ raised counter.Locals 1 9
-    ∷ raised counter.Locals 5 1
-    ∷ raised counter.Locals 6 5
-    ∷ raised counter.Created 5 7
-    ∷ raised counter.Created 6 1
-    ∷ raised counter.TextItems 3 2
-    ∷ raised counter.TextItems 7 1
-    ∷ raised counter.ConferenceItems 1 6
-    ∷ raised counter.ConferenceItems 5 1
-    ∷ raised counter.ConferenceItems 6 1
-    ∷ raised counter.Sessions 5 2
-    ∷ raised counter.Sessions 6 0
+    raise_to counter.Conferences 0 7
+    ∷ raise_to counter.Texts 0 10
+    ∷ raise_to counter.Locals 1 9
+    ∷ raise_to counter.Locals 5 1
+    ∷ raise_to counter.Locals 6 5
+    ∷ raise_to counter.Created 5 7
+    ∷ raise_to counter.Created 6 1
+    ∷ raise_to counter.TextItems 3 2
+    ∷ raise_to counter.TextItems 7 1
+    ∷ raise_to counter.ConferenceItems 1 6
+    ∷ raise_to counter.ConferenceItems 5 1
+    ∷ raise_to counter.ConferenceItems 6 1
+    ∷ raise_to counter.Sessions 5 2
+    ∷ raise_to counter.Sessions 6 0
     ∷ []
 
 abbrev pub without_counters : Snapshot
@@ -288,7 +288,7 @@ pub record SnapRows : Type 0 where
   pub of_nothing : snap empty_db
       ≡ record {
         effects = [];
-        raised = raised counter.Conferences 0 1 ∷ raised counter.Texts 0 1 ∷ [];
+        raised = raise_to counter.Conferences 0 1 ∷ raise_to counter.Texts 0 1 ∷ [];
       }
   pub nothing_stands : stands_for (snap empty_db) ≡ Some empty_db
   pub initial_effects : (password : List ℕ) (moment : ℕ)
@@ -305,23 +305,23 @@ pub record SnapRows : Type 0 where
   pub does_not_fit :
       stands_for (record { effects = effect.RecipientAdded (recipient 7 1 2) ∷ []; raised = [] })
       ≡ None
-  pub raised_no_further : may_raise (raised counter.Locals 1 9) rows ≡ true
-  pub lowered : may_raise (raised counter.Locals 1 8) rows ≡ false
-  pub last_local : may_raise (raised counter.Locals 1 4294967295) rows ≡ true
-  pub past_the_last_local : may_raise (raised counter.Locals 1 4294967296) rows ≡ false
-  pub of_no_conference : may_raise (raised counter.Locals 2 9) rows ≡ false
-  pub of_no_person : may_raise (raised counter.Created 1 9) rows ≡ false
-  pub of_no_text : may_raise (raised counter.TextItems 9 9) rows ≡ false
-  pub all_of_an_object : may_raise (raised counter.Texts 1 10) rows ≡ false
-  pub conferences_of_an_object : may_raise (raised counter.Conferences 1 10) rows ≡ false
-  pub last_conference : may_raise (raised counter.Conferences 0 65536) rows ≡ true
-  pub past_the_last_conference : may_raise (raised counter.Conferences 0 65537) rows ≡ false
-  pub last_text : may_raise (raised counter.Texts 0 4294967295) rows ≡ true
-  pub past_the_last_text : may_raise (raised counter.Texts 0 4294967296) rows ≡ false
-  pub created_lowered : may_raise (raised counter.Created 5 6) rows ≡ false
-  pub last_created : may_raise (raised counter.Created 5 4294967295) rows ≡ true
-  pub items_lowered : may_raise (raised counter.TextItems 3 1) rows ≡ false
-  pub conference_items_lowered : may_raise (raised counter.ConferenceItems 1 5) rows ≡ false
-  pub sessions_lowered : may_raise (raised counter.Sessions 5 1) rows ≡ false
-  pub last_session : may_raise (raised counter.Sessions 5 4294967295) rows ≡ true
-  pub past_the_last_session : may_raise (raised counter.Sessions 5 4294967296) rows ≡ false
+  pub raised_no_further : may_raise (raise_to counter.Locals 1 9) rows ≡ true
+  pub lowered : may_raise (raise_to counter.Locals 1 8) rows ≡ false
+  pub last_local : may_raise (raise_to counter.Locals 1 4294967295) rows ≡ true
+  pub past_the_last_local : may_raise (raise_to counter.Locals 1 4294967296) rows ≡ false
+  pub of_no_conference : may_raise (raise_to counter.Locals 2 9) rows ≡ false
+  pub of_no_person : may_raise (raise_to counter.Created 1 9) rows ≡ false
+  pub of_no_text : may_raise (raise_to counter.TextItems 9 9) rows ≡ false
+  pub all_of_an_object : may_raise (raise_to counter.Texts 1 10) rows ≡ false
+  pub conferences_of_an_object : may_raise (raise_to counter.Conferences 1 10) rows ≡ false
+  pub last_conference : may_raise (raise_to counter.Conferences 0 65536) rows ≡ true
+  pub past_the_last_conference : may_raise (raise_to counter.Conferences 0 65537) rows ≡ false
+  pub last_text : may_raise (raise_to counter.Texts 0 4294967295) rows ≡ true
+  pub past_the_last_text : may_raise (raise_to counter.Texts 0 4294967296) rows ≡ false
+  pub created_lowered : may_raise (raise_to counter.Created 5 6) rows ≡ false
+  pub last_created : may_raise (raise_to counter.Created 5 4294967295) rows ≡ true
+  pub items_lowered : may_raise (raise_to counter.TextItems 3 1) rows ≡ false
+  pub conference_items_lowered : may_raise (raise_to counter.ConferenceItems 1 5) rows ≡ false
+  pub sessions_lowered : may_raise (raise_to counter.Sessions 5 1) rows ≡ false
+  pub last_session : may_raise (raise_to counter.Sessions 5 4294967295) rows ≡ true
+  pub past_the_last_session : may_raise (raise_to counter.Sessions 5 4294967296) rows ≡ false

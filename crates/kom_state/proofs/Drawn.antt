@@ -1,7 +1,7 @@
 -- What whole rows say of the numbers that are drawn next: those that rows have lie below them.
 use Rattle.std.proofs.Common.{◌≡◌, ℕ, ◌<◌, ◌≤◌, Bool, true, false, eqb, ltb, List, [], ◌∷◌, find, Option, Some, None}
 use Rattle.std.proofs.Common.{◌⊎◌}
-use Rattle.std.proofs.Common.{inl, inr, refl, sym, ap, subst, ◌∙◌, true≢false, arith}
+use Rattle.std.proofs.Common.{inl, inr, refl, sym, ap, subst, true≢false, arith}
 use Rattle.std.specs.List.{AllByRecursion}
 use Rattle.std.specs.Prelude.{IsTrue}
 use Rattle.std.proofs.lemmas.Bool.{cond_both, cases_Bool, eqb-true, ltb-true, and_parts}

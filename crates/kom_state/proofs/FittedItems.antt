@@ -1,20 +1,15 @@
 -- What it says of the rows that an aux-item may be added, or taken away.
 use Rattle.std.proofs.Common.{◌≡◌, ℕ, ◌≤◌, Bool, true, false, cond, ◌&&◌, ◌||◌, eqb, List, [], ◌∷◌, map, filter, find}
-use Rattle.std.proofs.Common.{Option, Some, is_some, refl, sym, ◌∙◌}
+use Rattle.std.proofs.Common.{Option, Some, is_some, refl}
 use Rattle.std.specs.List.{list_any}
 use Rattle.std.proofs.lemmas.Bool.{and_parts, leb-true}
 use Rattle.kom_types.specs.declared.limits.TheConstants.{LAST_DRAWN}
-use Rattle.row_table.specs.Tables.{row_of}
 use Rattle.kom_types.specs.declared.aux_items.AuxRow.{AuxRow}
 use Rattle.kom_types.specs.declared.aux_items.ItemRow.{ItemRow}
-use Rattle.kom_types.specs.declared.conferences.ConferenceRow.{ConferenceRow}
 use Rattle.kom_types.specs.declared.effects.Effect.TheVariants as effect
-use Rattle.kom_types.specs.declared.texts.TextRow.{TextRow}
 use Rattle.kom_types.specs.tables.AuxItems.{is_item_of}
-use Rattle.kom_types.specs.tables.Conferences.{number_of_conference}
-use Rattle.kom_types.specs.tables.Texts.{number_of_text}
 use Rattle.kom_model.specs.Db.{Db, conference_of, text_of, items_of, next_item_of}
-use Rattle.kom_model.specs.Effects.{fits, has_object, has_item}
+use Rattle.kom_model.specs.Effects.{fits, has_item}
 use Rattle.aux_items.specs.Items.{item_numbered}
 use Rattle.kom_state.proofs.Drawn.{next_item}
 

@@ -12,12 +12,12 @@ use Rattle.kom_types.specs.declared.effects.PersonField.TheVariants as person_fi
 use Rattle.kom_types.specs.declared.persons.PersonRow.{PersonRow}
 use Rattle.kom_types.specs.tables.Conferences as Conferences
 use Rattle.kom_types.specs.tables.Persons as Persons
-use Rattle.kom_types.specs.tables.Persons.{number_of_person, fresh_person, counted}
+use Rattle.kom_types.specs.tables.Persons.{number_of_person, fresh_person, count_up}
 use Rattle.kom_model.specs.Db.{Db, conference_of, conferences_of}
-use Rattle.kom_model.specs.Effects.{fits, made, may_name}
+use Rattle.kom_model.specs.Effects.{fits, after_effect, may_name}
 use Rattle.kom_model.specs.Whole.{IsWhole}
 use Rattle.kom_model.proofs.whole.Effects.{made-whole}
-use Rattle.name_lookup.specs.NamedRows.{Named, with_name, without_name, taken}
+use Rattle.name_lookup.specs.NamedRows.{Named, with_name, without_name, clash_of}
 use Rattle.kom_state.specs.Keeping.{name_row, DrawFromOne, IsKept}
 use Rattle.kom_state.proofs.Names.{names-with_row, names-without_row, names-kept, names-renamed, name-with_field}
 use Rattle.kom_state.proofs.Names.{taken-free}
@@ -32,8 +32,8 @@ names_made (effect.ConfNamed number name) names = with_name number name names
 names_made other names = names
 
 made-names : (what : Effect) (db : Db) → fits what db ≡ true → IsWhole db →
-    map name_row (made what db).conferences ≡ names_made what (map name_row db.conferences)
-unfolding fits made conference_of
+    map name_row (after_effect what db).conferences ≡ names_made what (map name_row db.conferences)
+unfolding fits after_effect conference_of
 made-names (effect.ConfAdded number name kind at creator supervisor) db fit whole = names-with_row _ db.conferences
 made-names (effect.ConfGone number) db fit whole = names-without_row number db.conferences
 made-names (effect.ConfNamed number name) db fit whole =
@@ -72,7 +72,7 @@ field-positive (person_field.Flags flags) row positive = positive
 field-positive (person_field.UserArea text) row positive = positive
 
 counted-positive : (what : Counter) (by : ℕ) (row : PersonRow) → 0 < row.next_created →
-    0 < (counted what by row).next_created
+    0 < (count_up what by row).next_created
 counted-positive counter.TimePresent by row positive = positive
 counted-positive counter.CreatedLines by row positive = positive
 counted-positive counter.CreatedBytes by row positive = positive
@@ -87,8 +87,8 @@ changed-from_one : (number : ℕ) (change : PersonRow → PersonRow) →
 changed-from_one number change keeps rows from =
     all_changed_row number_of_person (λ row. 0 < row.next_created) number change keeps rows from
 
-made-from_one : (what : Effect) (db : Db) → DrawFromOne db.persons → DrawFromOne (made what db).persons
-unfolding made
+made-from_one : (what : Effect) (db : Db) → DrawFromOne db.persons → DrawFromOne (after_effect what db).persons
+unfolding after_effect
 made-from_one (effect.ConfAdded number name kind at creator supervisor) db from = from
 made-from_one (effect.ConfGone number) db from = from
 made-from_one (effect.ConfNamed number name) db from = from
@@ -105,7 +105,7 @@ made-from_one (effect.Password number hash) db from =
 made-from_one (effect.LoggedIn number at user) db from =
     changed-from_one number (Persons.logged_in at user) (λ row positive. positive) db.persons from
 made-from_one (effect.Counted number counter by) db from =
-    changed-from_one number (counted counter by) (counted-positive counter by) db.persons from
+    changed-from_one number (count_up counter by) (counted-positive counter by) db.persons from
 made-from_one (effect.TextAdded number author at body) db from = from
 made-from_one (effect.TextGone number) db from = from
 made-from_one (effect.RecipientAdded given) db from = from
@@ -125,7 +125,7 @@ made-from_one (effect.Created person local text) db from =
 
 -- ---- all that is kept
 pub IsKept-made : (what : Effect) (old new : Db) (names new_names : List Named) → IsKept old names →
-    fits what old ≡ true → new ≡ made what old → new_names ≡ names_made what names → IsKept new new_names
+    fits what old ≡ true → new ≡ after_effect what old → new_names ≡ names_made what names → IsKept new new_names
 IsKept-made what old new names new_names kept fit is names_are = rw is (record {
   whole = made-whole what old fit kept.whole;
   same_names = names_are ∙ ap (names_made what) kept.same_names ∙ sym (made-names what old fit kept.whole);
@@ -135,7 +135,7 @@ IsKept-made what old new names new_names kept fit is names_are = rw is (record {
 -- ---- a name that may be given
 -- no other number has it
 pub taken-kept : (db : Db) (names : List Named) → IsKept db names → (number : ℕ) (name : List ℕ) →
-    may_name db number name ≡ true → taken name (without_name number names) ≡ None
+    may_name db number name ≡ true → clash_of name (without_name number names) ≡ None
 unfolding conferences_of
 taken-kept db names kept number name may =
     rw kept.same_names (taken-free number name db.conferences (not-true _ (and_parts _ _ may).1))

@@ -1,6 +1,6 @@
 -- Which local numbers lie below one, told of the rows that have them.
-use Rattle.std.proofs.Common.{◌≡◌, ℕ, ◌<◌, ◌≤◌, Bool, true, false, cond, eqb, ltb, List, [], ◌∷◌}
-use Rattle.std.proofs.Common.{map, filter, refl, sym, ◌∙◌, arith}
+use Rattle.std.proofs.Common.{◌≡◌, ℕ, ◌<◌, Bool, true, eqb, ltb, List, [], ◌∷◌}
+use Rattle.std.proofs.Common.{map, filter}
 use Rattle.std.specs.List.{AllByRecursion, fold}
 use Rattle.std.proofs.lemmas.Bool.{cond_both}
 use Rattle.kom_types.specs.declared.texts.LocalText.{LocalText}
@@ -8,7 +8,6 @@ use Rattle.kom_types.specs.declared.texts.Recipient.{Recipient}
 use Rattle.kom_types.specs.declared.texts.TextRow.{TextRow}
 use Rattle.kom_types.specs.tables.Texts.{locals_of, created_by, is_created_by, created_pair, by_local}
 use Rattle.local_maps.specs.Pairs.{AllBelow}
-use Rattle.kom_state.proofs.TableRows.{all_weaker}
 
 -- ---- those of the rows that pass a test
 module _ {X : Type 0} (test : X → Bool) (pair : X → LocalText) (bound : ℕ) where

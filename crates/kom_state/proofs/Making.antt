@@ -15,19 +15,20 @@ use Rattle.kom_types.specs.declared.persons.PersonRow.{PersonRow}
 use Rattle.aux_items.specs.Items.{Attached, room_on}
 use Rattle.kom_types.specs.declared.aux_items.ItemRow.{ItemRow}
 use Rattle.kom_model.specs.Db.{Db}
-use Rattle.kom_model.specs.Effects.{made, with_changed_conference, with_changed_person}
+use Rattle.kom_model.specs.Effects.{after_effect, with_changed_conference, with_changed_person}
 use Rattle.memberships.specs.Table.{Table, UsesRoom, KeepsRoom, room_of_person, room_of_conference}
 use Rattle.read_ranges.specs.Reads.{ReadRow, with_reader}
 use Rattle.row_slots.specs.Lists.{room_in}
 use Rattle.name_lookup.specs.NamedRows.{Lookup}
 use Rattle.texts.specs.Stored.{TextRows, Stored as Texts}
 use Rattle.texts.specs.Needs.{UsesRoom as UsesTextRoom}
-use Rattle.kom_state.specs.Keeping.{stored}
+use Rattle.kom_state.specs.Keeping.{as_stored}
 use Rattle.kom_state.specs.Room.{Room, Stored, IsMade, HasRoom, set_of, name_given, sets_membership, sets_for_person}
 use Rattle.kom_state.specs.Room.{sets_in_conference, needs_of, adds_item, adds_item_to}
 use Rattle.kom_state.proofs.Using.{Uses, HasRoom-after, count_by-cons}
 
-pub IsMade-using : (what : Effect) (old new : Stored) → new.db ≡ made what old.db → Uses what old.room new.room →
+pub IsMade-using : (what : Effect) (old new : Stored) → new.db ≡ after_effect what old.db →
+    Uses what old.room new.room →
     IsMade what old new
 IsMade-using what old new db uses = record { db = db; room = HasRoom-after what old.room new.room uses }
 
@@ -35,15 +36,15 @@ IsMade-using what old new db uses = record { db = db; room = HasRoom-after what 
 pub IsMade-person : {items : Attached} → (what : Effect) (number : ℕ) (change : PersonRow →
     PersonRow) (conferences : Tabled ConferenceRow)
     (old new : Tabled PersonRow) (memberships : Table) (names : Lookup) (texts : Texts) (next next_text : ℕ) →
-    ((db : Db) → made what db ≡ with_changed_person number change db) →
+    ((db : Db) → after_effect what db ≡ with_changed_person number change db) →
     new.rows ≡ changed_row number_of_person number change old.rows → old.spare ≤ new.spare →
-    IsMade what (stored conferences old memberships names texts items next next_text)
-    (stored conferences new memberships names texts items next next_text)
+    IsMade what (as_stored conferences old memberships names texts items next next_text)
+    (as_stored conferences new memberships names texts items next next_text)
 IsMade-person {items} what number change conferences old new memberships names texts next next_text makes rows spare =
     IsMade-using what _ _
-    (ap (λ rows. record (stored conferences old memberships names texts items next next_text).db { persons = rows })
+    (ap (λ rows. record (as_stored conferences old memberships names texts items next next_text).db { persons = rows })
     rows
-    ∙ sym (makes (stored conferences old memberships names texts items next next_text).db))
+    ∙ sym (makes (as_stored conferences old memberships names texts items next next_text).db))
     (record {
       conferences = omega arith;
       persons = omega arith;
@@ -59,18 +60,19 @@ IsMade-person {items} what number change conferences old new memberships names t
 -- one conference is changed, and may have another name
 pub IsMade-conference : {items : Attached} → (what : Effect) (number : ℕ) (change : ConferenceRow → ConferenceRow)
     (old new : Tabled ConferenceRow) (persons : Tabled PersonRow) (memberships : Table) (names new_names : Lookup)
-    (texts : Texts) (next next_text : ℕ) → ((db : Db) → made what db ≡ with_changed_conference number change db) →
+    (texts : Texts) (next next_text : ℕ) →
+    ((db : Db) → after_effect what db ≡ with_changed_conference number change db) →
     new.rows ≡ changed_row number_of_conference number change old.rows → old.spare ≤ new.spare →
     (name_given what ≡ None → new_names.ready ≡ names.ready) →
-    IsMade what (stored old persons memberships names texts items next next_text)
-    (stored new persons memberships new_names texts items next next_text)
+    IsMade what (as_stored old persons memberships names texts items next next_text)
+    (as_stored new persons memberships new_names texts items next next_text)
 IsMade-conference {items} what number change old new persons memberships names new_names texts next next_text makes
     rows spare
     ready =
     IsMade-using what _ _
-    (ap (λ rows. record (stored old persons memberships names texts items next next_text).db { conferences = rows })
+    (ap (λ rows. record (as_stored old persons memberships names texts items next next_text).db { conferences = rows })
     rows
-    ∙ sym (makes (stored old persons memberships names texts items next next_text).db))
+    ∙ sym (makes (as_stored old persons memberships names texts items next next_text).db))
     (record {
       conferences = omega arith;
       persons = omega arith;
@@ -89,14 +91,14 @@ pub IsMade-added : {items : Attached} → (number : ℕ) (name : List ℕ) (kind
     new.rows ≡ with_row number_of_conference (fresh_conference number name kind at creator supervisor) old.rows →
     old.spare ≤ new.spare + 1 →
     IsMade (effect.ConfAdded number name kind at creator supervisor)
-    (stored old persons memberships names texts items next next_text)
-    (stored new persons memberships new_names texts items (number + 1) next_text)
-unfolding made
+    (as_stored old persons memberships names texts items next next_text)
+    (as_stored new persons memberships new_names texts items (number + 1) next_text)
+unfolding after_effect
 IsMade-added {items} number name kind at creator supervisor old new persons memberships names new_names texts next
     next_text
     rows spare =
     IsMade-using _ _ _
-    (ap (λ rows. (stored (record new { rows = rows }) persons memberships new_names texts items (number + 1)
+    (ap (λ rows. (as_stored (record new { rows = rows }) persons memberships new_names texts items (number + 1)
     next_text).db)
     rows)
     (record {
@@ -117,13 +119,13 @@ pub IsMade-conference_gone : {items : Attached} → (number : ℕ) (old new : Ta
     (memberships : Table) (names new_names : Lookup) (texts : Texts) (next next_text : ℕ) →
     new.rows ≡ without_row number_of_conference number old.rows → old.spare ≤ new.spare →
     new_names.ready ≡ names.ready →
-    IsMade (effect.ConfGone number) (stored old persons memberships names texts items next next_text)
-    (stored new persons memberships new_names texts items next next_text)
-unfolding made
+    IsMade (effect.ConfGone number) (as_stored old persons memberships names texts items next next_text)
+    (as_stored new persons memberships new_names texts items next next_text)
+unfolding after_effect
 IsMade-conference_gone {items} number old new persons memberships names new_names texts next next_text rows spare
     ready =
     IsMade-using _ _ _
-    (ap (λ rows. (stored (record new { rows = rows }) persons memberships new_names texts items next next_text).db)
+    (ap (λ rows. (as_stored (record new { rows = rows }) persons memberships new_names texts items next next_text).db)
     rows)
     (record {
       conferences = omega arith;
@@ -142,13 +144,13 @@ pub IsMade-joined : {items : Attached} → (number privileges flags last_login :
     new.rows ≡ with_row number_of_person (fresh_person number privileges flags last_login) old.rows →
     old.spare ≤ new.spare + 1 →
     IsMade (effect.PersonAdded number privileges flags last_login)
-    (stored conferences old memberships names texts items next next_text)
-    (stored conferences new memberships names texts items next next_text)
-unfolding made
+    (as_stored conferences old memberships names texts items next next_text)
+    (as_stored conferences new memberships names texts items next next_text)
+unfolding after_effect
 IsMade-joined {items} number privileges flags last_login conferences old new memberships names texts next next_text
     rows spare =
     IsMade-using _ _ _
-    (ap (λ rows. (stored conferences (record new { rows = rows }) memberships names texts items next next_text).db)
+    (ap (λ rows. (as_stored conferences (record new { rows = rows }) memberships names texts items next next_text).db)
     rows)
     (record {
       conferences = omega arith;
@@ -178,12 +180,12 @@ pub IsMade-texts : {items : Attached} → (what : Effect) (old_conferences new_c
     (old_persons new_persons : Tabled PersonRow) (memberships : Table) (names : Lookup) (old new : Texts)
     (next next_text new_next_text : ℕ) (conference_rows : List ConferenceRow) (person_rows : List PersonRow)
     (rows : TextRows) →
-    (stored (record new_conferences { rows = conference_rows }) (record new_persons { rows = person_rows })
+    (as_stored (record new_conferences { rows = conference_rows }) (record new_persons { rows = person_rows })
     memberships names (record new { rows = rows }) items next new_next_text).db
-    ≡ made what (stored old_conferences old_persons memberships names old items next next_text).db →
+    ≡ after_effect what (as_stored old_conferences old_persons memberships names old items next next_text).db →
     Changes what old_conferences new_conferences old_persons new_persons old new conference_rows person_rows rows →
-    IsMade what (stored old_conferences old_persons memberships names old items next next_text)
-    (stored new_conferences new_persons memberships names new items next new_next_text)
+    IsMade what (as_stored old_conferences old_persons memberships names old items next next_text)
+    (as_stored new_conferences new_persons memberships names new items next new_next_text)
 IsMade-texts {items} what old_conferences new_conferences old_persons new_persons memberships names old new next
     next_text
     new_next_text conference_rows person_rows rows db changes =
@@ -218,12 +220,12 @@ pub IsMade-items : (what : Effect) (old_conferences new_conferences : Tabled Con
     (persons : Tabled PersonRow) (memberships : Table) (names : Lookup) (old new : Texts)
     (old_items new_items : Attached) (next next_text : ℕ) (conference_rows : List ConferenceRow) (rows : TextRows)
     (item_rows : List ItemRow) →
-    (stored (record new_conferences { rows = conference_rows }) persons memberships names
+    (as_stored (record new_conferences { rows = conference_rows }) persons memberships names
     (record new { rows = rows }) (record new_items { rows = item_rows }) next next_text).db
-    ≡ made what (stored old_conferences persons memberships names old old_items next next_text).db →
+    ≡ after_effect what (as_stored old_conferences persons memberships names old old_items next next_text).db →
     ItemChanges what old_conferences new_conferences old new old_items new_items conference_rows rows item_rows →
-    IsMade what (stored old_conferences persons memberships names old old_items next next_text)
-    (stored new_conferences persons memberships names new new_items next next_text)
+    IsMade what (as_stored old_conferences persons memberships names old old_items next next_text)
+    (as_stored new_conferences persons memberships names new new_items next next_text)
 IsMade-items what old_conferences new_conferences persons memberships names old new old_items new_items next next_text
     conference_rows rows item_rows db changes =
     IsMade-using what _ _ (rw (changes.conferences, changes.texts, changes.items) db) (record {
@@ -266,17 +268,17 @@ falls_at at number old new here other = by (cases_eq number at)
 pub IsMade-members : {items : Attached} → (what : Effect) (change : List MembershipRow → List MembershipRow)
     (reads : List ReadRow → List ReadRow) (conferences : Tabled ConferenceRow) (persons : Tabled PersonRow)
     (old new : Table) (names : Lookup) (texts : Texts) (next next_text : ℕ) →
-    ((db : Db) → made what db ≡ record db { memberships = change db.memberships; reads = reads db.reads }) →
+    ((db : Db) → after_effect what db ≡ record db { memberships = change db.memberships; reads = reads db.reads }) →
     new.rows ≡ change old.rows → new.reads ≡ reads old.reads → KeepsRoom old new →
-    IsMade what (stored conferences persons old names texts items next next_text)
-    (stored conferences persons new names texts items next next_text)
+    IsMade what (as_stored conferences persons old names texts items next next_text)
+    (as_stored conferences persons new names texts items next next_text)
 IsMade-members {items} what change reads conferences persons old new names texts next next_text makes rows read keeps =
     IsMade-using what _ _
-    (ap (λ rows. (stored conferences persons (record new { rows = rows }) names texts items next next_text).db) rows
-    ∙ ap (λ reads. (stored conferences persons (record new { rows = change old.rows; reads = reads }) names texts
+    (ap (λ rows. (as_stored conferences persons (record new { rows = rows }) names texts items next next_text).db) rows
+    ∙ ap (λ reads. (as_stored conferences persons (record new { rows = change old.rows; reads = reads }) names texts
     items next
     next_text).db) read
-    ∙ sym (makes (stored conferences persons old names texts items next next_text).db))
+    ∙ sym (makes (as_stored conferences persons old names texts items next next_text).db))
     (record {
       conferences = omega arith;
       persons = omega arith;
@@ -294,14 +296,14 @@ pub IsMade-set : {items : Attached} → (row : MembershipRow) (conferences : Tab
     (old new : Table) (names : Lookup) (texts : Texts) (next next_text : ℕ) → row.last_time_read ≡ row.added_at →
     new.rows ≡ with_membership row old.rows → new.reads ≡ with_reader row.person row.conference old.reads →
     UsesRoom old new row.person row.conference →
-    IsMade (set_of row) (stored conferences persons old names texts items next next_text)
-    (stored conferences persons new names texts items next next_text)
-unfolding made
+    IsMade (set_of row) (as_stored conferences persons old names texts items next next_text)
+    (as_stored conferences persons new names texts items next next_text)
+unfolding after_effect
 IsMade-set {items} row conferences persons old new names texts next next_text fresh rows read uses =
     IsMade-using (set_of row) _ _
-    (ap (λ rows. (stored conferences persons (record new { rows = rows }) names texts items next next_text).db) (rows
+    (ap (λ rows. (as_stored conferences persons (record new { rows = rows }) names texts items next next_text).db) (rows
     ∙ ap (λ at. with_membership (record row { last_time_read = at }) old.rows) fresh)
-    ∙ ap (λ reads. (stored conferences persons (record new {
+    ∙ ap (λ reads. (as_stored conferences persons (record new {
       rows = with_membership (record row { last_time_read = row.added_at }) old.rows;
       reads = reads;
     }) names texts items next next_text).db) read)

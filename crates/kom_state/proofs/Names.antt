@@ -15,7 +15,7 @@ use Rattle.kom_types.specs.declared.effects.ConfField.TheVariants as field
 use Rattle.kom_types.specs.Names.{fold, clash, finds}
 use Rattle.kom_types.specs.tables.Conferences.{number_of_conference, with_field}
 use Rattle.kom_types.specs.tables.Conferences as Conferences
-use Rattle.name_lookup.specs.NamedRows.{Named, named, with_name, without_name, taken, found, NoneClash}
+use Rattle.name_lookup.specs.NamedRows.{Named, named_row, with_name, without_name, clash_of, matches_of, NoneClash}
 use Rattle.kom_state.specs.Keeping.{name_row}
 
 -- ---- names of rows that change
@@ -97,7 +97,8 @@ names-renamed number name (row ∷ rows) rising there =
         let above : AllAbove number_of_conference number rows =
         subst (λ n. AllAbove number_of_conference n rows) (sym same) rising.0 in
         rw (eq-eqb row.number number (sym same), eq-eqb number row.number same)
-        (ap₂ (λ n names. named n name ∷ names) (sym same) (names-above number (Conferences.with_name name) rows above))
+        (ap₂ (λ n names. named_row n name ∷ names) (sym same)
+        (names-above number (Conferences.with_name name) rows above))
     by rest (inr (inl below)) =
         let other : eqb row.number number ≡ false = ne_eqb _ _ (λ e. omega arith) in
         let none = absent_above number row.number rows (omega arith) rising.0 in
@@ -143,15 +144,15 @@ abbrev pub is_other : ℕ → List ℕ → ConferenceRow → Bool
 is_other number name row = not (eqb row.number number) && clash row.name name
 
 pub taken-free : (number : ℕ) (name : List ℕ) (rows : List ConferenceRow) →
-    list_any (is_other number name) rows ≡ false → taken name (without_name number (map name_row rows)) ≡ None
+    list_any (is_other number name) rows ≡ false → clash_of name (without_name number (map name_row rows)) ≡ None
 taken-free number name [] free = refl
 taken-free number name (row ∷ rows) free =
     let parts = or_parts (is_other number name row) (list_any (is_other number name) rows) free in
     by (taken-free number name rows parts.1) (cases_eq number row.number) parts.0
   where
-    by : taken name (without_name number (map name_row rows)) ≡ None →
+    by : clash_of name (without_name number (map name_row rows)) ≡ None →
         (number ≡ row.number) ⊎ (number ≡ row.number → ⊥) → is_other number name row ≡ false →
-        taken name (without_name number (map name_row (row ∷ rows))) ≡ None
+        clash_of name (without_name number (map name_row (row ∷ rows))) ≡ None
     by rest (inl same) here = simp (eq-eqb number row.number same, eq-eqb row.number number (sym same)) rest
     by rest (inr other) here =
         let other' : eqb row.number number ≡ false = ne_eqb row.number number (λ e. other (sym e)) in
@@ -176,14 +177,16 @@ none_other number name first (row ∷ rows) same apart =
     let rest = none_other number name first rows same apart.1 in
     rw (away, rest) (or_false (not (eqb row.number number)))
 
-pub free-not_taken : (number : ℕ) (name : List ℕ) (rows : List ConferenceRow) → taken name (map name_row rows) ≡ None →
+pub free-not_taken : (number : ℕ) (name : List ℕ) (rows : List ConferenceRow) →
+    clash_of name (map name_row rows) ≡ None →
     list_any (is_other number name) rows ≡ false
 free-not_taken number name [] none = refl
 free-not_taken number name (row ∷ rows) none =
     by (free-not_taken number name rows) (cases_Bool (clash name row.name)) none
   where
-    by : (taken name (map name_row rows) ≡ None → list_any (is_other number name) rows ≡ false) →
-        (clash name row.name ≡ true) ⊎ (clash name row.name ≡ false) → taken name (map name_row (row ∷ rows)) ≡ None →
+    by : (clash_of name (map name_row rows) ≡ None → list_any (is_other number name) rows ≡ false) →
+        (clash name row.name ≡ true) ⊎ (clash name row.name ≡ false) →
+        clash_of name (map name_row (row ∷ rows)) ≡ None →
         list_any (is_other number name) (row ∷ rows) ≡ false
     by rest (inl same) free = absurd (none-some row.number (sym (rw same at free)))
     by rest (inr apart) free =
@@ -191,14 +194,15 @@ free-not_taken number name (row ∷ rows) none =
         rw (away, rest (rw apart at free)) (or_false (not (eqb row.number number)))
 
 pub free-taken : (number other : ℕ) (name : List ℕ) (rows : List ConferenceRow) → NoneClash (map name_row rows) →
-    taken name (map name_row rows) ≡ Some other → not (list_any (is_other number name) rows) ≡ eqb other number
+    clash_of name (map name_row rows) ≡ Some other → not (list_any (is_other number name) rows) ≡ eqb other number
 free-taken number other name [] apart at = absurd (none-some other at)
 free-taken number other name (row ∷ rows) apart at =
     by (free-taken number other name rows apart.1) (cases_Bool (clash name row.name)) at
   where
-    by : (taken name (map name_row rows) ≡ Some other → not (list_any (is_other number name) rows) ≡ eqb other number) →
+    by : (clash_of name (map name_row rows) ≡ Some other →
+        not (list_any (is_other number name) rows) ≡ eqb other number) →
         (clash name row.name ≡ true) ⊎ (clash name row.name ≡ false) →
-        taken name (map name_row (row ∷ rows)) ≡ Some other →
+        clash_of name (map name_row (row ∷ rows)) ≡ Some other →
         not (list_any (is_other number name) (row ∷ rows)) ≡ eqb other number
     by rest (inl same) found =
         let number' : row.number ≡ other = same_Some _ _ (rw same at found) in
@@ -210,12 +214,13 @@ free-taken number other name (row ∷ rows) apart at =
 
 -- ---- what a pattern finds
 pub found-names : (pattern : List ℕ) (rows : List ConferenceRow) →
-    found pattern (map name_row rows) ≡ map number_of_conference (filter (λ row. finds pattern row.name) rows)
+    matches_of pattern (map name_row rows) ≡ map number_of_conference (filter (λ row. finds pattern row.name) rows)
 found-names pattern [] = refl
 found-names pattern (row ∷ rows) = by (finds pattern row.name) (found-names pattern rows)
   where
     by : (hit : Bool) →
-        found pattern (map name_row rows) ≡ map number_of_conference (filter (λ row. finds pattern row.name) rows) →
+        matches_of pattern (map name_row rows)
+        ≡ map number_of_conference (filter (λ row. finds pattern row.name) rows) →
         map (λ (one : Named). one.number) (cond hit (name_row row ∷ filter (λ (one : Named). finds pattern one.name)
         (map name_row rows)) (filter (λ (one : Named). finds pattern one.name) (map name_row rows)))
         ≡ map number_of_conference (cond hit (row ∷ filter (λ (row : ConferenceRow). finds pattern row.name) rows)

@@ -1,5 +1,5 @@
 -- What holds of all rows of a table.
-use Rattle.std.proofs.Common.{◌≡◌, ℕ, Bool, not, eqb, ltb, List, [], ◌∷◌, filter}
+use Rattle.std.proofs.Common.{ℕ, Bool, not, eqb, ltb, List, [], ◌∷◌, filter}
 use Rattle.std.specs.List.{AllByRecursion}
 use Rattle.std.proofs.lemmas.Bool.{cond_both}
 use Rattle.row_table.specs.Tables.{with_row, without_row, changed_row}

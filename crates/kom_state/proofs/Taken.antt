@@ -12,7 +12,7 @@ use Rattle.kom_types.specs.tables.Conferences.{number_of_conference, is_letterbo
 use Rattle.kom_model.specs.Db.{Db, conference_of, conferences_of}
 use Rattle.kom_model.specs.Effects.{has_letterbox}
 use Rattle.kom_model.specs.calls.Guards.{Guard, refusal, taken_by, free_guard}
-use Rattle.name_lookup.specs.NamedRows.{taken}
+use Rattle.name_lookup.specs.NamedRows.{clash_of}
 use Rattle.kom_state.specs.Keeping.{name_row}
 use Rattle.kom_state.proofs.Names.{is_other, clash_back, apart_back, absent_above}
 
@@ -31,16 +31,16 @@ record IsFirstOther (number other : ℕ) (name : List ℕ) (rows : List Conferen
   at : row_of number_of_conference other rows ≡ Some row
 
 first_other : (number other : ℕ) (name : List ℕ) (rows : List ConferenceRow) → IsByNumber number_of_conference rows →
-    taken name (map name_row rows) ≡ Some other → (other ≡ number → ⊥) →
+    clash_of name (map name_row rows) ≡ Some other → (other ≡ number → ⊥) →
     (row : ConferenceRow) × IsFirstOther number other name rows row
 first_other number other name [] rising found apart = absurd (none-some other found)
 first_other number other name (row ∷ rows) rising found apart =
     by (first_other number other name rows rising.1) (cases_Bool (clash name row.name)) found
   where
-    by : (taken name (map name_row rows) ≡ Some other → (other ≡ number → ⊥) →
+    by : (clash_of name (map name_row rows) ≡ Some other → (other ≡ number → ⊥) →
         (row : ConferenceRow) × IsFirstOther number other name rows row) →
         (clash name row.name ≡ true) ⊎ (clash name row.name ≡ false) →
-        taken name (map name_row (row ∷ rows)) ≡ Some other →
+        clash_of name (map name_row (row ∷ rows)) ≡ Some other →
         (one : ConferenceRow) × IsFirstOther number other name (row ∷ rows) one
     by rest (inl same) here =
         let number' : row.number ≡ other = same_Some _ _ (rw same at here) in
@@ -76,7 +76,7 @@ unfolding conferences_of
 free_guard-free db number name free = ap refused_by (none_found (is_other number name) db.conferences free)
 
 pub free_guard-taken : (db : Db) (number other : ℕ) (name : List ℕ) → IsByNumber number_of_conference db.conferences →
-    taken name (map name_row db.conferences) ≡ Some other → (other ≡ number → ⊥) →
+    clash_of name (map name_row db.conferences) ≡ Some other → (other ≡ number → ⊥) →
     free_guard db number name
     ≡ cond (has_letterbox db other) (refusal error.PERSON_EXISTS 0) (refusal error.CONFERENCE_EXISTS 0)
 unfolding conferences_of conference_of

@@ -5,8 +5,8 @@ use Rattle.kom_model.specs.Db.{Db}
 use Rattle.kom_model.specs.Effects.{fits}
 
 -- effects after those that wait, if any are kept
-abbrev pub appended : List Effect → Option (List Effect) → Option (List Effect)
-appended effects pending = option_map (λ list. list ++ effects) pending
+abbrev pub append_pending : List Effect → Option (List Effect) → Option (List Effect)
+append_pending effects pending = option_map (λ list. list ++ effects) pending
 
 -- there is room for effects of which this is the first
 abbrev pub HasRoomFirst : {K : Type 0} → (K → List Effect → Type 0) → K → Effect → Type 0

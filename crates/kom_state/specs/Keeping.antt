@@ -9,14 +9,14 @@ use Rattle.kom_types.specs.declared.texts.TextRow.{TextRow}
 use Rattle.kom_model.specs.Db.{Db}
 use Rattle.kom_model.specs.Whole.{IsWhole}
 use Rattle.memberships.specs.Table.{Table}
-use Rattle.name_lookup.specs.NamedRows.{Named, Lookup, named}
+use Rattle.name_lookup.specs.NamedRows.{Named, Lookup, named_row}
 use Rattle.texts.specs.Stored.{Stored as Texts}
 use Rattle.kom_state.specs.Room.{Stored}
 
 -- what the tables are as stored rows
-abbrev pub stored : Tabled ConferenceRow → Tabled PersonRow → Table → Lookup → Texts → Attached
+abbrev pub as_stored : Tabled ConferenceRow → Tabled PersonRow → Table → Lookup → Texts → Attached
     → ℕ → ℕ → Stored
-stored conferences persons memberships names texts items next_conference next_text = record {
+as_stored conferences persons memberships names texts items next_conference next_text = record {
   db = record {
     conferences = conferences.rows;
     persons = persons.rows;
@@ -44,7 +44,7 @@ stored conferences persons memberships names texts items next_conference next_te
 
 -- the number and the name of a conference
 abbrev pub name_row : ConferenceRow → Named
-name_row row = named row.number row.name
+name_row row = named_row row.number row.name
 
 -- the numbers of the conferences are below this one
 abbrev pub AreBelow : ℕ → List ConferenceRow → Type 0

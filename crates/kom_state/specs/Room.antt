@@ -15,7 +15,7 @@ use Rattle.texts.specs.declared.needs.Need.{Need}
 use Rattle.aux_items.specs.Items.{Attached, room_on}
 use Rattle.aux_items.specs.Objects.{is_same}
 use Rattle.kom_model.specs.Db.{Db}
-use Rattle.kom_model.specs.Effects.{fits, made}
+use Rattle.kom_model.specs.Effects.{fits, after_effect}
 
 -- How many more rows fit without memory: conferences, persons and memberships; memberships of each
 -- person and in each conference, as `room_in` reads them; the name that can be given; texts with
@@ -182,5 +182,5 @@ pub record IsPossible (what : Effect) (old : Stored) : Type 0 where
 
 -- an effect was made, and what there was room for after it there is room for still
 pub record IsMade (what : Effect) (old new : Stored) : Type 0 where
-  pub db : new.db ≡ made what old.db
+  pub db : new.db ≡ after_effect what old.db
   pub room : (rest : List Effect) → HasRoom old.room (what ∷ rest) → HasRoom new.room rest

@@ -1,7 +1,7 @@
 ghost use Rattle.std.specs.Prelude.{◌≡◌, true, List, [], ◌∷◌, IsTrue};
 ghost use Rattle.kom_types.specs.declared.effects.Effect.{Effect as Change};
-ghost use Rattle.kom_model.specs.Effects.{fits, made, apply, apply_all, all_fit};
-ghost use Rattle.kom_state.specs.Keepers.{appended};
+ghost use Rattle.kom_model.specs.Effects.{fits, after_effect, apply, apply_all, all_fit};
+ghost use Rattle.kom_state.specs.Keepers.{append_pending};
 ghost use Rattle.kom_state.specs.Room.{HasRoom, IsPossible, IsMade, is_of_person, set_of};
 
 mod item_effects;
@@ -23,7 +23,7 @@ impl StoredRows {
         requires room { HasRoom self.old.room effects }
         requires kept_room { K.has_room keeper.old effects }
         ensures db { self.new.db ≡ apply_all effects self.old.db }
-        ensures kept { K.pending keeper.new ≡ appended effects (K.pending keeper.old) }
+        ensures kept { K.pending keeper.new ≡ append_pending effects (K.pending keeper.old) }
         ensures rest { K.stays keeper.old keeper.new }
     {
         for effect in effects.into_vec() {
@@ -47,7 +47,7 @@ impl StoredRows {
     pub fn apply_effect(&mut self, effect: Effect)
         requires fits { fits effect self.old.db ≡ true }
         requires room { HasRoom self.old.room (effect ∷ []) }
-        ensures db { self.new.db ≡ made effect self.old.db }
+        ensures db { self.new.db ≡ after_effect effect self.old.db }
         ensures room { (rest : List Change) → HasRoom self.old.room (effect ∷ rest)
             → HasRoom self.new.room rest }
     {

@@ -1,6 +1,6 @@
 ghost use Rattle.std.specs.Prelude.{◌≡◌, [], ◌∷◌, ◌++◌, map, option_copied, IfOk};
 ghost use Rattle.kom_model.specs.Viewers.{viewer_of};
-ghost use Rattle.kom_model.specs.calls.Call.{seat_of, answer, done};
+ghost use Rattle.kom_model.specs.calls.Call.{seat_of, answer, done_with};
 ghost use Rattle.kom_model.specs.calls.Guards.{caller as caller_of};
 ghost use Rattle.kom_model.specs.calls.Sessions.{counts};
 
@@ -120,7 +120,7 @@ impl<'a> Asked<'a> {
 
     /// A good reply without a result, with one effect on the stored rows.
     pub fn with_effect(&self, effect: Effect) -> Result<Decision, Memory>
-        ensures { IfOk result (λ decision. decision ≡ done (effect ∷ []) []) }
+        ensures { IfOk result (λ decision. decision ≡ done_with (effect ∷ []) []) }
     {
         let alloc = self.allocator();
         let mut effects = Sequence::new(alloc);
@@ -134,7 +134,7 @@ impl<'a> Asked<'a> {
 
     /// A good reply without a result, with one change of a session.
     pub fn with_change(&self, change: SessionChange) -> Result<Decision, Memory>
-        ensures { IfOk result (λ decision. decision ≡ done [] (change ∷ [])) }
+        ensures { IfOk result (λ decision. decision ≡ done_with [] (change ∷ [])) }
     {
         let alloc = self.allocator();
         let mut changes = Sequence::new(alloc);

@@ -1,5 +1,5 @@
 ghost use Rattle.std.specs.Prelude.{◌≡◌, [], ◌∷◌, OnOk};
-ghost use Rattle.kom_state.specs.Keepers.{appended, HasRoomFirst, FitsSome};
+ghost use Rattle.kom_state.specs.Keepers.{append_pending, HasRoomFirst, FitsSome};
 
 use kom_types::{Effect, Memory};
 
@@ -28,7 +28,7 @@ pub trait Keeper {
     fn keep(&mut self, effect: &Effect)
         requires room { HasRoomFirst has_room self.old effect.now }
         requires fits { FitsSome effect.now }
-        ensures kept { pending self.new ≡ appended (effect.now ∷ []) (pending self.old) }
+        ensures kept { pending self.new ≡ append_pending (effect.now ∷ []) (pending self.old) }
         ensures room { (more : List Change) → has_room self.old (effect.now ∷ more)
             → has_room self.new more }
         ensures rest { stays self.old self.new };

@@ -46,14 +46,14 @@ impl Drop for StoredRows {
 
 impl Model for StoredRows {
     ghost use Rattle.kom_state.specs.Room.{Stored};
-    ghost use Rattle.kom_state.specs.Keeping.{stored, IsKept};
+    ghost use Rattle.kom_state.specs.Keeping.{as_stored, IsKept};
 
     ghost Value = { Stored };
 
-    ghost view = { λ s. stored s.conferences s.persons s.memberships s.names s.texts
+    ghost view = { λ s. as_stored s.conferences s.persons s.memberships s.names s.texts
         s.items s.next_conference s.next_text };
 
-    ghost invariant = { λ s. IsKept (stored s.conferences s.persons s.memberships s.names s.texts
+    ghost invariant = { λ s. IsKept (as_stored s.conferences s.persons s.memberships s.names s.texts
         s.items s.next_conference s.next_text).db s.names.names };
 }
 

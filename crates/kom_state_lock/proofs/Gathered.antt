@@ -6,7 +6,7 @@ use mathlib.Core.Option as maybe
 use mathlib.Core.List.{IsPrefix}
 use Rattle.atomic_table.specs.Seated.{TableId}
 use Rattle.kom_state_lock.specs.declared.views.View.{View}
-use Rattle.kom_state_lock.specs.Views.{entries_of, share_of, joining, note_of}
+use Rattle.kom_state_lock.specs.Views.{entries_of, share_of, after_join, note_of}
 use Rattle.kom_state_lock.specs.Passes.{PassModel, pass_model, drawn_by, number_of, IsClosed}
 use Rattle.kom_state_lock.specs.Closing.{Among, IsIn, Covers, IsSettled}
 use Rattle.kom_state_lock.proofs.Begins.{begins_itself}
@@ -33,7 +33,7 @@ module _ {B E : Type 0} where
     pub drawn : Contains (map drawn_by gone) v.drawn
 
   -- what a seat knew it knows after it takes in another
-  is_in_joined : (v w : View B E) (p : PassModel B E) → IsIn v p → IsIn (joining v w) p
+  is_in_joined : (v w : View B E) (p : PassModel B E) → IsIn v p → IsIn (after_join v w) p
   is_in_joined v w p is = record {
     mine = elim is.mine [
       | inl own ↦ inl own
@@ -48,12 +48,13 @@ module _ {B E : Type 0} where
   }
 
   -- and what the other one knows of itself
-  is_in_other : (table : TableId) (v w : View B E) (p : PassModel B E) → pass_model table w ≡ p → IsIn (joining v w) p
+  is_in_other : (table : TableId) (v w : View B E) (p : PassModel B E) → pass_model table w ≡ p →
+      IsIn (after_join v w) p
   is_in_other table v w p e =
-      subst (IsIn (joining v w)) e record { mine = inr (0, refl); seen = inr (1, refl); drawn = omega arith }
+      subst (IsIn (after_join v w)) e record { mine = inr (0, refl); seen = inr (1, refl); drawn = omega arith }
 
   pub one_gathered : (table : TableId) (all rest rest' : List (PassModel B E)) (p : PassModel B E) (v w n : View B E)
-      → AreGathered all rest v → rest ≡ rest' ++ p ∷ [] → pass_model table w ≡ p → n ≡ joining v w
+      → AreGathered all rest v → rest ≡ rest' ++ p ∷ [] → pass_model table w ≡ p → n ≡ after_join v w
       → AreGathered all rest' n
   one_gathered table all rest rest' p v w n before e is new =
       let d : w.drawn ≡ p.drawn = ap (λ (q : PassModel B E). q.drawn) is in
@@ -61,7 +62,7 @@ module _ {B E : Type 0} where
         gone = p ∷ before.gone;
         parts = before.parts ∙ (ap (λ (l : List (PassModel B E)). l ++ before.gone) e
             ∙ append_assoc rest' (p ∷ []) before.gone);
-        each = All-cons (IsIn (joining v w)) p before.gone (is_in_other table v w p is)
+        each = All-cons (IsIn (after_join v w)) p before.gone (is_in_other table v w p is)
             (λ k x h. is_in_joined v w _ (before.each k x h));
         drawn = elim (is_max v.drawn w.drawn) [
           | inl old ↦ contains_more p.drawn (max v.drawn w.drawn) (map drawn_by before.gone)

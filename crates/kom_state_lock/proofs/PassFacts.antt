@@ -4,14 +4,14 @@ use Rattle.atomic_table.specs.Table.{Me}
 use Rattle.kom_state_lock.specs.declared.views.Turn.TheVariants.{Resting, Waiting, Holding, Logged, Spent, Closed}
 use Rattle.kom_state_lock.specs.declared.views.Turn.{Turn}
 use Rattle.kom_state_lock.specs.declared.views.View.{View}
-use Rattle.kom_state_lock.specs.Views.{logging, slots_in, is_over, is_served}
+use Rattle.kom_state_lock.specs.Views.{after_log, slots_in, is_over, is_served}
 use Rattle.kom_state_lock.specs.Passes.{IsPass, HoldsNoTurn}
 
 module _ {B E : Type 0} where
   -- a pass that has logged is a pass
   pub logged_is_pass : (number : ℕ) (refused : Option ℕ) (me n : Me (Option B) (View B E)) (ticket : ℕ) (taken : B)
       (before : List E) (entry : E) (left : B)
-      → IsPass number refused me → me.0.turn ≡ Holding ticket taken before → n ≡ (logging entry left me.0, me.1)
+      → IsPass number refused me → me.0.turn ≡ Holding ticket taken before → n ≡ (after_log entry left me.0, me.1)
       → IsPass number refused n
   logged_is_pass number refused me n ticket taken before entry left is holds e =
       subst (λ m. IsPass number refused m) (sym e) record {

@@ -16,7 +16,8 @@ use Rattle.kom_state_lock.specs.declared.views.Turn.TheVariants.{Resting, Waitin
 use Rattle.kom_state_lock.specs.declared.views.Share.{Share}
 use Rattle.kom_state_lock.specs.declared.views.View.{View}
 use Rattle.kom_state_lock.specs.Views.{entries_of, ticket_in, is_over, is_served, may_have_ticket, is_original}
-use Rattle.kom_state_lock.specs.Views.{spent_seat, first_seat, splitting, split_off, share_of, joining, noting, note_of}
+use Rattle.kom_state_lock.specs.Views.{spent_seat, first_seat, after_split, split_off, share_of, after_join}
+use Rattle.kom_state_lock.specs.Views.{after_close, note_of}
 use Rattle.kom_state_lock.specs.Rule.{at_home, AreWords, InTurn, IsJoined, IsSeated, IsHome, IsKnown, Stands, Rule}
 use Rattle.kom_state_lock.specs.Closing.{Covers, IsSettled}
 use Rattle.kom_state_lock.proofs.Begins.{begins_itself, longer_begins, longer_first, longer_second}
@@ -171,7 +172,7 @@ module _ {B E : Type 0} (pass_of : E → ℕ) (led : B → List E → B → Type
 
   -- the first seat may split while there are fewer seats than passes
   pub splits_allowed : (id : ℕ) (v : V) → is_over v.turn ≡ false → 0 < v.next → v.next < passes
-      → Splits Ruled id v (splitting v) (split_off v)
+      → Splits Ruled id v (after_split v) (split_off v)
   splits_allowed id v goes some room s r here =
       let st = r.stands in
       let views = s.views in
@@ -218,7 +219,7 @@ module _ {B E : Type 0} (pass_of : E → ℕ) (led : B → List E → B → Type
 
   -- the last seat may leave a note
   pub notes_allowed : (id : ℕ) (v : V) → is_over v.turn ≡ false → Covers passes v
-      → Splits Ruled id v (noting v) (note_of v)
+      → Splits Ruled id v (after_close v) (note_of v)
   notes_allowed id v goes all s r here =
       let st = r.stands in record {
         ticket = r.ticket;
@@ -239,7 +240,7 @@ module _ {B E : Type 0} (pass_of : E → ℕ) (led : B → List E → B → Type
       (apart : other ≢ id) (there : get_elem? views other ≡ maybe.some w) (goes' : is_over w.turn ≡ false)
       (idle' : is_served w.turn ≡ false) where
     abbrev both : V
-    both = joining v w
+    both = after_join v w
 
     abbrev one : List V
     one = set views id both
@@ -414,9 +415,9 @@ module _ {B E : Type 0} (pass_of : E → ℕ) (led : B → List E → B → Type
   -- one seat takes in another, where neither has its turn
   pub joins_allowed : (id other : ℕ) (v w : V) → is_over v.turn ≡ false → is_served v.turn ≡ false
       → is_over w.turn ≡ false → is_served w.turn ≡ false
-      → Joins Ruled id v other w (joining v w) spent_seat
+      → Joins Ruled id v other w (after_join v w) spent_seat
   joins_allowed id other v w goes idle goes' idle' s r here apart there =
-      let there' : get_elem? s.views other ≡ maybe.some w = sym (set_else s.views id other (joining v w) apart)
+      let there' : get_elem? s.views other ≡ maybe.some w = sym (set_else s.views id other (after_join v w) apart)
       ∙ there in record {
         ticket = r.ticket;
         serving = r.serving;
@@ -515,11 +516,11 @@ module _ {B E : Type 0} (pass_of : E → ℕ) (led : B → List E → B → Type
   }
 
   -- the same where the last seat has left its note
-  pub noted_closes : (id : ℕ) (v w : V) (words : List ℕ) (slots : List (Option B)) → w ≡ noting v
+  pub noted_closes : (id : ℕ) (v w : V) (words : List ℕ) (slots : List (Option B)) → w ≡ after_close v
       → is_over v.turn ≡ false → is_served v.turn ≡ false → Covers passes v → Final (Seen Ruled id w) words slots
       → IsClosing v slots
   noted_closes id v w words slots e goes idle all final =
-      let c = closes id (noting v) words slots goes idle all
+      let c = closes id (after_close v) words slots goes idle all
       (subst (λ (u : V). Final (Seen Ruled id u) words slots) e final) in
       let s = c.settled in
       record {

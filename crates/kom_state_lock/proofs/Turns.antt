@@ -16,7 +16,7 @@ use Rattle.kom_state_lock.specs.declared.views.Turn.{Turn}
 use Rattle.kom_state_lock.specs.declared.views.Turn.TheVariants.{Resting, Waiting, Holding, Logged, Spent, Closed}
 use Rattle.kom_state_lock.specs.declared.views.View.{View}
 use Rattle.kom_state_lock.specs.Views.{entries_of, ticket_in, ticket_of, is_over, is_served, may_have_ticket}
-use Rattle.kom_state_lock.specs.Views.{is_original, history_in, drawing, taking, logging, resting}
+use Rattle.kom_state_lock.specs.Views.{is_original, history_in, after_draw, after_take, after_log, after_hand_on}
 use Rattle.kom_state_lock.specs.Rule.{at_home, is_out, AreWords, IsServed, InTurn, IsHome, IsAway, IsKnown, Stands}
 use Rattle.kom_state_lock.specs.Rule.{Rule}
 use Rattle.kom_state_lock.specs.Steps.{Draws, Looks, Logs, HandsOn, Marks}
@@ -162,9 +162,10 @@ module _ {B E : Type 0} (pass_of : E → ℕ) (led : B → List E → B → Type
   turn_in t sv h homes v turn e says = subst (λ (x : Turn B E). Says t sv h homes v.seen x) e says
 
   drawn_stands : (t sv : ℕ) (h : List E) (homes : Homes) (views : List V) (id : ℕ) (v : V) → Standing t sv h homes views
-      → get_elem? views id ≡ maybe.some v → v.turn ≡ Resting → Standing (t + 1) sv h homes (set views id (drawing t v))
+      → get_elem? views id ≡ maybe.some v → v.turn ≡ Resting →
+      Standing (t + 1) sv h homes (set views id (after_draw t v))
   drawn_stands t sv h homes views id v r here free =
-      let w : V = drawing t v in
+      let w : V = after_draw t v in
       let goes : is_over v.turn ≡ false = ap is_over free in
       let idle : is_served v.turn ≡ false = ap is_served free in
       let none : may_have_ticket v.turn ≡ false = ap may_have_ticket free in
@@ -207,7 +208,7 @@ module _ {B E : Type 0} (pass_of : E → ℕ) (led : B → List E → B → Type
       let drawn = (r.stands.each id me.0 here (ap is_over free)).drawn in
       subst (λ (n : ℕ). (w : V) × (a : Act (Option B)) × Valid s.homes me.1 a
       × Ruled (stepped s 0 ((n + 1) % 2 ^ 64) id me.1 w a) × Draws me n (w, carried_after me.1 a)) (sym found) (
-        drawing t me.0,
+        after_draw t me.0,
         keeps,
         tt,
         record {
@@ -224,9 +225,9 @@ module _ {B E : Type 0} (pass_of : E → ℕ) (led : B → List E → B → Type
   taken_stands : (t sv : ℕ) (h : List E) (homes homes' : Homes) (views : List V) (id : ℕ) (v : V) (value : B)
       → Standing t sv h homes views → get_elem? views id ≡ maybe.some v
       → v.turn ≡ Waiting sv → sv < 2 ^ 62 → led opening h value → length h ≤ sv → homes' ≡ is_out
-      → Standing t sv h homes' (set views id (taking sv value h v))
+      → Standing t sv h homes' (set views id (after_take sv value h v))
   taken_stands t sv h homes homes' views id v value r here waits few leads fits out =
-      let w : V = taking sv value h v in
+      let w : V = after_take sv value h v in
       let goes : is_over v.turn ≡ false = ap is_over waits in
       let idle : is_served v.turn ≡ false = ap is_served waits in
       let mine : ticket_in v.turn ≡ Some sv = ap ticket_in waits in
@@ -279,7 +280,7 @@ module _ {B E : Type 0} (pass_of : E → ℕ) (led : B → List E → B → Type
       (ap is_served waits') in
       let old = r.stands.each id v here (ap is_over waits) in
       let out : slice_set s.homes 0 maybe.none ≡ is_out = ap (λ hs. slice_set hs 0 maybe.none) home.1 in
-      let w : V = taking sv home.0 r.history v in (
+      let w : V = after_take sv home.0 r.history v in (
         w,
         takes 0 (Some home.0),
         ap (λ hs. get_elem? hs 0) home.1,
@@ -299,7 +300,7 @@ module _ {B E : Type 0} (pass_of : E → ℕ) (led : B → List E → B → Type
                 home.0,
                 r.history,
                 (let three : sv ≡ ticket' = hit ∙ one in
-                    λ i. (taking (three i) home.0 r.history v, (0, Some home.0) ∷ me.1)),
+                    λ i. (after_take (three i) home.0 r.history v, (0, Some home.0) ∷ me.1)),
                 subst (λ x. led x r.history home.0) two home.2,
                 old.seen,
                 omega (arith, home.3),
@@ -347,9 +348,9 @@ module _ {B E : Type 0} (pass_of : E → ℕ) (led : B → List E → B → Type
       (before : List E) (entry : E) (left : B) → Standing t sv h homes views → get_elem? views id ≡ maybe.some v
       → v.turn ≡ Holding ticket taken before → pass_of entry ≡ v.number
       → (led opening h taken → led opening (h ++ entry ∷ []) left)
-      → (before ≡ h) × Standing t sv (h ++ entry ∷ []) homes (set views id (logging entry left v))
+      → (before ≡ h) × Standing t sv (h ++ entry ∷ []) homes (set views id (after_log entry left v))
   logged_stands t sv h homes views id ticket v taken before entry left r here holds names follows =
-      let w : V = logging entry left v in
+      let w : V = after_log entry left v in
       let h' : List E = h ++ entry ∷ [] in
       let goes : is_over v.turn ≡ false = ap is_over holds in
       let old = r.each id v here goes in
@@ -415,7 +416,7 @@ module _ {B E : Type 0} (pass_of : E → ℕ) (led : B → List E → B → Type
       subst (λ (n : ℕ). (w : V) × (a : Act (Option B)) × Valid s.homes me.1 a
       × Ruled (stepped s 16 ((n + 1) % 2 ^ 64) id me.1 w a) × Logs told value me (w, carried_after me.1 a))
       (sym found) (
-        logging entry left v,
+        after_log entry left v,
         keeps,
         tt,
         record {
@@ -430,7 +431,7 @@ module _ {B E : Type 0} (pass_of : E → ℕ) (led : B → List E → B → Type
         λ entry' left' f g.
             let c : entry ≡ entry' = cc in
             let d : left ≡ left' = cc in
-            λ i. (logging (c i) (d i) v, me.1),
+            λ i. (after_log (c i) (d i) v, me.1),
       )
 
   pub may_log : (follows : B → E → B → Type 0) (turn : Turn B E) (entry : E) (value : B)
@@ -486,9 +487,9 @@ module _ {B E : Type 0} (pass_of : E → ℕ) (led : B → List E → B → Type
     handed_stands : (t sv : ℕ) (h : List E) (homes homes' : Homes) (views : List V) (id : ℕ) (v : V) (value : B)
         → Standing t sv h homes views → get_elem? views id ≡ maybe.some v
         → MayPut stays v.turn value → is_over v.turn ≡ false → (homes ≡ is_out → homes' ≡ at_home value) → (sv < 2 ^ 62)
-        × Standing t (sv + 1) h homes' (set views id (resting v))
+        × Standing t (sv + 1) h homes' (set views id (after_hand_on v))
     handed_stands t sv h homes homes' views id v value r here may goes back =
-        let w : V = resting v in
+        let w : V = after_hand_on v in
         let old = r.each id v here goes in
         let ready = ready_in t sv h homes v.seen v.turn value may old.turn in
         let mine = ready.0 in
@@ -542,7 +543,7 @@ module _ {B E : Type 0} (pass_of : E → ℕ) (led : B → List E → B → Type
         let more : (sv + 1) % 2 ^ 64 ≡ sv + 1 = mod-eq_of_lt (omega arith) in
         subst (λ (n : ℕ). (w : V) × (a : Act (Option B)) × Valid s.homes me.1 a
         × Ruled (stepped s 8 ((n + 1) % 2 ^ 64) id me.1 w a) × HandsOn me (w, carried_after me.1 a)) (sym found) (
-          resting v,
+          after_hand_on v,
           gives,
           tt,
           record {

@@ -118,28 +118,28 @@ module _ {B E : Type 0} where
   }
 
   -- draw: the seat has this ticket
-  abbrev pub drawing : ℕ → View B E → View B E
-  drawing ticket v = record v { drawn = ticket + 1; turn = Waiting ticket }
+  abbrev pub after_draw : ℕ → View B E → View B E
+  after_draw ticket v = record v { drawn = ticket + 1; turn = Waiting ticket }
 
   -- take: the turn begins with this value, to which this history leads
-  abbrev pub taking : ℕ → B → List E → View B E → View B E
-  taking ticket value history v = record v { turn = Holding ticket value history }
+  abbrev pub after_take : ℕ → B → List E → View B E → View B E
+  after_take ticket value history v = record v { turn = Holding ticket value history }
 
   -- log: the entry ends the history, which is now seen
-  abbrev pub logging : E → B → View B E → View B E
-  logging entry left v = record v {
+  abbrev pub after_log : E → B → View B E → View B E
+  after_log entry left v = record v {
     seen = history_in v.turn v.seen ++ entry ∷ [];
     mine = v.mine ++ entry ∷ [];
     turn = Logged (ticket_of v.turn) left;
   }
 
   -- hand on: the history as it stands is seen, and the ticket goes
-  abbrev pub resting : View B E → View B E
-  resting v = record v { seen = history_in v.turn v.seen; turn = Resting }
+  abbrev pub after_hand_on : View B E → View B E
+  after_hand_on v = record v { seen = history_in v.turn v.seen; turn = Resting }
 
   -- split: the seat that splits, and the new one
-  abbrev pub splitting : View B E → View B E
-  splitting v = record v { next = v.next + 1 }
+  abbrev pub after_split : View B E → View B E
+  after_split v = record v { next = v.next + 1 }
 
   abbrev pub split_off : View B E → View B E
   split_off v = newcomer v.next v.seen v.drawn 0
@@ -148,8 +148,8 @@ module _ {B E : Type 0} where
   abbrev pub share_of : View B E → Share E
   share_of v = record { number = v.number; mine = v.mine }
 
-  abbrev pub joining : View B E → View B E → View B E
-  joining v w = record v {
+  abbrev pub after_join : View B E → View B E → View B E
+  after_join v w = record v {
     seen = longer v.seen w.seen;
     drawn = max v.drawn w.drawn;
     joined = (share_of w ∷ w.joined) ++ v.joined;
@@ -157,8 +157,8 @@ module _ {B E : Type 0} where
   }
 
   -- close: the last seat splits no more, and leaves a note of what it knows
-  abbrev pub noting : View B E → View B E
-  noting v = record v { next = 0 }
+  abbrev pub after_close : View B E → View B E
+  after_close v = record v { next = 0 }
 
   abbrev pub note_of : View B E → View B E
   note_of v = record v { turn = Closed; next = 0 }

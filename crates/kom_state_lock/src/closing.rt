@@ -1,6 +1,6 @@
 // The passes of a hall are joined into one seat, as it is closed.
 ghost use Rattle.std.specs.Prelude.{◌≡◌, ℕ, ◌<◌, [], All, Contains, map, length};
-ghost use Rattle.kom_state_lock.specs.Views.{joining, note_of};
+ghost use Rattle.kom_state_lock.specs.Views.{after_join, note_of};
 ghost use Rattle.kom_state_lock.specs.Steps.{IsSameSeat, IsSeatOf, IsHallTable};
 ghost use Rattle.kom_state_lock.specs.Passes.{HoldsNoTurn, drawn_by, pass_model};
 ghost use Rattle.kom_state_lock.specs.Closing.{Covers, IsSettled, IsIn};
@@ -14,7 +14,7 @@ fn join<B: Booked>(words: &Words<B>, seat: &mut Place<B>, other: Place<B>)
     requires free { HoldsNoTurn seat.old.me.0.turn × HoldsNoTurn other.me.0.turn
         × (other.me.1 ≡ []) }
     ensures seat { IsSameSeat seat.old seat.new }
-    ensures both { seat.new.me ≡ (joining seat.old.me.0 other.me.0, seat.old.me.1) }
+    ensures both { seat.new.me ≡ (after_join seat.old.me.0 other.me.0, seat.old.me.1) }
 {
     words.join_seat::<Both>(seat, other);
 }

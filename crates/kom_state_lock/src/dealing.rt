@@ -2,7 +2,7 @@
 ghost use Rattle.std.specs.Prelude.{◌≡◌, ℕ, ◌<◌, ◌≤◌, ◌+◌, []};
 ghost use Rattle.std.specs.Prelude.{length, IfOk, IfErr, vec_len, vec_capacity};
 ghost use Rattle.kom_state_lock.specs.declared.views.Turn.TheVariants.{Resting};
-ghost use Rattle.kom_state_lock.specs.Views.{splitting, split_off, first_seat};
+ghost use Rattle.kom_state_lock.specs.Views.{after_split, split_off, first_seat};
 ghost use Rattle.kom_state_lock.specs.Steps.{IsSameSeat, IsSeatOf, IsHallTable};
 ghost use Rattle.kom_state_lock.specs.Passes.{AreNewPasses};
 
@@ -51,7 +51,7 @@ fn split<B: Booked>(words: &Words<B>, seat: &mut Place<B>) -> Place<B>
     requires splits { (0 < seat.old.me.0.next) × (seat.old.me.0.next < words.now.key.passes) }
     requires free { seat.old.me.0.turn ≡ Resting }
     ensures seat { IsSameSeat seat.old seat.new
-        × (seat.new.me ≡ (splitting seat.old.me.0, seat.old.me.1)) }
+        × (seat.new.me ≡ (after_split seat.old.me.0, seat.old.me.1)) }
     ensures new { (result.table_id ≡ seat.old.table_id)
         × (result.me ≡ (split_off seat.old.me.0, [])) }
 {

@@ -1,8 +1,8 @@
 // What each step tells. These types are for the proofs alone.
 ghost use Rattle.std.specs.Prelude.{None};
 ghost use Rattle.kom_state_lock.specs.Steps.{Draws, Looks, Logs, HandsOn, Marks};
-ghost use Rattle.kom_state_lock.specs.Views.{first_seat, splitting, split_off};
-ghost use Rattle.kom_state_lock.specs.Views.{joining, spent_seat, noting, note_of};
+ghost use Rattle.kom_state_lock.specs.Views.{first_seat, after_split, split_off};
+ghost use Rattle.kom_state_lock.specs.Views.{after_join, spent_seat, after_close, note_of};
 ghost use Rattle.kom_state_lock.specs.Rule.{Rule};
 
 use crate::booked::Booked;
@@ -89,7 +89,7 @@ impl<B, E> Play<Option<B>, View<B, E>> for Mark {
 pub struct Another;
 
 impl<B, E> Split<View<B, E>> for Another {
-    ghost left = { splitting };
+    ghost left = { after_split };
 
     ghost right = { split_off };
 }
@@ -98,7 +98,7 @@ impl<B, E> Split<View<B, E>> for Another {
 pub struct Note;
 
 impl<B, E> Split<View<B, E>> for Note {
-    ghost left = { noting };
+    ghost left = { after_close };
 
     ghost right = { note_of };
 }
@@ -107,7 +107,7 @@ impl<B, E> Split<View<B, E>> for Note {
 pub struct Both;
 
 impl<B, E> Join<View<B, E>> for Both {
-    ghost both = { joining };
+    ghost both = { after_join };
 
     ghost spent = { spent_seat };
 }

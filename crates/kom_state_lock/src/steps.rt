@@ -2,7 +2,7 @@
 ghost use Rattle.std.specs.Prelude.{◌≡◌, ◌≢◌, ℕ, ◌<◌, ◌≤◌, ◌+◌, ◌^◌, true, false, [], ◌∷◌};
 ghost use Rattle.std.specs.Prelude.{Some, None, MatchResult};
 ghost use Rattle.kom_state_lock.specs.declared.views.Turn.TheVariants.{Resting, Waiting};
-ghost use Rattle.kom_state_lock.specs.Views.{drawing, logging, resting};
+ghost use Rattle.kom_state_lock.specs.Views.{after_draw, after_log, after_hand_on};
 ghost use Rattle.kom_state_lock.specs.Steps.{Draws, Takes, IsSameSeat, IsSeatOf, TakesAll};
 ghost use Rattle.kom_state_lock.specs.Passes.{MayLog, MayPut};
 
@@ -159,7 +159,7 @@ pub(crate) fn take_turn<B: Booked, R: Wait>(
         (λ value. TakesAll B.pass_of B.led words.now.key.value.value seat.old.me.0 value
         seat.new.me)
         (λ ticket. (2 ^ 62 ≤ ticket) × (seat.old.me.0.drawn ≤ ticket)
-        × (seat.new.me ≡ (drawing ticket seat.old.me.0, []))) }
+        × (seat.new.me ≡ (after_draw ticket seat.old.me.0, []))) }
 {
     let ticket = draw(words, seat);
     if ticket >= TURNS {
@@ -181,7 +181,7 @@ pub(crate) fn write_entry<B: Booked, N: Told<B, B::Entry>>(
     requires follows { MayLog B.follows seat.old.me.0.turn entry.now value.now }
     requires own { B.pass_of entry.now ≡ seat.old.me.0.number }
     ensures seat { IsSameSeat seat.old seat.new }
-    ensures logged { seat.new.me ≡ (logging entry.now value.now seat.old.me.0, seat.old.me.1) }
+    ensures logged { seat.new.me ≡ (after_log entry.now value.now seat.old.me.0, seat.old.me.1) }
 {
     let _ = entry;
     let _ = value;
@@ -194,7 +194,7 @@ pub(crate) fn hand_on<B: Booked>(words: &Words<B>, seat: &mut Place<B>, value: B
     requires value { MayPut B.stays seat.old.me.0.turn value }
     requires carries { seat.old.me.1 ≡ (0, None) ∷ [] }
     ensures seat { IsSameSeat seat.old seat.new }
-    ensures handed { seat.new.me ≡ (resting seat.old.me.0, []) }
+    ensures handed { seat.new.me ≡ (after_hand_on seat.old.me.0, []) }
 {
     match words.exchange(seat, 0, Some(value)) {
         None => {}

@@ -7,7 +7,7 @@ use Rattle.kom_types.specs.declared.calls.Call.TheVariants as call
 use Rattle.kom_types.specs.declared.replies.Reply.{Reply}
 use Rattle.kom_types.specs.declared.texts.MiscInfo.{MiscInfo}
 use Rattle.kom_sweep.specs.declared.ages.Ages.{Ages}
-use Rattle.kom_sweep.specs.Told.{Told, told}
+use Rattle.kom_sweep.specs.Told.{Told, tell}
 use Rattle.kom_sweep.specs.Replies.{stat_in}
 use Rattle.kom_sweep.specs.Acting.{Seen, Goes}
 use Rattle.kom_sweep.specs.Due.{child_in, age}
@@ -42,7 +42,7 @@ no_child session moment info ages x e = (
 )
 
 pub one_child : (session moment text : ℕ) (info : MiscInfo) (ages new : Ages) (answer : Option Reply) (x y : Seen) →
-    child_in info ≡ Some text → Goes session x y (told (call.GetTextStat text) answer ∷ []) →
+    child_in info ≡ Some text → Goes session x y (tell (call.GetTextStat text) answer ∷ []) →
     new ≡ with_age ages (option_map (λ stat. age moment stat) (stat_in answer)) →
     ((children : List (ℕ × Option Reply)) × (map (λ child. child.0) children ≡ filter_map child_in (info ∷ []))
     × Goes session x y (map told_child children)

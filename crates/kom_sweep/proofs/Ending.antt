@@ -1,38 +1,33 @@
 -- What the calls of a session come to.
-use Rattle.std.proofs.Common.{◌≡◌, ◌≢◌, ℕ, ◌-◌, ◌⊎◌, ◌≤◌, ◌^◌, ◌||◌, nat_le, arith, Bool, true, false, not, is_some}
-use Rattle.std.proofs.Common.{inl, inr, List, [], ◌∷◌, ◌++◌, map, filter, flat_map, length, Option, Some, None, refl}
-use Rattle.std.proofs.Common.{sym, ap, ap₂, subst, ◌∙◌, append_assoc, append-nil, Result, Ok, Err}
+use Rattle.std.proofs.Common.{◌≡◌, ℕ, ◌-◌, ◌≤◌, ◌^◌, ◌||◌, nat_le, arith, Bool, true, false}
+use Rattle.std.proofs.Common.{inl, inr, List, [], ◌∷◌, ◌++◌, map, Option, Some, refl}
+use Rattle.std.proofs.Common.{sym, ap, subst, ◌∙◌, append_assoc, append-nil, Result, Ok, Err}
 use Rattle.std.specs.Prelude.{IfOk, IfErr}
 use Rattle.std.specs.List.{AllByRecursion}
 use Rattle.std.proofs.lemmas.Bool.Decides.{nat_tests}
 use Rattle.kom_types.specs.declared.acts.Act.{Act}
 use Rattle.kom_types.specs.declared.acts.Act.TheVariants as act
 use Rattle.kom_types.specs.declared.acts.Record.{Record}
-use Rattle.kom_types.specs.declared.answers.Why.{Why}
 use Rattle.kom_types.specs.declared.calls.Call.TheVariants as call
-use Rattle.kom_types.specs.declared.errors.TheConstants.{OUT_OF_MEMORY}
 use Rattle.kom_types.specs.declared.items.Item.{Item}
 use Rattle.kom_types.specs.declared.replies.Reply.{Reply}
 use Rattle.kom_types.specs.declared.replies.Reply.TheVariants as reply
 use Rattle.kom_links.specs.declared.deeds.Deed.TheVariants as deed
 use Rattle.kom_types.specs.declared.answers.NotMade.{NotMade}
 use Rattle.kom_types.specs.declared.answers.NotMade.TheVariants as fault
-use Rattle.kom_links.specs.Answers.{Answer, first_of, fault_in}
+use Rattle.kom_links.specs.Answers.{Answer, first_of}
 use Rattle.kom_links.specs.DeskCalls.{DeskView, record_of, Connects, Closes}
 use Rattle.kom_links.specs.Doors.{Gains}
 use Rattle.kom_sweep.specs.declared.ends.Cut.{Cut}
 use Rattle.kom_sweep.specs.declared.ends.Cut.TheVariants as cut
 use Rattle.kom_sweep.specs.declared.ends.SweepEnd.{SweepEnd}
 use Rattle.kom_sweep.specs.declared.ends.SweepEnd.TheVariants as end
-use Rattle.kom_sweep.specs.Told.{Told, told, Exchange, Last, NoCall, told_of, told_last, acts_of, acts_last, IsAbout}
-use Rattle.kom_sweep.specs.Replies.{refusal_in, is_refused, is_short, has_code}
-use Rattle.kom_sweep.specs.Acting.{Seen, seen, Acted, Goes, Stops, Breaks, IsOwn, MayLeave, faults_of, faults_in}
-use Rattle.kom_sweep.specs.Due.{Walk, Room, Look}
-use Rattle.kom_sweep.specs.Walks.{told_rooms, told_texts, told_deletions, IsRoomWalk, IsTextWalk, due_in}
+use Rattle.kom_sweep.specs.Told.{Told, tell, Exchange, Last}
+use Rattle.kom_sweep.specs.Acting.{Seen, sight, HasActed, Goes, Stops, Breaks, IsOwn, MayLeave, faults_of, faults_in}
 use Rattle.kom_sweep.specs.Ends.{end_at, end_with}
-use Rattle.kom_sweep.specs.Sweeps.{user, host, Entry, told_entry, IsRefusal, Findings, IsFound, told_findings, due}
-use Rattle.kom_sweep.specs.Sweeps.{swept_in, IsSwept, IsPartlySwept, HasAsked, IsBrokenOff, IsNotConnected, AtEnd}
-use Rattle.kom_sweep.specs.Sweeps.{IsClosing, IsSession, LogsIn, Works}
+use Rattle.kom_sweep.specs.Sweeps.{user, host, IsRefusal}
+use Rattle.kom_sweep.specs.Sweeps.{HasAsked, IsBrokenOff, IsNotConnected, AtEnd}
+use Rattle.kom_sweep.specs.Sweeps.{IsClosing, IsSession, Works}
 use Rattle.kom_sweep.proofs.Times.{timed_on, timed_one, timed_none}
 use Rattle.kom_sweep.proofs.Going.{acted_on, stops_at}
 use Rattle.kom_sweep.proofs.Asking.{one_act, no_act, stays}
@@ -49,7 +44,7 @@ closed_faults (Err reason) = reason ∷ []
 
 closing : {X : Type 0} (session moment : ℕ) (x y : Seen) (closed : Result X NotMade) → Gains x.gave moment y.gave →
     Closes x.desk moment session closed y.desk →
-    Acted session (closed_acts session closed) [] (closed_faults closed) x y
+    HasActed session (closed_acts session closed) [] (closed_faults closed) x y
 closing session moment x y (Ok value) gains closes =
     one_act session moment x y (record_of x.desk.pass moment (act.Close session) session false) [] (deed.Close session)
     closes.added (record { by_pass = refl; of_session = inl refl })
@@ -85,15 +80,15 @@ pub session_of : {X : Type 0} {calls : List Told} {faults : List NotMade} (momen
     (password : List ℕ)
     (old : Seen) (v1 v2 v3 : DeskView) (g1 g2 g3 : Option (List ℕ)) (next later : ℕ) (closed : Result X NotMade)
     (ending : SweepEnd) → Gains old.gave moment g1 → Connects old.desk moment user host (Ok session) v1 →
-    Stops session (seen v1 g1 1) (seen v2 g2 next) calls faults → Gains g2 later g3 →
+    Stops session (sight v1 g1 1) (sight v2 g2 next) calls faults → Gains g2 later g3 →
     Closes v2 later session closed v3 →
     AtEnd moment person password calls (first_of (faults ++ closed_faults closed)) ending →
     IsSession moment session person password old v3 g3 ending
 session_of {X} {calls} {faults} moment session person password old v1 v2 v3 g1 g2 g3 next later closed ending gains
     connects stops gains_later closes ends =
-    let x : Seen = seen v1 g1 1 in
-    let y : Seen = seen v2 g2 next in
-    let z : Seen = seen v3 g3 next in
+    let x : Seen = sight v1 g1 1 in
+    let y : Seen = sight v2 g2 next in
+    let z : Seen = sight v3 g3 next in
     let all = acted_on x y z stops.acted (closing session later y z closed gains_later closes) in
     let first : Record = record_of old.desk.pass moment (act.Connect user host) session false in
     record {
@@ -148,7 +143,7 @@ refusal_none : (person : ℕ) (password : List ℕ) (calls : List Told) (code st
 refusal_none person password calls code status (other, inl is) = inr (Some (reply.Refused code status), [], is, refl)
 refusal_none person password calls code status (other, inr (entry, is, login, stable)) = inr (
   entry.login,
-  told (call.Enable 255) entry.rights ∷ told call.SyncKom entry.stable ∷ [],
+  tell (call.Enable 255) entry.rights ∷ tell call.SyncKom entry.stable ∷ [],
   is,
   refl,
 )
@@ -161,7 +156,7 @@ works_broken moment person password calls (end.Done swept kept) works = inr (rec
   is_found = works.is_found;
   gone = works.gone;
   rest = [];
-  after = told call.Logout works.logout ∷ [];
+  after = tell call.Logout works.logout ∷ [];
   are = works.are;
   are_due = append-nil (map (λ (one : ℕ × Option Reply). one.0) works.gone) ∙ works.are_due;
   logout = inr (works.logout, refl);
@@ -210,16 +205,16 @@ not_connected moment old desk gave reason ending gains connects is = record {
 pub swept : {X : Type 0} (moment session person : ℕ) (password : List ℕ) (old : Seen) (v1 v2 v3 : DeskView)
     (g1 g2 g3 : Option (List ℕ)) (later : ℕ) (outcome : Result SweepEnd Cut) (closed : Result X NotMade)
     (ending : SweepEnd) → Gains old.gave moment g1 → Connects old.desk moment user host (Ok session) v1 →
-    IfOk outcome (λ ending. (calls : List Told) × (next : ℕ) × Goes session (seen v1 g1 1) (seen v2 g2 next) calls
+    IfOk outcome (λ ending. (calls : List Told) × (next : ℕ) × Goes session (sight v1 g1 1) (sight v2 g2 next) calls
     × Works moment person password calls ending) →
     IfErr outcome (λ why. (calls : List Told) × (next : ℕ) × IsBrokenOff moment person password calls
-    × Breaks session (seen v1 g1 1) (seen v2 g2 next) calls why) →
+    × Breaks session (sight v1 g1 1) (sight v2 g2 next) calls why) →
     Gains g2 later g3 → Closes v2 later session closed v3 → ending ≡ end_with outcome closed →
     IsSession moment session person password old v3 g3 ending
 swept moment session person password old v1 v2 v3 g1 g2 g3 later (Ok came) closed ending gains connects
     (calls, next, goes, works) err gains_later closes is =
     session_of moment session person password old v1 v2 v3 g1 g2 g3 next later closed ending gains connects
-    (stops_at (seen v1 g1 1) (seen v2 g2 next) goes) gains_later closes
+    (stops_at (sight v1 g1 1) (sight v2 g2 next) goes) gains_later closes
     (subst (AtEnd moment person password calls (first_of (closed_faults closed))) (sym is)
     (ends_ok moment person password calls came closed works))
 swept moment session person password old v1 v2 v3 g1 g2 g3 later (Err why) closed ending gains connects ok

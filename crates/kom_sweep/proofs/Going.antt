@@ -1,5 +1,5 @@
 -- What a session does, one piece after the other.
-use Rattle.std.proofs.Common.{◌≡◌, ℕ, Bool, true, false, inl, inr, List, [], ◌∷◌, ◌++◌, map, flat_map, Option, None}
+use Rattle.std.proofs.Common.{◌≡◌, ℕ, false, List, [], ◌∷◌, ◌++◌, map, flat_map}
 use Rattle.std.proofs.Common.{refl, sym, ◌∙◌, ap, ap₂, subst}
 use Rattle.std.proofs.Common.{append-nil, append_assoc}
 use Rattle.std.specs.List.{AllByRecursion}
@@ -10,16 +10,16 @@ use Rattle.kom_types.specs.declared.acts.Record.{Record}
 use Rattle.kom_types.specs.declared.items.Item.{Item}
 use Rattle.kom_types.specs.declared.answers.NotMade.{NotMade}
 use Rattle.kom_links.specs.Answers.{Answer, fault_in}
-use Rattle.kom_sweep.specs.Told.{Told, Exchange, NoCall, Last, told_of, acts_of, told_last, acts_last, AreNumbered}
+use Rattle.kom_sweep.specs.Told.{Told, Exchange, NoCall, told_of, acts_of, told_last, acts_last, AreNumbered}
 use Rattle.kom_sweep.specs.Told.{next_reference}
 use Rattle.kom_sweep.specs.Replies.{is_short}
-use Rattle.kom_sweep.specs.Acting.{Seen, Acted, Goes, Stops, IsOwn, acts_in, faults_in}
+use Rattle.kom_sweep.specs.Acting.{Seen, HasActed, Goes, Stops, IsOwn}
 use Rattle.kom_sweep.proofs.Lists.{all_on}
 use Rattle.kom_sweep.proofs.Times.{timed_on, timed_same}
 
 pub acted_on : {session : ℕ} {acts acts' : List Act} {given given' : List (List Item)} {faults faults' : List NotMade}
-    (x y z : Seen) → Acted session acts given faults x y → Acted session acts' given' faults' y z →
-    Acted session (acts ++ acts') (given ++ given') (faults ++ faults') x z
+    (x y z : Seen) → HasActed session acts given faults x y → HasActed session acts' given' faults' y z →
+    HasActed session (acts ++ acts') (given ++ given') (faults ++ faults') x z
 acted_on {session} {given = given} {given' = given'} x y z one two = record {
   added = one.added ++ two.added;
   answers = one.answers ++ two.answers;
@@ -41,7 +41,7 @@ acted_on {session} {given = given} {given' = given'} x y z one two = record {
   pass = two.pass ∙ one.pass;
 }
 
-pub acted_same : (session : ℕ) (x : Seen) → Acted session [] [] [] x x
+pub acted_same : (session : ℕ) (x : Seen) → HasActed session [] [] [] x x
 acted_same session x = record {
   added = [];
   answers = [];
@@ -65,9 +65,10 @@ pub goes_on : {session : ℕ} {calls calls' : List Told} (x y z : Seen) → Goes
 goes_on {session} {calls} {calls'} x y z one two = record {
   exchanges = one.exchanges ++ two.exchanges;
   acted =
-      subst (λ (acts : List Act). Acted session acts (map (λ (e : Exchange). e.items) (one.exchanges ++ two.exchanges))
+      subst (λ (acts : List Act). HasActed session acts
+      (map (λ (e : Exchange). e.items) (one.exchanges ++ two.exchanges))
       [] x z) (sym (flat_map-append (acts_of session) one.exchanges two.exchanges))
-      (subst (λ (given : List (List Item)). Acted session (flat_map (acts_of session) one.exchanges
+      (subst (λ (given : List (List Item)). HasActed session (flat_map (acts_of session) one.exchanges
       ++ flat_map (acts_of session) two.exchanges) given [] x z)
       (sym (map-append (λ (e : Exchange). e.items) one.exchanges two.exchanges))
       (acted_on x y z one.acted two.acted));
@@ -92,13 +93,14 @@ stops_on {session} {calls} {calls'} {faults} x y z one two = record {
   last = two.last;
   next = two.next;
   acted =
-      subst (λ (acts : List Act). Acted session acts (map (λ (e : Exchange). e.items) (one.exchanges ++ two.exchanges))
+      subst (λ (acts : List Act). HasActed session acts
+      (map (λ (e : Exchange). e.items) (one.exchanges ++ two.exchanges))
       faults x z)
       (sym (append_assoc (flat_map (acts_of session) one.exchanges) (flat_map (acts_of session) two.exchanges)
       (acts_last session two.last))
       ∙ ap (λ (acts : List Act). acts ++ acts_last session two.last)
       (sym (flat_map-append (acts_of session) one.exchanges two.exchanges)))
-      (subst (λ (given : List (List Item)). Acted session (flat_map (acts_of session) one.exchanges
+      (subst (λ (given : List (List Item)). HasActed session (flat_map (acts_of session) one.exchanges
       ++ (flat_map (acts_of session) two.exchanges ++ acts_last session two.last)) given faults x z)
       (sym (map-append (λ (e : Exchange). e.items) one.exchanges two.exchanges))
       (acted_on x y z one.acted two.acted));
@@ -117,7 +119,7 @@ stops_at {session} {calls} x y one = record {
   last = NoCall;
   next = y.next;
   acted =
-      subst (λ (acts : List Act). Acted session acts (map (λ (e : Exchange). e.items) one.exchanges) [] x y)
+      subst (λ (acts : List Act). HasActed session acts (map (λ (e : Exchange). e.items) one.exchanges) [] x y)
       (sym (append-nil (flat_map (acts_of session) one.exchanges))) one.acted;
   told = append-nil (map told_of one.exchanges) ∙ one.told;
   numbered = one.numbered;

@@ -1,12 +1,11 @@
 -- What is judged by what is kept is what was told.
 use Rattle.std.proofs.Common.{◌≡◌, ℕ, ◌==◌, ◌<◌, ◌^◌, ◌&&◌, ◌||◌, not, nat_lt, nat_eq, Bool, true, false, is_some, List}
-use Rattle.std.proofs.Common.{[], ◌∷◌, ◌++◌, Option, Some, None, option_map, refl, sym, ap, ap₂, subst, ◌∙◌, arith}
+use Rattle.std.proofs.Common.{[], ◌∷◌, ◌++◌, Option, Some, None, option_map, refl, sym, ap, ap₂, ◌∙◌, arith}
 use Rattle.std.proofs.Common.{if◌then◌else◌}
 use Rattle.std.specs.Prelude.{filter_map}
 use Rattle.std.specs.List.{list_all, list_any}
 use Rattle.std.proofs.lemmas.List.Folds.{list_all-append}
 use Rattle.indexmap.specs.IndexMap.{get}
-use Rattle.indexmap.specs.IndexSet.{contains}
 use Rattle.kom_types.specs.declared.replies.Reply.{Reply}
 use Rattle.kom_types.specs.declared.texts.TextStat.{TextStat}
 use Rattle.kom_sweep.specs.declared.ages.Ages.{Ages}
@@ -14,7 +13,7 @@ use Rattle.kom_sweep.specs.declared.names.Names.{Names}
 use Rattle.kom_sweep.specs.declared.rule.Days.{Days}
 use Rattle.kom_sweep.specs.Replies.{stat_in}
 use Rattle.kom_sweep.specs.Due.{Step, Walk, Room, is_older, are_older, is_told, age, lets_go, conference_lets_go}
-use Rattle.kom_sweep.specs.Due.{days_in, is_whole, is_named, is_held, recipient_in, all_let_go, without_recipients}
+use Rattle.kom_sweep.specs.Due.{days_in, is_whole, is_held, recipient_in, all_let_go, without_recipients}
 use Rattle.kom_sweep.specs.Due.{is_due_by}
 use Rattle.kom_sweep.specs.Ages.{TellsOf, with_age, least, is_above, lets_go_by}
 use Rattle.kom_sweep.specs.Names.{Knows, lets_go_at, all_let_go_at, is_due_at}

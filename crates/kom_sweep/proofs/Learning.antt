@@ -1,6 +1,6 @@
 -- What is kept of conferences, with one more.
 use Rattle.std.proofs.Common.{◌≡◌, ℕ, ◌==◌, ◌<◌, ◌^◌, ◌&&◌, ◌||◌, not, nat_eq, Bool, true, false, is_some, List, []}
-use Rattle.std.proofs.Common.{◌∷◌, ◌++◌, Option, Some, None, option_map, refl, sym, ap, ap₂, subst, ◌∙◌, cond, ◌+◌}
+use Rattle.std.proofs.Common.{◌∷◌, ◌++◌, Option, Some, None, option_map, refl, sym, ap, ◌∙◌, cond, ◌+◌}
 use Rattle.std.proofs.Common.{take, length, get_or}
 use Rattle.std.proofs.Common.{if◌then◌else◌}
 use Rattle.std.specs.List.{list_all, list_any}
@@ -18,8 +18,8 @@ use Rattle.kom_types.specs.declared.replies.Reply.{Reply}
 use Rattle.kom_sweep.specs.declared.names.Names.{Names}
 use Rattle.kom_sweep.specs.declared.rule.Days.{Days}
 use Rattle.kom_sweep.specs.Replies.{conference_in, person_in, is_last_conference}
-use Rattle.kom_sweep.specs.Due.{Step, Walk, Room, days_in, days_at, days_of, is_named, names, conference_names}
-use Rattle.kom_sweep.specs.Due.{person_names, owner_in, has_owner, is_told_room, is_whole, is_faq, spelled}
+use Rattle.kom_sweep.specs.Due.{Step, Room, days_in, days_at, days_of, is_named, names, conference_names}
+use Rattle.kom_sweep.specs.Due.{person_names, is_told_room, is_whole, is_faq, number_in}
 use Rattle.kom_sweep.specs.Names.{Knows, Learns, KnowsMore, LearnsOwner}
 
 -- ---- bools and options
@@ -272,11 +272,11 @@ learns_item item number old new learns same = record {
 }
 
 pub faq_other : (item : AuxRow) (text : ℕ) → (item.tag == FAQ_TEXT) ≡ false → is_faq text item ≡ false
-faq_other item text e = ap (λ b. b && (list_all is_digit item.content && (spelled item.content == text))) e
+faq_other item text e = ap (λ b. b && (list_all is_digit item.content && (number_in item.content == text))) e
 
 pub faq_same : (item : AuxRow) (text : ℕ) (b : Bool) → (item.tag == FAQ_TEXT) ≡ true →
-    (list_all is_digit item.content && (spelled item.content == text)) ≡ b → is_faq text item ≡ b
-faq_same item text b e is = ap (λ b. b && (list_all is_digit item.content && (spelled item.content == text))) e ∙ is
+    (list_all is_digit item.content && (number_in item.content == text)) ≡ b → is_faq text item ≡ b
+faq_same item text b e is = ap (λ b. b && (list_all is_digit item.content && (number_in item.content == text))) e ∙ is
 
 -- all that a conference tells
 pub learns_conference : (number : ℕ) (conference : Conference) (days : Days) (items : List AuxRow) (a b c d e : Names) →

@@ -12,10 +12,10 @@ use Rattle.kom_types.specs.declared.replies.Reply.{Reply}
 use Rattle.kom_types.specs.declared.replies.Reply.TheVariants as reply
 use Rattle.kom_types.specs.declared.answers.NotMade.{NotMade}
 use Rattle.kom_sweep.specs.declared.names.Names.{Names}
-use Rattle.kom_sweep.specs.Told.{Told, told, only_asks, IsAbout}
+use Rattle.kom_sweep.specs.Told.{Told, tell, only_asks, IsAbout}
 use Rattle.kom_sweep.specs.Replies.{number_in, stat_in, conference_in, is_last_conference, is_refused}
 use Rattle.kom_sweep.specs.Acting.{Seen, Goes, Stops}
-use Rattle.kom_sweep.specs.Due.{Step, Walk, Room, Look, is_whole, is_told_room, is_due_by, is_due, days_of}
+use Rattle.kom_sweep.specs.Due.{Step, Walk, Room, Look, is_whole, is_told_room, is_due_by, days_of}
 use Rattle.kom_sweep.specs.Due.{conference_names}
 use Rattle.kom_sweep.specs.Walks.{Leads, IsLook, IsRoomWalk, IsTextWalk, told_room, told_at_room, told_rooms, told_look}
 use Rattle.kom_sweep.specs.Walks.{told_at_text, told_texts, told_gone, told_deletions, number_above, due_in}
@@ -35,7 +35,7 @@ Visited session x y at kept = (steps : List (Step Room)) × Leads 0 steps at
     × Goes session x y (flat_map told_at_room steps) × Knows steps (list_all is_told_room steps) kept
 
 pub rooms_step : (session at number : ℕ) (answer : Option Reply) (x m n y : Seen) (old new : Names) →
-    Visited session x m at old → Goes session m n (told (call.FindNextConfNo at) answer ∷ []) →
+    Visited session x m at old → Goes session m n (tell (call.FindNextConfNo at) answer ∷ []) →
     number_above at (number_in answer) ≡ Some number →
     ((room : Room) × Goes session n y (told_room number room) × KnowsMore number room old new) →
     Visited session x y number new
@@ -44,14 +44,14 @@ rooms_step session at number answer x m n y old new (steps, leads, goes, knows) 
     let number_is = number_told at answer number above in (
       steps ++ step ∷ [],
       leads_push 0 steps at number room leads number_is.1,
-      goes_step told_at_room steps step (told (call.FindNextConfNo at) answer) (told_room number room) x m n y
-          (ap (λ answer. told (call.FindNextConfNo at) answer ∷ told_room number room) (sym number_is.0))
+      goes_step told_at_room steps step (tell (call.FindNextConfNo at) answer) (told_room number room) x m n y
+          (ap (λ answer. tell (call.FindNextConfNo at) answer ∷ told_room number room) (sym number_is.0))
           goes asked then_goes,
       learns steps at knows,
     )
 
 pub rooms_end : (session at : ℕ) (answer : Option Reply) (x m y : Seen) (old new : Names) →
-    Visited session x m at old → Goes session m y (told (call.FindNextConfNo at) answer ∷ []) →
+    Visited session x m at old → Goes session m y (tell (call.FindNextConfNo at) answer ∷ []) →
     number_above at (number_in answer) ≡ None → new.days ≡ old.days → new.named ≡ old.named →
     new.whole ≡ (old.whole && is_last_conference answer) →
     ((rooms : Walk Room) × IsRoomWalk rooms × Goes session x y (told_rooms rooms)
@@ -73,7 +73,7 @@ Looked session x y moment at kept due count = (steps : List (Step Look)) × Lead
 
 pub texts_step : (session moment at number count later : ℕ) (answer : Option Reply) (x m n y : Seen) (kept : Names)
     (before due : List ℕ) (is_now : Bool) →
-    Looked session x m moment at kept before count → Goes session m n (told (call.FindNextTextNo at) answer ∷ []) →
+    Looked session x m moment at kept before count → Goes session m n (tell (call.FindNextTextNo at) answer ∷ []) →
     number_above at (number_in answer) ≡ Some number →
     ((look : Look) × IsLook look × Goes session n y (told_look number look)
     × ((rooms : Walk Room) → Knows rooms.steps (is_whole rooms) kept →
@@ -87,15 +87,15 @@ texts_step session moment at number count later answer x m n y kept before due i
       steps ++ step ∷ [],
       leads_push 0 steps at number look leads number_is.1,
       all_on (λ (step : Step Look). IsLook step.told) steps (step ∷ []) looks (is_look, tt),
-      goes_step told_at_text steps step (told (call.FindNextTextNo at) answer) (told_look number look) x m n y
-          (ap (λ answer. told (call.FindNextTextNo at) answer ∷ told_look number look) (sym number_is.0))
+      goes_step told_at_text steps step (tell (call.FindNextTextNo at) answer) (told_look number look) x m n y
+          (ap (λ answer. tell (call.FindNextTextNo at) answer ∷ told_look number look) (sym number_is.0))
           goes asked then_goes,
       one_more ∙ ap (λ count. count + 1) counted ∙ sym (length-append steps (step ∷ [])),
       λ rooms knows. due_push moment rooms steps step before due is_now (all_due rooms knows) (judged rooms knows) is,
     )
 
 pub texts_end : (session moment at count : ℕ) (answer : Option Reply) (x m y : Seen) (kept : Names) (due : List ℕ) →
-    Looked session x m moment at kept due count → Goes session m y (told (call.FindNextTextNo at) answer ∷ []) →
+    Looked session x m moment at kept due count → Goes session m y (tell (call.FindNextTextNo at) answer ∷ []) →
     number_above at (number_in answer) ≡ None →
     ((texts : Walk Look) × IsTextWalk texts × Goes session x y (told_texts texts) × (count ≡ length texts.steps)
     × ((rooms : Walk Room) → Knows rooms.steps (is_whole rooms) kept → due ≡ due_in moment rooms texts.steps))
@@ -130,7 +130,7 @@ Deleted session x y due swept = (gone : List (ℕ × Option Reply)) × (map (λ 
 
 pub deletes_step : (session i d swept later : ℕ) (due : List ℕ) (answer : Option Reply) (refused : Bool)
     (x m y : Seen) → i < length due → Deleted session x m (take i due) swept →
-    Goes session m y (told (call.DeleteText (get_or due i d)) answer ∷ []) → refused ≡ is_refused answer →
+    Goes session m y (tell (call.DeleteText (get_or due i d)) answer ∷ []) → refused ≡ is_refused answer →
     later ≡ swept + (if refused then 0 else 1) → Deleted session x y (take (i + 1) due) later
 deletes_step session i d swept later due answer refused x m y less (gone, names, counted, goes) asked is_refusal is = (
   gone ++ (get_or due i d, answer) ∷ [],
@@ -170,18 +170,18 @@ deletes_end {faults} session i d due swept x m y less (gone, names, counted, goe
 -- ---- one conference
 
 no_owner : (number : ℕ) (answer : Option Reply) → conference_in answer ≡ None →
-    told_room number (record { conference = answer; owner = None }) ≡ told (call.GetConfStat number) answer ∷ []
+    told_room number (record { conference = answer; owner = None }) ≡ tell (call.GetConfStat number) answer ∷ []
 no_owner number answer e = rw (e) refl
 
 plain_room : (number : ℕ) (answer : Option Reply) (conference : Conference) → conference_in answer ≡ Some conference →
     is_letterbox conference.kind ≡ false →
-    told_room number (record { conference = answer; owner = None }) ≡ told (call.GetConfStat number) answer ∷ []
+    told_room number (record { conference = answer; owner = None }) ≡ tell (call.GetConfStat number) answer ∷ []
 plain_room number answer conference e letter = rw (e, letter) refl
 
 owned_room : (number : ℕ) (answer owner : Option Reply) (conference : Conference) →
     conference_in answer ≡ Some conference → is_letterbox conference.kind ≡ true →
     told_room number (record { conference = answer; owner = owner })
-    ≡ told (call.GetConfStat number) answer ∷ told (call.GetPersonStat number) owner ∷ []
+    ≡ tell (call.GetConfStat number) answer ∷ tell (call.GetPersonStat number) owner ∷ []
 owned_room number answer owner conference e letter = rw (e, letter) refl
 
 abbrev pub AsksRoom : ℕ → Seen → Seen → ℕ → Names → Names → Type 0
@@ -189,7 +189,7 @@ AsksRoom session x y number old new =
     (room : Room) × Goes session x y (told_room number room) × KnowsMore number room old new
 
 pub room_untold : (session number : ℕ) (answer : Option Reply) (x y : Seen) (old new : Names) →
-    Goes session x y (told (call.GetConfStat number) answer ∷ []) → conference_in answer ≡ None →
+    Goes session x y (tell (call.GetConfStat number) answer ∷ []) → conference_in answer ≡ None →
     new.days ≡ old.days → new.named ≡ old.named → new.whole ≡ false → AsksRoom session x y number old new
 room_untold session number answer x y old new goes e days named whole = (
   record { conference = answer; owner = None },
@@ -198,7 +198,7 @@ room_untold session number answer x y old new goes e days named whole = (
 )
 
 pub room_plain : (session number : ℕ) (answer : Option Reply) (conference : Conference) (x y : Seen) (old new : Names) →
-    Goes session x y (told (call.GetConfStat number) answer ∷ []) → conference_in answer ≡ Some conference →
+    Goes session x y (tell (call.GetConfStat number) answer ∷ []) → conference_in answer ≡ Some conference →
     is_letterbox conference.kind ≡ false →
     Learns (λ one. if number == one then Some (days_of conference) else None)
     (λ text. conference_names text (Some conference)) old.whole old new → AsksRoom session x y number old new
@@ -209,11 +209,11 @@ room_plain session number answer conference x y old new goes e letter learns = (
 )
 
 pub room_owned : (session number : ℕ) (answer : Option Reply) (conference : Conference) (x m y : Seen)
-    (old mid new : Names) → Goes session x m (told (call.GetConfStat number) answer ∷ []) →
+    (old mid new : Names) → Goes session x m (tell (call.GetConfStat number) answer ∷ []) →
     conference_in answer ≡ Some conference → is_letterbox conference.kind ≡ true →
     Learns (λ one. if number == one then Some (days_of conference) else None)
     (λ text. conference_names text (Some conference)) old.whole old mid →
-    ((owner : Option Reply) × Goes session m y (told (call.GetPersonStat number) owner ∷ [])
+    ((owner : Option Reply) × Goes session m y (tell (call.GetPersonStat number) owner ∷ [])
     × LearnsOwner owner mid new) → AsksRoom session x y number old new
 room_owned session number answer conference x m y old mid new goes e letter learns (owner, goes_owner, owned) = (
   record { conference = answer; owner = owner },
@@ -237,16 +237,16 @@ counts swept later i false less is = omega (arith, is)
 -- memory ran out after a look
 pub looked_stop : (session moment at number count : ℕ) (answer : Option Reply) (x m n y : Seen) (kept : Names)
     (before : List ℕ) (is_now : Bool) →
-    Looked session x m moment at kept before count → Goes session m n (told (call.FindNextTextNo at) answer ∷ []) →
+    Looked session x m moment at kept before count → Goes session m n (tell (call.FindNextTextNo at) answer ∷ []) →
     ((look : Look) × IsLook look × Goes session n y (told_look number look)
     × ((rooms : Walk Room) → Knows rooms.steps (is_whole rooms) kept →
     is_now ≡ is_due_by moment rooms number (stat_in look.stat) look.children)) →
     ((calls : List Told) × (only_asks calls ≡ true) × Stops session x y calls [])
 looked_stop session moment at number count answer x m n y kept before is_now
     (steps, leads, looks, goes, counted, all_due) asked (look, is_look, then_goes, judged) = (
-      flat_map told_at_text steps ++ told (call.FindNextTextNo at) answer ∷ [] ++ told_look number look,
-      none_on (flat_map told_at_text steps ++ told (call.FindNextTextNo at) answer ∷ []) (told_look number look)
-          (none_on (flat_map told_at_text steps) (told (call.FindNextTextNo at) answer ∷ []) (none_texts steps) refl)
+      flat_map told_at_text steps ++ tell (call.FindNextTextNo at) answer ∷ [] ++ told_look number look,
+      none_on (flat_map told_at_text steps ++ tell (call.FindNextTextNo at) answer ∷ []) (told_look number look)
+          (none_on (flat_map told_at_text steps) (tell (call.FindNextTextNo at) answer ∷ []) (none_texts steps) refl)
           (none_children look.children),
       stops_at x y (goes_on x n y (goes_on x m n goes asked) then_goes),
     )

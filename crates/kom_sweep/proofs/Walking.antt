@@ -1,9 +1,8 @@
 -- Walks with one step more, and calls that only ask.
-use Rattle.std.proofs.Common.{◌≡◌, ℕ, ◌+◌, ◌<◌, ◌≤◌, ◌&&◌, nat_lt, Bool, true, false, is_some, inl, inr, List, [], ◌∷◌}
-use Rattle.std.proofs.Common.{◌++◌, map, filter, flat_map, length, Option, Some, None, refl, sym, ap, ap₂, subst, ◌∙◌}
-use Rattle.std.proofs.Common.{arith, append_assoc, append-nil, length-append, if◌then◌else◌}
-use Rattle.std.specs.Prelude.{IfSome, filter_map, ⊤}
-use Rattle.std.specs.List.{AllByRecursion}
+use Rattle.std.proofs.Common.{◌≡◌, ℕ, ◌+◌, ◌<◌, ◌≤◌, ◌&&◌, nat_lt, Bool, true, false, inl, inr, List, [], ◌∷◌}
+use Rattle.std.proofs.Common.{◌++◌, map, filter, flat_map, Option, Some, None, refl, sym, ap, ap₂, subst, ◌∙◌}
+use Rattle.std.proofs.Common.{arith, append_assoc, append-nil, if◌then◌else◌}
+use Rattle.std.specs.Prelude.{IfSome}
 use Rattle.std.proofs.lemmas.Grind.{flat_map-append}
 use Rattle.std.proofs.lemmas.Bool.Decides.{nat_tests}
 use Rattle.std.proofs.lemmas.List.{map-append}
@@ -14,11 +13,11 @@ use Rattle.kom_types.specs.declared.calls.Call.TheVariants as call
 use Rattle.kom_types.specs.declared.replies.Reply.{Reply}
 use Rattle.kom_types.specs.declared.replies.Reply.TheVariants as reply
 use Rattle.kom_types.specs.declared.answers.NotMade.{NotMade}
-use Rattle.kom_sweep.specs.Told.{Told, told, asks, only_asks, IsAbout}
+use Rattle.kom_sweep.specs.Told.{Told, tell, asks, only_asks, IsAbout}
 use Rattle.kom_sweep.specs.Replies.{number_in, conference_in}
 use Rattle.kom_sweep.specs.Acting.{Seen, Goes, Stops}
 use Rattle.kom_sweep.specs.Due.{Step, Walk, Room, Look, has_owner, is_due}
-use Rattle.kom_sweep.specs.Walks.{Leads, IsEnd, told_owner, told_room, told_at_room, told_child, told_look}
+use Rattle.kom_sweep.specs.Walks.{Leads, IsEnd, told_owner, told_room, told_at_room, told_child}
 use Rattle.kom_sweep.specs.Walks.{told_at_text, number_above, due_in}
 use Rattle.kom_sweep.proofs.Going.{goes_on, stops_on}
 
@@ -34,7 +33,7 @@ about_none one calls e (inr (reply, is)) = ap only_asks is ∙ ap (λ (b : Bool)
 none_owner : (number : ℕ) (room : Room) → only_asks (told_owner number room) ≡ true
 none_owner number room = by (has_owner (conference_in room.conference))
   where
-    by : (b : Bool) → only_asks (if b then told (call.GetPersonStat number) room.owner ∷ [] else []) ≡ true
+    by : (b : Bool) → only_asks (if b then tell (call.GetPersonStat number) room.owner ∷ [] else []) ≡ true
     by true = refl
     by false = refl
 

@@ -1,6 +1,6 @@
 -- All calls of a session, one part after the other.
-use Rattle.std.proofs.Common.{◌≡◌, ◌≢◌, ℕ, ◌-◌, ◌⊎◌, ◌==◌, Bool, true, false, is_some, inl, inr, List, [], ◌∷◌, ◌++◌}
-use Rattle.std.proofs.Common.{map, length, Option, Some, None, refl, sym, ap, subst, ◌∙◌, append_assoc, append-nil}
+use Rattle.std.proofs.Common.{◌≡◌, ◌≢◌, ℕ, ◌-◌, true, false, is_some, inl, inr, List, [], ◌∷◌, ◌++◌}
+use Rattle.std.proofs.Common.{map, length, Option, Some, None, refl, sym, ap, subst, ◌∙◌, append-nil}
 use Rattle.std.proofs.Common.{eq-eqb, flat_map}
 use Rattle.kom_types.specs.declared.calls.Call.{Call}
 use Rattle.kom_types.specs.declared.calls.Call.TheVariants as call
@@ -9,12 +9,12 @@ use Rattle.kom_types.specs.declared.replies.Reply.{Reply}
 use Rattle.kom_types.specs.declared.replies.Reply.TheVariants as reply
 use Rattle.kom_types.specs.declared.answers.NotMade.{NotMade}
 use Rattle.kom_sweep.specs.declared.ends.SweepEnd.TheVariants as end
-use Rattle.kom_sweep.specs.Told.{Told, told, only_asks, IsAbout}
-use Rattle.kom_sweep.specs.Replies.{refusal_in, is_refused, is_short, has_code}
+use Rattle.kom_sweep.specs.Told.{Told, tell, only_asks, IsAbout}
+use Rattle.kom_sweep.specs.Replies.{refusal_in, is_short, has_code}
 use Rattle.kom_sweep.specs.Acting.{Seen, Goes, Stops}
 use Rattle.kom_sweep.specs.Due.{Walk, Room, Look}
 use Rattle.kom_sweep.specs.Walks.{told_at_room, told_rooms, told_texts, told_deletions, IsRoomWalk, IsTextWalk, due_in}
-use Rattle.kom_sweep.specs.Sweeps.{Entry, told_entry, IsRefusal, Findings, IsFound, told_findings, swept_in, IsSwept}
+use Rattle.kom_sweep.specs.Sweeps.{told_entry, IsRefusal, Findings, IsFound, told_findings, swept_in, IsSwept}
 use Rattle.kom_sweep.specs.Sweeps.{HasAsked, IsBrokenOff, LogsIn, Works}
 use Rattle.kom_sweep.proofs.Going.{goes_on, stops_on}
 use Rattle.kom_sweep.proofs.Walking.{none_on, none_rooms, breaks_on}
@@ -36,10 +36,10 @@ not_short answer code status e long same =
 
 pub logs_in_not : (person : ℕ) (password : List ℕ) (answer : Option Reply) (code status : ℕ) →
     refusal_in answer ≡ Some (code, status) → is_short answer ≡ false →
-    IsRefusal person password (told (call.Login person password false) answer ∷ []) code status
+    IsRefusal person password (tell (call.Login person password false) answer ∷ []) code status
 logs_in_not person password answer code status e long = (
   not_short answer code status e long,
-  inl (ap (λ answer. told (call.Login person password false) answer ∷ []) (refusal_reply answer code status e)),
+  inl (ap (λ answer. tell (call.Login person password false) answer ∷ []) (refusal_reply answer code status e)),
 )
 
 pub logs_in : (person : ℕ) (password : List ℕ) (login rights stable : Option Reply) (refusal : Option (ℕ × ℕ)) →
@@ -117,12 +117,12 @@ finds session moment person password calls rooms texts count texts_due x m n y g
 pub work_done : (session moment person : ℕ) (password : List ℕ) (count swept kept next : ℕ) (texts_due : List ℕ)
     (gone : List (ℕ × Option Reply)) (logout : Option Reply) (x m n y : Seen) →
     FindsDue session moment person password x m count texts_due → map (λ one. one.0) gone ≡ texts_due →
-    swept ≡ swept_in gone → Goes session m n (told_deletions gone) → Goes session n y (told call.Logout logout ∷ []) →
+    swept ≡ swept_in gone → Goes session m n (told_deletions gone) → Goes session n y (tell call.Logout logout ∷ []) →
     kept ≡ count - swept →
     ((calls : List Told) × Goes session x y calls × IsSwept moment person password calls swept kept)
 work_done session moment person password count swept kept next texts_due gone logout x m n y
     (found, is_found, goes, counted, are) names swept_is goes_gone goes_out kept_is = (
-      told_findings person password found ++ told_deletions gone ++ told call.Logout logout ∷ [],
+      told_findings person password found ++ told_deletions gone ++ tell call.Logout logout ∷ [],
       goes_on x n y (goes_on x m n goes goes_gone) goes_out,
       record {
         found = found;
@@ -174,37 +174,37 @@ broken_last session moment person password count texts_due gone x m n y (found, 
 -- ---- the parts of a login
 
 pub log_not : (session person : ℕ) (password : List ℕ) (made : Call) (answer : Option Reply) (refusal : ℕ × ℕ)
-    (x y : Seen) → made ≡ call.Login person password false → Goes session x y (told made answer ∷ []) →
+    (x y : Seen) → made ≡ call.Login person password false → Goes session x y (tell made answer ∷ []) →
     refusal_in answer ≡ Some refusal →
     ((calls : List Told) × Goes session x y calls × LogsIn person password calls (Some refusal))
 log_not session person password made answer (code, status) x y is goes e = (
-  told made answer ∷ [],
+  tell made answer ∷ [],
   goes,
-  subst (λ (made : Call). IsRefusal person password (told made answer ∷ []) code status) (sym is)
+  subst (λ (made : Call). IsRefusal person password (tell made answer ∷ []) code status) (sym is)
       (logs_in_not person password answer code status e goes.sound.0),
 )
 
 pub log_all : (session person : ℕ) (password : List ℕ) (made : Call) (login rights stable : Option Reply)
     (refusal : Option (ℕ × ℕ)) (x m n y : Seen) → made ≡ call.Login person password false →
-    Goes session x m (told made login ∷ []) → refusal_in login ≡ None →
-    Goes session m n (told (call.Enable 255) rights ∷ []) → Goes session n y (told call.SyncKom stable ∷ []) →
+    Goes session x m (tell made login ∷ []) → refusal_in login ≡ None →
+    Goes session m n (tell (call.Enable 255) rights ∷ []) → Goes session n y (tell call.SyncKom stable ∷ []) →
     refusal ≡ refusal_in stable →
     ((calls : List Told) × Goes session x y calls × LogsIn person password calls refusal)
 log_all session person password made login rights stable refusal x m n y is goes e then_goes goes_last same = (
   told_entry person password (record { login = login; rights = rights; stable = stable }),
   goes_on x n y
-      (goes_on x m n (subst (λ (made : Call). Goes session x m (told made login ∷ [])) is goes) then_goes) goes_last,
+      (goes_on x m n (subst (λ (made : Call). Goes session x m (tell made login ∷ [])) is goes) then_goes) goes_last,
   logs_in person password login rights stable refusal e goes_last.sound.0 same,
 )
 
 -- it breaks off after the first call
 pub log_breaks : {faults : List NotMade} (session person : ℕ) (password : List ℕ) (made : Call) (login : Option Reply)
-    (x m y : Seen) → made ≡ call.Login person password false → Goes session x m (told made login ∷ []) →
+    (x m y : Seen) → made ≡ call.Login person password false → Goes session x m (tell made login ∷ []) →
     ((calls : List Told) × (only_asks calls ≡ true) × Stops session m y calls faults) →
     ((calls : List Told) × HasAsked person password calls × Stops session x y calls faults)
 log_breaks session person password made login x m y is goes (more, asks_more, stops) = (
-  told made login ∷ more,
-  inr (login, more, ap (λ made. told made login ∷ more) is, asks_more),
+  tell made login ∷ more,
+  inr (login, more, ap (λ made. tell made login ∷ more) is, asks_more),
   stops_on x m y goes stops,
 )
 
@@ -215,7 +215,7 @@ pub log_cut : {faults : List NotMade} (session person : ℕ) (password : List �
     ((calls : List Told) × HasAsked person password calls × Stops session x y calls faults)
 log_cut session person password made x y is (calls, inl none, stops) = (calls, inl none, stops)
 log_cut session person password made x y is (calls, inr (answer, are), stops) =
-    (calls, inr (answer, [], are ∙ ap (λ made. told made answer ∷ []) is, refl), stops)
+    (calls, inr (answer, [], are ∙ ap (λ made. tell made answer ∷ []) is, refl), stops)
 
 -- ---- what work returns
 
@@ -228,7 +228,7 @@ login_asked : (person : ℕ) (password : List ℕ) (calls more : List Told) → 
     only_asks more ≡ true → HasAsked person password (calls ++ more)
 login_asked person password calls more (entry, is, login, stable) asks_more = inr (
   entry.login,
-  told (call.Enable 255) entry.rights ∷ told call.SyncKom entry.stable ∷ more,
+  tell (call.Enable 255) entry.rights ∷ tell call.SyncKom entry.stable ∷ more,
   ap (λ calls. calls ++ more) is,
   asks_more,
 )
@@ -249,5 +249,5 @@ pub broken_texts : {faults : List NotMade} (session moment person : ℕ) (passwo
 broken_texts session moment person password x m n y calls rooms goes_rooms more =
     broken_names session moment person password x m y calls
     (breaks_on m n y goes_rooms
-    (none_on (flat_map told_at_room rooms.steps) (told (call.FindNextConfNo rooms.at) rooms.last ∷ [])
+    (none_on (flat_map told_at_room rooms.steps) (tell (call.FindNextConfNo rooms.at) rooms.last ∷ [])
     (none_rooms rooms.steps) refl) more)

@@ -22,8 +22,8 @@ pub record Seen : Type 0 where
   pub gave : Option (List ℕ)
   pub next : ℕ
 
-abbrev pub seen : DeskView → Option (List ℕ) → ℕ → Seen
-seen desk gave next = record { desk = desk; gave = gave; next = next }
+abbrev pub sight : DeskView → Option (List ℕ) → ℕ → Seen
+sight desk gave next = record { desk = desk; gave = gave; next = next }
 
 abbrev pub acts_in : List Record → List Act
 acts_in records = map (λ made. made.entry.act) records
@@ -39,7 +39,7 @@ pub record IsOwn (pass session : ℕ) (made : Record) : Type 0 where
 
 -- These acts of a session were made, and flushes, each at a moment that the clock gave for it; its
 -- drains gave these lists of items, and the desk refused with these faults.
-pub record Acted (session : ℕ) (done : List Act) (lists : List (List Item))
+pub record HasActed (session : ℕ) (done : List Act) (lists : List (List Item))
     (refusals : List NotMade) (old new : Seen) : Type 0 where
   pub added : List Record
   pub answers : List Answer
@@ -57,7 +57,7 @@ pub record Acted (session : ℕ) (done : List Act) (lists : List (List Item))
 -- none of them memory ran out.
 pub record Goes (session : ℕ) (old new : Seen) (calls : List Told) : Type 0 where
   pub exchanges : List Exchange
-  pub acted : Acted session (flat_map (acts_of session) exchanges)
+  pub acted : HasActed session (flat_map (acts_of session) exchanges)
       (map (λ one. one.items) exchanges) [] old new
   pub told : map told_of exchanges ≡ calls
   pub numbered : AreNumbered old.next exchanges new.next
@@ -75,7 +75,7 @@ pub record Stops (session : ℕ) (old new : Seen) (calls : List Told)
   pub exchanges : List Exchange
   pub last : Last
   pub next : ℕ
-  pub acted : Acted session (flat_map (acts_of session) exchanges ++ acts_last session last)
+  pub acted : HasActed session (flat_map (acts_of session) exchanges ++ acts_last session last)
       (map (λ one. one.items) exchanges) faults old new
   pub told : map told_of exchanges ++ told_last last ≡ calls
   pub numbered : AreNumbered old.next exchanges next

@@ -54,12 +54,12 @@ owner_in room = if has_owner (conference_in room.conference) then person_in room
 -- ---- texts that somebody names
 
 -- the number that digits spell
-abbrev pub spelled : List ℕ → ℕ
-spelled digits = fold (λ number digit. number * 10 + (digit - 48)) 0 digits
+abbrev pub number_in : List ℕ → ℕ
+number_in digits = fold (λ number digit. number * 10 + (digit - 48)) 0 digits
 
 abbrev pub is_faq : ℕ → AuxRow → Bool
 is_faq text row =
-    (row.tag == FAQ_TEXT) && (list_all is_digit row.content && (spelled row.content == text))
+    (row.tag == FAQ_TEXT) && (list_all is_digit row.content && (number_in row.content == text))
 
 -- a conference names its presentation, its message of the day, and what its faq-text items spell
 abbrev pub conference_names : ℕ → Option Conference → Bool

@@ -19,7 +19,7 @@ use Rattle.kom_links.specs.Records.{has_session}
 use Rattle.kom_links.specs.Talk.{AreTimed}
 use Rattle.kom_sweep.specs.declared.ends.SweepEnd.{SweepEnd}
 use Rattle.kom_sweep.specs.declared.ends.SweepEnd.TheVariants as end
-use Rattle.kom_sweep.specs.Told.{Told, told, Exchange, Last, told_of, acts_of, told_last}
+use Rattle.kom_sweep.specs.Told.{Told, tell, Exchange, Last, told_of, acts_of, told_last}
 use Rattle.kom_sweep.specs.Told.{acts_last, AreNumbered, IsNumbered, only_asks, IsAbout}
 use Rattle.kom_sweep.specs.Replies.{is_refused}
 use Rattle.kom_sweep.specs.Acting.{Seen, acts_in, faults_in, IsOwn, MayLeave}
@@ -44,13 +44,13 @@ pub record Entry : Type 0 where
   pub stable : Option Reply
 
 abbrev pub told_entry : ℕ → List ℕ → Entry → List Told
-told_entry person password entry = told (call.Login person password false) entry.login
-    ∷ told (call.Enable 255) entry.rights ∷ told call.SyncKom entry.stable ∷ []
+told_entry person password entry = tell (call.Login person password false) entry.login
+    ∷ tell (call.Enable 255) entry.rights ∷ tell call.SyncKom entry.stable ∷ []
 
 -- the person was not logged in, or may not have all made stable; that memory ran out is no refusal
 abbrev pub IsRefusal : ℕ → List ℕ → List Told → ℕ → ℕ → Type 0
 IsRefusal person password calls code status = (code ≢ OUT_OF_MEMORY)
-    × ((calls ≡ told (call.Login person password false) (Some (reply.Refused code status)) ∷ [])
+    × ((calls ≡ tell (call.Login person password false) (Some (reply.Refused code status)) ∷ [])
     ⊎ ((entry : Entry) × (calls ≡ told_entry person password entry)
     × (is_refused entry.login ≡ false) × (entry.stable ≡ Some (reply.Refused code status))))
 
@@ -87,7 +87,7 @@ pub record IsSwept (moment person : ℕ) (password : List ℕ) (calls : List Tol
   pub gone : List (ℕ × Option Reply)
   pub logout : Option Reply
   pub are : calls ≡ told_findings person password found ++ told_deletions gone
-      ++ told call.Logout logout ∷ []
+      ++ tell call.Logout logout ∷ []
   pub are_due : map (λ one. one.0) gone ≡ due moment found
   pub swept : gone_count ≡ swept_in gone
   pub kept : left_count ≡ length found.texts.steps - gone_count
@@ -106,7 +106,7 @@ pub record IsPartlySwept (moment person : ℕ) (password : List ℕ) (calls : Li
 -- a sweep that deleted nothing: at most it logged this person in, visibly, and asked
 abbrev pub HasAsked : ℕ → List ℕ → List Told → Type 0
 HasAsked person password calls = (calls ≡ []) ⊎ ((answer : Option Reply) × (after : List Told)
-    × (calls ≡ told (call.Login person password false) answer ∷ after) × (only_asks after ≡ true))
+    × (calls ≡ tell (call.Login person password false) answer ∷ after) × (only_asks after ≡ true))
 
 -- A sweep that was broken off deleted nothing, or the first of the texts that are due.
 abbrev pub IsBrokenOff : ℕ → ℕ → List ℕ → List Told → Type 0

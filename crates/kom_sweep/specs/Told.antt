@@ -16,8 +16,8 @@ pub record Told : Type 0 where
   pub call : Call
   pub reply : Option Reply
 
-abbrev pub told : Call → Option Reply → Told
-told call reply = record { call = call; reply = reply }
+abbrev pub tell : Call → Option Reply → Told
+tell call reply = record { call = call; reply = reply }
 
 -- A call that was made by this reference, then flushed and drained, and what the drain gave.
 pub record Exchange : Type 0 where
@@ -38,7 +38,7 @@ reply_in reference [] = None
 reply_in reference (item ∷ items) = option_or (reply_in reference items) (reply_of reference item)
 
 abbrev pub told_of : Exchange → Told
-told_of one = told one.call (reply_in one.reference one.items)
+told_of one = tell one.call (reply_in one.reference one.items)
 
 abbrev pub acts_of : ℕ → Exchange → List Act
 acts_of session one =
@@ -53,8 +53,8 @@ pub data Last : Type 0 where
 
 abbrev pub told_last : Last → List Told
 told_last NoCall = []
-told_last (Called reference call) = told call None ∷ []
-told_last (Flushed reference call) = told call None ∷ []
+told_last (Called reference call) = tell call None ∷ []
+told_last (Flushed reference call) = tell call None ∷ []
 
 abbrev pub acts_last : ℕ → Last → List Act
 acts_last session NoCall = []
@@ -78,7 +78,7 @@ IsNumbered next (Flushed reference call) = reference ≡ next
 
 -- the call was made, or none was
 abbrev pub IsAbout : Call → List Told → Type 0
-IsAbout call calls = (calls ≡ []) ⊎ ((reply : Option Reply) × (calls ≡ told call reply ∷ []))
+IsAbout call calls = (calls ≡ []) ⊎ ((reply : Option Reply) × (calls ≡ tell call reply ∷ []))
 
 -- A call by which a sweep asks, uses its rights, has all made stable, or logs out. It changes no
 -- text.

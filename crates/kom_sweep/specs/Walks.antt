@@ -5,7 +5,7 @@ use Rattle.std.specs.List.{AllByRecursion}
 use Rattle.kom_types.specs.declared.calls.Call.TheVariants as call
 use Rattle.kom_types.specs.declared.replies.Reply.{Reply}
 use Rattle.kom_types.specs.declared.replies.Reply.TheVariants as reply
-use Rattle.kom_sweep.specs.Told.{Told, told}
+use Rattle.kom_sweep.specs.Told.{Told, tell}
 use Rattle.kom_sweep.specs.Replies.{number_in, stat_in, conference_in}
 use Rattle.kom_sweep.specs.Due.{Step, Walk, Room, Look, has_owner, children_of, is_due}
 
@@ -24,14 +24,14 @@ IsEnd at answer = IfSome (number_in answer) (λ number. number ≤ at)
 
 abbrev pub told_owner : ℕ → Room → List Told
 told_owner number room = if has_owner (conference_in room.conference)
-    then told (call.GetPersonStat number) room.owner ∷ [] else []
+    then tell (call.GetPersonStat number) room.owner ∷ [] else []
 
 abbrev pub told_room : ℕ → Room → List Told
 told_room number room =
-    told (call.GetConfStat number) room.conference ∷ told_owner number room
+    tell (call.GetConfStat number) room.conference ∷ told_owner number room
 
 abbrev pub told_at_room : Step Room → List Told
-told_at_room step = told (call.FindNextConfNo step.after) (Some (reply.Number step.number))
+told_at_room step = tell (call.FindNextConfNo step.after) (Some (reply.Number step.number))
     ∷ told_room step.number step.told
 
 -- a walk over all conferences and letterboxes
@@ -41,19 +41,19 @@ pub record IsRoomWalk (walk : Walk Room) : Type 0 where
 
 abbrev pub told_rooms : Walk Room → List Told
 told_rooms walk = flat_map told_at_room walk.steps
-    ++ told (call.FindNextConfNo walk.at) walk.last ∷ []
+    ++ tell (call.FindNextConfNo walk.at) walk.last ∷ []
 
 -- ---- the texts
 
 abbrev pub told_child : ℕ × Option Reply → Told
-told_child (child, answer) = told (call.GetTextStat child) answer
+told_child (child, answer) = tell (call.GetTextStat child) answer
 
 abbrev pub told_look : ℕ → Look → List Told
 told_look number look =
-    told (call.GetTextStat number) look.stat ∷ map told_child look.children
+    tell (call.GetTextStat number) look.stat ∷ map told_child look.children
 
 abbrev pub told_at_text : Step Look → List Told
-told_at_text step = told (call.FindNextTextNo step.after) (Some (reply.Number step.number))
+told_at_text step = tell (call.FindNextTextNo step.after) (Some (reply.Number step.number))
     ∷ told_look step.number step.told
 
 -- all comments and footnotes to a text were asked about, in order
@@ -68,7 +68,7 @@ pub record IsTextWalk (walk : Walk Look) : Type 0 where
 
 abbrev pub told_texts : Walk Look → List Told
 told_texts walk = flat_map told_at_text walk.steps
-    ++ told (call.FindNextTextNo walk.at) walk.last ∷ []
+    ++ tell (call.FindNextTextNo walk.at) walk.last ∷ []
 
 -- the texts that are due at a moment, in the order of the walk
 abbrev pub due_in : ℕ → Walk Room → List (Step Look) → List ℕ
@@ -77,7 +77,7 @@ due_in moment rooms steps = map (λ step. step.number) (filter (is_due moment ro
 -- ---- the deletions
 
 abbrev pub told_gone : ℕ × Option Reply → Told
-told_gone (text, answer) = told (call.DeleteText text) answer
+told_gone (text, answer) = tell (call.DeleteText text) answer
 
 abbrev pub told_deletions : List (ℕ × Option Reply) → List Told
 told_deletions gone = map told_gone gone

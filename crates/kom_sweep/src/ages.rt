@@ -4,7 +4,7 @@ ghost use Rattle.kom_types.specs.declared.replies.Reply.{Reply as Body};
 ghost use Rattle.kom_links.specs.Records.{IsOpen};
 ghost use Rattle.kom_sweep.specs.Told.{Told, only_asks};
 ghost use Rattle.kom_sweep.specs.Replies.{stat_in};
-ghost use Rattle.kom_sweep.specs.Acting.{seen, Goes, Breaks};
+ghost use Rattle.kom_sweep.specs.Acting.{sight, Goes, Breaks};
 ghost use Rattle.kom_sweep.specs.Due.{child_in, age};
 ghost use Rattle.kom_sweep.specs.Walks.{told_child};
 ghost use Rattle.kom_sweep.specs.Ages.{TellsOf, with_age, is_above};
@@ -65,12 +65,12 @@ pub(crate) fn ask_ages<K: Desk, C: Clock>(
     requires { IsOpen session (K.view desk.old).mine }
     ensures ok { IfOk result (λ ages. (children : List (ℕ × Option Body))
         × (map (λ child. child.0) children ≡ filter_map child_in infos.now)
-        × Goes session (seen (K.view desk.old) (C.gave clock.old) talk.old.next)
-        (seen (K.view desk.new) (C.gave clock.new) talk.new.next) (map told_child children)
+        × Goes session (sight (K.view desk.old) (C.gave clock.old) talk.old.next)
+        (sight (K.view desk.new) (C.gave clock.new) talk.new.next) (map told_child children)
         × TellsOf moment children ages) }
     ensures err { IfErr result (λ cut. (calls : List Told) × (only_asks calls ≡ true)
-        × Breaks session (seen (K.view desk.old) (C.gave clock.old) talk.old.next)
-        (seen (K.view desk.new) (C.gave clock.new) talk.new.next) calls cut) }
+        × Breaks session (sight (K.view desk.old) (C.gave clock.old) talk.old.next)
+        (sight (K.view desk.new) (C.gave clock.new) talk.new.next) calls cut) }
     ensures open { IsOpen session (K.view desk.new).mine }
     ensures on { K.goes_on desk.old desk.new }
 {
@@ -96,13 +96,13 @@ fn ask_age<K: Desk, C: Clock>(
     requires { IsOpen session (K.view desk.old).mine }
     ensures ok { IfOk result (λ ages. (children : List (ℕ × Option Body))
         × (map (λ child. child.0) children ≡ filter_map child_in (info ∷ []))
-        × Goes session (seen (K.view desk.old) (C.gave clock.old) talk.old.next)
-        (seen (K.view desk.new) (C.gave clock.new) talk.new.next) (map told_child children)
+        × Goes session (sight (K.view desk.old) (C.gave clock.old) talk.old.next)
+        (sight (K.view desk.new) (C.gave clock.new) talk.new.next) (map told_child children)
         × ((before : List (ℕ × Option Body)) → TellsOf known.0 before known.1
         → TellsOf known.0 (before ++ children) ages)) }
     ensures err { IfErr result (λ cut. (calls : List Told) × (only_asks calls ≡ true)
-        × Breaks session (seen (K.view desk.old) (C.gave clock.old) talk.old.next)
-        (seen (K.view desk.new) (C.gave clock.new) talk.new.next) calls cut) }
+        × Breaks session (sight (K.view desk.old) (C.gave clock.old) talk.old.next)
+        (sight (K.view desk.new) (C.gave clock.new) talk.new.next) calls cut) }
     ensures open { IsOpen session (K.view desk.new).mine }
     ensures on { K.goes_on desk.old desk.new }
 {

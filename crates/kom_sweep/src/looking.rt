@@ -4,7 +4,7 @@ ghost use Rattle.std.specs.List.{list_all, list_any};
 ghost use Rattle.kom_links.specs.Records.{IsOpen};
 ghost use Rattle.kom_sweep.specs.Told.{Told, only_asks};
 ghost use Rattle.kom_sweep.specs.Replies.{stat_in};
-ghost use Rattle.kom_sweep.specs.Acting.{seen, Goes, Breaks};
+ghost use Rattle.kom_sweep.specs.Acting.{sight, Goes, Breaks};
 ghost use Rattle.kom_sweep.specs.Due.{Walk, Room, Look, is_whole, is_due_by, recipient_in};
 ghost use Rattle.kom_sweep.specs.Walks.{IsTextWalk, IsLook, told_texts, told_look, due_in};
 ghost use Rattle.kom_sweep.specs.Names.{Knows, all_let_go_at, is_due_at, lets_go_at};
@@ -44,14 +44,14 @@ pub(crate) fn find_due<K: Desk, C: Clock>(
 ) -> Result<Found, Cut>
     requires { IsOpen session (K.view desk.old).mine }
     ensures ok { IfOk result (λ found. (texts : Walk Look) × IsTextWalk texts
-        × Goes session (seen (K.view desk.old) (C.gave clock.old) talk.old.next)
-        (seen (K.view desk.new) (C.gave clock.new) talk.new.next) (told_texts texts)
+        × Goes session (sight (K.view desk.old) (C.gave clock.old) talk.old.next)
+        (sight (K.view desk.new) (C.gave clock.new) talk.new.next) (told_texts texts)
         × (found.count ≡ length texts.steps)
         × ((rooms : Walk Room) → Knows rooms.steps (is_whole rooms) judge.now.names.now
         → found.due.items ≡ due_in judge.now.moment rooms texts.steps)) }
     ensures err { IfErr result (λ cut. (calls : List Told) × (only_asks calls ≡ true)
-        × Breaks session (seen (K.view desk.old) (C.gave clock.old) talk.old.next)
-        (seen (K.view desk.new) (C.gave clock.new) talk.new.next) calls cut) }
+        × Breaks session (sight (K.view desk.old) (C.gave clock.old) talk.old.next)
+        (sight (K.view desk.new) (C.gave clock.new) talk.new.next) calls cut) }
     ensures open { IsOpen session (K.view desk.new).mine }
     ensures on { K.goes_on desk.old desk.new }
 {
@@ -101,13 +101,13 @@ fn look<K: Desk, C: Clock>(
 ) -> Result<bool, Cut>
     requires { IsOpen session (K.view desk.old).mine }
     ensures ok { IfOk result (λ due. (look : Look) × IsLook look
-        × Goes session (seen (K.view desk.old) (C.gave clock.old) talk.old.next)
-        (seen (K.view desk.new) (C.gave clock.new) talk.new.next) (told_look text look)
+        × Goes session (sight (K.view desk.old) (C.gave clock.old) talk.old.next)
+        (sight (K.view desk.new) (C.gave clock.new) talk.new.next) (told_look text look)
         × ((rooms : Walk Room) → Knows rooms.steps (is_whole rooms) judge.now.names.now
         → due ≡ is_due_by judge.now.moment rooms text (stat_in look.stat) look.children)) }
     ensures err { IfErr result (λ cut. (calls : List Told) × (only_asks calls ≡ true)
-        × Breaks session (seen (K.view desk.old) (C.gave clock.old) talk.old.next)
-        (seen (K.view desk.new) (C.gave clock.new) talk.new.next) calls cut) }
+        × Breaks session (sight (K.view desk.old) (C.gave clock.old) talk.old.next)
+        (sight (K.view desk.new) (C.gave clock.new) talk.new.next) calls cut) }
     ensures open { IsOpen session (K.view desk.new).mine }
     ensures on { K.goes_on desk.old desk.new }
 {

@@ -5,7 +5,7 @@ ghost use Rattle.std.specs.List.{list_any, list_all};
 ghost use Rattle.indexmap.specs.IndexMap.{get};
 ghost use Rattle.indexmap.specs.IndexSet.{contains};
 ghost use Rattle.kom_types.specs.ByteKind.{is_digit};
-ghost use Rattle.kom_sweep.specs.Due.{conference_names, person_names, days_of, is_faq, spelled};
+ghost use Rattle.kom_sweep.specs.Due.{conference_names, person_names, days_of, is_faq, number_in};
 ghost use Rattle.kom_sweep.specs.Names.{Knows, Learns, lets_go_at, names_number};
 
 use crate::ages::Ages;
@@ -140,7 +140,7 @@ const MOST: u64 = 1 << 32;
 /// The number of a text that digits spell, if they are that.
 fn number_of(content: &[u8]) -> Option<u32>
     ensures { (text : ℕ) → text < 2 ^ 32
-        → (list_all is_digit content.now && (spelled content.now == text))
+        → (list_all is_digit content.now && (number_in content.now == text))
         ≡ names_number result text }
 {
     let mut number: u64 = 0;

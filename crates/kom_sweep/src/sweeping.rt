@@ -4,7 +4,7 @@ ghost use Rattle.kom_types.specs.declared.calls.Call.TheVariants as call;
 ghost use Rattle.kom_types.specs.declared.replies.Reply.{Reply as Body};
 ghost use Rattle.kom_links.specs.Records.{IsOpen};
 ghost use Rattle.kom_sweep.specs.Told.{Told};
-ghost use Rattle.kom_sweep.specs.Acting.{seen, Goes, Breaks};
+ghost use Rattle.kom_sweep.specs.Acting.{sight, Goes, Breaks};
 ghost use Rattle.kom_sweep.specs.Walks.{told_deletions};
 ghost use Rattle.kom_sweep.specs.Sweeps.{IsSweep, IsBrokenOff, HasAsked, swept_in, LogsIn, Works};
 
@@ -27,7 +27,7 @@ pub fn sweep<K: Desk, C: Clock>(
     password: &[u8],
 ) -> SweepEnd
     ensures sweeps { IsSweep person password.now (C.first clock.old)
-        (seen (K.view desk.old) (C.gave clock.old) 1) (K.view desk.new) (C.gave clock.new)
+        (sight (K.view desk.old) (C.gave clock.old) 1) (K.view desk.new) (C.gave clock.new)
         result }
     ensures on { K.goes_on desk.old desk.new }
 {
@@ -54,13 +54,13 @@ fn work<K: Desk, C: Clock>(
 ) -> Result<SweepEnd, Cut>
     requires { IsOpen session (K.view desk.old).mine }
     ensures ok { IfOk result (λ ending. (calls : List Told) × (next : ℕ)
-        × Goes session (seen (K.view desk.old) (C.gave clock.old) 1)
-        (seen (K.view desk.new) (C.gave clock.new) next) calls
+        × Goes session (sight (K.view desk.old) (C.gave clock.old) 1)
+        (sight (K.view desk.new) (C.gave clock.new) next) calls
         × Works moment person password.now calls ending) }
     ensures err { IfErr result (λ cut. (calls : List Told) × (next : ℕ)
         × IsBrokenOff moment person password.now calls
-        × Breaks session (seen (K.view desk.old) (C.gave clock.old) 1)
-        (seen (K.view desk.new) (C.gave clock.new) next) calls cut) }
+        × Breaks session (sight (K.view desk.old) (C.gave clock.old) 1)
+        (sight (K.view desk.new) (C.gave clock.new) next) calls cut) }
     ensures open { IsOpen session (K.view desk.new).mine }
     ensures on { K.goes_on desk.old desk.new }
 {
@@ -96,13 +96,13 @@ fn log_in<K: Desk, C: Clock>(
 ) -> Result<Option<(u32, u32)>, Cut>
     requires { IsOpen session (K.view desk.old).mine }
     ensures ok { IfOk result (λ refusal. (calls : List Told)
-        × Goes session (seen (K.view desk.old) (C.gave clock.old) talk.old.next)
-        (seen (K.view desk.new) (C.gave clock.new) talk.new.next) calls
+        × Goes session (sight (K.view desk.old) (C.gave clock.old) talk.old.next)
+        (sight (K.view desk.new) (C.gave clock.new) talk.new.next) calls
         × LogsIn person password.now calls refusal) }
     ensures err { IfErr result (λ cut. (calls : List Told)
         × HasAsked person password.now calls
-        × Breaks session (seen (K.view desk.old) (C.gave clock.old) talk.old.next)
-        (seen (K.view desk.new) (C.gave clock.new) talk.new.next) calls cut) }
+        × Breaks session (sight (K.view desk.old) (C.gave clock.old) talk.old.next)
+        (sight (K.view desk.new) (C.gave clock.new) talk.new.next) calls cut) }
     ensures open { IsOpen session (K.view desk.new).mine }
     ensures on { K.goes_on desk.old desk.new }
 {
@@ -140,12 +140,12 @@ fn delete_all<K: Desk, C: Clock>(
     requires { IsOpen session (K.view desk.old).mine }
     ensures ok { IfOk result (λ swept. (gone : List (ℕ × Option Body))
         × (map (λ one. one.0) gone ≡ due.now) × (swept ≡ swept_in gone)
-        × Goes session (seen (K.view desk.old) (C.gave clock.old) talk.old.next)
-        (seen (K.view desk.new) (C.gave clock.new) talk.new.next) (told_deletions gone)) }
+        × Goes session (sight (K.view desk.old) (C.gave clock.old) talk.old.next)
+        (sight (K.view desk.new) (C.gave clock.new) talk.new.next) (told_deletions gone)) }
     ensures err { IfErr result (λ cut. (gone : List (ℕ × Option Body)) × (rest : List ℕ)
         × (map (λ one. one.0) gone ++ rest ≡ due.now)
-        × Breaks session (seen (K.view desk.old) (C.gave clock.old) talk.old.next)
-        (seen (K.view desk.new) (C.gave clock.new) talk.new.next) (told_deletions gone) cut) }
+        × Breaks session (sight (K.view desk.old) (C.gave clock.old) talk.old.next)
+        (sight (K.view desk.new) (C.gave clock.new) talk.new.next) (told_deletions gone) cut) }
     ensures open { IsOpen session (K.view desk.new).mine }
     ensures on { K.goes_on desk.old desk.new }
 {

@@ -2,8 +2,8 @@ ghost use Rattle.std.specs.Prelude.{◌≡◌, ◌==◌, List, [], ◌∷◌, If
 ghost use Rattle.std.specs.Prelude.{if◌then◌else◌};
 ghost use Rattle.kom_links.specs.Records.{IsOpen};
 ghost use Rattle.kom_sweep.specs.declared.ends.Cut.TheVariants as cut;
-ghost use Rattle.kom_sweep.specs.Told.{Told, reply_of, reply_in, next_reference, IsAbout, told};
-ghost use Rattle.kom_sweep.specs.Acting.{seen, Goes, Breaks};
+ghost use Rattle.kom_sweep.specs.Told.{Told, reply_of, reply_in, next_reference, IsAbout, tell};
+ghost use Rattle.kom_sweep.specs.Acting.{sight, Goes, Breaks};
 ghost use Rattle.kom_sweep.specs.Replies.{is_short};
 
 use crate::ends::Cut;
@@ -42,11 +42,11 @@ impl Talk {
     ) -> Result<Option<Reply>, Cut>
         requires { IsOpen session (K.view desk.old).mine }
         ensures ok { IfOk result (λ reply. Goes session
-            (seen (K.view desk.old) (C.gave clock.old) self.old.next)
-            (seen (K.view desk.new) (C.gave clock.new) self.new.next) (told call reply ∷ [])) }
+            (sight (K.view desk.old) (C.gave clock.old) self.old.next)
+            (sight (K.view desk.new) (C.gave clock.new) self.new.next) (tell call reply ∷ [])) }
         ensures err { IfErr result (λ cut. (calls : List Told) × IsAbout call calls
-            × Breaks session (seen (K.view desk.old) (C.gave clock.old) self.old.next)
-            (seen (K.view desk.new) (C.gave clock.new) self.new.next) calls cut) }
+            × Breaks session (sight (K.view desk.old) (C.gave clock.old) self.old.next)
+            (sight (K.view desk.new) (C.gave clock.new) self.new.next) calls cut) }
         ensures open { IsOpen session (K.view desk.new).mine }
         ensures on { K.goes_on desk.old desk.new }
     {

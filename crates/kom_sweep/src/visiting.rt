@@ -3,9 +3,9 @@ ghost use Rattle.std.specs.Prelude.{◌≡◌, ◌&&◌, List, Option, [], ◌�
 ghost use Rattle.kom_types.specs.declared.calls.Call.TheVariants as call;
 ghost use Rattle.kom_types.specs.declared.replies.Reply.{Reply as Body};
 ghost use Rattle.kom_links.specs.Records.{IsOpen};
-ghost use Rattle.kom_sweep.specs.Told.{Told, told, only_asks};
+ghost use Rattle.kom_sweep.specs.Told.{Told, tell, only_asks};
 ghost use Rattle.kom_sweep.specs.Replies.{number_in};
-ghost use Rattle.kom_sweep.specs.Acting.{seen, Goes, Breaks};
+ghost use Rattle.kom_sweep.specs.Acting.{sight, Goes, Breaks};
 ghost use Rattle.kom_sweep.specs.Due.{Walk, Room, is_whole};
 ghost use Rattle.kom_sweep.specs.Walks.{IsRoomWalk, told_rooms, told_room};
 ghost use Rattle.kom_sweep.specs.Names.{Knows, KnowsMore, LearnsOwner};
@@ -29,12 +29,12 @@ pub(crate) fn ask_names<K: Desk, C: Clock>(
 ) -> Result<Names, Cut>
     requires { IsOpen session (K.view desk.old).mine }
     ensures ok { IfOk result (λ kept. (rooms : Walk Room) × IsRoomWalk rooms
-        × Goes session (seen (K.view desk.old) (C.gave clock.old) talk.old.next)
-        (seen (K.view desk.new) (C.gave clock.new) talk.new.next) (told_rooms rooms)
+        × Goes session (sight (K.view desk.old) (C.gave clock.old) talk.old.next)
+        (sight (K.view desk.new) (C.gave clock.new) talk.new.next) (told_rooms rooms)
         × Knows rooms.steps (is_whole rooms) kept) }
     ensures err { IfErr result (λ cut. (calls : List Told) × (only_asks calls ≡ true)
-        × Breaks session (seen (K.view desk.old) (C.gave clock.old) talk.old.next)
-        (seen (K.view desk.new) (C.gave clock.new) talk.new.next) calls cut) }
+        × Breaks session (sight (K.view desk.old) (C.gave clock.old) talk.old.next)
+        (sight (K.view desk.new) (C.gave clock.new) talk.new.next) calls cut) }
     ensures open { IsOpen session (K.view desk.new).mine }
     ensures on { K.goes_on desk.old desk.new }
 {
@@ -70,12 +70,12 @@ fn ask_room<K: Desk, C: Clock>(
 ) -> Result<(), Cut>
     requires { IsOpen session (K.view desk.old).mine }
     ensures ok { IfOk result (λ done. (room : Room)
-        × Goes session (seen (K.view desk.old) (C.gave clock.old) talk.old.next)
-        (seen (K.view desk.new) (C.gave clock.new) talk.new.next) (told_room number room)
+        × Goes session (sight (K.view desk.old) (C.gave clock.old) talk.old.next)
+        (sight (K.view desk.new) (C.gave clock.new) talk.new.next) (told_room number room)
         × KnowsMore number room names.old names.new) }
     ensures err { IfErr result (λ cut. (calls : List Told) × (only_asks calls ≡ true)
-        × Breaks session (seen (K.view desk.old) (C.gave clock.old) talk.old.next)
-        (seen (K.view desk.new) (C.gave clock.new) talk.new.next) calls cut) }
+        × Breaks session (sight (K.view desk.old) (C.gave clock.old) talk.old.next)
+        (sight (K.view desk.new) (C.gave clock.new) talk.new.next) calls cut) }
     ensures open { IsOpen session (K.view desk.new).mine }
     ensures on { K.goes_on desk.old desk.new }
 {
@@ -104,13 +104,13 @@ fn ask_owner<K: Desk, C: Clock>(
 ) -> Result<(), Cut>
     requires { IsOpen session (K.view desk.old).mine }
     ensures ok { IfOk result (λ done. (owner : Option Body)
-        × Goes session (seen (K.view desk.old) (C.gave clock.old) talk.old.next)
-        (seen (K.view desk.new) (C.gave clock.new) talk.new.next)
-        (told (call.GetPersonStat person) owner ∷ [])
+        × Goes session (sight (K.view desk.old) (C.gave clock.old) talk.old.next)
+        (sight (K.view desk.new) (C.gave clock.new) talk.new.next)
+        (tell (call.GetPersonStat person) owner ∷ [])
         × LearnsOwner owner names.old names.new) }
     ensures err { IfErr result (λ cut. (calls : List Told) × (only_asks calls ≡ true)
-        × Breaks session (seen (K.view desk.old) (C.gave clock.old) talk.old.next)
-        (seen (K.view desk.new) (C.gave clock.new) talk.new.next) calls cut) }
+        × Breaks session (sight (K.view desk.old) (C.gave clock.old) talk.old.next)
+        (sight (K.view desk.new) (C.gave clock.new) talk.new.next) calls cut) }
     ensures open { IsOpen session (K.view desk.new).mine }
     ensures on { K.goes_on desk.old desk.new }
 {

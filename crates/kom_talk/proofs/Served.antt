@@ -8,7 +8,7 @@ use Rattle.kom_types.specs.declared.acts.Act.{Act}
 use Rattle.kom_types.specs.declared.acts.Act.TheVariants as act
 use Rattle.kom_types.specs.declared.acts.Record.{Record}
 use Rattle.kom_links.specs.declared.served.Served.{Served}
-use Rattle.kom_links.specs.Answers.{Answer, refused}
+use Rattle.kom_links.specs.Answers.{Answer, first_fault_of}
 use Rattle.kom_links.specs.DeskCalls.{DeskView}
 use Rattle.kom_links.specs.Outside.{LinkView, IsFresh, Rose}
 use Rattle.kom_links.specs.Records.{is_connect, has_connect, has_session}
@@ -17,7 +17,7 @@ use Rattle.kom_hub.specs.Passing.{IsBlank, IsSeatOf}
 use Rattle.kom_hub.specs.Seats.{is_flush, is_shown}
 use Rattle.kom_session.specs.Ends.{HasCause, TellsFault, IsOwn, HasCarried, given_to}
 use Rattle.kom_session.specs.Kept.{IsKept, IfClosed, AddsClose}
-use Rattle.kom_session.specs.Known.{Known, Seen, seen}
+use Rattle.kom_session.specs.Known.{Known, Seen, sight}
 use Rattle.kom_session.specs.Left.{IfSending, IsSentAll}
 use Rattle.kom_session.specs.Serving.{ServesLink, Adds, steps_in}
 use Rattle.kom_session.specs.Waits.{NoneWaits}
@@ -35,7 +35,7 @@ all_added start desk P blank (added, answers, mine, tells, is) =
     (sym (mine ∙ ap (λ first. first ++ added) blank.mine)) is)
 
 pub served_link : (start : Seen) (desk : DeskView) (link : LinkView) (served : Served)
-    → IsBlank start.desk → IsFresh start.link → ServesLink start served (seen desk link None)
+    → IsBlank start.desk → IsFresh start.link → ServesLink start served (sight desk link None)
     → IsServedLink desk link served
 served_link start desk link served blank fresh s =
     let host : link.host ≡ start.link.host = s.others.host in
@@ -45,11 +45,11 @@ served_link start desk link served blank fresh s =
     AllByRecursion (IsOwn served.session) added
     × AreTimed start.gave None added
     × (input output : List ℕ) × HasCarried link input output
-    × TellsFault start.link.faults link.faults (refused served.session answers) input served.end
+    × TellsFault start.link.faults link.faults (first_fault_of served.session answers) input served.end
     × IsTalk start.link.host input output link.ended added served.session given served.end
     desk.lock_full) blank s.talk in
     let cause = all_added start.desk desk (λ added answers. HasCause start.link.faults link.faults
-    (refused served.session answers) link.ended served.end) blank s.cause in
+    (first_fault_of served.session answers) link.ended served.end) blank s.cause in
     record {
       input = talk.2;
       output = talk.3;
@@ -60,13 +60,13 @@ served_link start desk link served blank fresh s =
       session = all_added start.desk desk (λ added answers.
           served.session ≢ 0 → IsTrue (has_connect served.session added)) blank s.session;
       waits = all_added start.desk desk (λ added answers.
-          IfSome link.reads (NoneWaits (steps_in (seen desk link None) served.session added))) blank s.waits;
-      cause = subst (λ (faults : ℕ). HasCause faults link.faults (refused served.session desk.answers)
+          IfSome link.reads (NoneWaits (steps_in (sight desk link None) served.session added))) blank s.waits;
+      cause = subst (λ (faults : ℕ). HasCause faults link.faults (first_fault_of served.session desk.answers)
           link.ended served.end) none cause;
-      told = subst (λ (faults : ℕ). TellsFault faults link.faults (refused served.session desk.answers)
+      told = subst (λ (faults : ℕ). TellsFault faults link.faults (first_fault_of served.session desk.answers)
           talk.2 served.end) none talk.5;
       left = all_added start.desk desk (λ added answers. served.session ≢ 0 →
-          IfSending served.end (IsSentAll (steps_in (seen desk link None) served.session added)
+          IfSending served.end (IsSentAll (steps_in (sight desk link None) served.session added)
           served.session answers)) blank s.left;
       others = λ number other. s.others.given number other ∙ blank.given number;
     }
@@ -122,12 +122,12 @@ same_session session number records seat connected none = elim (cases_eq number 
 
 pub closed_talk : (machine : Known) (start : Seen) (old new : DeskView) (link : LinkView)
     (gave gave' : Option (List ℕ)) (risen : Bool) (served : Served) → IsBlank start.desk → IsFresh start.link
-    → IsKept start machine (seen old link None) → (IsTrue risen ↔ Rose 0 link.faults)
+    → IsKept start machine (sight old link None) → (IsTrue risen ↔ Rose 0 link.faults)
     → IfClosed risen machine old None served new None → AddsClose machine.session old gave new gave'
     → served.session ≡ machine.session → (session : ℕ) → IsSeatOf session new.mine
     → IsServedLink new link (record { session = session; end = served.end })
 closed_talk machine start old new link gave gave' risen served blank fresh kept rises closed adds number session seat =
-    let serves : ServesLink start served (seen new link None) =
+    let serves : ServesLink start served (sight new link None) =
     closed start link
     (subst (λ (faults : ℕ). IsTrue risen ↔ Rose faults link.faults) (sym fresh.no_fault) rises)
     (kept.served.added, kept.served.mine, tt) kept in
@@ -135,5 +135,5 @@ closed_talk machine start old new link gave gave' risen served blank fresh kept 
     let same : served.session ≡ session =
     same_session session served.session new.mine seat is.session (λ zero.
     adds.mine ∙ ap (λ more. old.mine ++ more) (adds.none (sym number ∙ zero)) ∙ append-nil old.mine
-    ∙ nobody_mine start machine (seen old link None) (sym number ∙ zero) kept ∙ blank.mine) in
+    ∙ nobody_mine start machine (sight old link None) (sym number ∙ zero) kept ∙ blank.mine) in
     subst (λ (number : ℕ). IsServedLink new link (record { session = number; end = served.end })) same is

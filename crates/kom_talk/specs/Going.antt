@@ -11,7 +11,7 @@ use Rattle.kom_types.specs.declared.items.Item.{Item}
 use Rattle.kom_links.specs.declared.served.Served.{Served}
 use Rattle.kom_links.specs.declared.served.SessionEnd.{SessionEnd}
 use Rattle.kom_links.specs.declared.served.SessionEnd.TheVariants as end
-use Rattle.kom_links.specs.Answers.{Answer, refused}
+use Rattle.kom_links.specs.Answers.{Answer, first_fault_of}
 use Rattle.kom_links.specs.DeskCalls.{DeskView}
 use Rattle.kom_links.specs.Outside.{LinkView, Look}
 use Rattle.kom_links.specs.Records.{is_connect, has_connect}
@@ -24,7 +24,7 @@ use Rattle.kom_hub.proofs.Passed.{steps_pass, drained_pass, talk_passes}
 use Rattle.kom_session.specs.Ends.{HasCause, TellsFault, IsOwn, given_to}
 use Rattle.kom_session.specs.Kept.{PassesBy}
 use Rattle.kom_session.specs.Kept.{IsFlush as IsFlushOf}
-use Rattle.kom_session.specs.Known.{known, seen}
+use Rattle.kom_session.specs.Known.{known_by, sight}
 use Rattle.kom_session.specs.Left.{IfSending, IsSentAll}
 use Rattle.kom_session.specs.Waits.{NoneWaits}
 use Rattle.kom_session.proofs.Passing.{kept_passes, kept_alike, nobody_mine}
@@ -51,10 +51,10 @@ passes_by old new passes = record {
 
 -- where there is no session nothing is shown, and so nothing more
 shows_same : (talk : Conversation) (old new : DeskView) (link : LinkView) → Passes old new
-    → (kept : IsKeptUp talk old link) → (known talk.machine).session ≡ 0 → new.mine ≡ old.mine
+    → (kept : IsKeptUp talk old link) → (known_by talk.machine).session ≡ 0 → new.mine ≡ old.mine
 shows_same talk old new link passes kept none =
     let nothing : old.mine ≡ [] =
-    nobody_mine kept.start (known talk.machine) (seen old link None) none kept.kept
+    nobody_mine kept.start (known_by talk.machine) (sight old link None) none kept.kept
     ∙ kept.blank.mine in
     passes.mine ∙ ap (λ more. old.mine ++ more) (passes.begun nothing) ∙ append-nil old.mine
 
@@ -64,13 +64,13 @@ kept_on talk old new link passes kept = record {
   start = kept.start;
   blank = kept.blank;
   fresh = kept.fresh;
-  kept = elim (cases_eq (known talk.machine).session 0) [
+  kept = elim (cases_eq (known_by talk.machine).session 0) [
     | inl none ↦
-        kept_alike kept.start (known talk.machine) (seen old link None) new None
+        kept_alike kept.start (known_by talk.machine) (sight old link None) new None
         (shows_same talk old new link passes kept none) passes.given passes.answers passes.pass
         kept.kept
     | inr some ↦
-        kept_passes kept.start (known talk.machine) (seen old link None) new None some
+        kept_passes kept.start (known_by talk.machine) (sight old link None) new None some
         (passes_by old new passes) kept.kept
   ];
 }
@@ -172,9 +172,10 @@ module _ (old new : DeskView) (link : LinkView) (served : Served) (passes : Pass
         (none_waits (steps_at served.session old)
         (steps_of served.session passes.flushes []) looks waits)) is.waits;
     cause = subst (λ (answers : List Answer). HasCause 0 link.faults
-        (refused served.session answers) link.ended served.end) (sym passes.answers) is.cause;
+        (first_fault_of served.session answers) link.ended served.end)
+        (sym passes.answers) is.cause;
     told = subst (λ (answers : List Answer). TellsFault 0 link.faults
-        (refused served.session answers) is.input served.end) (sym passes.answers) is.told;
+        (first_fault_of served.session answers) is.input served.end) (sym passes.answers) is.told;
     left = λ some. subst (λ (answers : List Answer). IfSending served.end
         (IsSentAll (steps_at served.session new) served.session answers)) (sym passes.answers)
         (if_sending (IsSentAll (steps_at served.session old) served.session old.answers)

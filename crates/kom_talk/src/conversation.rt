@@ -1,4 +1,4 @@
-ghost use Rattle.kom_session.specs.Known.{known};
+ghost use Rattle.kom_session.specs.Known.{known_by};
 ghost use Rattle.kom_session.specs.Kept.{IsDone, IsOn, MayFlush, MayAsk};
 ghost use Rattle.kom_talk.specs.Conversations.{IsKeptUp, IsServedLink};
 ghost use Rattle.kom_talk.specs.Going.{kept_on, talks_on};
@@ -25,11 +25,11 @@ impl Converse for Conversation {
 
     ghost talks = { λ desk link served. IsServedLink desk link served };
 
-    ghost hears = { λ talk. IsOn (known talk.machine).stage × MayFlush (known talk.machine) };
+    ghost hears = { λ talk. IsOn (known_by talk.machine).stage × MayFlush (known_by talk.machine) };
 
-    ghost heeds = { λ talk. IsOn (known talk.machine).stage × MayAsk (known talk.machine) };
+    ghost heeds = { λ talk. IsOn (known_by talk.machine).stage × MayAsk (known_by talk.machine) };
 
-    ghost done = { λ talk. IsDone (known talk.machine).stage };
+    ghost done = { λ talk. IsDone (known_by talk.machine).stage };
 
     ghost kept_on = { λ talk old new link passes kept. kept_on talk old new link passes kept };
 

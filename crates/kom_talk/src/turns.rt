@@ -1,7 +1,7 @@
 //! What a conversation does in a turn.
 ghost use Rattle.std.specs.Prelude.{◌<◌, ℕ, List, Option, length};
 ghost use Rattle.kom_links.specs.DeskCalls.{DeskView};
-ghost use Rattle.kom_session.specs.Known.{Seen, known, seen};
+ghost use Rattle.kom_session.specs.Known.{Seen, known_by, sight};
 ghost use Rattle.kom_session.specs.Kept.{IsKept, Goes, IsOn, MayRead};
 ghost use Rattle.kom_talk.specs.Conversations.{at};
 
@@ -26,8 +26,8 @@ impl Conversation {
         buffer: &mut [u8],
     )
         requires room { 0 < length buffer.old }
-        requires can { (start : Seen) × IsKept start (known self.old.machine)
-            (seen (K.view desk.old) (L.view link.old) (C.gave clock.old)) }
+        requires can { (start : Seen) × IsKept start (known_by self.old.machine)
+            (sight (K.view desk.old) (L.view link.old) (C.gave clock.old)) }
         ensures goes { Goes (at self.old (K.view desk.old) (L.view link.old) (C.gave clock.old))
             (at self.new (K.view desk.new) (L.view link.new) (C.gave clock.new)) }
         ensures on { K.goes_on desk.old desk.new }
@@ -46,8 +46,8 @@ impl Conversation {
         link: &L,
         clock: &mut C,
     )
-        requires can { (start : Seen) × IsKept start (known self.old.machine)
-            (seen (K.view desk.old) (L.view link.now) (C.gave clock.old)) }
+        requires can { (start : Seen) × IsKept start (known_by self.old.machine)
+            (sight (K.view desk.old) (L.view link.now) (C.gave clock.old)) }
         ensures goes { Goes (at self.old (K.view desk.old) (L.view link.now) (C.gave clock.old))
             (at self.new (K.view desk.new) (L.view link.now) (C.gave clock.new)) }
         ensures on { K.goes_on desk.old desk.new }
@@ -67,8 +67,8 @@ impl Conversation {
         link: &L,
         clock: &mut C,
     )
-        requires can { (start : Seen) × IsKept start (known self.old.machine)
-            (seen (K.view desk.old) (L.view link.now) (C.gave clock.old)) }
+        requires can { (start : Seen) × IsKept start (known_by self.old.machine)
+            (sight (K.view desk.old) (L.view link.now) (C.gave clock.old)) }
         ensures goes { Goes (at self.old (K.view desk.old) (L.view link.now) (C.gave clock.old))
             (at self.new (K.view desk.new) (L.view link.now) (C.gave clock.new)) }
         ensures on { K.goes_on desk.old desk.new }
@@ -89,8 +89,8 @@ impl Conversation {
         link: &mut L,
         clock: &mut C,
     )
-        requires can { (start : Seen) × IsKept start (known self.old.machine)
-            (seen (K.view desk.old) (L.view link.old) (C.gave clock.old)) }
+        requires can { (start : Seen) × IsKept start (known_by self.old.machine)
+            (sight (K.view desk.old) (L.view link.old) (C.gave clock.old)) }
         ensures goes { Goes (at self.old (K.view desk.old) (L.view link.old) (C.gave clock.old))
             (at self.new (K.view desk.new) (L.view link.new) (C.gave clock.new)) }
         ensures on { K.goes_on desk.old desk.new }
@@ -131,7 +131,7 @@ impl Conversation {
     /// Reads once. A read that does not fill the buffer took all that was there.
     fn read_once<L: Link>(&mut self, link: &mut L, buffer: &mut [u8])
         requires room { 0 < length buffer.old }
-        requires may { MayRead (known self.old.machine) }
+        requires may { MayRead (known_by self.old.machine) }
         ensures goes { (desk : DeskView) (gave : Option (List ℕ)) → Goes
             (at self.old desk (L.view link.old) gave) (at self.new desk (L.view link.new) gave) }
     {
@@ -151,7 +151,7 @@ impl Conversation {
 
     /// Writes once, if the link may take something.
     fn write_once<L: Link>(&mut self, link: &mut L)
-        requires on { IsOn (known self.old.machine).stage }
+        requires on { IsOn (known_by self.old.machine).stage }
         ensures goes { (desk : DeskView) (gave : Option (List ℕ)) → Goes
             (at self.old desk (L.view link.old) gave) (at self.new desk (L.view link.new) gave) }
     {

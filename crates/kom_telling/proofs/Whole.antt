@@ -18,11 +18,11 @@ use Rattle.kom_types.specs.tables.Persons.{number_of_person}
 use Rattle.kom_types.specs.tables.Texts.{number_of_text}
 use Rattle.kom_model.specs.Db.{Db, conference_of, person_of, text_of, created_by}
 use Rattle.kom_model.specs.Whole.{IsWhole}
-use Rattle.kom_snapshot.specs.Snap.{snap, effects_of, raised_of, raised, conference_effects, person_effects}
+use Rattle.kom_snapshot.specs.Snap.{snap, effects_of, raised_of, raise_to, conference_effects, person_effects}
 use Rattle.kom_snapshot.specs.Snap.{created_effects, membership_list}
 use Rattle.kom_snapshot.specs.Snapshot.{parts_of}
 use Rattle.kom_snapshot.proofs.replay.Tables.{own-rows}
-use Rattle.kom_telling.specs.Sections.{numbered, section_parts, all_sections, by_person}
+use Rattle.kom_telling.specs.Sections.{parts_at, section_parts, all_sections, by_person}
 use Rattle.kom_telling.specs.Sections.{of_conference, of_person, of_text}
 use Rattle.kom_telling.specs.declared.section.Section.TheVariants as section
 use Rattle.kom_telling.proofs.Members.{members-told}
@@ -85,7 +85,7 @@ module _ (db : Db) (whole : IsWhole db) where
   created-told : by_person section.Created db ≡ map Makes (flat_map (created_effects db) db.persons)
   unfolding created_by
   created-told =
-      numbers-told number_of_person (numbered section.Created db)
+      numbers-told number_of_person (parts_at section.Created db)
       (λ row. map Makes (created_effects db row)) db.persons whole.persons.rising
       (λ row is. singles (λ (pair : LocalText). effect.Created row.number pair.local pair.text) Makes
       (created_by db row.number))
@@ -107,12 +107,12 @@ module _ (db : Db) (whole : IsWhole db) where
 
   abbrev counter_sections : List (List Raised)
   counter_sections =
-      (raised counter.Conferences 0 db.next_conference ∷ raised counter.Texts 0 db.next_text ∷ [])
-      ∷ map (λ row. raised counter.Locals row.number row.next_local) db.conferences
-      ∷ map (λ row. raised counter.Created row.number row.next_created) db.persons
-      ∷ map (λ row. raised counter.TextItems row.number row.next_item) db.texts
-      ∷ map (λ row. raised counter.ConferenceItems row.number row.next_item) db.conferences
-      ∷ map (λ row. raised counter.Sessions row.number row.sessions) db.persons
+      (raise_to counter.Conferences 0 db.next_conference ∷ raise_to counter.Texts 0 db.next_text ∷ [])
+      ∷ map (λ row. raise_to counter.Locals row.number row.next_local) db.conferences
+      ∷ map (λ row. raise_to counter.Created row.number row.next_created) db.persons
+      ∷ map (λ row. raise_to counter.TextItems row.number row.next_item) db.texts
+      ∷ map (λ row. raise_to counter.ConferenceItems row.number row.next_item) db.conferences
+      ∷ map (λ row. raise_to counter.Sessions row.number row.sessions) db.persons
       ∷ []
 
   abbrev joined : {X : Type 0} → List (List X) → List X
@@ -149,22 +149,23 @@ module _ (db : Db) (whole : IsWhole db) where
       let memberships = members-told db whole in
       let marks = singles (λ row. effect.MarkSet row.person row.text row.kind) Makes db.marks in
       let items = singles (λ row. effect.AuxAdded row.on_text row.object row.item) Makes db.items in
-      let locals = conferences-by (λ row. Raises (raised counter.Locals row.number row.next_local) ∷ [])
-      ∙ singles (λ (row : ConferenceRow). raised counter.Locals row.number row.next_local) Raises db.conferences in
-      let created = persons-by (λ row. Raises (raised counter.Created row.number row.next_created) ∷ [])
-      ∙ singles (λ (row : PersonRow). raised counter.Created row.number row.next_created) Raises db.persons in
-      let text_items = texts-by (λ row. Raises (raised counter.TextItems row.number row.next_item) ∷ [])
-      ∙ singles (λ (row : TextRow). raised counter.TextItems row.number row.next_item) Raises db.texts in
-      let conference_items = conferences-by (λ row. Raises (raised counter.ConferenceItems row.number row.next_item) ∷
+      let locals = conferences-by (λ row. Raises (raise_to counter.Locals row.number row.next_local) ∷ [])
+      ∙ singles (λ (row : ConferenceRow). raise_to counter.Locals row.number row.next_local) Raises db.conferences in
+      let created = persons-by (λ row. Raises (raise_to counter.Created row.number row.next_created) ∷ [])
+      ∙ singles (λ (row : PersonRow). raise_to counter.Created row.number row.next_created) Raises db.persons in
+      let text_items = texts-by (λ row. Raises (raise_to counter.TextItems row.number row.next_item) ∷ [])
+      ∙ singles (λ (row : TextRow). raise_to counter.TextItems row.number row.next_item) Raises db.texts in
+      let conference_items = conferences-by (λ row. Raises (raise_to counter.ConferenceItems row.number row.next_item) ∷
       [])
-      ∙ singles (λ (row : ConferenceRow). raised counter.ConferenceItems row.number row.next_item) Raises
+      ∙ singles (λ (row : ConferenceRow). raise_to counter.ConferenceItems row.number row.next_item) Raises
       db.conferences in
-      let sessions = persons-by (λ row. Raises (raised counter.Sessions row.number row.sessions) ∷ [])
-      ∙ singles (λ (row : PersonRow). raised counter.Sessions row.number row.sessions) Raises db.persons in
+      let sessions = persons-by (λ row. Raises (raise_to counter.Sessions row.number row.sessions) ∷ [])
+      ∙ singles (λ (row : PersonRow). raise_to counter.Sessions row.number row.sessions) Raises db.persons in
       let numbers_told = created-told in
       λ i. conferences i ++ (persons i ++ (texts i ++ (recipients i ++ (links i ++ (numbers_told i
       ++ (memberships i ++ (marks i ++ (items i
-      ++ (Raises (raised counter.Conferences 0 db.next_conference) ∷ Raises (raised counter.Texts 0 db.next_text) ∷ []
+      ++ (Raises (raise_to counter.Conferences 0 db.next_conference) ∷ Raises (raise_to counter.Texts 0 db.next_text)
+      ∷ []
       ++ (locals i ++ (created i ++ (text_items i ++ (conference_items i ++ (sessions i ++ []))))))))))))))
 
   pub all-told : flat_map (section_parts db) all_sections ≡ parts_of (snap db)

@@ -16,7 +16,7 @@ use Rattle.kom_types.specs.tables.Persons.{number_of_person}
 use Rattle.kom_types.specs.tables.Texts.{number_of_text}
 use Rattle.kom_model.specs.Db.{Db, conference_of, person_of, text_of, membership_of, read_of}
 use Rattle.kom_model.specs.Db.{created_by}
-use Rattle.kom_snapshot.specs.Snap.{conference_effects, person_effects, raised}
+use Rattle.kom_snapshot.specs.Snap.{conference_effects, person_effects, raise_to}
 use Rattle.kom_telling.specs.declared.section.Joined.{Joined}
 use Rattle.kom_telling.specs.declared.section.Section.{Section}
 use Rattle.kom_telling.specs.declared.section.Section.TheVariants as section
@@ -32,26 +32,26 @@ abbrev pub of_text : (TextRow → List Part) → Db → ℕ → List Part
 of_text parts db number = elim (text_of db number) [ None ↦ [] | Some row ↦ parts row ]
 
 -- the parts of a section that one number finds
-abbrev pub numbered : Section → Db → ℕ → List Part
-numbered section.Conferences db number =
+abbrev pub parts_at : Section → Db → ℕ → List Part
+parts_at section.Conferences db number =
     of_conference (λ row. map Makes (conference_effects row)) db number
-numbered section.Persons db number = of_person (λ row. map Makes (person_effects row)) db number
-numbered section.Texts db number = of_text
+parts_at section.Persons db number = of_person (λ row. map Makes (person_effects row)) db number
+parts_at section.Texts db number = of_text
     (λ row. Makes (effect.TextAdded row.number row.author row.created row.body) ∷ []) db number
-numbered section.Created db number =
+parts_at section.Created db number =
     flat_map (λ pair. Makes (effect.Created number pair.local pair.text) ∷ [])
     (created_by db number)
-numbered section.NextLocals db number = of_conference
-    (λ row. Raises (raised counter.Locals row.number row.next_local) ∷ []) db number
-numbered section.NextCreated db number = of_person
-    (λ row. Raises (raised counter.Created row.number row.next_created) ∷ []) db number
-numbered section.NextTextItems db number = of_text
-    (λ row. Raises (raised counter.TextItems row.number row.next_item) ∷ []) db number
-numbered section.NextConferenceItems db number = of_conference
-    (λ row. Raises (raised counter.ConferenceItems row.number row.next_item) ∷ []) db number
-numbered section.Sessions db number = of_person
-    (λ row. Raises (raised counter.Sessions row.number row.sessions) ∷ []) db number
-numbered other db number = []
+parts_at section.NextLocals db number = of_conference
+    (λ row. Raises (raise_to counter.Locals row.number row.next_local) ∷ []) db number
+parts_at section.NextCreated db number = of_person
+    (λ row. Raises (raise_to counter.Created row.number row.next_created) ∷ []) db number
+parts_at section.NextTextItems db number = of_text
+    (λ row. Raises (raise_to counter.TextItems row.number row.next_item) ∷ []) db number
+parts_at section.NextConferenceItems db number = of_conference
+    (λ row. Raises (raise_to counter.ConferenceItems row.number row.next_item) ∷ []) db number
+parts_at section.Sessions db number = of_person
+    (λ row. Raises (raise_to counter.Sessions row.number row.sessions) ∷ []) db number
+parts_at other db number = []
 
 -- how many of some memberships are of the same person, at a lower position
 abbrev pub rank_among : List Placed → Placed → ℕ
@@ -90,13 +90,13 @@ member_parts db one =
 -- the parts of a section
 abbrev pub by_conference : Section → Db → List Part
 by_conference which db =
-    flat_map (numbered which db) (map number_of_conference db.conferences)
+    flat_map (parts_at which db) (map number_of_conference db.conferences)
 
 abbrev pub by_person : Section → Db → List Part
-by_person which db = flat_map (numbered which db) (map number_of_person db.persons)
+by_person which db = flat_map (parts_at which db) (map number_of_person db.persons)
 
 abbrev pub by_text : Section → Db → List Part
-by_text which db = flat_map (numbered which db) (map number_of_text db.texts)
+by_text which db = flat_map (parts_at which db) (map number_of_text db.texts)
 
 abbrev pub section_parts : Db → Section → List Part
 section_parts db section.Conferences = by_conference section.Conferences db
@@ -112,8 +112,8 @@ section_parts db section.Marks =
 section_parts db section.Items =
     flat_map (λ row. Makes (effect.AuxAdded row.on_text row.object row.item) ∷ []) db.items
 section_parts db section.NextNumbers =
-    Raises (raised counter.Conferences 0 db.next_conference)
-    ∷ Raises (raised counter.Texts 0 db.next_text) ∷ []
+    Raises (raise_to counter.Conferences 0 db.next_conference)
+    ∷ Raises (raise_to counter.Texts 0 db.next_text) ∷ []
 section_parts db section.NextLocals = by_conference section.NextLocals db
 section_parts db section.NextCreated = by_person section.NextCreated db
 section_parts db section.NextTextItems = by_text section.NextTextItems db

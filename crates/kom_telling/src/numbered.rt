@@ -4,8 +4,8 @@ ghost use Rattle.kom_types.specs.Parts.{Makes, Raises};
 ghost use Rattle.kom_model.specs.Db.{created_by};
 ghost use Rattle.kom_model.specs.Whole.{IsWhole};
 ghost use Rattle.kom_snapshot.specs.Listed.{IsListed};
-ghost use Rattle.kom_snapshot.specs.Snap.{raised};
-ghost use Rattle.kom_telling.specs.Sections.{numbered};
+ghost use Rattle.kom_snapshot.specs.Snap.{raise_to};
+ghost use Rattle.kom_telling.specs.Sections.{parts_at};
 ghost use Rattle.kom_telling.specs.Takes.{Keeps, Takes};
 
 use crate::on_conferences::tell_conference;
@@ -26,7 +26,7 @@ pub(crate) fn tell_each<S: PartSink>(
     requires whole { IsWhole rows.now.db }
     requires listed { IsListed rows.now.db }
     ensures told { OnOk result
-        (Takes S.took sink.old sink.new (flat_map (numbered section rows.now.db) numbers.now)) }
+        (Takes S.took sink.old sink.new (flat_map (parts_at section rows.now.db) numbers.now)) }
     ensures keeps { Keeps S.becomes sink.old sink.new }
 {
     for number in numbers {
@@ -45,7 +45,7 @@ fn tell_numbered<S: PartSink>(
     requires whole { IsWhole rows.now.db }
     requires listed { IsListed rows.now.db }
     ensures told { OnOk result
-        (Takes S.took sink.old sink.new (numbered section rows.now.db number)) }
+        (Takes S.took sink.old sink.new (parts_at section rows.now.db number)) }
     ensures keeps { Keeps S.becomes sink.old sink.new }
 {
     match section {
@@ -74,7 +74,7 @@ fn tell_conference_of<S: PartSink>(
 ) -> Result<(), S::Refusal>
     requires { IsWhole rows.now.db }
     ensures told { OnOk result
-        (Takes S.took sink.old sink.new (numbered Section.Conferences rows.now.db number)) }
+        (Takes S.took sink.old sink.new (parts_at Section.Conferences rows.now.db number)) }
     ensures keeps { Keeps S.becomes sink.old sink.new }
 {
     match rows.conference(number) {
@@ -90,7 +90,7 @@ fn tell_person_of<S: PartSink>(
 ) -> Result<(), S::Refusal>
     requires { IsListed rows.now.db }
     ensures told { OnOk result
-        (Takes S.took sink.old sink.new (numbered Section.Persons rows.now.db number)) }
+        (Takes S.took sink.old sink.new (parts_at Section.Persons rows.now.db number)) }
     ensures keeps { Keeps S.becomes sink.old sink.new }
 {
     match rows.person(number) {
@@ -102,7 +102,7 @@ fn tell_person_of<S: PartSink>(
 fn tell_text_of<S: PartSink>(rows: &StoredRows, number: u32, sink: &mut S) -> Result<(), S::Refusal>
     requires { IsWhole rows.now.db }
     ensures told { OnOk result
-        (Takes S.took sink.old sink.new (numbered Section.Texts rows.now.db number)) }
+        (Takes S.took sink.old sink.new (parts_at Section.Texts rows.now.db number)) }
     ensures keeps { Keeps S.becomes sink.old sink.new }
 {
     match rows.text(number) {
@@ -159,7 +159,7 @@ fn tell_next_local<S: PartSink>(
     sink: &mut S,
 ) -> Result<(), S::Refusal>
     ensures told { OnOk result
-        (Takes S.took sink.old sink.new (numbered Section.NextLocals rows.now.db number)) }
+        (Takes S.took sink.old sink.new (parts_at Section.NextLocals rows.now.db number)) }
     ensures keeps { Keeps S.becomes sink.old sink.new }
 {
     match rows.conference(number) {
@@ -174,7 +174,7 @@ fn tell_next_created<S: PartSink>(
     sink: &mut S,
 ) -> Result<(), S::Refusal>
     ensures told { OnOk result
-        (Takes S.took sink.old sink.new (numbered Section.NextCreated rows.now.db number)) }
+        (Takes S.took sink.old sink.new (parts_at Section.NextCreated rows.now.db number)) }
     ensures keeps { Keeps S.becomes sink.old sink.new }
 {
     match rows.person(number) {
@@ -189,7 +189,7 @@ fn tell_next_text_item<S: PartSink>(
     sink: &mut S,
 ) -> Result<(), S::Refusal>
     ensures told { OnOk result
-        (Takes S.took sink.old sink.new (numbered Section.NextTextItems rows.now.db number)) }
+        (Takes S.took sink.old sink.new (parts_at Section.NextTextItems rows.now.db number)) }
     ensures keeps { Keeps S.becomes sink.old sink.new }
 {
     match rows.text(number) {
@@ -204,7 +204,7 @@ fn tell_next_conference_item<S: PartSink>(
     sink: &mut S,
 ) -> Result<(), S::Refusal>
     ensures told { OnOk result
-        (Takes S.took sink.old sink.new (numbered Section.NextConferenceItems rows.now.db number)) }
+        (Takes S.took sink.old sink.new (parts_at Section.NextConferenceItems rows.now.db number)) }
     ensures keeps { Keeps S.becomes sink.old sink.new }
 {
     match rows.conference(number) {
@@ -224,7 +224,7 @@ fn tell_sessions<S: PartSink>(
     sink: &mut S,
 ) -> Result<(), S::Refusal>
     ensures told { OnOk result
-        (Takes S.took sink.old sink.new (numbered Section.Sessions rows.now.db number)) }
+        (Takes S.took sink.old sink.new (parts_at Section.Sessions rows.now.db number)) }
     ensures keeps { Keeps S.becomes sink.old sink.new }
 {
     match rows.person(number) {
@@ -241,7 +241,7 @@ pub(crate) fn put_raised<S: PartSink>(
     next: u32,
 ) -> Result<(), S::Refusal>
     ensures told { OnOk result
-        (Takes S.took sink.old sink.new (Raises (raised counter object next) ∷ [])) }
+        (Takes S.took sink.old sink.new (Raises (raise_to counter object next) ∷ [])) }
     ensures keeps { Keeps S.becomes sink.old sink.new }
 {
     sink.put(&PartRef::Raised(Raised {

@@ -2,7 +2,7 @@ ghost use Rattle.std.specs.Prelude.{[], ◌∷◌, flat_map, OnOk};
 ghost use Rattle.kom_types.specs.Parts.{Raises};
 ghost use Rattle.kom_model.specs.Whole.{IsWhole};
 ghost use Rattle.kom_snapshot.specs.Listed.{IsListed};
-ghost use Rattle.kom_snapshot.specs.Snap.{raised};
+ghost use Rattle.kom_snapshot.specs.Snap.{raise_to};
 ghost use Rattle.kom_telling.specs.Keys.{AreKeys};
 ghost use Rattle.kom_telling.specs.Sections.{section_parts};
 ghost use Rattle.kom_telling.specs.Takes.{Keeps, Takes};
@@ -74,8 +74,8 @@ fn tell_section<S: PartSink>(
 #[tactic(auto, unfolding(kom_model::specs::Db::next_text_of))]
 fn tell_next_numbers<S: PartSink>(rows: &StoredRows, sink: &mut S) -> Result<(), S::Refusal>
     ensures told { OnOk result
-        (Takes S.took sink.old sink.new (Raises (raised RaisedCounter.Conferences 0
-        rows.now.db.next_conference) ∷ Raises (raised RaisedCounter.Texts 0
+        (Takes S.took sink.old sink.new (Raises (raise_to RaisedCounter.Conferences 0
+        rows.now.db.next_conference) ∷ Raises (raise_to RaisedCounter.Texts 0
         rows.now.db.next_text) ∷ [])) }
     ensures keeps { Keeps S.becomes sink.old sink.new }
 {

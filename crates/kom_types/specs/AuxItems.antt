@@ -214,6 +214,6 @@ with_inherited items item = elim (kind_of item.tag) [
 
 -- The items of a new text, beside those that it was given, with those that it inherits from one
 -- text that it comments.
-unfoldable pub inherited : List AuxRow → List AuxRow → List AuxRow
-inherited items [] = items
-inherited items (item ∷ parent) = inherited (with_inherited items item) parent
+unfoldable pub inherit : List AuxRow → List AuxRow → List AuxRow
+inherit items [] = items
+inherit items (item ∷ parent) = inherit (with_inherited items item) parent

@@ -79,9 +79,9 @@ may_follow [] = true
 may_follow (byte ∷ bytes) = is_blank byte || byte == 10
 
 -- a line ends with its line feed
-abbrev pub ended : List ℕ → Form (List Token)
-ended [] = Whole []
-ended (byte ∷ bytes) = Unfit
+abbrev pub end_of_line : List ℕ → Form (List Token)
+end_of_line [] = Whole []
+end_of_line (byte ∷ bytes) = Unfit
 
 -- the tokens are these, and then those
 abbrev pub with_token : Token → Form (List Token) → Form (List Token)
@@ -95,7 +95,7 @@ tokens_at side zero bytes = Unfit
 tokens_at side (suc most) bytes = elim (drop_while is_blank bytes) [
   | [] ↦ Prefix
   | byte ∷ tail ↦ elim (byte == 10) [
-    | true ↦ ended tail
+    | true ↦ end_of_line tail
     | false ↦ elim (token_at side byte tail) [
       | Prefix ↦ Prefix
       | Whole cut ↦ elim (may_follow cut.tail) [

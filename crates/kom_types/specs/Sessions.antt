@@ -76,8 +76,8 @@ with_waiting item entry session =
 
 -- An item is queued by the entry at this place, unless the session is overrun; one that no longer
 -- fits makes it so.
-abbrev pub queued : Limits → ℕ → Item → Session → Session
-queued limits entry item session =
+abbrev pub queue : Limits → ℕ → Item → Session → Session
+queue limits entry item session =
     if session.overrun then session
     else if fits limits session.waiting item then with_waiting item entry session
     else record session { overrun = true }
@@ -92,8 +92,8 @@ drained_count stable waiting =
     length (take most_drained (take_while (λ one. nat_lt one.entry stable) waiting))
 
 -- what a drain leaves
-abbrev pub drained : ℕ → Session → Session
-drained stable session =
+abbrev pub after_drain : ℕ → Session → Session
+after_drain stable session =
     record session { waiting = drop (drained_count stable session.waiting) session.waiting }
 
 -- with the flag invisible, the highest, on or off
@@ -155,5 +155,5 @@ changed_seat (change.Active session) moment seat =
 changed_seat (change.Ended session) moment seat = record seat { ended = true }
 changed_seat change.Stop moment seat = seat
 
-abbrev pub changed : SessionChange → ℕ → Session → Session
-changed what moment session = record session { seat = changed_seat what moment session.seat }
+abbrev pub after_change : SessionChange → ℕ → Session → Session
+after_change what moment session = record session { seat = changed_seat what moment session.seat }

@@ -11,7 +11,7 @@ use Rattle.std.proofs.lemmas.List.Elements.{filter-append}
 use Rattle.std.proofs.lemmas.Bool.{lt-ltb, le-ltb, le-leb, lt-leb, eq-eqb, ne_eqb, cases_lt}
 use denote.RawPtr.{Ptr}
 use Rattle.map_chain.specs.Pairs.{Pair, AllBelow, AllFrom, IsRising, IsPlace, highest, text_of, without, from_on, below}
-use Rattle.map_chain.specs.Blocks.{Placed, pairs_of, AllFilled, IsSought}
+use Rattle.map_chain.specs.Blocks.{PlacedBlocks, pairs_of, AllFilled, IsSought}
 use Rattle.map_chain.proofs.Linking.{one_block}
 use Rattle.map_chain.proofs.Lists.{AllFrom-weaken}
 use Rattle.map_chain.proofs.Seeking.{AllBelow-append, AllFrom-append, rising-right, rising_after, pairs-cut}
@@ -133,7 +133,7 @@ drop-get (p ∷ ps) zero q e = let at : p ≡ q = cc in ap (λ (r : Pair). r ∷
 drop-get (p ∷ ps) (suc k) q e = drop-get ps k q e
 
 -- the cut at the place that a search finds
-pub cut_at : (n : ℕ) (bs : Placed) (i : ℕ) (p : Ptr) (s : IsSought n bs i p) (k : ℕ) → IsPlace n s.pairs k
+pub cut_at : (n : ℕ) (bs : PlacedBlocks) (i : ℕ) (p : Ptr) (s : IsSought n bs i p) (k : ℕ) → IsPlace n s.pairs k
     → IsRising (pairs_of bs) → AllFilled bs
     → Cut n (pairs_of bs) (pairs_of (take i bs) ++ take k s.pairs) (drop k s.pairs ++ pairs_of (drop (suc i) bs))
 cut_at n bs i p s k place r f =
@@ -153,7 +153,8 @@ cut_at n bs i p s k place r f =
     }
 
 -- the same, with the pair at the place
-pub cut_pair : (n : ℕ) (bs : Placed) (i : ℕ) (p : Ptr) (s : IsSought n bs i p) (k : ℕ) (q : Pair) → IsPlace n s.pairs k
+pub cut_pair : (n : ℕ) (bs : PlacedBlocks) (i : ℕ) (p : Ptr) (s : IsSought n bs i p) (k : ℕ) (q : Pair) →
+    IsPlace n s.pairs k
     → slice_get s.pairs k ≡ Some q → IsRising (pairs_of bs) → AllFilled bs
     → Cut n (pairs_of bs) (pairs_of (take i bs) ++ take k s.pairs)
     (q ∷ (drop (suc k) s.pairs ++ pairs_of (drop (suc i) bs)))
@@ -162,17 +163,17 @@ cut_pair n bs i p s k q place e r f =
     (l ++ pairs_of (drop (suc i) bs))) (drop-get s.pairs k q e) (cut_at n bs i p s k place r f)
 
 -- what the block sought reaches, by any name
-pub reached_by : (n : ℕ) (bs : Placed) (i : ℕ) (p : Ptr) (ps : List Pair) → IsSought n bs i p
+pub reached_by : (n : ℕ) (bs : PlacedBlocks) (i : ℕ) (p : Ptr) (ps : List Pair) → IsSought n bs i p
     → slice_get bs i ≡ Some (p, ps) → n ≤ highest ps
 reached_by n bs i p ps s e = subst (λ (l : List Pair). n ≤ highest l) (one_block bs i p p s.pairs ps s.is e).1 s.reached
 
-pub within_block : (n : ℕ) (bs : Placed) (i : ℕ) (p : Ptr) (ps : List Pair) (k : ℕ) → IsSought n bs i p
+pub within_block : (n : ℕ) (bs : PlacedBlocks) (i : ℕ) (p : Ptr) (ps : List Pair) (k : ℕ) → IsSought n bs i p
     → slice_get bs i ≡ Some (p, ps) → IsPlace n ps k → AllFilled bs → k < length ps
 within_block n bs i p ps k s e place f = place_within n ps k place (reached_by n bs i p ps s e)
     (filled_at bs i p ps f e).0
 
 -- the cut at the pair that a search finds, by the names of the code
-pub found_cut : (n : ℕ) (bs : Placed) (i : ℕ) (p : Ptr) (ps : List Pair) (k : ℕ) (q : Pair) → IsSought n bs i p
+pub found_cut : (n : ℕ) (bs : PlacedBlocks) (i : ℕ) (p : Ptr) (ps : List Pair) (k : ℕ) (q : Pair) → IsSought n bs i p
     → slice_get bs i ≡ Some (p, ps) → IsPlace n ps k → slice_get ps k ≡ Some q → IsRising (pairs_of bs)
     → AllFilled bs → Cut n (pairs_of bs) (pairs_of (take i bs) ++ take k ps)
     (q ∷ (drop (suc k) ps ++ pairs_of (drop (suc i) bs)))
@@ -185,7 +186,7 @@ found_cut n bs i p ps k q s e place f r filled =
     }) k q place f r filled
 
 -- the same, at any place
-pub place_cut : (n : ℕ) (bs : Placed) (i : ℕ) (p : Ptr) (ps : List Pair) (k : ℕ) → IsSought n bs i p
+pub place_cut : (n : ℕ) (bs : PlacedBlocks) (i : ℕ) (p : Ptr) (ps : List Pair) (k : ℕ) → IsSought n bs i p
     → slice_get bs i ≡ Some (p, ps) → IsPlace n ps k → IsRising (pairs_of bs)
     → AllFilled bs → Cut n (pairs_of bs) (pairs_of (take i bs) ++ take k ps) (drop k ps ++ pairs_of (drop (suc i) bs))
 place_cut n bs i p ps k s e place r filled =

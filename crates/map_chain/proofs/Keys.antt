@@ -10,7 +10,7 @@ use Rattle.std.specs.List.{remove}
 use denote.RawPtr.{Ptr}
 use Rattle.map_chain.specs.Pairs.{Pair, AllBelow, AllFrom, highest}
 use Rattle.map_chain.specs.Edit.{edit}
-use Rattle.map_chain.specs.Blocks.{Placed, pairs_of, AllFilled}
+use Rattle.map_chain.specs.Blocks.{PlacedBlocks, pairs_of, AllFilled}
 use Rattle.map_chain.specs.Keys.{AreAbove, AreKeysOf, IsNearest}
 use Rattle.map_chain.proofs.Lists.{AllFrom-weaken}
 use Rattle.map_chain.proofs.Seeking.{AllBelow-append, AllFrom-append}
@@ -74,14 +74,14 @@ above-remove [] ps (suc i) a = tt
 above-remove (k ∷ ks) ps zero a = a.1
 above-remove (k ∷ ks) ps (suc i) a = (a.0, above-remove ks ps i a.1)
 
-pub keys_length : (ks : List ℕ) (bs : Placed) → AreKeysOf ks bs → length ks ≡ length bs
+pub keys_length : (ks : List ℕ) (bs : PlacedBlocks) → AreKeysOf ks bs → length ks ≡ length bs
 keys_length [] [] a = refl
 keys_length [] (b ∷ bs) a = absurd a
 keys_length (k ∷ ks) [] a = absurd a
 keys_length (k ∷ ks) (b ∷ bs) a = ap suc (keys_length ks bs a.2)
 
 -- the pairs before a block are below its key
-keys_above : (ks : List ℕ) (bs : Placed) (i : ℕ) → AreKeysOf ks bs → i < length ks
+keys_above : (ks : List ℕ) (bs : PlacedBlocks) (i : ℕ) → AreKeysOf ks bs → i < length ks
     → AllBelow (get_or ks i 0) (pairs_of (take i bs))
 keys_above [] bs i a h = absurd (omega arith)
 keys_above (k ∷ ks) [] i a h = absurd a
@@ -90,7 +90,7 @@ keys_above (k ∷ ks) (b ∷ bs) (suc i) a h =
     AllBelow-append (get_or ks i 0) b.1 (pairs_of (take i bs)) (above_at ks b.1 i a.1 (omega arith))
     (keys_above ks bs i a.2 (omega arith))
 
-pub before_nearest : (n : ℕ) (ks : List ℕ) (bs : Placed) (i : ℕ) → AreKeysOf ks bs → IsNearest n ks i
+pub before_nearest : (n : ℕ) (ks : List ℕ) (bs : PlacedBlocks) (i : ℕ) → AreKeysOf ks bs → IsNearest n ks i
     → AllBelow n (pairs_of (take i bs))
 before_nearest n ks bs zero a h = tt
 before_nearest n ks bs (suc i) a h =
@@ -98,7 +98,7 @@ before_nearest n ks bs (suc i) a h =
     (keys_above ks bs (suc i) a h.within)
 
 -- the pairs of a block are not below its key
-keys_from : (ks : List ℕ) (bs : Placed) (i : ℕ) (p : Ptr) (ps : List Pair) → AreKeysOf ks bs
+keys_from : (ks : List ℕ) (bs : PlacedBlocks) (i : ℕ) (p : Ptr) (ps : List Pair) → AreKeysOf ks bs
     → slice_get bs i ≡ Some (p, ps) → AllFrom (get_or ks i 0) ps
 keys_from [] [] i p ps a e = cc
 keys_from [] (b ∷ bs) i p ps a e = absurd a
@@ -108,12 +108,12 @@ keys_from (k ∷ ks) (b ∷ bs) zero p ps a e =
 keys_from (k ∷ ks) (b ∷ bs) (suc i) p ps a e = keys_from ks bs i p ps a.2 e
 
 -- a block whose key has passed n reaches it
-pub passed_reaches : (n : ℕ) (ks : List ℕ) (bs : Placed) (i : ℕ) (p : Ptr) (ps : List Pair) → AreKeysOf ks bs
+pub passed_reaches : (n : ℕ) (ks : List ℕ) (bs : PlacedBlocks) (i : ℕ) (p : Ptr) (ps : List Pair) → AreKeysOf ks bs
     → slice_get bs i ≡ Some (p, ps) → 0 < length ps → n < get_or ks i 0 → n ≤ highest ps
 passed_reaches n ks bs i p ps a e some h =
     let top = from_highest (get_or ks i 0) ps some (keys_from ks bs i p ps a e) in omega arith
 
-pub keys-begin : (ks : List ℕ) (bs : Placed) (p : Ptr) (q : Pair) (j : ℕ) → j ≡ length bs → AreKeysOf ks bs
+pub keys-begin : (ks : List ℕ) (bs : PlacedBlocks) (p : Ptr) (q : Pair) (j : ℕ) → j ≡ length bs → AreKeysOf ks bs
     → AllBelow q.0 (pairs_of bs) → AreKeysOf (ks ++ q.0 ∷ []) (edit j (λ ps. ps ++ q ∷ []) (bs ++ (p, []) ∷ []))
 keys-begin [] [] p q zero m a h = ((omega arith, tt), tt, tt)
 keys-begin [] [] p q (suc j) m a h = absurd (omega arith)
@@ -126,7 +126,8 @@ keys-begin (k ∷ ks) (b ∷ bs) p q (suc j) m a h = (
   keys-begin ks bs p q j (omega arith) a.2 (AllBelow-right q.0 b.1 (pairs_of bs) h),
 )
 
-pub keys-push : (ks : List ℕ) (bs : Placed) (j : ℕ) (q : Pair) → suc j ≡ length bs → AllFilled bs → AreKeysOf ks bs
+pub keys-push : (ks : List ℕ) (bs : PlacedBlocks) (j : ℕ) (q : Pair) → suc j ≡ length bs → AllFilled bs →
+    AreKeysOf ks bs
     → AllBelow q.0 (pairs_of bs) → AreKeysOf ks (edit j (λ ps. ps ++ q ∷ []) bs)
 keys-push [] [] j q m f a h = absurd (omega arith)
 keys-push [] (b ∷ bs) j q m f a h = absurd a
@@ -140,14 +141,15 @@ keys-push (k ∷ ks) (b ∷ c ∷ bs) zero q m f a h = absurd (omega arith)
 keys-push (k ∷ ks) (b ∷ c ∷ bs) (suc j) q m f a h =
     (a.0, a.1, keys-push ks (c ∷ bs) j q (omega arith) f.2 a.2 (AllBelow-right q.0 b.1 (pairs_of (c ∷ bs)) h))
 
-pub keys-pair : (ks : List ℕ) (bs : Placed) (i k : ℕ) → AreKeysOf ks bs → AreKeysOf ks (edit i (λ ps. remove ps k) bs)
+pub keys-pair : (ks : List ℕ) (bs : PlacedBlocks) (i k : ℕ) → AreKeysOf ks bs →
+    AreKeysOf ks (edit i (λ ps. remove ps k) bs)
 keys-pair [] [] i k a = tt
 keys-pair [] (b ∷ bs) i k a = absurd a
 keys-pair (l ∷ ks) [] i k a = absurd a
 keys-pair (l ∷ ks) (b ∷ bs) zero k a = (AllFrom-remove l b.1 k a.0, above-pair ks b.1 k a.1, a.2)
 keys-pair (l ∷ ks) (b ∷ bs) (suc i) k a = (a.0, a.1, keys-pair ks bs i k a.2)
 
-pub keys-remove : (ks : List ℕ) (bs : Placed) (i : ℕ) → AreKeysOf ks bs → AreKeysOf (remove ks i) (remove bs i)
+pub keys-remove : (ks : List ℕ) (bs : PlacedBlocks) (i : ℕ) → AreKeysOf ks bs → AreKeysOf (remove ks i) (remove bs i)
 keys-remove [] [] zero a = tt
 keys-remove [] [] (suc i) a = tt
 keys-remove [] (b ∷ bs) i a = absurd a
@@ -155,7 +157,8 @@ keys-remove (k ∷ ks) [] i a = absurd a
 keys-remove (k ∷ ks) (b ∷ bs) zero a = a.2
 keys-remove (k ∷ ks) (b ∷ bs) (suc i) a = (a.0, above-remove ks b.1 i a.1, keys-remove ks bs i a.2)
 
-pub keys-join : (ks : List ℕ) (bs : Placed) (i : ℕ) (q : Ptr) (qs : List Pair) → slice_get bs (suc i) ≡ Some (q, qs)
+pub keys-join : (ks : List ℕ) (bs : PlacedBlocks) (i : ℕ) (q : Ptr) (qs : List Pair) →
+    slice_get bs (suc i) ≡ Some (q, qs)
     → AllFilled bs → AreKeysOf ks bs → AreKeysOf (remove ks (suc i)) (edit i (λ ps. ps ++ qs) (remove bs (suc i)))
 keys-join [] [] i q qs e f a = cc
 keys-join [] (b ∷ bs) i q qs e f a = absurd a

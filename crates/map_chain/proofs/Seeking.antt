@@ -6,24 +6,24 @@ use Rattle.std.proofs.Common.{◌≡◌, ℕ, zero, suc, ◌<◌, ◌≤◌, Lis
 use Rattle.std.proofs.Common.{refl, sym, ap, subst, ◌∙◌, arith, append_assoc, append-nil}
 use denote.RawPtr.{Ptr}
 use Rattle.map_chain.specs.Pairs.{Pair, AllBelow, AllFrom, IsRising, highest}
-use Rattle.map_chain.specs.Blocks.{Placed, pairs_of, AllFilled}
+use Rattle.map_chain.specs.Blocks.{PlacedBlocks, pairs_of, AllFilled}
 use Rattle.map_chain.proofs.Lists.{AllFrom-weaken}
 
-pub pairs-cut : (bs : Placed) (i : ℕ) (p : Ptr) (ps : List Pair) → slice_get bs i ≡ Some (p, ps)
+pub pairs-cut : (bs : PlacedBlocks) (i : ℕ) (p : Ptr) (ps : List Pair) → slice_get bs i ≡ Some (p, ps)
     → pairs_of bs ≡ pairs_of (take i bs) ++ (ps ++ pairs_of (drop (suc i) bs))
 pairs-cut [] i p ps e = cc
 pairs-cut (b ∷ bs) zero p ps e = let at : b ≡ (p, ps) = cc in ap (λ (c : Ptr × List Pair). c.1 ++ pairs_of bs) at
 pairs-cut (b ∷ bs) (suc i) p ps e = ap (λ (l : List Pair). b.1 ++ l) (pairs-cut bs i p ps e)
     ∙ sym (append_assoc b.1 (pairs_of (take i bs)) (ps ++ pairs_of (drop (suc i) bs)))
 
-pub pairs-take : (bs : Placed) (i : ℕ) (p : Ptr) (ps : List Pair) → slice_get bs i ≡ Some (p, ps)
+pub pairs-take : (bs : PlacedBlocks) (i : ℕ) (p : Ptr) (ps : List Pair) → slice_get bs i ≡ Some (p, ps)
     → pairs_of (take (suc i) bs) ≡ pairs_of (take i bs) ++ ps
 pairs-take [] i p ps e = cc
 pairs-take (b ∷ bs) zero p ps e = let at : b ≡ (p, ps) = cc in append-nil b.1 ∙ ap (λ (c : Ptr × List Pair). c.1) at
 pairs-take (b ∷ bs) (suc i) p ps e = ap (λ (l : List Pair). b.1 ++ l) (pairs-take bs i p ps e)
     ∙ sym (append_assoc b.1 (pairs_of (take i bs)) ps)
 
-pub pairs-append : (bs cs : Placed) → pairs_of (bs ++ cs) ≡ pairs_of bs ++ pairs_of cs
+pub pairs-append : (bs cs : PlacedBlocks) → pairs_of (bs ++ cs) ≡ pairs_of bs ++ pairs_of cs
 pairs-append [] cs = refl
 pairs-append (b ∷ bs) cs = ap (λ (l : List Pair). b.1 ++ l) (pairs-append bs cs)
     ∙ sym (append_assoc b.1 (pairs_of bs) (pairs_of cs))
@@ -73,14 +73,14 @@ rising_after n [] ys r some a = absurd (omega arith)
 rising_after n (x ∷ xs) ys r some a =
     let low : n ≤ x.0 = a.0 in AllFrom-weaken n (suc x.0) ys (omega arith) (AllFrom-right (suc x.0) xs ys r.0)
 
-pub filled_at : (bs : Placed) (i : ℕ) (p : Ptr) (ps : List Pair) → AllFilled bs → slice_get bs i ≡ Some (p, ps)
+pub filled_at : (bs : PlacedBlocks) (i : ℕ) (p : Ptr) (ps : List Pair) → AllFilled bs → slice_get bs i ≡ Some (p, ps)
     → (0 < length ps) × (length ps ≤ 64)
 filled_at [] i p ps f e = cc
 filled_at (b ∷ bs) zero p ps f e =
     let at : b ≡ (p, ps) = cc in subst (λ (c : Ptr × List Pair). (0 < length c.1) × (length c.1 ≤ 64)) at (f.0, f.1)
 filled_at (b ∷ bs) (suc i) p ps f e = filled_at bs i p ps f.2 e
 
-module _ (n : ℕ) (bs : Placed) (i : ℕ) (p : Ptr) (ps : List Pair) (at : slice_get bs i ≡ Some (p, ps))
+module _ (n : ℕ) (bs : PlacedBlocks) (i : ℕ) (p : Ptr) (ps : List Pair) (at : slice_get bs i ≡ Some (p, ps))
     (rising : IsRising (pairs_of bs)) where
   pub block_rising : IsRising ps
   block_rising = rising-left ps (pairs_of (drop (suc i) bs))

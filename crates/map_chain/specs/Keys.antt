@@ -1,7 +1,7 @@
 -- The keys of the blocks of a chain, by which a block is found.
 use Rattle.std.specs.Prelude.{ℕ, suc, ◌+◌, ◌<◌, ◌≤◌, List, [], ◌∷◌, length, slice_index}
 use Rattle.map_chain.specs.Pairs.{Pair, AllBelow, AllFrom}
-use Rattle.map_chain.specs.Blocks.{Placed}
+use Rattle.map_chain.specs.Blocks.{PlacedBlocks}
 
 -- each key is above all locals
 abbrev pub AreAbove : List ℕ → List Pair → Type 0
@@ -9,7 +9,7 @@ AreAbove [] ps = Unit {0}
 AreAbove (k ∷ ks) ps = AllBelow k ps × AreAbove ks ps
 
 -- each key is at most every local in its block, and above every local in the blocks before it
-abbrev pub AreKeysOf : List ℕ → Placed → Type 0
+abbrev pub AreKeysOf : List ℕ → PlacedBlocks → Type 0
 AreKeysOf [] [] = Unit {0}
 AreKeysOf [] (b ∷ bs) = ⊥
 AreKeysOf (k ∷ ks) [] = ⊥

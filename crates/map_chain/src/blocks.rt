@@ -6,7 +6,7 @@ ghost use Rattle.map_chain.specs.Edit.{edit};
 ghost use Rattle.map_chain.specs.Links.{with_next, with_previous};
 ghost use Rattle.map_chain.specs.Nodes.{IsAt};
 ghost use Rattle.map_chain.specs.Pairs.{Pair, AllBelow, IsRising};
-ghost use Rattle.map_chain.specs.Blocks.{Placed, pairs_of, with_last, room_in, AllFilled};
+ghost use Rattle.map_chain.specs.Blocks.{PlacedBlocks, pairs_of, with_last, room_in, AllFilled};
 ghost use Rattle.map_chain.specs.Blocks.{HasRoomAt, IsPairOf};
 
 use crate::block::{Block, ROOM};
@@ -26,9 +26,9 @@ pub(crate) struct Blocks {
 impl Model for Blocks {
     ghost use Rattle.std.specs.Coded.{coded_list, coded×, coded_ℕ};
     ghost use denote.RawPtr.{coded_ptr};
-    ghost use Rattle.map_chain.specs.Blocks.{Placed};
+    ghost use Rattle.map_chain.specs.Blocks.{PlacedBlocks};
 
-    ghost Value = { Placed };
+    ghost Value = { PlacedBlocks };
 
     ghost coded = { coded_list (coded× coded_ptr (coded_list (coded× coded_ℕ coded_ℕ))) };
 

@@ -2,12 +2,12 @@
 use Rattle.std.proofs.Common.{◌≡◌, ℕ, zero, suc, ◌+◌, ◌≤◌, Bool, true, false, cond, List, [], ◌∷◌, length, map, filter}
 use Rattle.std.proofs.Common.{Option, Some, None, refl, sym, ◌∙◌, ap, arith}
 use Rattle.std.proofs.lemmas.Option.{none-some, same_Some}
-use Rattle.row_slots.specs.Slots.{rows_in, places_from, places_of, replaced}
+use Rattle.row_slots.specs.Slots.{rows_in, places_from, places_of, replace_row}
 use Rattle.row_slots.proofs.Places.{row_at}
 
 module _ {R : Type 0} (test : R → Bool) where
   places_from-replaced : (from place : ℕ) (slots : List (Option R)) (old row : R) → row_at slots place ≡ Some old →
-      test row ≡ test old → places_from test from (replaced place row slots) ≡ places_from test from slots
+      test row ≡ test old → places_from test from (replace_row place row slots) ≡ places_from test from slots
   places_from-replaced from place [] old row there alike = refl
   places_from-replaced from zero (None ∷ slots) old row there alike = refl
   places_from-replaced from zero (Some first ∷ slots) old row there alike =
@@ -21,7 +21,7 @@ module _ {R : Type 0} (test : R → Bool) where
 
   -- where the test tells the two rows not apart, all places are the same
   pub places_of-replaced : (place : ℕ) (slots : List (Option R)) (old row : R) → row_at slots place ≡ Some old →
-      test row ≡ test old → places_of test (replaced place row slots) ≡ places_of test slots
+      test row ≡ test old → places_of test (replace_row place row slots) ≡ places_of test slots
   places_of-replaced place slots old row there alike = places_from-replaced 0 place slots old row there alike
 
   none_replaced : (row : R) (rows : List R) → length (filter test rows) ≡ 0 →
@@ -54,7 +54,7 @@ module _ {R : Type 0} (test : R → Bool) where
   -- the one row that passes the test is another one then
   pub rows_in-replaced : (place : ℕ) (slots : List (Option R)) (old row : R) → row_at slots place ≡ Some old →
       test old ≡ true → length (filter test (rows_in slots)) ≤ 1 →
-      rows_in (replaced place row slots) ≡ map (λ other. cond (test other) row other) (rows_in slots)
+      rows_in (replace_row place row slots) ≡ map (λ other. cond (test other) row other) (rows_in slots)
   rows_in-replaced place [] old row there passes once = absurd (none-some old there)
   rows_in-replaced zero (None ∷ slots) old row there passes once = absurd (none-some old there)
   rows_in-replaced zero (Some first ∷ slots) old row there passes once =
@@ -66,7 +66,7 @@ module _ {R : Type 0} (test : R → Bool) where
   rows_in-replaced (suc place) (Some first ∷ slots) old row there passes once =
       elim (test first) as
       (λ b. length (cond b (first ∷ filter test (rows_in slots)) (filter test (rows_in slots))) ≤ 1 →
-      first ∷ rows_in (replaced place row slots)
+      first ∷ rows_in (replace_row place row slots)
       ≡ cond b row first ∷ map (λ other. cond (test other) row other) (rows_in slots)) [
         | true ↦ λ once. absurd (omega (arith, some_passes place slots old there passes))
         | false ↦ λ once. ap (λ rest. first ∷ rest) (rows_in-replaced place slots old row there passes once)

@@ -5,7 +5,7 @@ use Rattle.std.specs.Set.{remove_key, is_member}
 use Rattle.std.proofs.lemmas.Bool.{and_parts}
 use Rattle.kom_types.specs.declared.texts.MarkRow.{MarkRow}
 use Rattle.kom_types.specs.tables.Texts.{is_mark, mark_of, with_mark, without_mark}
-use Rattle.row_slots.specs.Slots.{rows_in, emptied, replaced}
+use Rattle.row_slots.specs.Slots.{rows_in, empty_slot, replace_row}
 use Rattle.row_slots.proofs.Places.{row_at, places_of-push, places_of-emptied, is_member-places_of, rows_in-emptied}
 use Rattle.row_slots.proofs.Rows.{rows_in-push}
 use Rattle.marks.specs.Keeping.{is_of, is_on, IsKept}
@@ -72,7 +72,7 @@ module _ (slots : List (Option MarkRow)) (of_person on_text : ℕ → List ℕ) 
       ∙ is_member-places_of (is_on text) place slots old there
       (and_parts (eqb old.person person) (eqb old.text text) is).1
 
-  pub rows_left : rows_in (emptied place slots) ≡ without_mark person text (rows_in slots)
+  pub rows_left : rows_in (empty_slot place slots) ≡ without_mark person text (rows_in slots)
   rows_left = rows_in-emptied (is_mark person text) place slots old there is (kept.once person text)
 
   module _ (new_of new_on : ℕ → List ℕ)
@@ -80,7 +80,7 @@ module _ (slots : List (Option MarkRow)) (of_person on_text : ℕ → List ℕ) 
       new_of other ≡ cond (eqb person other) (remove_key (nat_eq place) (of_person other)) (of_person other))
       (takes_on : (other : ℕ) →
       new_on other ≡ cond (eqb text other) (remove_key (nat_eq place) (on_text other)) (on_text other)) where
-    pub IsKept-left : IsKept (emptied place slots) new_of new_on
+    pub IsKept-left : IsKept (empty_slot place slots) new_of new_on
     IsKept-left =
         let parts = mark_parts person text old is in
         let same_person = sym parts.0 in
@@ -107,7 +107,7 @@ module _ (slots : List (Option MarkRow)) (of_person on_text : ℕ → List ℕ) 
 module _ (slots : List (Option MarkRow)) (of_person on_text : ℕ → List ℕ) (kept : IsKept slots of_person on_text)
     (row : MarkRow) (place : ℕ) (old : MarkRow) (there : row_at slots place ≡ Some old)
     (is : is_mark row.person row.text old ≡ true) where
-  pub rows_changed : rows_in (replaced place row slots)
+  pub rows_changed : rows_in (replace_row place row slots)
       ≡ map (λ other. cond (is_mark row.person row.text other) row other) (rows_in slots)
   rows_changed =
       rows_in-replaced (is_mark row.person row.text) place slots old row there is (kept.once row.person row.text)
@@ -125,7 +125,7 @@ module _ (slots : List (Option MarkRow)) (of_person on_text : ℕ → List ℕ) 
         | false ↦ λ unlike. refl
       ] refl
 
-  pub IsKept-changed : IsKept (replaced place row slots) of_person on_text
+  pub IsKept-changed : IsKept (replace_row place row slots) of_person on_text
   IsKept-changed =
       let parts = mark_parts row.person row.text old is in
       record {

@@ -93,7 +93,7 @@ pub(crate) fn unmarked(
 ) -> Result<Vec<ReadRange>, Memory>
     requires { local ≢ 0 }
     ensures { IfOk result (λ ranges. ranges.items
-        ≡ Changed.unmarked local (Calls.had_read asked.now conference)) }
+        ≡ Changed.mark_unread local (Calls.had_read asked.now conference)) }
 {
     match asked.rows().read(asked.caller().person, conference) {
         Some(read) => read.unmarked(local),

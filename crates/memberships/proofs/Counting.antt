@@ -9,7 +9,7 @@ use Rattle.std.proofs.lemmas.Map.Keys.{IsDistinct-head, IsDistinct-tail}
 use Rattle.std.proofs.lemmas.Option.{none-some, same_Some}
 use Rattle.kom_types.specs.declared.memberships.MembershipRow.{MembershipRow}
 use Rattle.kom_types.specs.tables.Memberships.{is_membership, membership_of, by_position, memberships_of, count_of}
-use Rattle.kom_types.specs.tables.Memberships.{at_place, closed_up, opened, without_membership, with_new, set_again}
+use Rattle.kom_types.specs.tables.Memberships.{at_place, closed_up, with_gap, without_membership, with_new, set_again}
 use Rattle.kom_types.specs.tables.Memberships.{with_membership}
 use Rattle.read_ranges.specs.Reads.{read_at}
 use Rattle.memberships.specs.Entries.{same_key}
@@ -195,7 +195,7 @@ module _ (of : ℕ → ℕ → ℕ → Bool) where
 -- the row of a person and a conference still stands alone when places have closed and opened
 moved_alone : (p c person place before : ℕ) (rows : List MembershipRow) (row : MembershipRow) →
     filter (is_membership p c) rows ≡ row ∷ [] →
-    filter (is_membership p c) (opened person place (closed_up person before rows))
+    filter (is_membership p c) (with_gap person place (closed_up person before rows))
     ≡ open_row person place (close_row person before row) ∷ []
 moved_alone p c person place before rows row alone =
     alone-map (is_membership p c) (open_row person place)
@@ -215,7 +215,7 @@ module _ (of : ℕ → ℕ → ℕ → Bool) where
       passing (tells of) (elim o [ None ↦ with_new given rows | Some old ↦ set_again given old rows ])) absent
       ∙ omega (
         arith,
-        passing-last (tells of) (opened given.person place rows) (at_place place given),
+        passing-last (tells of) (with_gap given.person place rows) (at_place place given),
         passing-map (tells of) (open_row given.person place) (opens of given.person place) rows,
       )
 
@@ -231,14 +231,15 @@ module _ (of : ℕ → ℕ → ℕ → Bool) where
       let place : ℕ = min given.position (count_of p rows - 1) in
       let closed : List MembershipRow = closed_up p old.position rows in
       let last : MembershipRow = open_row p place (close_row p old.position old) in
-      let stands : filter (is_membership p c) (opened p place closed) ≡ last ∷ [] =
+      let stands : filter (is_membership p c) (with_gap p place closed) ≡ last ∷ [] =
       moved_alone p c p place old.position rows old (alone p c rows old once there) in
       omega (
         arith,
         ap (λ (o : Option MembershipRow).
             passing (tells of) (elim o [ None ↦ with_new given rows | Some row ↦ set_again given row rows ])) there,
         passing-with (tells of) (is_membership p c)
-            (at_place place (record given { last_time_read = old.last_time_read })) (opened p place closed) last stands,
+            (at_place place (record given { last_time_read = old.last_time_read }))
+            (with_gap p place closed) last stands,
         passing-map (tells of) (open_row p place) (opens of p place) closed,
         passing-map (tells of) (close_row p old.position) (closes of p old.position) rows,
         ap one_if (opens of p place (close_row p old.position old)),

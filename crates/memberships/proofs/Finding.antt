@@ -10,7 +10,8 @@ use Rattle.std.proofs.lemmas.Option.{same_Some, none-some, slice_get-map, slice_
 use Rattle.kom_types.specs.tables.Memberships.{membership_of, members_of, memberships_of}
 use Rattle.row_slots.proofs.Members.{position-place}
 use Rattle.memberships.specs.declared.kept.Kept.{Kept}
-use Rattle.memberships.specs.Entries.{Key, Entry, shown, place_of, row_of, in_turn, rows_of, reads_of, kept_at, turn_of}
+use Rattle.memberships.specs.Entries.{Key, Entry, kept_row, place_of, row_of, in_turn, rows_of, reads_of, kept_at}
+use Rattle.memberships.specs.Entries.{turn_of}
 use Rattle.memberships.specs.Keeping.{IsTable}
 use Rattle.memberships.proofs.Leaving.{is_person}
 use Rattle.memberships.proofs.Pairs.{all_filter, all_at, filter_passes}
@@ -40,7 +41,7 @@ some_kept (Some v) there = (v, refl)
 module _ (es : List Entry) (next : ℕ) (conferences persons : ℕ → List ℕ)
     (table : IsTable es next conferences persons) where
   pub found : (p c : ℕ) (v : Kept) → kept_at (p, c) es ≡ Some v →
-      membership_of p c (rows_of conferences es) ≡ Some (shown p c (place_of c (conferences p)) v)
+      membership_of p c (rows_of conferences es) ≡ Some (kept_row p c (place_of c (conferences p)) v)
   found p c v there = membership es next conferences persons table p c
       ∙ ap (option_map (λ kept. row_of conferences ((p, c), kept))) there
 
@@ -91,10 +92,10 @@ module _ (es : List Entry) (next : ℕ) (conferences persons : ℕ → List ℕ)
 
   pub person_found : (p place c : ℕ) (v : Kept) → slice_get (conferences p) place ≡ Some c →
       kept_at (p, c) es ≡ Some v →
-      slice_get (memberships_of p (rows_of conferences es)) place ≡ Some (shown p c place v)
+      slice_get (memberships_of p (rows_of conferences es)) place ≡ Some (kept_row p c place v)
   person_found p place c v at there =
       person_place p place ∙ ap (option_map (row_for es next conferences persons table p)) at
-      ∙ (λ i. Some (shown p c (place_at (conferences p) place c (table.once p) at i) (unwrap_or (there i) blank)))
+      ∙ (λ i. Some (kept_row p c (place_at (conferences p) place c (table.once p) at i) (unwrap_or (there i) blank)))
 
   -- ---- at a place of a conference
 
@@ -179,7 +180,7 @@ module _ (es : List Entry) (next : ℕ) (conferences persons : ℕ → List ℕ)
   pub member_found : (c place person : ℕ) (v : Kept) → slice_get (persons c) place ≡ Some person →
       kept_at (person, c) es ≡ Some v →
       slice_get (members_of c (rows_of conferences es)) place
-      ≡ Some (shown person c (place_of c (conferences person)) v)
+      ≡ Some (kept_row person c (place_of c (conferences person)) v)
   member_found c place person v at there = sym (conference_found c place person at) ∙ found person c v there
 
   pub conference_count : (c : ℕ) → length (members_of c (rows_of conferences es)) ≡ length (persons c)

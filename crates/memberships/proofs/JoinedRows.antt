@@ -6,10 +6,10 @@ use Rattle.std.proofs.lemmas.Bool.{eqb-true, eqb-false, false_from_ne_true}
 use Rattle.std.proofs.lemmas.List.{map-append}
 use Rattle.std.proofs.lemmas.Option.{none-some}
 use Rattle.kom_types.specs.declared.memberships.MembershipRow.{MembershipRow}
-use Rattle.kom_types.specs.tables.Memberships.{membership_of, count_of, opened, with_membership}
+use Rattle.kom_types.specs.tables.Memberships.{membership_of, count_of, with_gap, with_membership}
 use Rattle.read_ranges.specs.Numbers.{ReadSet}
 use Rattle.memberships.specs.declared.kept.Kept.{Kept}
-use Rattle.memberships.specs.Entries.{Key, Entry, kept_of, shown, place_of, row_of, in_turn, rows_of, kept_at}
+use Rattle.memberships.specs.Entries.{Key, Entry, kept_of, kept_row, place_of, row_of, in_turn, rows_of, kept_at}
 use Rattle.memberships.specs.Keeping.{IsTable}
 use Rattle.memberships.proofs.Pairs.{two_maps}
 use Rattle.memberships.proofs.Places.{opened_place, place-insert, place-insert_other}
@@ -49,25 +49,25 @@ module _ (es fs : List Entry) (next : ℕ) (conferences persons lists : ℕ → 
           (false_from_ne_true _
           (λ is. none-some v (sym joins.absent ∙ ap (λ k. kept_at k es) ((key_decides here key).0 is) ∙ there)))
           own in
-          ap (λ l. shown key.0 key.1 (place_of key.1 l) v) (ap lists person ∙ puts.here)
-          ∙ ap (λ n. shown key.0 key.1 n v)
+          ap (λ l. kept_row key.0 key.1 (place_of key.1 l) v) (ap lists person ∙ puts.here)
+          ∙ ap (λ n. kept_row key.0 key.1 n v)
           (place-insert_other (conferences given.person) given.position given.conference key.1 conference)
-          ∙ ap (λ p. shown key.0 key.1 (opened_place at (place_of key.1 (conferences p))) v) (sym person)
+          ∙ ap (λ p. kept_row key.0 key.1 (opened_place at (place_of key.1 (conferences p))) v) (sym person)
           ∙ sym (open-own key.0 key.1 at (place_of key.1 (conferences key.0)) given.person v own)
       by false other =
-          ap (λ l. shown key.0 key.1 (place_of key.1 l) v) (puts.others key.0 (eqb-false key.0 given.person other))
+          ap (λ l. kept_row key.0 key.1 (place_of key.1 l) v) (puts.others key.0 (eqb-false key.0 given.person other))
           ∙ sym (open-other at given.person (row_of conferences (key, v)) other)
 
   last : row_of lists (here, new) ≡ record given { position = at }
   last =
-      ap (λ l. shown given.person given.conference (place_of given.conference l) new) puts.here
-      ∙ ap (λ n. shown given.person given.conference n new)
+      ap (λ l. kept_row given.person given.conference (place_of given.conference l) new) puts.here
+      ∙ ap (λ n. kept_row given.person given.conference n new)
       (place-insert (conferences given.person) given.position given.conference absent)
 
   turns : AreInTurn (in_turn es) (λ key. kept_at key es)
   turns = in_turn_is es table.unique table.apart
 
-  rows_joined : rows_of lists fs ≡ opened given.person at (rows_of conferences es)
+  rows_joined : rows_of lists fs ≡ with_gap given.person at (rows_of conferences es)
       ++ record given { position = at } ∷ []
   unfolding rows_of
   rows_joined =
@@ -85,5 +85,5 @@ module _ (es fs : List Entry) (next : ℕ) (conferences persons lists : ℕ → 
       let count : count_of given.person (rows_of conferences es) ≡ length (conferences given.person) =
       count es next conferences persons table given.person in
       rw (none, with_membership)
-      (rows_joined ∙ ap (λ n. opened given.person (min given.position n) (rows_of conferences es)
+      (rows_joined ∙ ap (λ n. with_gap given.person (min given.position n) (rows_of conferences es)
       ++ record given { position = min given.position n } ∷ []) (sym count))

@@ -5,7 +5,7 @@ use Rattle.std.specs.Set.{is_member, remove_key}
 use Rattle.std.proofs.lemmas.Bool.{cases_Bool, eqb-true, eqb-false}
 use Rattle.kom_types.specs.tables.Memberships.{is_membership, membership_of, closed_up, without_membership}
 use Rattle.memberships.specs.declared.kept.Kept.{Kept}
-use Rattle.memberships.specs.Entries.{Key, Entry, same_key, shown, place_of, row_of, in_turn, rows_of, kept_at}
+use Rattle.memberships.specs.Entries.{Key, Entry, same_key, kept_row, place_of, row_of, in_turn, rows_of, kept_at}
 use Rattle.memberships.specs.Keeping.{IsTable}
 use Rattle.memberships.proofs.Places.{flip_eqb, closed_place, place-remove_key}
 use Rattle.memberships.proofs.Turns.{Sets}
@@ -35,12 +35,12 @@ module _ (es fs : List Entry) (next : ℕ) (conferences persons lists : ℕ → 
       by true own =
           let same : key.0 ≡ person = eqb-true key.0 person own in
           let apart : eqb key.1 conference ≡ false = other_conference key person conference other own in
-          ap (λ l. shown key.0 key.1 (place_of key.1 l) v) (ap lists same ∙ takes.here)
-          ∙ ap (λ n. shown key.0 key.1 n v) (place-remove_key (conferences person) conference key.1 is_there apart)
-          ∙ ap (λ p. shown key.0 key.1 (closed_place before (place_of key.1 (conferences p))) v) (sym same)
+          ap (λ l. kept_row key.0 key.1 (place_of key.1 l) v) (ap lists same ∙ takes.here)
+          ∙ ap (λ n. kept_row key.0 key.1 n v) (place-remove_key (conferences person) conference key.1 is_there apart)
+          ∙ ap (λ p. kept_row key.0 key.1 (closed_place before (place_of key.1 (conferences p))) v) (sym same)
           ∙ sym (close-own key.0 key.1 before (place_of key.1 (conferences key.0)) person v own)
       by false differs =
-          ap (λ l. shown key.0 key.1 (place_of key.1 l) v) (takes.others key.0 (eqb-false key.0 person differs))
+          ap (λ l. kept_row key.0 key.1 (place_of key.1 l) v) (takes.others key.0 (eqb-false key.0 person differs))
           ∙ sym (close-other before person (row_of conferences (key, v)) differs)
 
   each_row : (xs : List Entry) →

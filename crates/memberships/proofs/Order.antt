@@ -5,7 +5,7 @@ use Rattle.std.specs.List.{AllByRecursion, range_with_len}
 use Rattle.std.specs.Option.{option_or}
 use Rattle.std.proofs.lemmas.Bool.{ltb-true, ltb-false, true≢false, false_from_ne_true}
 use Rattle.std.proofs.lemmas.Option.{same_Some, none-some}
-use Rattle.memberships.specs.Order.{placed, ordered}
+use Rattle.memberships.specs.Order.{insert_by, sort_by}
 use Rattle.memberships.proofs.Pairs.{all_weaker, all_both, Pairwise}
 
 module _ {X : Type 0} (number : X → ℕ) where
@@ -18,31 +18,31 @@ module _ {X : Type 0} (number : X → ℕ) where
   Climbs xs = Pairwise (λ x y. number x ≤ number y) xs
 
   pub all_placed : (P : X → Type 0) (x : X) (xs : List X) → P x → AllByRecursion P xs →
-      AllByRecursion P (placed number x xs)
+      AllByRecursion P (insert_by number x xs)
   all_placed P x [] here all = (here, tt)
   all_placed P x (y ∷ ys) here all =
-      elim (ltb (number x) (number y)) as (λ b. AllByRecursion P (cond b (x ∷ y ∷ ys) (y ∷ placed number x ys))) [
+      elim (ltb (number x) (number y)) as (λ b. AllByRecursion P (cond b (x ∷ y ∷ ys) (y ∷ insert_by number x ys))) [
         | true ↦ (here, all)
         | false ↦ (all.0, all_placed P x ys here all.1)
       ]
 
   -- what holds of any two elements in either order holds of them once they are in order
   pairwise_placed : (R : X → X → Type 0) → ((x y : X) → R x y → R y x) → (x : X) (xs : List X) →
-      AllByRecursion (R x) xs → Pairwise R xs → Pairwise R (placed number x xs)
+      AllByRecursion (R x) xs → Pairwise R xs → Pairwise R (insert_by number x xs)
   pairwise_placed R flip x [] here pairs = (tt, tt)
   pairwise_placed R flip x (y ∷ ys) here pairs =
-      elim (ltb (number x) (number y)) as (λ b. Pairwise R (cond b (x ∷ y ∷ ys) (y ∷ placed number x ys))) [
+      elim (ltb (number x) (number y)) as (λ b. Pairwise R (cond b (x ∷ y ∷ ys) (y ∷ insert_by number x ys))) [
         | true ↦ (here, pairs)
         | false ↦ (all_placed (R y) x ys (flip x y here.0) pairs.0, pairwise_placed R flip x ys here.1 pairs.1)
       ]
 
   pairwise_fold : (R : X → X → Type 0) → ((x y : X) → R x y → R y x) → (sorted xs : List X) → Pairwise R sorted →
       Pairwise R xs → AllByRecursion (λ x. AllByRecursion (R x) sorted) xs →
-      Pairwise R (fold (λ s x. placed number x s) sorted xs)
+      Pairwise R (fold (λ s x. insert_by number x s) sorted xs)
   pairwise_fold R flip sorted [] before pairs across = before
   pairwise_fold R flip sorted (x ∷ xs) before pairs across =
-      pairwise_fold R flip (placed number x sorted) xs (pairwise_placed R flip x sorted across.0 before) pairs.1
-      (all_both (R x) (λ y. AllByRecursion (R y) sorted) (λ y. AllByRecursion (R y) (placed number x sorted))
+      pairwise_fold R flip (insert_by number x sorted) xs (pairwise_placed R flip x sorted across.0 before) pairs.1
+      (all_both (R x) (λ y. AllByRecursion (R y) sorted) (λ y. AllByRecursion (R y) (insert_by number x sorted))
       (λ y one all. all_placed (R y) x sorted (flip x y one) all) xs pairs.0 across.1)
 
   all_nil : (P : X → List X → Type 0) → ((x : X) → P x []) → (xs : List X) → AllByRecursion (λ x. P x []) xs
@@ -50,15 +50,15 @@ module _ {X : Type 0} (number : X → ℕ) where
   all_nil P none (x ∷ xs) = (none x, all_nil P none xs)
 
   pub pairwise_ordered : (R : X → X → Type 0) → ((x y : X) → R x y → R y x) → (xs : List X) → Pairwise R xs →
-      Pairwise R (ordered number xs)
+      Pairwise R (sort_by number xs)
   pairwise_ordered R flip xs pairs =
       pairwise_fold R flip [] xs tt pairs (all_nil (λ x ys. AllByRecursion (R x) ys) (λ x. tt) xs)
 
-  climbs_placed : (x : X) (xs : List X) → Climbs xs → Climbs (placed number x xs)
+  climbs_placed : (x : X) (xs : List X) → Climbs xs → Climbs (insert_by number x xs)
   climbs_placed x [] climbs = (tt, tt)
   climbs_placed x (y ∷ ys) climbs =
       elim (ltb (number x) (number y)) as
-      (λ b. ltb (number x) (number y) ≡ b → Climbs (cond b (x ∷ y ∷ ys) (y ∷ placed number x ys))) [
+      (λ b. ltb (number x) (number y) ≡ b → Climbs (cond b (x ∷ y ∷ ys) (y ∷ insert_by number x ys))) [
         | true ↦ λ e.
             let below : number x < number y = ltb-true (number x) (number y) e in (
               (
@@ -73,9 +73,9 @@ module _ {X : Type 0} (number : X → ℕ) where
             (all_placed (λ z. number y ≤ number z) x ys above climbs.0, climbs_placed x ys climbs.1)
       ] refl
 
-  climbs_fold : (sorted xs : List X) → Climbs sorted → Climbs (fold (λ s x. placed number x s) sorted xs)
+  climbs_fold : (sorted xs : List X) → Climbs sorted → Climbs (fold (λ s x. insert_by number x s) sorted xs)
   climbs_fold sorted [] climbs = climbs
-  climbs_fold sorted (x ∷ xs) climbs = climbs_fold (placed number x sorted) xs (climbs_placed x sorted climbs)
+  climbs_fold sorted (x ∷ xs) climbs = climbs_fold (insert_by number x sorted) xs (climbs_placed x sorted climbs)
 
   rises_from_apart : (xs : List X) → Climbs xs → Pairwise (λ x y. number x ≢ number y) xs → Rises xs
   rises_from_apart [] climbs apart = tt
@@ -86,9 +86,9 @@ module _ {X : Type 0} (number : X → ℕ) where
   )
 
   -- in order, numbers that differ rise
-  pub rises_ordered : (xs : List X) → Pairwise (λ x y. number x ≢ number y) xs → Rises (ordered number xs)
+  pub rises_ordered : (xs : List X) → Pairwise (λ x y. number x ≢ number y) xs → Rises (sort_by number xs)
   rises_ordered xs apart =
-      rises_from_apart (ordered number xs) (climbs_fold [] xs tt)
+      rises_from_apart (sort_by number xs) (climbs_fold [] xs tt)
       (pairwise_ordered (λ x y. number x ≢ number y) (λ x y ne e. ne (sym e)) xs apart)
 
   -- numbers that count up rise
@@ -109,24 +109,24 @@ module _ {X : Type 0} (number : X → ℕ) where
       let rest : map number xs ≡ range_with_len (a + 1) n = cc in
       (above_first (number x) (a + 1) n xs (omega arith) rest, rises_counted (a + 1) n xs rest)
 
-  length-placed : (x : X) (xs : List X) → length (placed number x xs) ≡ suc (length xs)
+  length-placed : (x : X) (xs : List X) → length (insert_by number x xs) ≡ suc (length xs)
   length-placed x [] = refl
   length-placed x (y ∷ ys) =
       elim (ltb (number x) (number y)) as
-      (λ b. length (cond b (x ∷ y ∷ ys) (y ∷ placed number x ys)) ≡ suc (suc (length ys))) [
+      (λ b. length (cond b (x ∷ y ∷ ys) (y ∷ insert_by number x ys)) ≡ suc (suc (length ys))) [
         | true ↦ refl
         | false ↦ ap suc (length-placed x ys)
       ]
 
-  length-fold : (sorted xs : List X) → length (fold (λ s x. placed number x s) sorted xs) ≡ length sorted + length xs
+  length-fold : (sorted xs : List X) → length (fold (λ s x. insert_by number x s) sorted xs) ≡ length sorted + length xs
   length-fold sorted [] = omega arith
   length-fold sorted (x ∷ xs) =
-      let more : length (placed number x sorted) ≡ suc (length sorted) = length-placed x sorted in
-      let rest : length (fold (λ s x. placed number x s) (placed number x sorted) xs)
-      ≡ length (placed number x sorted) + length xs = length-fold (placed number x sorted) xs in
+      let more : length (insert_by number x sorted) ≡ suc (length sorted) = length-placed x sorted in
+      let rest : length (fold (λ s x. insert_by number x s) (insert_by number x sorted) xs)
+      ≡ length (insert_by number x sorted) + length xs = length-fold (insert_by number x sorted) xs in
       omega arith
 
-  pub length-ordered : (xs : List X) → length (ordered number xs) ≡ length xs
+  pub length-ordered : (xs : List X) → length (sort_by number xs) ≡ length xs
   length-ordered xs = omega (arith, length-fold [] xs)
 
   module _ {K : Type 0} (eq : K → K → Bool) (same : (a b : K) → Decides (eq a b) (a ≡ b)) (id : X → K) where
@@ -198,11 +198,11 @@ module _ {X : Type 0} (number : X → ℕ) where
     )
 
     named-placed : (k : K) (x : X) (xs : List X) → AllByRecursion (λ y. eq (id x) (id y) ≡ false) xs →
-        named k (placed number x xs) ≡ cond (eq k (id x)) (Some x) (named k xs)
+        named k (insert_by number x xs) ≡ cond (eq k (id x)) (Some x) (named k xs)
     named-placed k x [] differ = refl
     named-placed k x (y ∷ ys) differ =
         elim (ltb (number x) (number y)) as
-        (λ b. named k (cond b (x ∷ y ∷ ys) (y ∷ placed number x ys))
+        (λ b. named k (cond b (x ∷ y ∷ ys) (y ∷ insert_by number x ys))
         ≡ cond (eq k (id x)) (Some x) (named k (y ∷ ys))) [
           | true ↦ refl
           | false ↦
@@ -221,17 +221,17 @@ module _ {X : Type 0} (number : X → ℕ) where
 
     named-fold : (k : K) (sorted xs : List X) → Differ xs →
         AllByRecursion (λ x. AllByRecursion (λ y. eq (id x) (id y) ≡ false) sorted) xs →
-        named k (fold (λ s x. placed number x s) sorted xs) ≡ option_or (named k xs) (named k sorted)
+        named k (fold (λ s x. insert_by number x s) sorted xs) ≡ option_or (named k xs) (named k sorted)
     named-fold k sorted [] differ across = refl
     named-fold k sorted (x ∷ xs) differ across =
-        named-fold k (placed number x sorted) xs differ.1 later
+        named-fold k (insert_by number x sorted) xs differ.1 later
         ∙ ap (option_or (named k xs)) (named-placed k x sorted across.0)
         ∙ first (eq k (id x)) refl
       where
-        later : AllByRecursion (λ z. AllByRecursion (λ y. eq (id z) (id y) ≡ false) (placed number x sorted)) xs
+        later : AllByRecursion (λ z. AllByRecursion (λ y. eq (id z) (id y) ≡ false) (insert_by number x sorted)) xs
         later =
             all_both (λ z. eq (id x) (id z) ≡ false) (λ z. AllByRecursion (λ y. eq (id z) (id y) ≡ false) sorted)
-            (λ z. AllByRecursion (λ y. eq (id z) (id y) ≡ false) (placed number x sorted))
+            (λ z. AllByRecursion (λ y. eq (id z) (id y) ≡ false) (insert_by number x sorted))
             (λ z one all. all_placed (λ y. eq (id z) (id y) ≡ false) x sorted (differ_flip x z one) all) xs differ.0
             across.1
 
@@ -249,12 +249,12 @@ module _ {X : Type 0} (number : X → ℕ) where
     or_none (Some x) = refl
 
     -- a list in order has the same elements
-    pub named-ordered : (k : K) (xs : List X) → Differ xs → named k (ordered number xs) ≡ named k xs
+    pub named-ordered : (k : K) (xs : List X) → Differ xs → named k (sort_by number xs) ≡ named k xs
     named-ordered k xs differ =
         named-fold k [] xs differ (all_nil (λ x ys. AllByRecursion (λ y. eq (id x) (id y) ≡ false) ys) (λ x. tt) xs)
         ∙ or_none (named k xs)
 
-    pub differ_ordered : (xs : List X) → Differ xs → Differ (ordered number xs)
+    pub differ_ordered : (xs : List X) → Differ xs → Differ (sort_by number xs)
     differ_ordered xs differ = pairwise_ordered (λ x y. eq (id x) (id y) ≡ false) differ_flip xs differ
 
     -- what holds of each element holds of the one that a name finds

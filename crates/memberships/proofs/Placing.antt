@@ -2,7 +2,6 @@
 use Rattle.std.proofs.Common.{◌≡◌, ℕ, List, map, Some, None, slice_get, sym, ap, ◌∙◌}
 use Rattle.std.specs.List.{AllByRecursion}
 use Rattle.kom_types.specs.declared.memberships.MembershipRow.{MembershipRow}
-use Rattle.kom_types.specs.declared.memberships.Placed.{Placed}
 use Rattle.kom_types.specs.tables.Memberships.{placed_of}
 use Rattle.memberships.specs.declared.kept.Kept.{Kept}
 use Rattle.memberships.specs.Entries.{Key, Entry, place_of, row_of, in_turn, rows_of, kept_at}

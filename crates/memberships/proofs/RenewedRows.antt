@@ -5,10 +5,10 @@ use Rattle.std.specs.Set.{is_member, remove_key}
 use Rattle.std.proofs.lemmas.Bool.{eqb-true, eqb-false}
 use Rattle.std.proofs.lemmas.Map.Made.{length-remove_key}
 use Rattle.kom_types.specs.declared.memberships.MembershipRow.{MembershipRow}
-use Rattle.kom_types.specs.tables.Memberships.{is_membership, membership_of, count_of, closed_up, opened, replaced_by}
+use Rattle.kom_types.specs.tables.Memberships.{is_membership, membership_of, count_of, closed_up, with_gap, replaced_by}
 use Rattle.kom_types.specs.tables.Memberships.{with_membership}
 use Rattle.memberships.specs.declared.kept.Kept.{Kept}
-use Rattle.memberships.specs.Entries.{Key, Entry, same_key, kept_of, shown, place_of, row_of, in_turn, rows_of}
+use Rattle.memberships.specs.Entries.{Key, Entry, same_key, kept_of, kept_row, place_of, row_of, in_turn, rows_of}
 use Rattle.memberships.specs.Keeping.{IsTable}
 use Rattle.memberships.proofs.Places.{flip_eqb, opened_place, closed_place, place-insert, place-insert_other}
 use Rattle.memberships.proofs.Places.{place-remove_key}
@@ -75,8 +75,8 @@ module _ (es fs : List Entry) (next : ℕ) (conferences persons lists : ℕ → 
 
   own_row : (v : Kept) → row_of lists (here, record new { turn = v.turn }) ≡ again
   own_row v =
-      ap (λ l. shown given.person given.conference (place_of given.conference l) new) moves.here
-      ∙ ap (λ n. shown given.person given.conference n new)
+      ap (λ l. kept_row given.person given.conference (place_of given.conference l) new) moves.here
+      ∙ ap (λ n. kept_row given.person given.conference n new)
       (place-insert others given.position given.conference not_among_others)
 
   other_row : (key : Key) (v : Kept) → same_key here key ≡ false →
@@ -89,17 +89,19 @@ module _ (es fs : List Entry) (next : ℕ) (conferences persons lists : ℕ → 
           let conference : eqb key.1 given.conference ≡ false =
           other_conference key given.person given.conference other own in
           let xs : List ℕ = conferences given.person in
-          ap (λ l. shown key.0 key.1 (place_of key.1 l) v) (ap lists person ∙ moves.here)
-          ∙ ap (λ n. shown key.0 key.1 n v) (place-insert_other others given.position given.conference key.1 conference)
-          ∙ ap (λ n. shown key.0 key.1 (opened_place at n) v)
+          ap (λ l. kept_row key.0 key.1 (place_of key.1 l) v) (ap lists person ∙ moves.here)
+          ∙ ap (λ n. kept_row key.0 key.1 n v)
+          (place-insert_other others given.position given.conference key.1 conference)
+          ∙ ap (λ n. kept_row key.0 key.1 (opened_place at n) v)
           (place-remove_key xs given.conference key.1 is_there conference)
-          ∙ ap (λ p. shown key.0 key.1 (opened_place at (closed_place before (place_of key.1 (conferences p)))) v)
+          ∙ ap (λ p. kept_row key.0 key.1 (opened_place at (closed_place before (place_of key.1 (conferences p)))) v)
           (sym person)
           ∙ sym (ap (open_row given.person at)
           (close-own key.0 key.1 before (place_of key.1 (conferences key.0)) given.person v own)
           ∙ open-own key.0 key.1 at (closed_place before (place_of key.1 (conferences key.0))) given.person v own)
       by false differs =
-          ap (λ l. shown key.0 key.1 (place_of key.1 l) v) (moves.others key.0 (eqb-false key.0 given.person differs))
+          ap (λ l. kept_row key.0 key.1 (place_of key.1 l) v)
+          (moves.others key.0 (eqb-false key.0 given.person differs))
           ∙ sym (ap (open_row given.person at) (close-other before given.person (row_of conferences (key, v)) differs)
           ∙ open-other at given.person (row_of conferences (key, v)) differs)
 
@@ -133,7 +135,7 @@ module _ (es fs : List Entry) (next : ℕ) (conferences persons lists : ℕ → 
   each_row (e ∷ xs) = λ i. each e.0 e.1 i ∷ each_row xs i
 
   rows_renewed : rows_of lists fs
-      ≡ replaced_by again (opened given.person at (closed_up given.person before (rows_of conferences es)))
+      ≡ replaced_by again (with_gap given.person at (closed_up given.person before (rows_of conferences es)))
   unfolding rows_of
   rows_renewed =
       ap (map (row_of lists))
@@ -157,4 +159,4 @@ module _ (es fs : List Entry) (next : ℕ) (conferences persons lists : ℕ → 
         last_time_read =
             old.last_time_read;
       })
-      (opened given.person (min given.position n) (closed_up given.person before (rows_of conferences es)))) shorter)
+      (with_gap given.person (min given.position n) (closed_up given.person before (rows_of conferences es)))) shorter)

@@ -2,13 +2,13 @@
 use Rattle.std.proofs.Common.{◌≡◌, ℕ, ◌+◌, ◌-◌, Bool, true, false, cond, ◌&&◌, eqb, ltb, leb, refl, sym, ◌∙◌, ap}
 use Rattle.kom_types.specs.declared.memberships.MembershipRow.{MembershipRow}
 use Rattle.memberships.specs.declared.kept.Kept.{Kept}
-use Rattle.memberships.specs.Entries.{Key, same_key, shown}
+use Rattle.memberships.specs.Entries.{Key, same_key, kept_row}
 use Rattle.memberships.proofs.Places.{flip_eqb, opened_place, closed_place}
 
 -- a row whose position is a choice
 shown-choice : (t : Bool) (person conference m n : ℕ) (v : Kept) →
-    shown person conference (cond t m n) v
-    ≡ cond t (record (shown person conference n v) { position = m }) (shown person conference n v)
+    kept_row person conference (cond t m n) v
+    ≡ cond t (record (kept_row person conference n v) { position = m }) (kept_row person conference n v)
 shown-choice true person conference m n v = refl
 shown-choice false person conference m n v = refl
 
@@ -22,10 +22,10 @@ close_row person place row =
     cond (eqb row.person person && ltb place row.position) (record row { position = row.position - 1 }) row
 
 pub open-own : (person conference at n p : ℕ) (v : Kept) → eqb person p ≡ true →
-    open_row p at (shown person conference n v) ≡ shown person conference (opened_place at n) v
+    open_row p at (kept_row person conference n v) ≡ kept_row person conference (opened_place at n) v
 open-own person conference at n p v own =
-    ap (λ b. cond (b && leb at n) (record (shown person conference n v) { position = n + 1 })
-    (shown person conference n v)) own
+    ap (λ b. cond (b && leb at n) (record (kept_row person conference n v) { position = n + 1 })
+    (kept_row person conference n v)) own
     ∙ sym (shown-choice (leb at n) person conference (n + 1) n v)
 
 pub open-other : (at p : ℕ) (row : MembershipRow) → eqb row.person p ≡ false → open_row p at row ≡ row
@@ -33,10 +33,10 @@ open-other at p row other =
     ap (λ b. cond (b && leb at row.position) (record row { position = row.position + 1 }) row) other
 
 pub close-own : (person conference at n p : ℕ) (v : Kept) → eqb person p ≡ true →
-    close_row p at (shown person conference n v) ≡ shown person conference (closed_place at n) v
+    close_row p at (kept_row person conference n v) ≡ kept_row person conference (closed_place at n) v
 close-own person conference at n p v own =
-    ap (λ b. cond (b && ltb at n) (record (shown person conference n v) { position = n - 1 })
-    (shown person conference n v)) own
+    ap (λ b. cond (b && ltb at n) (record (kept_row person conference n v) { position = n - 1 })
+    (kept_row person conference n v)) own
     ∙ sym (shown-choice (ltb at n) person conference (n - 1) n v)
 
 pub close-other : (at p : ℕ) (row : MembershipRow) → eqb row.person p ≡ false → close_row p at row ≡ row

@@ -13,7 +13,7 @@ use Rattle.read_ranges.specs.Reads.{read_at}
 use Rattle.row_slots.specs.declared.lists.Lists.{Lists}
 use Rattle.row_slots.specs.Lists.{list_of, HasOnlyChanged}
 use Rattle.memberships.specs.declared.kept.Kept.{Kept}
-use Rattle.memberships.specs.Entries.{same_key, shown}
+use Rattle.memberships.specs.Entries.{same_key, kept_row}
 use Rattle.memberships.specs.Secrets.{is_secret_of, is_secret_in, AreSecrets, one_if}
 use Rattle.memberships.proofs.Counting.{passing, passing-cons, passing-filter, passing-memberships_of, passing-new}
 use Rattle.memberships.proofs.Counting.{passing-again, passing-left, passing-read}
@@ -166,10 +166,10 @@ changes_new given old new is absent =
 
 pub changes_again : (given : MembershipRow) (place : ℕ) (kept : Kept) (old new : List MembershipRow) →
     new ≡ with_membership given old → IsDistinct same_key (map (λ row. (row.person, row.conference)) old) →
-    membership_of given.person given.conference old ≡ Some (shown given.person given.conference place kept) →
+    membership_of given.person given.conference old ≡ Some (kept_row given.person given.conference place kept) →
     Changes old new given.person given.conference (is_secret_membership kept.kind) (is_secret_membership given.kind)
 changes_again given place kept old new is once there =
-    let row : MembershipRow = shown given.person given.conference place kept in
+    let row : MembershipRow = kept_row given.person given.conference place kept in
     rw is
     (record {
       persons = λ test. recounts (secret_of test old) (secret_of test (with_membership given old)) given.person
@@ -184,10 +184,10 @@ changes_again given place kept old new is once there =
 
 pub changes_left : (p c place : ℕ) (kept : Kept) (old new : List MembershipRow) →
     new ≡ without_membership p c old → IsDistinct same_key (map (λ row. (row.person, row.conference)) old) →
-    membership_of p c old ≡ Some (shown p c place kept) →
+    membership_of p c old ≡ Some (kept_row p c place kept) →
     Changes old new p c (is_secret_membership kept.kind) false
 changes_left p c place kept old new is once there =
-    let row : MembershipRow = shown p c place kept in
+    let row : MembershipRow = kept_row p c place kept in
     rw is
     (record {
       persons = λ test. recounts (secret_of test old) (secret_of test (without_membership p c old)) p

@@ -7,7 +7,7 @@ use Rattle.std.specs.Map.{keys_of}
 use Rattle.std.proofs.lemmas.Bool.{eqb-true, eq-eqb, and_parts, and_from}
 use Rattle.std.proofs.lemmas.Map.Keys.{IsDistinct-head, IsDistinct-tail, IsDistinct-cons}
 use Rattle.memberships.specs.declared.kept.Kept.{Kept}
-use Rattle.memberships.specs.Order.{ordered}
+use Rattle.memberships.specs.Order.{sort_by}
 use Rattle.memberships.specs.Entries.{Key, Entry, same_key, in_turn, kept_at, turn_of}
 use Rattle.memberships.proofs.Pairs.{Pairwise}
 use Rattle.memberships.proofs.Order.{Rises, rises_ordered, named, named-ordered, Differ, differ_ordered}
@@ -111,7 +111,7 @@ in_turn_is es distinct apart =
     record {
       rises = rises_ordered turn es numbers;
       differ = differ_ordered turn same_key key_decides key_of es differ;
-      found = λ k. kept_at-entry k (ordered turn es)
+      found = λ k. kept_at-entry k (sort_by turn es)
           ∙ ap (option_map (λ e. e.1)) (named-ordered turn same_key key_decides key_of k es differ)
           ∙ sym (kept_at-entry k es);
     }

@@ -15,7 +15,7 @@ use Rattle.kom_types.specs.declared.memberships.MembershipRow.{MembershipRow}
 use Rattle.kom_types.specs.tables.Memberships.{is_membership, membership_of, members_of, by_position, memberships_of}
 use Rattle.kom_types.specs.tables.Memberships.{count_of}
 use Rattle.memberships.specs.declared.kept.Kept.{Kept}
-use Rattle.memberships.specs.Order.{placed, ordered}
+use Rattle.memberships.specs.Order.{insert_by, sort_by}
 use Rattle.memberships.specs.Entries.{Key, Entry, same_key, place_of, row_of, in_turn, rows_of, kept_at}
 use Rattle.memberships.specs.Keeping.{IsTable}
 use Rattle.memberships.specs.Table.{IsOrderly}
@@ -54,13 +54,14 @@ abbrev conference : MembershipRow → ℕ
 conference row = row.conference
 
 -- `by_position` puts a row in its place by its position
-by_position-placed : (row : MembershipRow) (rows : List MembershipRow) → by_position row rows ≡ placed position row rows
+by_position-placed : (row : MembershipRow) (rows : List MembershipRow) →
+    by_position row rows ≡ insert_by position row rows
 by_position-placed row [] = refl
 by_position-placed row (first ∷ rows) =
     ap (λ l. cond (ltb row.position first.position) (row ∷ first ∷ rows) (first ∷ l)) (by_position-placed row rows)
 
 memberships_of-ordered : (p : ℕ) (rows : List MembershipRow) →
-    memberships_of p rows ≡ ordered position (filter (λ row. eqb row.person p) rows)
+    memberships_of p rows ≡ sort_by position (filter (λ row. eqb row.person p) rows)
 memberships_of-ordered p rows =
     λ i. fold (λ sorted row. by_position-placed row sorted i) []
     (filter (λ (row : MembershipRow). eqb row.person p) rows)
@@ -212,9 +213,9 @@ module _ (es : List Entry) (next : ℕ) (conferences persons : ℕ → List ℕ)
       listed_differ cs (IsDistinct-tail nat_eq c cs distinct),
     )
 
-    own_ordered : ordered position own ≡ map row_for (conferences p)
+    own_ordered : sort_by position own ≡ map row_for (conferences p)
     own_ordered =
-        one_order position nat_eq Decides-eqb conference (ordered position own) (map row_for (conferences p))
+        one_order position nat_eq Decides-eqb conference (sort_by position own) (map row_for (conferences p))
         (rises_ordered position own own_apart)
         (rises_counted position 0 (length (conferences p)) (map row_for (conferences p)) listed_counted)
         (differ_ordered position nat_eq Decides-eqb conference own own_differ)

@@ -6,7 +6,7 @@ use Rattle.kom_types.specs.declared.memberships.MembershipRow.{MembershipRow}
 use Rattle.read_ranges.specs.Numbers.{ReadSet, ranges_of}
 use Rattle.read_ranges.specs.Reads.{ReadRow}
 use Rattle.memberships.specs.declared.kept.Kept.{Kept}
-use Rattle.memberships.specs.Order.{ordered}
+use Rattle.memberships.specs.Order.{sort_by}
 
 -- a person and a conference
 abbrev pub Key : Type 0
@@ -36,8 +36,8 @@ abbrev pub kept_with_read : ℕ → ReadSet → Kept → Kept
 kept_with_read at read kept = record kept { last_time_read = at; read = read }
 
 -- the row of what is kept, at a position
-abbrev pub shown : ℕ → ℕ → ℕ → Kept → MembershipRow
-shown person conference position kept = record {
+abbrev pub kept_row : ℕ → ℕ → ℕ → Kept → MembershipRow
+kept_row person conference position kept = record {
   person = person;
   conference = conference;
   position = position;
@@ -54,11 +54,11 @@ place_of number list = position_or_len (nat_eq number) list
 
 -- the row of an entry: its position is the place of its conference in the list of its person
 abbrev pub row_of : (ℕ → List ℕ) → Entry → MembershipRow
-row_of lists e = shown e.0.0 e.0.1 (place_of e.0.1 (lists e.0.0)) e.1
+row_of lists e = kept_row e.0.0 e.0.1 (place_of e.0.1 (lists e.0.0)) e.1
 
 -- the entries in the order of joining
 unfoldable pub in_turn : List Entry → List Entry
-in_turn entries = ordered (λ e. e.1.turn) entries
+in_turn entries = sort_by (λ e. e.1.turn) entries
 
 -- the rows of the entries, in the order of joining
 unfoldable pub rows_of : (ℕ → List ℕ) → List Entry → List MembershipRow

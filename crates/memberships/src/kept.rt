@@ -1,5 +1,5 @@
 ghost use Rattle.std.specs.Prelude.{◌≡◌, ℕ};
-ghost use Rattle.memberships.specs.Entries.{kept_of, kept_with_read, shown};
+ghost use Rattle.memberships.specs.Entries.{kept_of, kept_with_read, kept_row};
 ghost use Rattle.kom_types.specs.tables.Memberships.{member_of};
 
 use kom_types::{Member, MembershipRow, Moment};
@@ -57,7 +57,7 @@ impl Kept {
 
     /// The row of the membership of a person in a conference, at a position.
     pub(crate) fn show(&self, person: u32, conference: u32, position: u32) -> MembershipRow
-        ensures { result ≡ shown person conference position self.now }
+        ensures { result ≡ kept_row person conference position self.now }
     {
         MembershipRow {
             person,
@@ -74,7 +74,7 @@ impl Kept {
     /// The member that a person is by this membership.
     pub(crate) fn member(&self, person: u32) -> Member
         ensures { (conference position : ℕ)
-            → result ≡ member_of (shown person conference position self.now) }
+            → result ≡ member_of (kept_row person conference position self.now) }
     {
         Member {
             person,

@@ -8,7 +8,7 @@ ghost use Rattle.memberships.specs.Table.{room_of_person, room_of_conference};
 ghost use Rattle.memberships.specs.Table.{HasRoom, KeepsRoom, UsesRoom, IsOrderly};
 ghost use Rattle.kom_types.specs.tables.Memberships.{member_of};
 ghost use Rattle.read_ranges.specs.ListFault.{IsFaultless};
-ghost use Rattle.read_ranges.specs.Merged.{merged};
+ghost use Rattle.read_ranges.specs.Merged.{merge_all};
 ghost use Rattle.read_ranges.specs.Numbers.{ranges_of};
 ghost use Rattle.read_ranges.specs.Reads.{read_of, with_reader, without_reader};
 ghost use Rattle.read_ranges.specs.Reads.{with_read, read_at};
@@ -275,7 +275,7 @@ impl Memberships {
         requires { IsFaultless ranges.items }
         ensures rows { self.new.rows ≡ read_at person conference at self.old.rows }
         ensures reads { self.new.reads
-            ≡ with_read person conference (merged ranges.items) self.old.reads }
+            ≡ with_read person conference (merge_all ranges.items) self.old.reads }
         ensures room { KeepsRoom self.old self.new }
     {
         let Some(kept) = self.entries.get_mut(&(person, conference)) else {

@@ -7,7 +7,7 @@ use Rattle.std.specs.Set.{remove_key, is_member}
 use Rattle.std.proofs.lemmas.Bool.{and_parts, and_from, eqb-true}
 use Rattle.kom_types.specs.declared.texts.Recipient.{Recipient}
 use Rattle.kom_types.specs.tables.Texts.{is_recipient, recipient_of, without_recipient}
-use Rattle.row_slots.specs.Slots.{rows_in, emptied}
+use Rattle.row_slots.specs.Slots.{rows_in, empty_slot}
 use Rattle.row_slots.proofs.Places.{row_at, places_of-push, places_of-emptied, is_member-places_of, rows_in-emptied}
 use Rattle.row_slots.proofs.Rows.{rows_in-push}
 use Rattle.misc_links.specs.Received.{AreOnce}
@@ -84,13 +84,13 @@ module _ (slots : List (Option Recipient)) (by_text : ℕ → List ℕ) (kept : 
         ap (λ places. is_member nat_eq places place) (kept.listed text)
         ∙ is_member-places_of (is_of text) place slots row there parts.0
 
-    pub rows_left : rows_in (emptied place slots) ≡ without_recipient text conference (rows_in slots)
+    pub rows_left : rows_in (empty_slot place slots) ≡ without_recipient text conference (rows_in slots)
     rows_left = rows_in-emptied (is_recipient text conference) place slots row there is (kept.once text conference)
 
     module _ (new : ℕ → List ℕ)
         (takes : (other : ℕ) → new other
         ≡ cond (eqb text other) (remove_key (nat_eq place) (by_text other)) (by_text other)) where
-      pub IsKept-left : IsKept (emptied place slots) new
+      pub IsKept-left : IsKept (empty_slot place slots) new
       IsKept-left =
           let parts = recipient_parts text conference row is in
           let same_text = sym parts.0 in

@@ -10,7 +10,7 @@ use Rattle.kom_types.specs.declared.texts.TextLink.{TextLink}
 use Rattle.row_slots.specs.Slots.{rows_in, places_from, places_of}
 use Rattle.row_slots.proofs.Places.{row_at, rows-places_of}
 use Rattle.misc_links.specs.Keeping.{is_from, is_into, link_at, IsKept}
-use Rattle.misc_links.specs.Linked.{touches, touching}
+use Rattle.misc_links.specs.Linked.{touches, links_of_text}
 use Rattle.row_slots.proofs.Passing.{passes_at}
 use Rattle.misc_links.proofs.Rising.{AllAbove, Rises, has, has_none}
 
@@ -134,8 +134,8 @@ all_links [] = refl
 all_links (row ∷ rows) = ap (λ rest. row ∷ rest) (all_links rows)
 
 pub links_touching : (text : ℕ) (slots : List (Option TextLink)) →
-    filter_map (link_at slots) (places_of (touches text) slots) ≡ touching text (rows_in slots)
+    filter_map (link_at slots) (places_of (touches text) slots) ≡ links_of_text text (rows_in slots)
 links_touching text slots =
     links_through slots (places_of (touches text) slots)
     ∙ ap (filter_map (λ slot. slot)) (rows-places_of (touches text) slots)
-    ∙ all_links (touching text (rows_in slots))
+    ∙ all_links (links_of_text text (rows_in slots))

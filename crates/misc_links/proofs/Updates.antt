@@ -6,7 +6,7 @@ use Rattle.std.proofs.lemmas.Bool.{and_parts, and_from}
 use Rattle.kom_types.specs.Bits.{alike}
 use Rattle.kom_types.specs.declared.texts.TextLink.{TextLink}
 use Rattle.kom_types.specs.tables.Texts.{is_link, link_of, without_link}
-use Rattle.row_slots.specs.Slots.{rows_in, emptied}
+use Rattle.row_slots.specs.Slots.{rows_in, empty_slot}
 use Rattle.row_slots.proofs.Places.{row_at, places_of-push, places_of-emptied, is_member-places_of, rows_in-emptied}
 use Rattle.row_slots.proofs.Rows.{rows_in-push}
 use Rattle.misc_links.specs.Keeping.{is_from, is_into, IsKept}
@@ -72,7 +72,7 @@ module _ (slots : List (Option TextLink)) (from into : ℕ → Bool → List ℕ
       ∙ is_member-places_of (is_into parent footnote) place slots row there
       (and_from (eqb row.parent parent) (alike row.footnote footnote) ends.1 kind.1)
 
-  pub rows_left : rows_in (emptied place slots) ≡ without_link child parent footnote (rows_in slots)
+  pub rows_left : rows_in (empty_slot place slots) ≡ without_link child parent footnote (rows_in slots)
   rows_left = rows_in-emptied (is_link child parent footnote) place slots row there is (kept.once child parent footnote)
 
   module _ (new_from new_into : ℕ → Bool → List ℕ)
@@ -80,7 +80,7 @@ module _ (slots : List (Option TextLink)) (from into : ℕ → Bool → List ℕ
       ≡ cond (is_same child footnote text kind) (remove_key (nat_eq place) (from text kind)) (from text kind))
       (takes_into : (text : ℕ) (kind : Bool) → new_into text kind
       ≡ cond (is_same parent footnote text kind) (remove_key (nat_eq place) (into text kind)) (into text kind)) where
-    pub IsKept-left : IsKept (emptied place slots) new_from new_into
+    pub IsKept-left : IsKept (empty_slot place slots) new_from new_into
     IsKept-left =
         let parts = link_parts child parent footnote row is in
         let same_child = sym parts.0 in

@@ -19,8 +19,8 @@ abbrev pub touches : ℕ → TextLink → Bool
 touches text row = row.child == text || row.parent == text
 
 -- the links from a text and into it, in the order of adding
-abbrev pub touching : ℕ → List TextLink → List TextLink
-touching text rows = filter (touches text) rows
+abbrev pub links_of_text : ℕ → List TextLink → List TextLink
+links_of_text text rows = filter (touches text) rows
 
 -- how many more links from a text its list has room for
 abbrev pub room_from : Linked → ℕ → Bool → ℕ

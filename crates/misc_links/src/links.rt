@@ -4,7 +4,7 @@ ghost use Rattle.std.specs.Prelude.{filter_map, true, false};
 ghost use Rattle.kom_types.specs.tables.Texts.{link_of, links_from, links_into, without_link};
 ghost use Rattle.misc_links.specs.Keeping.{is_parent_at, is_child_at, link_at};
 ghost use Rattle.misc_links.specs.Kinds.{list_at};
-ghost use Rattle.misc_links.specs.Linked.{touching, room_from, room_into};
+ghost use Rattle.misc_links.specs.Linked.{links_of_text, room_from, room_into};
 ghost use Rattle.misc_links.specs.Linked.{HasRoom, KeepsRoom, UsesRoom};
 
 use crate::kinds::KindLists;
@@ -144,7 +144,7 @@ impl Links {
     /// The links from a text and into it, in the order of adding. The time grows with their number,
     /// times its logarithm.
     pub fn of_text(&self, text: u32) -> Result<Vec<TextLink>, Memory>
-        ensures { IfOk result (λ links. links.items ≡ touching text self.now.links) }
+        ensures { IfOk result (λ links. links.items ≡ links_of_text text self.now.links) }
     {
         let mut places = places_touching(&self.from, &self.into, text, self.alloc)?;
         places.sort_unstable();

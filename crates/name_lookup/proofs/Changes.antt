@@ -11,7 +11,7 @@ use Rattle.std.proofs.lemmas.List.Kept.{IsSortedBy-filter}
 use Rattle.std.proofs.lemmas.List.Sorted.{ranks_by}
 use Rattle.std.proofs.lemmas.List.Sums.{sum_by-insert}
 use Rattle.name_lookup.specs.declared.order.By.TheVariants.{Name}
-use Rattle.name_lookup.specs.NamedRows.{taken, without_name}
+use Rattle.name_lookup.specs.NamedRows.{clash_of, without_name}
 use Rattle.name_lookup.specs.Order.{name_cmp, name_in, is_below, rows_of, IsByName, StandsOnce, IsOrder}
 use Rattle.name_lookup.proofs.Clashes.{IsFree-from_taken, NoneClash-with_name, NoneClash-filter}
 use Rattle.name_lookup.proofs.Lists.{count_by-filter, IsSortedBy-agree, IsSortedBy-insert}
@@ -129,7 +129,7 @@ module _ (number : ℕ) (name : List ℕ) (old new : List (ℕ × List ℕ)) (up
       (rw (← other k d (omega arith), itself) (point.0 k d (omega arith) low)))
       (λ d inside. rw (← other place d inside, itself) (point.1 place d (omega arith) inside))
 
-  pub IsOrder-put : IsOrder old order → taken name (without_name number (rows_of old)) ≡ None →
+  pub IsOrder-put : IsOrder old order → clash_of name (without_name number (rows_of old)) ≡ None →
       IsPartitionPoint (λ one. is_below old Name name one ≡ true)
       (λ one. is_below old Name name one ≡ false) (others number order) place →
       IsOrder new (insert (others number order) place number)

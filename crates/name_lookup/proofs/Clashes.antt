@@ -6,7 +6,7 @@ use Rattle.std.proofs.lemmas.Bool.{eq-eqb, ne_eqb, cases_order, cases_eq, cases_
 use Rattle.std.proofs.lemmas.Option.{none-some, same_Some}
 use Rattle.std.proofs.lemmas.Slice.Eq.{bytes_eq-Decides}
 use Rattle.kom_types.specs.Names.{fold, clash}
-use Rattle.name_lookup.specs.NamedRows.{Named, with_name, without_name, taken, NoneClash}
+use Rattle.name_lookup.specs.NamedRows.{Named, with_name, without_name, clash_of, NoneClash}
 use Rattle.name_lookup.proofs.Rows.{AllAbove, IsRising, name_at, name_at-none, name_at-here, name_at-tail}
 use Rattle.name_lookup.proofs.Rows.{AllAbove-lower, with_name-at, with_name-before, with_name-after, all_with_name}
 use Rattle.name_lookup.proofs.Rows.{all_filter}
@@ -42,15 +42,15 @@ all_at P number held (one ∷ rows) all at = by (all_at P number held rows all.1
 
 -- the number of a name that clashes is that of the first
 pub taken_is : (name : List ℕ) (number : ℕ) (held : List ℕ) (rows : List Named) → NoneClash rows →
-    name_at number rows ≡ Some held → clash name held ≡ true → taken name rows ≡ Some number
+    name_at number rows ≡ Some held → clash name held ≡ true → clash_of name rows ≡ Some number
 taken_is name number held [] none at same = absurd (none-some held at)
 taken_is name number held (one ∷ rows) none at same =
     by (λ later. taken_is name number held rows none.1 later same)
     (cases_Bool (clash name one.name)) (cases_eq number one.number)
   where
-    by : (name_at number rows ≡ Some held → taken name rows ≡ Some number) →
+    by : (name_at number rows ≡ Some held → clash_of name rows ≡ Some number) →
         (clash name one.name ≡ true) ⊎ (clash name one.name ≡ false) →
-        (number ≡ one.number) ⊎ (number ≡ one.number → ⊥) → taken name (one ∷ rows) ≡ Some number
+        (number ≡ one.number) ⊎ (number ≡ one.number → ⊥) → clash_of name (one ∷ rows) ≡ Some number
     by rest (inl alike) (inl here) = rw alike (ap (λ n. Some n) (sym here))
     by rest (inl alike) (inr other) =
         let apart : clash one.name held ≡ false =
@@ -63,7 +63,8 @@ taken_is name number held (one ∷ rows) none at same =
     by rest (inr apart) (inr other) = rw apart (rest (rw (ne_eqb number one.number other) at at))
 
 pub taken_none : (name : List ℕ) (rows : List Named) → IsRising rows →
-    ((number : ℕ) (held : List ℕ) → name_at number rows ≡ Some held → clash name held ≡ false) → taken name rows ≡ None
+    ((number : ℕ) (held : List ℕ) → name_at number rows ≡ Some held → clash name held ≡ false) →
+    clash_of name rows ≡ None
 taken_none name [] rising free = refl
 taken_none name (one ∷ rows) rising free =
     let here : clash name one.name ≡ false = free one.number one.name (name_at-here one.number one rows refl) in
@@ -77,15 +78,15 @@ abbrev pub IsFree : ℕ → List ℕ → List Named → Type 0
 IsFree number name rows = AllByRecursion (λ one. (number ≡ one.number → ⊥) → clash name one.name ≡ false) rows
 
 pub IsFree-from_taken : (number : ℕ) (name : List ℕ) (rows : List Named) →
-    taken name (without_name number rows) ≡ None → IsFree number name rows
+    clash_of name (without_name number rows) ≡ None → IsFree number name rows
 IsFree-from_taken number name [] free = tt
 IsFree-from_taken number name (one ∷ rows) free =
     by (IsFree-from_taken number name rows) (cases_eq number one.number) (cases_Bool (clash name one.name)) free
   where
-    by : (taken name (without_name number rows) ≡ None → IsFree number name rows) →
+    by : (clash_of name (without_name number rows) ≡ None → IsFree number name rows) →
         (number ≡ one.number) ⊎ (number ≡ one.number → ⊥) →
         (clash name one.name ≡ true) ⊎ (clash name one.name ≡ false) →
-        taken name (without_name number (one ∷ rows)) ≡ None → IsFree number name (one ∷ rows)
+        clash_of name (without_name number (one ∷ rows)) ≡ None → IsFree number name (one ∷ rows)
     by rest (inl same) other t = (λ apart. absurd (apart same), rest (rw (eq-eqb one.number number (sym same)) at t))
     by rest (inr other) (inl alike) t =
         absurd (none-some one.number (sym (rw (ne_eqb one.number number (λ e. other (sym e)), alike) at t)))
@@ -129,27 +130,27 @@ NoneClash-filter keep (one ∷ rows) none =
 
 -- ---- a name that is free, or held by the number itself, is free for the number
 taken-tail : (name : List ℕ) (one : Named) (rows : List Named) → clash name one.name ≡ false →
-    taken name (one ∷ rows) ≡ taken name rows
+    clash_of name (one ∷ rows) ≡ clash_of name rows
 taken-tail name one rows apart = rw apart refl
 
 free_of_all : (name : List ℕ) (rows : List Named) → AllByRecursion (λ later. clash name later.name ≡ false) rows →
-    taken name rows ≡ None
+    clash_of name rows ≡ None
 free_of_all name [] apart = refl
 free_of_all name (one ∷ rows) apart = taken-tail name one rows apart.0 ∙ free_of_all name rows apart.1
 
-all_free : (name : List ℕ) (rows : List Named) → taken name rows ≡ None →
+all_free : (name : List ℕ) (rows : List Named) → clash_of name rows ≡ None →
     AllByRecursion (λ later. clash name later.name ≡ false) rows
 all_free name [] none = tt
 all_free name (one ∷ rows) none = by (all_free name rows) (cases_Bool (clash name one.name))
   where
-    by : (taken name rows ≡ None → AllByRecursion (λ later. clash name later.name ≡ false) rows) →
+    by : (clash_of name rows ≡ None → AllByRecursion (λ later. clash name later.name ≡ false) rows) →
         (clash name one.name ≡ true) ⊎ (clash name one.name ≡ false) →
         AllByRecursion (λ later. clash name later.name ≡ false) (one ∷ rows)
     by rest (inl alike) = absurd (none-some one.number (sym (rw alike at none)))
     by rest (inr apart) = (apart, rest (sym (taken-tail name one rows apart) ∙ none))
 
-pub taken-without_name : (number : ℕ) (name : List ℕ) (rows : List Named) → taken name rows ≡ None →
-    taken name (without_name number rows) ≡ None
+pub taken-without_name : (number : ℕ) (name : List ℕ) (rows : List Named) → clash_of name rows ≡ None →
+    clash_of name (without_name number rows) ≡ None
 taken-without_name number name rows none =
     free_of_all name (without_name number rows)
     (all_filter (λ later. clash name later.name ≡ false) (λ one. not (eqb one.number number)) rows
@@ -166,14 +167,14 @@ apart_too name held (one ∷ rows) alike apart = (
 )
 
 pub taken-without_holder : (number : ℕ) (name : List ℕ) (rows : List Named) → NoneClash rows →
-    taken name rows ≡ Some number → taken name (without_name number rows) ≡ None
+    clash_of name rows ≡ Some number → clash_of name (without_name number rows) ≡ None
 taken-without_holder number name [] none held = refl
 taken-without_holder number name (one ∷ rows) none held =
     by (taken-without_holder number name rows none.1) (cases_Bool (clash name one.name)) (cases_eq number one.number)
   where
-    by : (taken name rows ≡ Some number → taken name (without_name number rows) ≡ None) →
+    by : (clash_of name rows ≡ Some number → clash_of name (without_name number rows) ≡ None) →
         (clash name one.name ≡ true) ⊎ (clash name one.name ≡ false) →
-        (number ≡ one.number) ⊎ (number ≡ one.number → ⊥) → taken name (without_name number (one ∷ rows)) ≡ None
+        (number ≡ one.number) ⊎ (number ≡ one.number → ⊥) → clash_of name (without_name number (one ∷ rows)) ≡ None
     by rest (inl alike) here =
         let same : one.number ≡ number = same_Some _ _ (rw alike at held) in
         rw (eq-eqb one.number number same)

@@ -12,7 +12,7 @@ use Rattle.std.proofs.lemmas.List.Sorted.{sum_by-IsPermutation}
 use Rattle.kom_types.specs.Names.{clash, finds}
 use Rattle.name_lookup.specs.declared.order.By.TheVariants.{Name}
 use Rattle.std.specs.Map.{lookup}
-use Rattle.name_lookup.specs.NamedRows.{Named, taken, found}
+use Rattle.name_lookup.specs.NamedRows.{Named, clash_of, matches_of}
 use Rattle.name_lookup.specs.Order.{name_in, is_below, rows_of, StandsOnce, IsOrder}
 use Rattle.name_lookup.proofs.Lists.{count_by-cons, count_by-hit, count_by-miss, count_by-filter, counted_at}
 use Rattle.name_lookup.proofs.Lists.{Contains-counted}
@@ -72,21 +72,21 @@ counted pattern None = 0
 counted pattern (Some name) = cond (finds pattern name) 1 0
 
 found_above : (bound : ℕ) (pattern : List ℕ) (rows : List Named) → AllAbove bound rows →
-    AllByRecursion (λ y. bound ≤ y) (found pattern rows)
+    AllByRecursion (λ y. bound ≤ y) (matches_of pattern rows)
 found_above bound pattern [] above = tt
 found_above bound pattern (one ∷ rows) above =
     let here : bound < one.number = above.0 in
-    let rest : AllByRecursion (λ y. bound ≤ y) (found pattern rows) = found_above bound pattern rows above.1 in
+    let rest : AllByRecursion (λ y. bound ≤ y) (matches_of pattern rows) = found_above bound pattern rows above.1 in
     elim (finds pattern one.name) as (λ b. AllByRecursion (λ y. bound ≤ y) (map (λ one. one.number)
     (cond b (one ∷ filter (λ one. finds pattern one.name) rows) (filter (λ one. finds pattern one.name) rows)))) [
       | true ↦ (omega arith, rest)
       | false ↦ rest
     ]
 
-Rises-found : (pattern : List ℕ) (rows : List Named) → IsRising rows → Rises (found pattern rows)
+Rises-found : (pattern : List ℕ) (rows : List Named) → IsRising rows → Rises (matches_of pattern rows)
 Rises-found pattern [] rising = tt
 Rises-found pattern (one ∷ rows) rising =
-    let rest : Rises (found pattern rows) = Rises-found pattern rows rising.1 in
+    let rest : Rises (matches_of pattern rows) = Rises-found pattern rows rising.1 in
     elim (finds pattern one.name) as (λ b. Rises (map (λ one. one.number)
     (cond b (one ∷ filter (λ one. finds pattern one.name) rows) (filter (λ one. finds pattern one.name) rows)))) [
       | true ↦ (found_above one.number pattern rows rising.0, rest)
@@ -94,23 +94,23 @@ Rises-found pattern (one ∷ rows) rising =
     ]
 
 count-found : (number : ℕ) (pattern : List ℕ) (rows : List Named) → IsRising rows →
-    count_by (eqb number) (found pattern rows) ≡ counted pattern (name_at number rows)
+    count_by (eqb number) (matches_of pattern rows) ≡ counted pattern (name_at number rows)
 count-found number pattern [] rising = refl
 count-found number pattern (one ∷ rows) rising =
     by (count-found number pattern rows rising.1) (cases_Bool (finds pattern one.name)) (cases_eq number one.number)
   where
-    by : count_by (eqb number) (found pattern rows) ≡ counted pattern (name_at number rows) →
+    by : count_by (eqb number) (matches_of pattern rows) ≡ counted pattern (name_at number rows) →
         (finds pattern one.name ≡ true) ⊎ (finds pattern one.name ≡ false) →
         (number ≡ one.number) ⊎ (number ≡ one.number → ⊥) →
-        count_by (eqb number) (found pattern (one ∷ rows)) ≡ counted pattern (name_at number (one ∷ rows))
+        count_by (eqb number) (matches_of pattern (one ∷ rows)) ≡ counted pattern (name_at number (one ∷ rows))
     by rest (inl hit) (inl here) =
         let none = name_at-none number rows (rw here rising.0) in
         let is : eqb number one.number ≡ true = eq-eqb number one.number here in
-        let later : count_by (eqb number) (found pattern rows) ≡ 0 = rest ∙ ap (counted pattern) none in
-        rw (hit, is, hit) (count_by-hit (eqb number) one.number (found pattern rows) is ∙ ap (λ n. 1 + n) later)
+        let later : count_by (eqb number) (matches_of pattern rows) ≡ 0 = rest ∙ ap (counted pattern) none in
+        rw (hit, is, hit) (count_by-hit (eqb number) one.number (matches_of pattern rows) is ∙ ap (λ n. 1 + n) later)
     by rest (inl hit) (inr other) =
         let is : eqb number one.number ≡ false = ne_eqb number one.number other in
-        rw (hit, is) (count_by-miss (eqb number) one.number (found pattern rows) is ∙ rest)
+        rw (hit, is) (count_by-miss (eqb number) one.number (matches_of pattern rows) is ∙ rest)
     by rest (inr miss) (inl here) =
         let none = name_at-none number rows (rw here rising.0) in
         rw (miss, eq-eqb number one.number here, miss) (rest ∙ ap (counted pattern) none)
@@ -131,11 +131,11 @@ module _ (entries : List (ℕ × List ℕ)) (order : List ℕ) where
 
   pub found_sorted : (pattern walked numbers : List ℕ) → IsOrder entries order →
       walked ≡ filter (λ one. finds pattern (name_in entries one)) order → IsPermutation walked numbers →
-      IsNonDecreasing numbers → numbers ≡ found pattern (rows_of entries)
+      IsNonDecreasing numbers → numbers ≡ matches_of pattern (rows_of entries)
   found_sorted pattern walked numbers is same moved up =
       let rows = rows_of entries in
       let rising = IsRising-rows_of entries in
-      same_counts numbers (found pattern rows) (Rises-from numbers up) (Rises-found pattern rows rising) (λ number.
+      same_counts numbers (matches_of pattern rows) (Rises-from numbers up) (Rises-found pattern rows rising) (λ number.
       sum_by-IsPermutation (λ x. cond (eqb number x) 1 0) walked numbers moved
       ∙ ap (count_by (eqb number)) same ∙ count-walked pattern number is.once
       ∙ ap (counted pattern) (sym (name_at-rows_of number entries))
@@ -143,7 +143,7 @@ module _ (entries : List (ℕ × List ℕ)) (order : List ℕ) where
 
   -- ---- the name that clashes
   pub taken_there : (name : List ℕ) (number : ℕ) → IsOrder entries order → Contains order number →
-      clash name (name_in entries number) ≡ true → taken name (rows_of entries) ≡ Some number
+      clash name (name_in entries number) ≡ true → clash_of name (rows_of entries) ≡ Some number
   taken_there name number is at alike =
       by (lookup (eqb number) entries) refl alike (is.once number)
       (counted_at (eqb number) order at.0 at.1 (λ d.
@@ -151,7 +151,7 @@ module _ (entries : List (ℕ × List ℕ)) (order : List ℕ) where
     where
       by : (held : Option (List ℕ)) → lookup (eqb number) entries ≡ held → clash name (unwrap_or held []) ≡ true →
           count_by (eqb number) order ≡ cond (is_some held) 1 0 → 0 < count_by (eqb number) order →
-          taken name (rows_of entries) ≡ Some number
+          clash_of name (rows_of entries) ≡ Some number
       by None known hit none there = absurd (omega (arith, none, there))
       by (Some held) known hit once there =
           taken_is name number held (rows_of entries) is.none_clash (name_at-rows_of number entries ∙ known) hit
@@ -179,7 +179,7 @@ module _ (entries : List (ℕ × List ℕ)) (order : List ℕ) where
         (ap (clash name) (name_known number there.0 held known at) ∙ alike)
 
     pub taken_nowhere : (place < length order → clash name (name_in entries (get_or order place 0)) ≡ false) →
-        taken name (rows_of entries) ≡ None
+        clash_of name (rows_of entries) ≡ None
     taken_nowhere apart = taken_none name (rows_of entries) (IsRising-rows_of entries) (λ number held at.
         false_from_ne_true (clash name held) (λ alike.
         let known : lookup (eqb number) entries ≡ Some held = sym (name_at-rows_of number entries) ∙ at in
@@ -193,9 +193,9 @@ module _ (entries : List (ℕ × List ℕ)) (order : List ℕ) where
     stands_first number known =
         let first : (place < length order) × (clash name (name_in entries (get_or order place 0)) ≡ true) =
         alike_first number name known (clash_itself name) in
-        let here : taken name (rows_of entries) ≡ Some (get_or order place 0) =
+        let here : clash_of name (rows_of entries) ≡ Some (get_or order place 0) =
         taken_there name (get_or order place 0) is (Contains-get_or order place 0 first.0) first.1 in
-        let this : taken name (rows_of entries) ≡ Some number =
+        let this : clash_of name (rows_of entries) ≡ Some number =
         taken_there name number is (Contains-known number name is.once known)
         (ap (λ held. clash name (unwrap_or held [])) known ∙ clash_itself name) in
         (first.0, same_Some (get_or order place 0) number (sym here ∙ this))

@@ -14,7 +14,7 @@ use Rattle.kom_types.specs.Names.{fold, clash, outside}
 use Rattle.name_lookup.specs.declared.order.By.{By}
 use Rattle.name_lookup.specs.declared.order.By.TheVariants.{Name, Letters}
 use Rattle.name_lookup.specs.Letters.{letters, letters_of}
-use Rattle.name_lookup.specs.Order.{letters_cmp, name_cmp, compared, name_in, letters_in, is_below, IsByName}
+use Rattle.name_lookup.specs.Order.{letters_cmp, name_cmp, cmp_by, name_in, letters_in, is_below, IsByName}
 use Rattle.name_lookup.specs.Order.{StandsOnce}
 use Rattle.name_lookup.proofs.Clashes.{folds_alike, clash_back}
 
@@ -85,7 +85,7 @@ module _ (entries : List (ℕ × List ℕ)) where
 
   -- how the names stand to what is asked for does not fall along the order
   pub rises : (by : By) (asked order : List ℕ) → IsByName entries order →
-      IsNonDecreasingBy (λ number. ordering_index (compared by (name_in entries number) asked)) order
+      IsNonDecreasingBy (λ number. ordering_index (cmp_by by (name_in entries number) asked)) order
   rises Name asked order sorted = searchable_from_sorted name_total (name_in entries) order asked sorted
   rises Letters asked order sorted =
       searchable_from_sorted letters_total (letters_in entries) order asked (by_letters order sorted)

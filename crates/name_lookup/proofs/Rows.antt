@@ -7,7 +7,7 @@ use Rattle.std.proofs.lemmas.Map.Keys.{IsDistinct-head, IsDistinct-tail}
 use Rattle.std.proofs.lemmas.Bool.{eq-eqb, ne_eqb, lt-ltb, le-ltb, cases_order, cases_eq}
 use Rattle.std.proofs.lemmas.Bool.Decides.{nat_tests}
 use Rattle.std.proofs.lemmas.Option.{none-some, same_Some}
-use Rattle.name_lookup.specs.NamedRows.{Named, named, with_name, without_name}
+use Rattle.name_lookup.specs.NamedRows.{Named, named_row, with_name, without_name}
 use Rattle.name_lookup.specs.Order.{rows_of}
 
 -- the numbers of all rows are above this one
@@ -38,11 +38,11 @@ name_at-none number (one ∷ rows) above =
 -- ---- with a name
 module _ (number : ℕ) (name : List ℕ) where
   pub with_name-at : (one : Named) (rows : List Named) → number ≡ one.number →
-      with_name number name (one ∷ rows) ≡ named number name ∷ rows
+      with_name number name (one ∷ rows) ≡ named_row number name ∷ rows
   with_name-at one rows same = rw (eq-eqb number one.number same) refl
 
   pub with_name-before : (one : Named) (rows : List Named) → number < one.number →
-      with_name number name (one ∷ rows) ≡ named number name ∷ one ∷ rows
+      with_name number name (one ∷ rows) ≡ named_row number name ∷ one ∷ rows
   with_name-before one rows below =
       let other : eqb number one.number ≡ false = ne_eqb _ _ (λ e. omega arith) in
       rw (other, lt-ltb number one.number below) refl
@@ -55,7 +55,7 @@ module _ (number : ℕ) (name : List ℕ) where
       rw (other, not_below) refl
 
   -- what holds of the rows and of the name holds with it
-  pub all_with_name : (P : Named → Type 0) → P (named number name) → (rows : List Named) → AllByRecursion P rows →
+  pub all_with_name : (P : Named → Type 0) → P (named_row number name) → (rows : List Named) → AllByRecursion P rows →
       AllByRecursion P (with_name number name rows)
   all_with_name P new [] all = (new, tt)
   all_with_name P new (one ∷ rows) all = by (all_with_name P new rows all.1) (cases_order number one.number)
@@ -171,7 +171,8 @@ same_rows (x ∷ xs) (y ∷ ys) up up' same = by (same_rows xs ys up.1 up'.1) (c
     by tails (inl e) =
         let names : x.name ≡ y.name =
         same_Some _ _ (sym (name_at-here x.number x xs refl) ∙ same x.number ∙ name_at-here x.number y ys e) in
-        ap₂ (λ one rows. one ∷ rows) (ap₂ named e names) (tails (λ number. rest e number (cases_eq number x.number)))
+        ap₂ (λ one rows. one ∷ rows) (ap₂ named_row e names)
+        (tails (λ number. rest e number (cases_eq number x.number)))
     by tails (inr (inl below)) =
         absurd (none-some x.name (sym (sym (name_at-here x.number x xs refl) ∙ same x.number
         ∙ name_at-none x.number (y ∷ ys) (below, AllAbove-lower x.number y.number ys (omega arith) up'.0))))

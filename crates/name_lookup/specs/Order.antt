@@ -26,9 +26,9 @@ abbrev pub name_cmp : List ℕ → List ℕ → Ordering
 name_cmp = then_cmp (on letters_of letters_cmp) (on (map fold) letters_cmp)
 
 -- how a name stands to another one, or its letters to some letters
-abbrev pub compared : By → List ℕ → List ℕ → Ordering
-compared Name name asked = name_cmp name asked
-compared Letters name asked = letters_cmp (letters_of name) asked
+abbrev pub cmp_by : By → List ℕ → List ℕ → Ordering
+cmp_by Name name asked = name_cmp name asked
+cmp_by Letters name asked = letters_cmp (letters_of name) asked
 
 -- numbers with their names, by rising number
 abbrev pub rows_of : List (ℕ × List ℕ) → List Named
@@ -45,7 +45,7 @@ letters_in entries number = letters_of (name_in entries number)
 
 -- whether the name of a number comes before what is asked for, and that of the last of some numbers
 abbrev pub is_below : List (ℕ × List ℕ) → By → List ℕ → ℕ → Bool
-is_below entries by asked number = is_lt (compared by (name_in entries number) asked)
+is_below entries by asked number = is_lt (cmp_by by (name_in entries number) asked)
 
 abbrev pub ends_below : List (ℕ × List ℕ) → By → List ℕ → List ℕ → Bool
 ends_below entries by asked numbers =

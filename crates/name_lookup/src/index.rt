@@ -1,5 +1,6 @@
 ghost use Rattle.std.specs.Prelude.{◌≡◌, ◌<◌, ◌≤◌, [], None, filter, not, nat_eq, IfOk, OnOk};
-ghost use Rattle.name_lookup.specs.NamedRows.{with_name, without_name, taken, found, NoneClash};
+ghost use Rattle.name_lookup.specs.NamedRows.{with_name, without_name, clash_of, matches_of};
+ghost use Rattle.name_lookup.specs.NamedRows.{NoneClash};
 ghost use Rattle.name_lookup.specs.Order.{IsOrder};
 
 use crate::alphabet::clashes;
@@ -62,7 +63,7 @@ impl Index {
     /// Puts the name of a number. Takes no memory.
     pub(crate) fn put(&mut self, number: u32, name: Bytes)
         requires room { 0 < self.old.spare }
-        requires free { taken name (without_name number self.old.names) ≡ None }
+        requires free { clash_of name (without_name number self.old.names) ≡ None }
         ensures { self.new.names ≡ with_name number name self.old.names }
     {
         take_out(&self.kept, &mut self.order, number);
@@ -82,7 +83,7 @@ impl Index {
 
     /// The number whose name clashes with this one, if one does.
     pub(crate) fn taken(&self, name: &[u8]) -> Option<u32>
-        ensures number { result ≡ taken name.now self.now.names }
+        ensures number { result ≡ clash_of name.now self.now.names }
         ensures none_clash { NoneClash self.now.names }
     {
         let place = self.order.first_at(&self.kept, name, By::Name);
@@ -98,7 +99,7 @@ impl Index {
 
     /// The numbers of the names that a pattern finds, rising.
     pub(crate) fn find(&self, pattern: &[u8]) -> Result<Numbers, Memory>
-        ensures { IfOk result (λ numbers. numbers ≡ found pattern.now self.now.names) }
+        ensures { IfOk result (λ numbers. numbers ≡ matches_of pattern.now self.now.names) }
     {
         let letters: Vec<u8> = Letters::of(pattern).collect(self.alloc())?;
         let mut numbers = walk(&self.kept, &self.order, letters.as_slice())?;

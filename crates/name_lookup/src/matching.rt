@@ -1,7 +1,7 @@
 ghost use Rattle.std.specs.Prelude.{◌≡◌, map};
 ghost use Rattle.kom_types.specs.Names.{fold};
 ghost use Rattle.name_lookup.specs.Letters.{letters_of};
-ghost use Rattle.name_lookup.specs.Order.{compared, name_cmp, letters_cmp};
+ghost use Rattle.name_lookup.specs.Order.{cmp_by, name_cmp, letters_cmp};
 
 use crate::alphabet::fold_byte;
 use crate::letters::Letters;
@@ -10,7 +10,7 @@ use std::cmp::Ordering;
 
 /// How a name stands to what is asked for.
 pub(crate) fn compare(name: &[u8], asked: &[u8], by: By) -> Ordering
-    ensures { result ≡ compared by name.now asked.now }
+    ensures { result ≡ cmp_by by name.now asked.now }
 {
     match by {
         By::Name => compare_names(name, asked),

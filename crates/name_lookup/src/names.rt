@@ -1,6 +1,7 @@
 ghost use Rattle.std.specs.Prelude.{◌≡◌, [], None, Some, IfOk, OnOk, OnErr, IsOk};
 ghost use Rattle.std.specs.Prelude.{IsTrue, ◌↔◌};
-ghost use Rattle.name_lookup.specs.NamedRows.{with_name, without_name, taken, found, NoneClash};
+ghost use Rattle.name_lookup.specs.NamedRows.{with_name, without_name, clash_of, matches_of};
+ghost use Rattle.name_lookup.specs.NamedRows.{NoneClash};
 
 use crate::index::Index;
 use kom_types::{Bytes, Memory, Numbers};
@@ -61,7 +62,7 @@ impl Names {
 
     /// Puts the name of a number, in place of the one that it had.
     pub fn put(&mut self, number: u32, name: &[u8]) -> Result<(), Memory>
-        requires { taken name.now (without_name number self.old.names) ≡ None }
+        requires { clash_of name.now (without_name number self.old.names) ≡ None }
         ensures ok { OnOk result (self.new.names ≡ with_name number name.now self.old.names) }
         ensures spent { OnOk result (self.new.ready ≡ None) }
         ensures err { OnErr result (self.new ≡ self.old) }
@@ -83,7 +84,7 @@ impl Names {
 
     /// The number whose name clashes with this one, if one does.
     pub fn taken(&self, name: &[u8]) -> Option<u32>
-        ensures number { result ≡ taken name.now self.now.names }
+        ensures number { result ≡ clash_of name.now self.now.names }
         ensures none_clash { NoneClash self.now.names }
     {
         self.index.taken(name)
@@ -91,7 +92,7 @@ impl Names {
 
     /// The numbers of the names that a pattern finds, rising: all for a pattern without a word.
     pub fn find(&self, pattern: &[u8]) -> Result<Numbers, Memory>
-        ensures { IfOk result (λ numbers. numbers ≡ found pattern.now self.now.names) }
+        ensures { IfOk result (λ numbers. numbers ≡ matches_of pattern.now self.now.names) }
     {
         self.index.find(pattern)
     }

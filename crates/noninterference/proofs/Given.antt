@@ -16,7 +16,7 @@ use Rattle.kom_model.specs.Out.{waiting_in, waiting_for, items_of, queued_for, g
 use Rattle.kom_model.specs.State.{State, IsSound}
 use Rattle.kom_model.proofs.Finding.{find-removed_same}
 use Rattle.kom_model.proofs.Moving.{taken_by, added_by, Closes, record_moves}
-use Rattle.kom_laws.specs.Erasing.{erased}
+use Rattle.kom_laws.specs.Erasing.{erase}
 use Rattle.kom_laws.specs.Groups.{Group}
 use Rattle.noninterference.proofs.steps.Acts.{acts-erased, session-same}
 
@@ -31,7 +31,7 @@ closed-queues number state pass moment session short =
     ap (λ found. items_of (drop (length (waiting_in found)) (waiting_in found)))
     (find-removed_same number state.sessions)
 
-module _ (group : Group) (one other : State) (same : erased group one ≡ erased group other) (number : ℕ)
+module _ (group : Group) (one other : State) (same : erase group one ≡ erase group other) (number : ℕ)
     (among : is_among group.sessions number ≡ true) where
   -- what waits for the session
   pub waiting-same : waiting_for number one ≡ waiting_for number other

@@ -15,10 +15,10 @@ use Rattle.kom_model.specs.Kinds.{is_among}
 use Rattle.kom_model.specs.State.{State}
 use Rattle.kom_model.specs.ToWhom.{is_refused, logged_out, logged_in, sendings, sent_by}
 use Rattle.kom_model.specs.calls.Call.{Asked}
-use Rattle.kom_laws.specs.Erasing.{erased, mask_of}
+use Rattle.kom_laws.specs.Erasing.{erase, mask_of}
 use Rattle.kom_laws.specs.Groups.{Group}
 use Rattle.noninterference.specs.outputs.Brought.{brought_to}
-use Rattle.noninterference.specs.steps.Calls.{called, IsReadyToCall, ActsAlike}
+use Rattle.noninterference.specs.steps.Calls.{record_of_call, IsReadyToCall, ActsAlike}
 use Rattle.noninterference.specs.steps.Same.{AreOfGroup, IsSameFor}
 use Rattle.noninterference.proofs.steps.Calls.{calls-erased, asked-same}
 use Rattle.noninterference.specs.respect.Calls.{later}
@@ -58,7 +58,7 @@ module _ (group : Group) (one other : State) (pass moment session reference : �
   decision state = decision_at state moment session reference what
 
   abbrev next : State → State
-  next state = after state (called pass moment session reference what)
+  next state = after state (record_of_call pass moment session reference what)
 
   public-same : is_public what ≡ true → decision one ≡ decision other
   public-same public = sym (public-decided group (asked_at one) what public)
@@ -66,14 +66,14 @@ module _ (group : Group) (one other : State) (pass moment session reference : �
       (asked-same group one other moment session reference what ready.sound ready'.sound worlds)
       ∙ public-decided group (asked_at other) what public
 
-  alike-same : ActsAlike (decision one) (decision other) → erased group (next one) ≡ erased group (next other)
+  alike-same : ActsAlike (decision one) (decision other) → erase group (next one) ≡ erase group (next other)
   alike-same alike = calls-erased.outside group one other pass moment session reference what ready ready' worlds
       (ap not outside) alike
 
   -- a call that changes nothing and sends nothing
   idle-vanishes : (state : State) → IsReadyToCall group state moment session reference what → AreOfGroup group state →
       is_public what ≡ false → (decision state).effects ≡ [] → (decision state).changes ≡ [] →
-      erased group (next state) ≡ later moment (erased group state)
+      erase group (next state) ≡ later moment (erase group state)
   idle-vanishes state is of_group other none still = calls-vanish group state pass moment session reference what
       (record {
         sound = is.sound;
@@ -101,7 +101,7 @@ module _ (group : Group) (one other : State) (pass moment session reference : �
         by true idle busy spared = absurd (true≢false (sym spared ∙ busy))
 
   pub outside-same : (decision one).effects ≡ (decision other).effects →
-      (decision one).changes ≡ (decision other).changes → erased group (next one) ≡ erased group (next other)
+      (decision one).changes ≡ (decision other).changes → erase group (next one) ≡ erase group (next other)
   outside-same effects changes = elim (cases_Bool (is_public what)) [
     | inl public ↦
         let same : decision one ≡ decision other = public-same public in

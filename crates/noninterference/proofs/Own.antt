@@ -14,7 +14,7 @@ use Rattle.kom_types.specs.declared.decisions.Decision.{Decision}
 use Rattle.kom_types.specs.declared.seats.Seat.{Seat}
 use Rattle.kom_types.specs.Sessions.{Session, waiting_limits}
 use Rattle.kom_model.specs.declared.viewers.Viewer.{Viewer}
-use Rattle.kom_model.specs.After.{MayFollow, after, acted, deliveries, decision_at}
+use Rattle.kom_model.specs.After.{MayFollow, after, after_act, deliveries, decision_at}
 use Rattle.kom_model.specs.Db.{Db}
 use Rattle.kom_model.specs.Effects.{apply_all, all_fit}
 use Rattle.kom_model.specs.Kinds.{is_among}
@@ -24,7 +24,7 @@ use Rattle.kom_model.specs.Viewers.{viewer_of, is_strong_seat}
 use Rattle.kom_model.proofs.Queueing.{queue_all-rows}
 use Rattle.kom_model.proofs.Seating.{of-seats}
 use Rattle.kom_model.proofs.whole.Counts.{all-weaker}
-use Rattle.kom_laws.specs.Erasing.{erased_db, erased}
+use Rattle.kom_laws.specs.Erasing.{erased_db, erase}
 use Rattle.kom_laws.specs.Groups.{Group}
 use Rattle.kom_laws.proofs.Kept.{sound-fit}
 use Rattle.noninterference.specs.Hiding.{IsSameStep, OwnStepsHide}
@@ -32,7 +32,7 @@ use Rattle.noninterference.specs.respect.Hidden.{is_hidden, is_hidden_call, is_o
 use Rattle.noninterference.specs.respect.Quiet.{AreWeak, IsQuiet, ChangesSame, login_of}
 use Rattle.noninterference.specs.respect.Quiet.{logs_in_own, caller_of}
 use Rattle.noninterference.specs.steps.Acts.{is_by}
-use Rattle.noninterference.specs.steps.Calls.{called, IsReadyToCall}
+use Rattle.noninterference.specs.steps.Calls.{record_of_call, IsReadyToCall}
 use Rattle.noninterference.specs.steps.Same.{IsSameFor}
 use Rattle.noninterference.specs.steps.Steps.{HasNoOpening}
 use Rattle.noninterference.proofs.steps.Acts.{acts-erased}
@@ -42,7 +42,7 @@ use Rattle.noninterference.proofs.Along.{steps-hide}
 use Rattle.noninterference.proofs.Stepping.{ready-to-call, rows-after}
 
 -- ---- no session of a group is strong in the one state where none is in the other
-weak-same : (group : Group) (one other : State) → erased group one ≡ erased group other → AreWeak group one →
+weak-same : (group : Group) (one other : State) → erase group one ≡ erase group other → AreWeak group one →
     AreWeak group other
 weak-same group one other same weak =
     let IsWeak : Db → Seat → Type 0 =
@@ -93,11 +93,11 @@ module _ (group : Group) (one other : State) (sound : IsSound one) (sound' : IsS
       short = false;
     }
 
-    rows-queued : (what : Act) → (after other (made' what)).db ≡ (acted other (made' what)).db
+    rows-queued : (what : Act) → (after other (made' what)).db ≡ (after_act other (made' what)).db
     rows-queued what = ap (λ (state : State). state.db)
-        (queue_all-rows waiting_limits (deliveries other (made' what)) (acted other (made' what)))
+        (queue_all-rows waiting_limits (deliveries other (made' what)) (after_act other (made' what)))
 
-    still-closed : (what : Act) → (acted other (made' what)).db ≡ other.db →
+    still-closed : (what : Act) → (after_act other (made' what)).db ≡ other.db →
         HasNoOpening group other.db (after other (made' what)).db
     still-closed what still = subst (λ (db : Db). HasNoOpening group other.db db) (sym (rows-queued what ∙ still))
         (itself-closed group other.db)
@@ -118,7 +118,7 @@ module _ (group : Group) (one other : State) (sound : IsSound one) (sound' : IsS
 
         fit : IsTrue (all_fit (decision one).effects other.db)
         fit = subst (λ (decision : Decision). IsTrue (all_fit decision.effects other.db)) (sym decided)
-            (sound-fit other (called pass moment at reference what) sound')
+            (sound-fit other (record_of_call pass moment at reference what) sound')
 
         effects-closed : HasNoOpening group other.db (apply_all (decision other).effects other.db)
         effects-closed = subst (λ (decision : Decision).
@@ -130,14 +130,14 @@ module _ (group : Group) (one other : State) (sound : IsSound one) (sound' : IsS
         call-closed = subst (λ (db : Db). HasNoOpening group other.db db)
             (sym (rows-after other pass moment at reference what)) effects-closed
 
-        call-states : erased group (after one (made (act.Call at reference what)))
-            ≡ erased group (after other (made' (act.Call at reference what)))
+        call-states : erase group (after one (made (act.Call at reference what)))
+            ≡ erase group (after other (made' (act.Call at reference what)))
         call-states = calls-erased.own group one other pass moment at reference what ready (record {
           sound = sound';
           ready = record {
             whole = sound'.whole;
             protected = sound'.protected;
-            fit = sound-fit other (called pass moment at reference what) sound';
+            fit = sound-fit other (record_of_call pass moment at reference what) sound';
             closed = effects-closed;
           };
         }) worlds among
@@ -160,7 +160,7 @@ module _ (group : Group) (one other : State) (sound : IsSound one) (sound' : IsS
     closed-same (act.Close at) own quiet = still-closed (act.Close at) refl
 
     states-same : (what : Act) → is_by group what ≡ true → IsQuiet group one (made what) →
-        erased group (after one (made what)) ≡ erased group (after other (made' what))
+        erase group (after one (made what)) ≡ erase group (after other (made' what))
     states-same (act.Connect user host) own quiet =
         acts-erased.after group one other (made (act.Connect user host)) worlds.same refl
     states-same (act.Call at reference what) own quiet = call-states at reference what own quiet

@@ -22,9 +22,9 @@ use Rattle.kom_types.specs.declared.session_changes.SessionChange.{SessionChange
 use Rattle.kom_types.specs.declared.session_changes.SessionChange.TheVariants as change
 use Rattle.kom_types.specs.declared.texts.NewText.{NewText}
 use Rattle.kom_types.specs.declared.texts.TextRow.{TextRow}
-use Rattle.kom_types.specs.Sessions.{Session, waiting_limits, fresh_session, is_session, drained, changed_session}
-use Rattle.kom_types.specs.Sessions.{changed, with_invisible}
-use Rattle.kom_model.specs.After.{after, acted, deliveries, decision_at, moment_of, make_change, make_changes}
+use Rattle.kom_types.specs.Sessions.{Session, waiting_limits, fresh_session, is_session, after_drain, changed_session}
+use Rattle.kom_types.specs.Sessions.{after_change, with_invisible}
+use Rattle.kom_model.specs.After.{after, after_act, deliveries, decision_at, moment_of, make_change, make_changes}
 use Rattle.kom_model.specs.Db.{next_conference_of, items_of}
 use Rattle.kom_model.specs.Decide.{asked_in, decision_of, definition_of}
 use Rattle.kom_model.specs.Effects.{apply_all}
@@ -35,14 +35,14 @@ use Rattle.kom_model.specs.ToWhom.{is_refused}
 use Rattle.kom_model.specs.Viewers.{viewer_of, is_strong_seat}
 use Rattle.kom_model.specs.calls.AuxItems as AuxItems
 use Rattle.kom_model.specs.calls.AuxItems.{item_effects, object_of, numbers_guard}
-use Rattle.kom_model.specs.calls.Call.{Asked, answer, done}
+use Rattle.kom_model.specs.calls.Call.{Asked, answer, done_with}
 use Rattle.kom_model.specs.calls.Conferences.{nearest, left_by_deletion}
 use Rattle.kom_model.specs.calls.Guards.{Guard, caller, with_items, first_refusal, items_guard, new_items_guard}
 use Rattle.kom_model.specs.calls.Guards.{seat_at}
 use Rattle.kom_model.specs.calls.Memberships.{is_in_conference}
 use Rattle.kom_model.specs.calls.NewTexts.{new_text}
 use Rattle.kom_model.specs.calls.Persons.{maker}
-use Rattle.kom_model.specs.calls.Sessions.{leaving_changes, session_meant, ended, static_of}
+use Rattle.kom_model.specs.calls.Sessions.{leaving_changes, session_meant, end_session, static_of}
 use Rattle.kom_model.specs.calls.Texts.{nearest_text}
 use Rattle.kom_model.proofs.Deciding.{decision-meets}
 use Rattle.kom_model.proofs.Soundness.{entries-acted}
@@ -88,16 +88,16 @@ module _ (group : Group) where
   seating decision sits = record { sits = sits }
 
   ended-own : (asked : Asked) (found : Option Seat) → SeatsOwn (elim found as (λ _. Decision) [
-    | None ↦ done [] []
-    | Some seat ↦ ended asked seat
+    | None ↦ done_with [] []
+    | Some seat ↦ end_session asked seat
   ])
   ended-own asked None = seating _ refl
-  ended-own asked (Some seat) = seating (ended asked seat)
+  ended-own asked (Some seat) = seating (end_session asked seat)
       (cond_both (seat.person == 0) [] (change.Person seat.number 0 false ∷ [])
       (λ (changes : List SessionChange). SeatOwn (changes ++ change.Ended seat.number ∷ [])) (λ _. refl) (λ _. refl))
 
   static-own : (found : Option Seat) → SeatsOwn (elim found as (λ _. Decision) [
-    | None ↦ done [] []
+    | None ↦ done_with [] []
     | Some seat ↦ answer (reply.StaticSession (static_of seat))
   ])
   static-own None = seating _ refl
@@ -117,11 +117,12 @@ module _ (group : Group) where
   items-own (Some refused) decision is = seating _ refl
 
   change-own_items : (asked : Asked) (on_text : Bool) (on : Object) (adder : Adder) (given : AuxChange) →
-      SeatsOwn (AuxItems.changed asked on_text on adder given)
+      SeatsOwn (AuxItems.change_items asked on_text on adder given)
   change-own_items asked on_text on adder given = items-own
       (first_refusal
       (items_guard on adder (items_of asked.db on_text given.object) given.delete given.add
-      ∷ numbers_guard asked.db on_text given ∷ [])) (done (item_effects asked on_text adder given) []) (seating _ refl)
+      ∷ numbers_guard asked.db on_text given ∷ [])) (done_with (item_effects asked on_text adder given) [])
+      (seating _ refl)
 
   new_text-own : (anonymous : Bool) (asked : Asked) (given : NewText) → SeatsOwn (new_text anonymous asked given).rest
   new_text-own anonymous asked given =
@@ -201,7 +202,7 @@ module _ (group : Group) where
 
   -- ---- what acts make of the seats
   change-own : (what : SessionChange) (moment : ℕ) (row : Session) → seats_own what ≡ true → IsOwn row →
-      row.seat.number ≡ changed_session what → IsOwn (changed what moment row)
+      row.seat.number ≡ changed_session what → IsOwn (after_change what moment row)
   change-own (change.Person session person invisible) moment row sits is here =
       let seated : Seat = record row.seat {
         person = person;
@@ -228,14 +229,14 @@ module _ (group : Group) where
   make-own moment (what ∷ changes) state sits all =
       let parts = and_parts (seats_own what) (list_all seats_own changes) sits in
       make-own moment changes (make_change moment what state) parts.1
-      (all-mapped IsOwn IsOwn (λ row. cond (is_session (changed_session what) row) (changed what moment row) row)
-      (λ row is. cond_both (is_session (changed_session what) row) (changed what moment row) row IsOwn
+      (all-mapped IsOwn IsOwn (λ row. cond (is_session (changed_session what) row) (after_change what moment row) row)
+      (λ row is. cond_both (is_session (changed_session what) row) (after_change what moment row) row IsOwn
       (λ here. change-own what moment row parts.0 is (eqb-true row.seat.number (changed_session what) here))
       (λ there. is)) state.sessions all)
 
   acted-own : (state : State) (pass moment : ℕ) (what : Act) (session : ℕ) (short : Bool) →
       logs_in_own group state (record { pass = pass; moment = moment; act = what }) ≡ true →
-      AllByRecursion IsOwn state.sessions → AllByRecursion IsOwn (acted state (record {
+      AllByRecursion IsOwn state.sessions → AllByRecursion IsOwn (after_act state (record {
         entry = record { pass = pass; moment = moment; act = what };
         session = session;
         short = short;
@@ -251,8 +252,8 @@ module _ (group : Group) where
       (changes-own state pass moment number reference what own) all
   acted-own state pass moment (act.Broken number) session short own all = all
   acted-own state pass moment (act.Drain number) session short own all =
-      all-mapped IsOwn IsOwn (λ row. cond (is_session number row) (drained state.stable row) row)
-      (λ row is. cond_both (is_session number row) (drained state.stable row) row IsOwn (λ _. is) (λ _. is))
+      all-mapped IsOwn IsOwn (λ row. cond (is_session number row) (after_drain state.stable row) row)
+      (λ row is. cond_both (is_session number row) (after_drain state.stable row) row IsOwn (λ _. is) (λ _. is))
       state.sessions all
   acted-own state pass moment act.Flush session true own all = all
   acted-own state pass moment act.Flush session false own all = all
@@ -262,7 +263,7 @@ module _ (group : Group) where
   after-own : (state : State) (made : Record) → logs_in_own group state made.entry ≡ true →
       AllByRecursion IsOwn state.sessions → AllByRecursion IsOwn (after state made).sessions
   after-own state made own all =
-      let next : State = acted state made in
+      let next : State = after_act state made in
       subst (AllByRecursion IsOwn)
       (sym (rows-filled waiting_limits state.entries (deliveries state made) next (entries-acted state made)))
       (all-mapped IsOwn IsOwn _

@@ -12,7 +12,7 @@ use Rattle.kom_types.specs.declared.seats.Seat.{Seat}
 use Rattle.kom_model.specs.Messages.{text_aux_changed, told_if, new_membership}
 use Rattle.kom_model.specs.Sending.{Delivery, Sending}
 use Rattle.kom_model.specs.ToWhom.{items_named, items_made, is_refused}
-use Rattle.kom_model.specs.calls.Call.{Asked, done}
+use Rattle.kom_model.specs.calls.Call.{Asked, done_with}
 use Rattle.kom_model.specs.calls.Guards.{Guard, caller, with_items}
 use Rattle.kom_model.specs.calls.Memberships.{joins, set_member, is_near}
 use Rattle.noninterference.specs.outputs.Brought.{brought_to}
@@ -58,8 +58,8 @@ module _ (asked : Asked) (seat : Seat) where
   items-silent text = ap (λ (one : Option Delivery). cons_option one []) (told-none _ _ _)
 
   pub change-silent : (given : AuxChange) (guard : Guard) (effects added : List Effect) →
-      is_refused (with_items guard (done effects [])).reply ≡ false →
-      (with_items guard (done effects [])).effects ≡ [] → (effects ≡ [] → given.delete ≡ []) → added ≡ [] →
+      is_refused (with_items guard (done_with effects [])).reply ≡ false →
+      (with_items guard (done_with effects [])).effects ≡ [] → (effects ≡ [] → given.delete ≡ []) → added ≡ [] →
       brings_none (text_aux_changed asked.db given.object (items_named asked.db given.object given.delete)
       (items_made added) ∷ [])
   change-silent given None effects added accepted none deletes adds =

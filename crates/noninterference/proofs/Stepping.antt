@@ -13,7 +13,7 @@ use Rattle.kom_types.specs.declared.decisions.Decision.{Decision}
 use Rattle.kom_types.specs.declared.texts.NewText.{NewText}
 use Rattle.kom_types.specs.Sessions.{waiting_limits}
 use Rattle.kom_types.specs.tables.Texts.{lines_of}
-use Rattle.kom_model.specs.After.{after, acted, deliveries, decision_at, moment_of}
+use Rattle.kom_model.specs.After.{after, after_act, deliveries, decision_at, moment_of}
 use Rattle.kom_model.specs.Db.{Db}
 use Rattle.kom_model.specs.Effects.{apply_all}
 use Rattle.kom_model.specs.Kinds.{is_among}
@@ -22,10 +22,10 @@ use Rattle.kom_model.specs.State.{State, IsSound}
 use Rattle.kom_model.proofs.Changing.{make_changes-rows}
 use Rattle.kom_model.proofs.Queueing.{queue_all-rows}
 use Rattle.kom_model.proofs.Seating.{of-seats}
-use Rattle.kom_laws.specs.Erasing.{erased}
+use Rattle.kom_laws.specs.Erasing.{erase}
 use Rattle.kom_laws.specs.Groups.{Group}
 use Rattle.kom_laws.proofs.Kept.{sound-fit}
-use Rattle.noninterference.specs.steps.Calls.{called, IsReadyToCall}
+use Rattle.noninterference.specs.steps.Calls.{record_of_call, IsReadyToCall}
 use Rattle.noninterference.specs.steps.Same.{AreOfGroup, IsSameFor}
 use Rattle.noninterference.specs.steps.Steps.{HasNoOpening}
 use Rattle.noninterference.proofs.steps.Acts.{acts-erased}
@@ -51,13 +51,13 @@ never false = refl
 
 -- the rows after a call
 pub rows-after : (state : State) (pass moment session reference : ℕ) (what : Call) →
-    (after state (called pass moment session reference what)).db
+    (after state (record_of_call pass moment session reference what)).db
     ≡ apply_all (decision_at state moment session reference what).effects state.db
 rows-after state pass moment session reference what =
     let decision : Decision = decision_at state moment session reference what in
     ap (λ (state : State). state.db) (queue_all-rows waiting_limits
-    (deliveries state (called pass moment session reference what))
-    (acted state (called pass moment session reference what)))
+    (deliveries state (record_of_call pass moment session reference what))
+    (after_act state (record_of_call pass moment session reference what)))
     ∙ ap (λ (state : State). state.db) (make_changes-rows (moment_of state moment) decision.changes
     (record state { db = apply_all decision.effects state.db }))
 
@@ -73,7 +73,7 @@ ready-to-call group state pass moment session reference number what sound quiet 
   ready = record {
     whole = sound.whole;
     protected = sound.protected;
-    fit = sound-fit state (called pass moment session reference what) sound;
+    fit = sound-fit state (record_of_call pass moment session reference what) sound;
     closed = subst (λ (db : Db). HasNoOpening group state.db db) (rows-after state pass moment session reference what)
         quiet.closed;
   };
@@ -87,7 +87,7 @@ both-of_group group one other sound sound' worlds = of-seats (IsOwn group other.
 
 -- what a step does to a group in two worlds
 pub record StepsAlike (group : Group) (one other : State) (made made' : Record) : Type 0 where
-  pub states : erased group (after one made) ≡ erased group (after other made')
+  pub states : erase group (after one made) ≡ erase group (after other made')
   pub queued : (session : ℕ) → is_among group.sessions session ≡ true →
       queued_for session one made ≡ queued_for session other made'
   pub given : (session : ℕ) → is_among group.sessions session ≡ true →
@@ -185,7 +185,7 @@ module _ (group : Group) (one other : State) (sound : IsSound one) (sound' : IsS
       short = false;
     }
 
-    from-states : (what : Act) → erased group (after one (made what)) ≡ erased group (after other (made' what)) →
+    from-states : (what : Act) → erase group (after one (made what)) ≡ erase group (after other (made' what)) →
         StepsAlike group one other (made what) (made' what)
     from-states what states = record {
       states = states;

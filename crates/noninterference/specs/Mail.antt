@@ -18,7 +18,7 @@ use Rattle.kom_model.specs.Legal.{state_after}
 use Rattle.kom_model.specs.Out.{out_of, given_along}
 use Rattle.kom_model.specs.State.{State}
 use Rattle.noninterference.specs.Hiding.{entries_of}
-use Rattle.noninterference.specs.Worlds.{before, di, made, to_cy, di_drains}
+use Rattle.noninterference.specs.Worlds.{before, di, act_entry, to_cy, di_drains}
 use Rattle.noninterference.specs.respect.Hidden.{AreAlike}
 use Rattle.noninterference.specs.respect.Quiet.{AreQuietly, AreQuiet}
 
@@ -28,7 +28,7 @@ by session entry = record { entry = entry; session = session; short = false }
 
 -- a call of a session, with its reference
 abbrev pub asks : ℕ → ℕ → Call → Record
-asks session reference asked = by session (made (act.Call session reference asked))
+asks session reference asked = by session (act_entry (act.Call session reference asked))
 
 -- what Bo writes to Cy: this, with an aux-item
 abbrev pub to_cy_with : List ℕ → List ℕ → NewText
@@ -53,7 +53,7 @@ abbrev pub stat : Record
 stat = asks 3 3 (call.GetTextStat 1)
 
 abbrev pub flush : Record
-flush = by 0 (made act.Flush)
+flush = by 0 (act_entry act.Flush)
 
 abbrev pub drain : Record
 drain = by 3 di_drains

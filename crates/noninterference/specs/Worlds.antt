@@ -14,7 +14,7 @@ use Rattle.kom_types.specs.declared.texts.NewText.{NewText}
 use Rattle.kom_types.specs.Sessions.{Session, fresh_seat}
 use Rattle.kom_model.specs.Db.{Db, empty_db}
 use Rattle.kom_model.specs.Effects.{apply_all}
-use Rattle.kom_model.specs.State.{State, opening}
+use Rattle.kom_model.specs.State.{State, opening_state}
 use Rattle.kom_laws.specs.Groups.{Group}
 use Rattle.noninterference.specs.steps.Same.{IsSameFor}
 use Rattle.noninterference.specs.steps.Steps.{HasNoOpening}
@@ -35,8 +35,8 @@ makes_person number name =
     ∷ effect.MemberSet number number 0 255 number 10 0 ∷ []
 
 -- all that stands before
-abbrev pub stored : Db
-stored = apply_all
+abbrev pub rows_at_start : Db
+rows_at_start = apply_all
     (makes 6 (codes "Open") 0 ∷ makes_person 7 (codes "Bo") ++ makes_person 8 (codes "Cy")
     ++ makes_person 9 (codes "Di") ++ makes 10 (codes "Board") 160 ∷ []) empty_db
 
@@ -49,18 +49,18 @@ at number person = record {
 }
 
 abbrev pub before : State
-before = record (opening stored) {
+before = record (opening_state rows_at_start) {
   sessions = at 1 7 ∷ at 2 8 ∷ at 3 9 ∷ [];
   connects = 3;
   moment = 12;
 }
 
 -- an act of the session at moment 20, and a call of it
-abbrev pub made : Act → Entry
-made what = record { pass = 1; moment = 20; act = what }
+abbrev pub act_entry : Act → Entry
+act_entry what = record { pass = 1; moment = 20; act = what }
 
 abbrev pub calls : ℕ → Call → Entry
-calls session asked = made (act.Call session 1 asked)
+calls session asked = act_entry (act.Call session 1 asked)
 
 abbrev pub item : ℕ → ℕ → MiscInput
 item tag value = record { tag = tag; value = value }
@@ -92,14 +92,14 @@ to_the_board = calls 1 (call.CreateText (text (codes "yes!") (item 0 10 ∷ []))
 
 -- Cy's drain, and Di's
 abbrev pub cy_drains : Entry
-cy_drains = made (act.Drain 2)
+cy_drains = act_entry (act.Drain 2)
 
 abbrev pub di_drains : Entry
-di_drains = made (act.Drain 3)
+di_drains = act_entry (act.Drain 3)
 
 -- Bo's text to Cy is there as number 1; and then Di is a recipient of it
-abbrev pub written : Db
-written = apply_all (effect.TextAdded 1 7 20 (codes "yes!")
+abbrev pub written_to_cy : Db
+written_to_cy = apply_all (effect.TextAdded 1 7 20 (codes "yes!")
     ∷ effect.RecipientAdded (record {
       text = 1;
       conference = 8;
@@ -107,7 +107,7 @@ written = apply_all (effect.TextAdded 1 7 20 (codes "yes!")
       local = 1;
       sender = 0;
       at = 20;
-    }) ∷ []) stored
+    }) ∷ []) rows_at_start
 
 abbrev pub sent_to_di : Db
 sent_to_di = apply_all (effect.RecipientAdded (record {
@@ -117,11 +117,11 @@ sent_to_di = apply_all (effect.RecipientAdded (record {
   local = 1;
   sender = 7;
   at = 21;
-}) ∷ []) written
+}) ∷ []) written_to_cy
 
 -- the secret conference with Di as a member
 abbrev pub with_di : Db
-with_di = apply_all (effect.MemberSet 9 10 0 100 7 21 0 ∷ []) stored
+with_di = apply_all (effect.MemberSet 9 10 0 100 7 21 0 ∷ []) rows_at_start
 
 -- Di has the privilege wheel, and her session level 255
 abbrev pub strong_session : Session
@@ -130,7 +130,7 @@ strong_session =
 
 abbrev pub strong : State
 strong = record before {
-  db = apply_all (effect.PersonField 9 (person_field.Privileges 32768) ∷ []) stored;
+  db = apply_all (effect.PersonField 9 (person_field.Privileges 32768) ∷ []) rows_at_start;
   sessions = strong_session ∷ [];
 }
 
@@ -158,11 +158,11 @@ pub record WorldRows : Type 0 where
       ≡ false
   pub not_without_an_author : may_differ di unsigned_no.act ≡ false
   pub not_of_the_group : may_differ di di_drains.act ≡ false
-  pub recipients : recipients_seen di stored
+  pub recipients : recipients_seen di rows_at_start
       (text (codes "a") (item 0 8 ∷ item 1 10 ∷ item 15 6 ∷ item 2 1 ∷ []))
       ≡ item 0 8 ∷ item 15 6 ∷ []
-  pub opened_text : HasNoOpening di written sent_to_di → ⊥
-  pub opened_conference : HasNoOpening di stored with_di → ⊥
+  pub opened_text : HasNoOpening di written_to_cy sent_to_di → ⊥
+  pub opened_conference : HasNoOpening di rows_at_start with_di → ⊥
   pub made_strong : AreWeak di strong → ⊥
   pub weak_sessions : AreWeak di before
   pub same_worlds : IsSameFor di before before

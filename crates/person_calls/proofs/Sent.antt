@@ -11,7 +11,7 @@ use Rattle.std.proofs.lemmas.Option.{none-some, get_or_from_slice_get, slice_get
 use Rattle.kom_types.specs.declared.seats.Seat.{Seat}
 use Rattle.kom_model.specs.Db.{Db}
 use Rattle.kom_model.specs.Messages.{hears, send_message}
-use Rattle.kom_model.specs.Sending.{accepts, delivered}
+use Rattle.kom_model.specs.Sending.{accepts, delivery_to}
 use Rattle.kom_model.specs.calls.Call.{Asked}
 use Rattle.kom_model.specs.calls.Sessions.{is_sent}
 
@@ -59,7 +59,7 @@ module _ (asked : Asked) (recipient : ℕ) where
   sent-any : (text : List ℕ) →
       is_sent asked recipient text ≡ list_any (is_heard asked.db recipient) (accepting asked)
   sent-any text =
-      something (delivered asked.db (send_message asked.db recipient _ text)) (accepts 12)
+      something (delivery_to asked.db (send_message asked.db recipient _ text)) (accepts 12)
       (is_heard asked.db recipient) (λ seat. brought _ _ (eqb seat.person 0) (accepts 12 seat)
       (hears asked.db seat.person recipient)) asked.seats
 

@@ -109,7 +109,7 @@ fn supervises_at(rows: &StoredRows, person: u32, seat: &Seat) -> bool
 
 /// What becomes of a session that is ended.
 fn ended(asked: &Asked<'_>, seat: &Seat) -> Result<Decision, Memory>
-    ensures { IfOk result (λ decision. decision ≡ Sessions.ended asked.now seat.now) }
+    ensures { IfOk result (λ decision. decision ≡ Sessions.end_session asked.now seat.now) }
 {
     let mut changes = seat_leaves(asked, seat)?;
     changes.push(SessionChange::Ended(seat.number))?;

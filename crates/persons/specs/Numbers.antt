@@ -5,7 +5,7 @@ use Rattle.kom_types.specs.declared.effects.Counter.TheVariants as counter
 use Rattle.kom_types.specs.declared.effects.PersonField.{PersonField}
 use Rattle.kom_types.specs.declared.effects.PersonField.TheVariants as field
 use Rattle.kom_types.specs.declared.persons.PersonRow.{PersonRow}
-use Rattle.kom_types.specs.tables.Persons.{number_of_person, counted, with_field}
+use Rattle.kom_types.specs.tables.Persons.{number_of_person, count_up, with_field}
 
 pub number-with_field : (to : PersonField) (row : PersonRow) →
     number_of_person (with_field to row) ≡ number_of_person row
@@ -14,7 +14,7 @@ number-with_field (field.Flags flags) row = refl
 number-with_field (field.UserArea text) row = refl
 
 pub number-counted : (which : Counter) (by : ℕ) (row : PersonRow) →
-    number_of_person (counted which by row) ≡ number_of_person row
+    number_of_person (count_up which by row) ≡ number_of_person row
 number-counted counter.TimePresent by row = refl
 number-counted counter.CreatedLines by row = refl
 number-counted counter.CreatedBytes by row = refl

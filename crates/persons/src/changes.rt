@@ -1,6 +1,6 @@
 //! What changes a person's row in its place.
 ghost use Rattle.std.specs.Prelude.{◌≡◌};
-ghost use Rattle.kom_types.specs.tables.Persons.{raised};
+ghost use Rattle.kom_types.specs.tables.Persons.{raise_by};
 
 use crate::keyed::ByNumber;
 use kom_types::{Bytes, Counter, Moment, PersonField, PersonRow};
@@ -35,10 +35,10 @@ pub(crate) struct Rise {
 }
 
 impl Change<ByNumber> for Rise {
-    ghost use Rattle.kom_types.specs.tables.Persons.{counted};
+    ghost use Rattle.kom_types.specs.tables.Persons.{count_up};
     ghost use Rattle.persons.specs.Numbers.{number-counted};
 
-    ghost changed = { λ rise. counted rise.counter rise.by };
+    ghost changed = { λ rise. count_up rise.counter rise.by };
 
     ghost keeps_number = { λ rise. number-counted rise.counter rise.by };
 
@@ -100,7 +100,7 @@ impl Change<ByNumber> for SetHash {
 
 /// A count that rises, and stops at the end of its type.
 fn raised(by: u64, count: u32) -> u32
-    ensures { result ≡ raised by count }
+    ensures { result ≡ raise_by by count }
 {
     count.saturating_add(by.min(u64::from(u32::MAX)) as u32)
 }

@@ -1,7 +1,7 @@
 ghost use Rattle.std.specs.Prelude.{◌≡◌, ◌+◌, ◌<◌, ◌≤◌, [], None, length, option_copied};
 ghost use Rattle.std.specs.Prelude.{map, IsOk, IfOk, OnOk, OnErr};
 ghost use Rattle.row_table.specs.Tables.{row_of, with_row, without_row, changed_row, IsByNumber};
-ghost use Rattle.kom_types.specs.tables.Persons.{number_of_person, with_field, counted};
+ghost use Rattle.kom_types.specs.tables.Persons.{number_of_person, with_field, count_up};
 ghost use Rattle.kom_types.specs.tables.Persons.{logged_in, with_hash, with_created_drawn};
 ghost use Rattle.persons.specs.Numbers.{with_next_created, with_sessions};
 
@@ -105,7 +105,7 @@ impl Persons {
     /// Raises a counter of a person, which stops at 4294967295.
     pub fn count(&mut self, number: u32, counter: Counter, by: u64)
         ensures rows { self.new.rows
-            ≡ changed_row number_of_person number (counted counter by) self.old.rows }
+            ≡ changed_row number_of_person number (count_up counter by) self.old.rows }
         ensures spare { self.old.spare ≤ self.new.spare }
     {
         self.rows.change(number, Rise { counter, by });

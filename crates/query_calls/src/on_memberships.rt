@@ -255,7 +255,7 @@ fn ranges_told(
     is_told: bool,
     row: &MembershipRow,
 ) -> Result<RangesShown, Memory>
-    ensures { IfOk result (λ told. told ≡ Calls.told want_ranges (Calls.at_most most
+    ensures { IfOk result (λ told. told ≡ Calls.ranges_or_count want_ranges (Calls.at_most most
         (if is_told then read_of asked.now.db row.now.person row.now.conference else []))) }
 {
     let ranges = at_most(most, ranges_of(asked.rows(), is_told, row));

@@ -9,9 +9,9 @@ use Rattle.std.specs.FinSet.{FinSet, contains, insert, remove, contains-insert, 
 use Rattle.std.proofs.lemmas.Bool.Decides.{nat_tests}
 use Rattle.std.proofs.lemmas.List.{drop_more}
 use Rattle.kom_types.specs.declared.memberships.ReadRange.{ReadRange}
-use Rattle.read_ranges.specs.Numbers.{range, RiseFrom, greatest, numbers_from, numbers_in, with_number, cut}
+use Rattle.read_ranges.specs.Numbers.{range, RiseFrom, greatest, numbers_from, numbers_in, with_number, as_ranges}
 use Rattle.read_ranges.specs.Numbers.{ranges_of}
-use Rattle.read_ranges.specs.Changed.{numbers_of, size_of, noted, marked, all_marked, unmarked}
+use Rattle.read_ranges.specs.Changed.{numbers_of, size_of, insert_new, mark_read, all_marked, mark_unread}
 use Rattle.read_ranges.proofs.Rises.{holds_in, rise_lower, one_list}
 use Rattle.read_ranges.proofs.Sets.{any_flat, rise_with, holds_with, rise_ranges_of, holds_ranges_of, same_numbers}
 
@@ -34,14 +34,15 @@ count_fits a [] fits rise = omega arith
 count_fits a (n ∷ ns) fits rise = omega (arith, count_fits (n + 1) ns (omega arith) rise.2)
 
 -- the ranges that they are cut into
-rise_cut_of : (a : ℕ) (ns : List ℕ) → NumbersRise a ns → RiseFrom a (cut ns)
+rise_cut_of : (a : ℕ) (ns : List ℕ) → NumbersRise a ns → RiseFrom a (as_ranges ns)
 rise_cut_of a [] rise = tt
-rise_cut_of a (n ∷ ns) rise = rise_lower a n _ rise.0 (rise_with n (cut ns) rise.1 (rise_cut_of (n + 1) ns rise.2))
+rise_cut_of a (n ∷ ns) rise =
+    rise_lower a n _ rise.0 (rise_with n (as_ranges ns) rise.1 (rise_cut_of (n + 1) ns rise.2))
 
-holds_cut_of : (a : ℕ) (ns : List ℕ) → NumbersRise a ns → (m : ℕ) → holds_in (cut ns) m ≡ has ns m
+holds_cut_of : (a : ℕ) (ns : List ℕ) → NumbersRise a ns → (m : ℕ) → holds_in (as_ranges ns) m ≡ has ns m
 holds_cut_of a [] rise m = refl
 holds_cut_of a (n ∷ ns) rise m =
-    holds_with n (cut ns) (rise_cut_of (n + 1) ns rise.2) m
+    holds_with n (as_ranges ns) (rise_cut_of (n + 1) ns rise.2) m
     ∙ rw (holds_cut_of (n + 1) ns rise.2 m) (grind (arith, nat_tests))
 
 one_number : (n : ℕ) → numbers_in (range n n) ≡ n ∷ []
@@ -65,10 +66,10 @@ numbers_with n (r ∷ rs) rise =
     ] refl
 
 -- they are the numbers of those ranges
-pub numbers_cut : (a : ℕ) (ns : List ℕ) → NumbersRise a ns → numbers_of (cut ns) ≡ ns
+pub numbers_cut : (a : ℕ) (ns : List ℕ) → NumbersRise a ns → numbers_of (as_ranges ns) ≡ ns
 numbers_cut a [] rise = refl
 numbers_cut a (n ∷ ns) rise =
-    numbers_with n (cut ns) (rise_cut_of (n + 1) ns rise.2) ∙ ap (λ ms. n ∷ ms) (numbers_cut (n + 1) ns rise.2)
+    numbers_with n (as_ranges ns) (rise_cut_of (n + 1) ns rise.2) ∙ ap (λ ms. n ∷ ms) (numbers_cut (n + 1) ns rise.2)
 
 -- the numbers of rising ranges rise
 run_rises : (a first count : ℕ) (ns : List ℕ) → a ≤ first → first + count ≤ greatest + 1
@@ -89,43 +90,43 @@ numbers_rise a (r ∷ rs) rise =
     (numbers_lower _ (r.last + 2) (numbers_of rs) (omega arith) (numbers_rise (r.last + 2) rs rise.3))
 
 -- a number noted among them
-noted_rise : (a n : ℕ) (ns : List ℕ) → a ≤ n → n ≤ greatest → NumbersRise a ns → NumbersRise a (noted n ns)
+noted_rise : (a n : ℕ) (ns : List ℕ) → a ≤ n → n ≤ greatest → NumbersRise a ns → NumbersRise a (insert_new n ns)
 noted_rise a n [] le fits rise = (le, fits, tt)
 noted_rise a n (first ∷ others) le fits rise =
     elim (ltb n first) as
     (λ b. ltb n first ≡ b → NumbersRise a
-    (cond b (n ∷ first ∷ others) (cond (eqb n first) (first ∷ others) (first ∷ noted n others)))) [
+    (cond b (n ∷ first ∷ others) (cond (eqb n first) (first ∷ others) (first ∷ insert_new n others)))) [
       | true ↦ λ e. (le, fits, (grind (arith, nat_tests), rise.1, rise.2))
       | false ↦ λ e. elim (eqb n first) as (λ b. eqb n first ≡ b
-          → NumbersRise a (cond b (first ∷ others) (first ∷ noted n others))) [
+          → NumbersRise a (cond b (first ∷ others) (first ∷ insert_new n others))) [
             | true ↦ λ f. rise
             | false ↦ λ f. (rise.0, rise.1, noted_rise (first + 1) n others (grind (arith, nat_tests)) fits rise.2)
           ] refl
     ] refl
 
-noted_has : (n : ℕ) (ns : List ℕ) (m : ℕ) → has (noted n ns) m ≡ (eqb m n || has ns m)
+noted_has : (n : ℕ) (ns : List ℕ) (m : ℕ) → has (insert_new n ns) m ≡ (eqb m n || has ns m)
 noted_has n [] m = grind (arith, nat_tests)
 noted_has n (first ∷ others) m =
     elim (ltb n first) as
-    (λ b. has (cond b (n ∷ first ∷ others) (cond (eqb n first) (first ∷ others) (first ∷ noted n others))) m ≡
+    (λ b. has (cond b (n ∷ first ∷ others) (cond (eqb n first) (first ∷ others) (first ∷ insert_new n others))) m ≡
     (eqb m n || (nat_eq first m || has others m))) [
       | true ↦ grind (arith, nat_tests)
       | false ↦ elim (eqb n first) as
-          (λ b. eqb n first ≡ b → has (cond b (first ∷ others) (first ∷ noted n others)) m ≡
+          (λ b. eqb n first ≡ b → has (cond b (first ∷ others) (first ∷ insert_new n others)) m ≡
           (eqb m n || (nat_eq first m || has others m))) [
             | true ↦ λ f. grind (arith, nat_tests)
             | false ↦ λ f. rw (noted_has n others m) (grind (arith, nat_tests))
           ] refl
     ]
 
-noted_more : (n : ℕ) (ns : List ℕ) → has ns n ≡ false → length (noted n ns) ≡ length ns + 1
+noted_more : (n : ℕ) (ns : List ℕ) → has ns n ≡ false → length (insert_new n ns) ≡ length ns + 1
 noted_more n [] free = refl
 noted_more n (first ∷ others) free =
     let apart : eqb n first ≡ false = grind (arith, nat_tests) in
     let rest : has others n ≡ false = grind (arith, nat_tests) in
-    let more : length (noted n others) ≡ length others + 1 = noted_more n others rest in
+    let more : length (insert_new n others) ≡ length others + 1 = noted_more n others rest in
     elim (ltb n first) as
-    (λ b. length (cond b (n ∷ first ∷ others) (cond (eqb n first) (first ∷ others) (first ∷ noted n others)))
+    (λ b. length (cond b (n ∷ first ∷ others) (cond (eqb n first) (first ∷ others) (first ∷ insert_new n others)))
     ≡ length (first ∷ others) + 1) [
       | true ↦ omega arith
       | false ↦ rw apart (omega arith)
@@ -175,14 +176,14 @@ bounded : ℕ → Bool → Bool
 bounded m b = (leb 1 m && ltb m (1 + greatest)) && b
 
 module _ (s : FinSet nat_cmp) (n : ℕ) (some : n ≢ 0) (fits : n ≤ greatest) where
-  noted_numbers : NumbersRise 1 (noted n (numbers_of (ranges_of s)))
+  noted_numbers : NumbersRise 1 (insert_new n (numbers_of (ranges_of s)))
   noted_numbers = noted_rise 1 n _ (omega arith) fits (set_numbers s)
 
   more_within : (m : ℕ) (b : Bool) → (eqb m n || bounded m b) ≡ bounded m (eqb m n || b)
   unfolding bounded
   more_within m b = grind (arith, nat_tests)
 
-  more_held : (m : ℕ) → holds_in (marked n (ranges_of s)) m ≡ holds_in (ranges_of (insert s n)) m
+  more_held : (m : ℕ) → holds_in (mark_read n (ranges_of s)) m ≡ holds_in (ranges_of (insert s n)) m
   unfolding bounded
   more_held m =
       holds_cut_of 1 _ noted_numbers m ∙ noted_has n (numbers_of (ranges_of s)) m
@@ -190,7 +191,7 @@ module _ (s : FinSet nat_cmp) (n : ℕ) (some : n ≢ 0) (fits : n ≤ greatest)
       ∙ ap (bounded m) (sym (more_has s n m)) ∙ sym (holds_ranges_of (insert s n) m)
 
   -- the ranges of a set with one number more
-  pub marked_ranges : ranges_of (insert s n) ≡ marked n (ranges_of s)
+  pub marked_ranges : ranges_of (insert s n) ≡ mark_read n (ranges_of s)
   marked_ranges = sym (one_list 1 _ _ (rise_cut_of 1 _ noted_numbers) (rise_ranges_of (insert s n)) more_held)
 
   -- a number that was not there makes them one number more
@@ -200,7 +201,7 @@ module _ (s : FinSet nat_cmp) (n : ℕ) (some : n ≢ 0) (fits : n ≤ greatest)
       ap size_of marked_ranges ∙ ap length (numbers_cut 1 _ noted_numbers) ∙ noted_more n _ none
 
   -- and one that was leaves them as they were
-  pub marked_held : contains s n ≡ true → marked n (ranges_of s) ≡ ranges_of s
+  pub marked_held : contains s n ≡ true → mark_read n (ranges_of s) ≡ ranges_of s
   marked_held held =
       let same : (m : ℕ) → contains (insert s n) m ≡ contains s m = λ m. more_has s n m ∙ there m held in
       sym marked_ranges ∙ ap ranges_of (same_numbers (insert s n) s same)
@@ -220,7 +221,8 @@ but_numbers : (s : FinSet nat_cmp) (n : ℕ) → NumbersRise 1
     (filter (λ other. not (other == n)) (numbers_of (ranges_of s)))
 but_numbers s n = filter_rise (λ other. not (other == n)) 1 _ (set_numbers s)
 
-less_held : (s : FinSet nat_cmp) (n m : ℕ) → holds_in (unmarked n (ranges_of s)) m ≡ holds_in (ranges_of (remove s n)) m
+less_held : (s : FinSet nat_cmp) (n m : ℕ) →
+    holds_in (mark_unread n (ranges_of s)) m ≡ holds_in (ranges_of (remove s n)) m
 unfolding bounded
 less_held s n m =
     holds_cut_of 1 _ (but_numbers s n) m ∙ but_has n (numbers_of (ranges_of s)) m
@@ -228,7 +230,7 @@ less_held s n m =
     ∙ ap (bounded m) (sym (less_has s n m)) ∙ sym (holds_ranges_of (remove s n) m)
 
 -- the ranges of a set with one number less
-pub unmarked_ranges : (s : FinSet nat_cmp) (n : ℕ) → ranges_of (remove s n) ≡ unmarked n (ranges_of s)
+pub unmarked_ranges : (s : FinSet nat_cmp) (n : ℕ) → ranges_of (remove s n) ≡ mark_unread n (ranges_of s)
 unmarked_ranges s n = sym
     (one_list 1 _ _ (rise_cut_of 1 _ (but_numbers s n)) (rise_ranges_of (remove s n)) (less_held s n))
 
@@ -259,6 +261,6 @@ newly_step s t n newly before some fits free is so_far =
 
 -- what is left of a copy of a set
 pub unmarked_copy : (s copy left : FinSet nat_cmp) (n : ℕ) (list : List ReadRange) → list ≡ ranges_of left
-    → left ≡ remove copy n → copy ≡ s → list ≡ unmarked n (ranges_of s)
+    → left ≡ remove copy n → copy ≡ s → list ≡ mark_unread n (ranges_of s)
 unmarked_copy s copy left n list is without same =
     is ∙ ap ranges_of (without ∙ ap (λ t. remove t n) same) ∙ unmarked_ranges s n

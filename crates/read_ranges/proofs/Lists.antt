@@ -5,7 +5,7 @@ use Rattle.std.proofs.lemmas.Bool.{cases_lt}
 use Rattle.std.proofs.lemmas.Bool.Decides.{nat_tests}
 use Rattle.kom_types.specs.declared.memberships.ReadRange.{ReadRange}
 use Rattle.read_ranges.specs.Numbers.{range, RiseFrom, greatest, union_of}
-use Rattle.read_ranges.specs.Merged.{with_range, merged}
+use Rattle.read_ranges.specs.Merged.{with_range, merge_all}
 use Rattle.read_ranges.specs.ListFault.{IsFaultless, EndWithinBelow}
 use Rattle.read_ranges.proofs.Rises.{is_in_range, holds_in, rise_lower}
 use Rattle.read_ranges.proofs.Sets.{same_numbers, contains-union_of}
@@ -37,19 +37,19 @@ holds_with_range r (q ∷ qs) order rise m =
       | false ↦ λ e. refl
     ] refl
 
-pub rise_merged : (a : ℕ) (rs : List ReadRange) → TouchFrom a rs → RiseFrom a (merged rs)
+pub rise_merged : (a : ℕ) (rs : List ReadRange) → TouchFrom a rs → RiseFrom a (merge_all rs)
 rise_merged a [] touch = tt
 rise_merged a (r ∷ rs) touch = rise_lower a r.first _ touch.0
-    (rise_with_range r (merged rs) touch.1 touch.2 (rise_merged (r.last + 1) rs touch.3))
+    (rise_with_range r (merge_all rs) touch.1 touch.2 (rise_merged (r.last + 1) rs touch.3))
 
-pub holds_merged : (a : ℕ) (rs : List ReadRange) → TouchFrom a rs → (m : ℕ) → holds_in (merged rs) m ≡ holds_in rs m
+pub holds_merged : (a : ℕ) (rs : List ReadRange) → TouchFrom a rs → (m : ℕ) → holds_in (merge_all rs) m ≡ holds_in rs m
 holds_merged a [] touch m = refl
 holds_merged a (r ∷ rs) touch m =
-    holds_with_range r (merged rs) touch.1 (rise_merged (r.last + 1) rs touch.3) m
+    holds_with_range r (merge_all rs) touch.1 (rise_merged (r.last + 1) rs touch.3) m
     ∙ ap (λ b. is_in_range m r || b) (holds_merged (r.last + 1) rs touch.3 m)
 
-pub union_of-merged : (rs : List ReadRange) → TouchFrom 1 rs → union_of (merged rs) ≡ union_of rs
-union_of-merged rs touch = same_numbers _ _ (λ m. contains-union_of (merged rs) m ∙ holds_merged 1 rs touch m
+pub union_of-merged : (rs : List ReadRange) → TouchFrom 1 rs → union_of (merge_all rs) ≡ union_of rs
+union_of-merged rs touch = same_numbers _ _ (λ m. contains-union_of (merge_all rs) m ∙ holds_merged 1 rs touch m
     ∙ sym (contains-union_of rs m))
 
 -- merging makes no more ranges
@@ -59,25 +59,26 @@ length-with_range r (q ∷ qs) =
     elim (eqb q.first (r.last + 1)) as (λ b. length (cond b ((range r.first q.last) ∷ qs) (r ∷ q ∷ qs)) ≤ length
     (q ∷ qs) + 1) [ true ↦ omega arith | false ↦ omega arith ]
 
-pub length-merged : (rs : List ReadRange) → length (merged rs) ≤ length rs
+pub length-merged : (rs : List ReadRange) → length (merge_all rs) ≤ length rs
 length-merged [] = omega arith
-length-merged (r ∷ rs) = omega (arith, length-with_range r (merged rs), length-merged rs)
+length-merged (r ∷ rs) = omega (arith, length-with_range r (merge_all rs), length-merged rs)
 
 -- what a range and those after it make: one that touches it lengthens it, and any other follows it
 pub merged_touching : (last r : ReadRange) (rs : List ReadRange) → r.first ≡ last.last + 1 →
-    merged (last ∷ r ∷ rs) ≡ merged (range last.first r.last ∷ rs)
-merged_touching last r rs touches = elim (merged rs)
+    merge_all (last ∷ r ∷ rs) ≡ merge_all (range last.first r.last ∷ rs)
+merged_touching last r rs touches = elim (merge_all rs)
     as (λ ms. with_range last (with_range r ms) ≡ with_range (range last.first r.last) ms) [
       | [] ↦ grind (arith, nat_tests)
       | q ∷ qs ↦ grind (arith, nat_tests)
     ]
 
 pub merged_apart : (last r : ReadRange) (rs : List ReadRange) → r.first ≢ last.last + 1 →
-    merged (last ∷ r ∷ rs) ≡ last ∷ merged (r ∷ rs)
-merged_apart last r rs apart = elim (merged rs) as (λ ms. with_range last (with_range r ms) ≡ last ∷ with_range r ms) [
-  | [] ↦ grind (arith, nat_tests)
-  | q ∷ qs ↦ grind (arith, nat_tests)
-]
+    merge_all (last ∷ r ∷ rs) ≡ last ∷ merge_all (r ∷ rs)
+merged_apart last r rs apart =
+    elim (merge_all rs) as (λ ms. with_range last (with_range r ms) ≡ last ∷ with_range r ms) [
+      | [] ↦ grind (arith, nat_tests)
+      | q ∷ qs ↦ grind (arith, nat_tests)
+    ]
 
 -- the others of a faultless list are faultless
 pub others_faultless : (r : ReadRange) (rs : List ReadRange) → IsFaultless (r ∷ rs) → IsFaultless rs

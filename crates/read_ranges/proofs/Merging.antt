@@ -4,23 +4,23 @@ use Rattle.std.proofs.Common.{sym, ap, ◌∙◌, subst, append_assoc, arith}
 use Rattle.std.proofs.lemmas.List.{drop_more, drop-set-lt, take_more_set}
 use Rattle.kom_types.specs.declared.memberships.ReadRange.{ReadRange}
 use Rattle.read_ranges.specs.Numbers.{range, greatest}
-use Rattle.read_ranges.specs.Merged.{merged}
+use Rattle.read_ranges.specs.Merged.{merge_all}
 use borrow.Author.Count.{below_more}
 use Rattle.read_ranges.specs.ListFault.{range_at, EndWithinBelow}
 use Rattle.read_ranges.proofs.Lists.{merged_touching, merged_apart}
 
 module _ (xs whole : List ReadRange) (count at : ℕ) (last : ReadRange) (within : at < length xs)
-    (made : take count xs ++ merged (last ∷ drop at xs) ≡ whole) where
+    (made : take count xs ++ merge_all (last ∷ drop at xs) ≡ whole) where
   here : drop at xs ≡ range_at xs at ∷ drop (at + 1) xs
   here = drop_more xs at (range 0 0) within
 
-  made_here : take count xs ++ merged (last ∷ range_at xs at ∷ drop (at + 1) xs) ≡ whole
-  made_here = ap (λ ys. take count xs ++ merged (last ∷ ys)) (sym here) ∙ made
+  made_here : take count xs ++ merge_all (last ∷ range_at xs at ∷ drop (at + 1) xs) ≡ whole
+  made_here = ap (λ ys. take count xs ++ merge_all (last ∷ ys)) (sym here) ∙ made
 
   -- the range at the place touches the last one
   pub merge_touching :
       (range_at xs at).first ≡ last.last + 1
-      → take count xs ++ merged (range last.first (range_at xs at).last ∷ drop (at + 1) xs) ≡ whole
+      → take count xs ++ merge_all (range last.first (range_at xs at).last ∷ drop (at + 1) xs) ≡ whole
   merge_touching touches =
       ap (λ ys. take count xs ++ ys) (sym (merged_touching last (range_at xs at) (drop (at + 1) xs) touches))
       ∙ made_here
@@ -28,12 +28,12 @@ module _ (xs whole : List ReadRange) (count at : ℕ) (last : ReadRange) (within
   -- it does not
   pub merge_apart :
       count < at → (range_at xs at).first ≢ last.last + 1
-      → take (count + 1) (set xs count last) ++ merged (range_at xs at ∷ drop (at + 1) (set xs count last)) ≡ whole
+      → take (count + 1) (set xs count last) ++ merge_all (range_at xs at ∷ drop (at + 1) (set xs count last)) ≡ whole
   merge_apart before apart =
       let first = take_more_set xs count last (omega arith) in
       let back = drop-set-lt (at + 1) xs count last (omega arith) in
       rw (first, back)
-      (append_assoc (take count xs) (last ∷ []) (merged (range_at xs at ∷ drop (at + 1) xs))
+      (append_assoc (take count xs) (last ∷ []) (merge_all (range_at xs at ∷ drop (at + 1) xs))
       ∙ ap (λ ys. take count xs ++ ys) (sym (merged_apart last (range_at xs at) (drop (at + 1) xs) apart))
       ∙ made_here)
 

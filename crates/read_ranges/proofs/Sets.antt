@@ -1,16 +1,16 @@
 -- The sets of ranges, and the ranges of sets.
 use Rattle.std.proofs.Common.{◌≡◌, ℕ, zero, suc, ◌+◌, ◌-◌, ◌≤◌, Bool, true, false, ◌||◌, ◌&&◌, leb, ltb, eqb, nat_eq}
-use Rattle.std.proofs.Common.{not, cond, filter, List, [], ◌∷◌, refl, sym, ap, ◌∙◌, arith}
+use Rattle.std.proofs.Common.{not, cond, filter, List, [], ◌∷◌, refl, sym, ◌∙◌, arith}
 use Rattle.std.specs.List.{list_any, flat_map}
 use Rattle.std.specs.Ordering.{nat_cmp}
 use Rattle.std.specs.Cmp.{nat_cmp_total, unsigned_tied}
-use Rattle.std.specs.FinSet.{FinSet, empty, contains, insert, remove, from_list, contains-from_list_nat}
+use Rattle.std.specs.FinSet.{FinSet, empty, contains, insert, remove, contains-from_list_nat}
 use Rattle.std.specs.FinSet.{contains-insert, contains-remove, same_set, nat_cmp-IsAntisymmetric}
 use Rattle.std.proofs.lemmas.Bool.Decides.{nat_tests}
 use Rattle.std.proofs.lemmas.List.Folds.{list_any-append}
 use Rattle.kom_types.specs.declared.memberships.ReadRange.{ReadRange}
 use Rattle.read_ranges.specs.Numbers.{range, RiseFrom, AreRanges, greatest, numbers_from, numbers_in, union_of}
-use Rattle.read_ranges.specs.Numbers.{with_number, cut, ranges_of, IsWithinBounds}
+use Rattle.read_ranges.specs.Numbers.{with_number, as_ranges, ranges_of, IsWithinBounds}
 use Rattle.read_ranges.proofs.Rises.{is_in_range, holds_in, held_at_least, held_at_most, one_list, rise_lower}
 
 -- which numbers a run of numbers has
@@ -56,29 +56,29 @@ holds_with n (r ∷ rs) rise m =
 
 -- the numbers that pass a test, cut into ranges
 rise_cut : (p : ℕ → Bool) (first count : ℕ) → first + count ≤ greatest + 1 →
-    RiseFrom first (cut (filter p (numbers_from first count)))
+    RiseFrom first (as_ranges (filter p (numbers_from first count)))
 unfolding numbers_from
 rise_cut p first zero fits = tt
 rise_cut p first (suc count) fits =
-    let rest : RiseFrom (first + 1) (cut (filter p (numbers_from (first + 1) count))) =
+    let rest : RiseFrom (first + 1) (as_ranges (filter p (numbers_from (first + 1) count))) =
     rise_cut p (first + 1) count (omega arith) in
-    elim (p first) as (λ b. RiseFrom first (cut (cond b (first ∷ filter p (numbers_from (first + 1) count))
+    elim (p first) as (λ b. RiseFrom first (as_ranges (cond b (first ∷ filter p (numbers_from (first + 1) count))
     (filter p (numbers_from (first + 1) count))))) [
       | true ↦ rise_with first _ (omega arith) rest
       | false ↦ rise_lower first (first + 1) _ (omega arith) rest
     ]
 
 holds_cut : (p : ℕ → Bool) (first count : ℕ) → first + count ≤ greatest + 1 → (n : ℕ) →
-    holds_in (cut (filter p (numbers_from first count))) n ≡ ((leb first n && ltb n (first + count)) && p n)
+    holds_in (as_ranges (filter p (numbers_from first count))) n ≡ ((leb first n && ltb n (first + count)) && p n)
 unfolding numbers_from
 holds_cut p first zero fits n = grind (arith, nat_tests)
 holds_cut p first (suc count) fits n =
-    let rest : RiseFrom (first + 1) (cut (filter p (numbers_from (first + 1) count))) =
+    let rest : RiseFrom (first + 1) (as_ranges (filter p (numbers_from (first + 1) count))) =
     rise_cut p (first + 1) count (omega arith) in
-    let held : holds_in (cut (filter p (numbers_from (first + 1) count))) n ≡
+    let held : holds_in (as_ranges (filter p (numbers_from (first + 1) count))) n ≡
     ((leb (first + 1) n && ltb n (first + 1 + count)) && p n) = holds_cut p (first + 1) count (omega arith) n in
     let here : eqb n first ≡ true → p n ≡ p first = λ e. grind (arith, nat_tests) in
-    elim (p first) as (λ b. p first ≡ b → holds_in (cut
+    elim (p first) as (λ b. p first ≡ b → holds_in (as_ranges
     (cond b (first ∷ filter p (numbers_from (first + 1) count)) (filter p (numbers_from (first + 1) count)))) n ≡
     ((leb first n && ltb n (first + suc count)) && p n)) [
       | true ↦ λ e. holds_with first _ rest n ∙ rw held (grind (arith, nat_tests))

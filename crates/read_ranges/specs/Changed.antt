@@ -3,7 +3,7 @@ use Rattle.std.specs.Prelude.{ℕ, ◌+◌, ◌-◌, Bool, true, ◌==◌, ◌&&
 use Rattle.std.specs.Prelude.{List, [], ◌∷◌, length, filter, if◌then◌else◌}
 use Rattle.std.specs.List.{list_any, flat_map}
 use Rattle.kom_types.specs.declared.memberships.ReadRange.{ReadRange}
-use Rattle.read_ranges.specs.Numbers.{range, numbers_from, numbers_in, cut}
+use Rattle.read_ranges.specs.Numbers.{range, numbers_from, numbers_in, as_ranges}
 
 -- the numbers of ranges, which rise if the ranges do
 abbrev pub numbers_of : List ReadRange → List ℕ
@@ -14,24 +14,24 @@ abbrev pub size_of : List ReadRange → ℕ
 size_of ranges = length (numbers_of ranges)
 
 -- a number among rising ones, where it is not there yet
-abbrev pub noted : ℕ → List ℕ → List ℕ
-noted n [] = n ∷ []
-noted n (first ∷ others) =
+abbrev pub insert_new : ℕ → List ℕ → List ℕ
+insert_new n [] = n ∷ []
+insert_new n (first ∷ others) =
     if nat_lt n first then n ∷ first ∷ others
-    else if n == first then first ∷ others else first ∷ noted n others
+    else if n == first then first ∷ others else first ∷ insert_new n others
 
 -- the ranges of the numbers of these ranges and one more
-abbrev pub marked : ℕ → List ReadRange → List ReadRange
-marked n ranges = cut (noted n (numbers_of ranges))
+abbrev pub mark_read : ℕ → List ReadRange → List ReadRange
+mark_read n ranges = as_ranges (insert_new n (numbers_of ranges))
 
 -- and of many more
 abbrev pub all_marked : List ℕ → List ReadRange → List ReadRange
 all_marked [] ranges = ranges
-all_marked (n ∷ numbers) ranges = all_marked numbers (marked n ranges)
+all_marked (n ∷ numbers) ranges = all_marked numbers (mark_read n ranges)
 
 -- the ranges of the numbers of these ranges but one
-abbrev pub unmarked : ℕ → List ReadRange → List ReadRange
-unmarked n ranges = cut (filter (λ other. not (other == n)) (numbers_of ranges))
+abbrev pub mark_unread : ℕ → List ReadRange → List ReadRange
+mark_unread n ranges = as_ranges (filter (λ other. not (other == n)) (numbers_of ranges))
 
 -- the ranges of the numbers from 1 to n
 abbrev pub up_to : ℕ → List ReadRange

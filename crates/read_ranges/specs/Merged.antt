@@ -9,6 +9,6 @@ with_range r [] = r ∷ []
 with_range r (q ∷ qs) = if q.first == r.last + 1 then range r.first q.last ∷ qs else r ∷ q ∷ qs
 
 -- the ranges of a rising list, with those that touch made one
-abbrev pub merged : List ReadRange → List ReadRange
-merged [] = []
-merged (r ∷ rs) = with_range r (merged rs)
+abbrev pub merge_all : List ReadRange → List ReadRange
+merge_all [] = []
+merge_all (r ∷ rs) = with_range r (merge_all rs)

@@ -57,13 +57,13 @@ with_number n [] = range n n ∷ []
 with_number n (r ∷ rs) = if r.first == n + 1 then range n r.last ∷ rs else range n n ∷ r ∷ rs
 
 -- rising numbers as ranges, cut wherever a number is missing
-abbrev pub cut : List ℕ → List ReadRange
-cut [] = []
-cut (n ∷ ns) = with_number n (cut ns)
+abbrev pub as_ranges : List ℕ → List ReadRange
+as_ranges [] = []
+as_ranges (n ∷ ns) = with_number n (as_ranges ns)
 
 -- the ranges of a set: its numbers in rising order, cut wherever one is missing
 unfoldable pub ranges_of : FinSet nat_cmp → List ReadRange
-ranges_of s = cut (filter (contains s) (numbers_from 1 greatest))
+ranges_of s = as_ranges (filter (contains s) (numbers_from 1 greatest))
 
 -- how many ranges a set has
 abbrev pub count_of : FinSet nat_cmp → ℕ

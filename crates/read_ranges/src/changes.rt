@@ -44,7 +44,7 @@ impl Ranges {
     pub fn unmarked(&self, number: u32) -> Result<Vec<ReadRange>, Memory>
         requires { number ≢ 0 }
         ensures { IfOk result (λ list.
-            list.items ≡ changed.unmarked number (ranges_of self.now.numbers)) }
+            list.items ≡ changed.mark_unread number (ranges_of self.now.numbers)) }
     {
         let mut read = self.clone()?;
         read.unmark(number)?;

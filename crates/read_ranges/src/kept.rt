@@ -3,7 +3,7 @@ ghost use Rattle.std.specs.Prelude.{◌≡◌, ◌≤◌, ◌<◌, ◌++◌, ◌
 ghost use Rattle.std.specs.Prelude.{OnOk, OnErr, IfOk, IfErr, option_to_list};
 ghost use Rattle.std.specs.List.{insert, remove};
 ghost use Rattle.read_ranges.specs.ListFault.{EndWithinBelow};
-ghost use Rattle.read_ranges.specs.Merged.{merged};
+ghost use Rattle.read_ranges.specs.Merged.{merge_all};
 
 use crate::list::merge;
 use kom_types::{Memory, ReadRange};
@@ -61,7 +61,7 @@ impl Kept {
 
     /// Keeps a given list, with one range in place of those that touch.
     pub fn of_list(list: Vec<ReadRange>) -> Kept
-        ensures items { result.items ≡ merged list.items }
+        ensures items { result.items ≡ merge_all list.items }
         ensures bounds { EndWithinBelow list.items (length list.items) }
         ensures spare { length list.items ≤ result.spare }
     {

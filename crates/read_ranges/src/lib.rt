@@ -14,7 +14,7 @@ ghost use Rattle.read_ranges.specs.Numbers.{count_of, made_by, IsWithinBounds};
 ghost use Rattle.read_ranges.specs.Numbers.{IsNextUnread, IsReadFrom};
 ghost use Rattle.read_ranges.specs.ListFault.{IsFaultless, IsErrExactlyAt};
 ghost use Rattle.read_ranges.specs.ListFault.{IsFirstInvalid, IsFirstOutOfOrder};
-ghost use Rattle.read_ranges.specs.Merged.{merged};
+ghost use Rattle.read_ranges.specs.Merged.{merge_all};
 
 mod changes;
 mod edit;
@@ -97,7 +97,7 @@ impl Ranges {
     pub fn from_list(list: Vec<ReadRange>) -> Ranges
         requires { IsFaultless list.items }
         ensures numbers { result.numbers ≡ union_of list.items }
-        ensures ranges { ranges_of result.numbers ≡ merged list.items }
+        ensures ranges { ranges_of result.numbers ≡ merge_all list.items }
         ensures spare { length list.items ≤ result.spare }
     {
         Ranges {

@@ -3,7 +3,7 @@ ghost use Rattle.std.specs.Prelude.{◌≡◌, ◌+◌, ◌≤◌, ◌<◌, ◌�
 ghost use Rattle.std.specs.Prelude.{OnOk, IfErr, MatchOption};
 ghost use Rattle.read_ranges.specs.ListFault.{IsFaultless, IsFirstFault, IsListFault, IsFaultAt};
 ghost use Rattle.read_ranges.specs.ListFault.{EndWithinBelow, range_at};
-ghost use Rattle.read_ranges.specs.Merged.{merged};
+ghost use Rattle.read_ranges.specs.Merged.{merge_all};
 ghost use Rattle.read_ranges.specs.Numbers.{greatest};
 
 use crate::RangeFault;
@@ -62,7 +62,7 @@ pub fn check(list: &[ReadRange]) -> Result<(), RangeFault>
 
 /// How many ranges the list makes.
 pub(crate) fn merged_count(list: &[ReadRange]) -> usize
-    ensures { result ≡ length (merged list.now) }
+    ensures { result ≡ length (merge_all list.now) }
 {
     let Some((&first, others)) = list.split_first() else {
         return 0;
@@ -82,8 +82,8 @@ pub(crate) fn merged_count(list: &[ReadRange]) -> usize
 
 /// Keeps the ranges that the list makes, in place of those before.
 pub(crate) fn refill(kept: &mut Kept, list: &[ReadRange])
-    requires { length (merged list.now) ≤ kept.old.spare }
-    ensures items { kept.new.items ≡ merged list.now }
+    requires { length (merge_all list.now) ≤ kept.old.spare }
+    ensures items { kept.new.items ≡ merge_all list.now }
     ensures spare { kept.old.spare ≤ kept.new.spare }
 {
     kept.keep_only(None);
@@ -113,7 +113,7 @@ fn within_bounds(range: ReadRange) -> ReadRange
 /// Makes one range of those that touch, where the list stands, and tells how many there are then.
 pub(crate) fn merge(list: &mut [ReadRange]) -> usize
     ensures count { result ≤ length list.old }
-    ensures items { take result list.new ≡ merged list.old }
+    ensures items { take result list.new ≡ merge_all list.old }
     ensures bounds { EndWithinBelow list.old (length list.old) }
 {
     if list.is_empty() {

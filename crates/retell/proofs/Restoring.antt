@@ -3,7 +3,7 @@ use Rattle.std.proofs.Common.{◌≡◌, true, [], ◌∷◌, refl, sym, subst}
 use Rattle.kom_types.specs.declared.effects.Effect.{Effect}
 use Rattle.kom_types.specs.declared.raised.Raised.{Raised}
 use Rattle.kom_model.specs.Db.{Db, empty_db}
-use Rattle.kom_model.specs.Effects.{fits, made, apply}
+use Rattle.kom_model.specs.Effects.{fits, after_effect, apply}
 use Rattle.kom_model.specs.Raising.{may_raise, raised_in}
 use Rattle.kom_model.proofs.Protection.{IsProtected-apply_all}
 use Rattle.kom_model.proofs.whole.Effects.{effects-whole, empty-whole}
@@ -16,7 +16,8 @@ restored-empty db is =
     subst IsRestorable (sym is) (record { whole = empty-whole; protected = tt; listed = empty-listed })
 
 -- one more that fits
-pub restored-made : (what : Effect) (old new : Db) → fits what old ≡ true → new ≡ made what old → IsRestorable old →
+pub restored-made : (what : Effect) (old new : Db) → fits what old ≡ true → new ≡ after_effect what old →
+    IsRestorable old →
     IsRestorable new
 restored-made what old new fit is kept =
     let same : apply what old ≡ new = rw (fit, is) refl in

@@ -5,7 +5,7 @@ use Rattle.std.specs.List.{list_any}
 use Rattle.std.specs.Option.{option_flatten}
 use Rattle.std.specs.Prelude.{replicate}
 use Rattle.std.proofs.lemmas.Bool.{false≢true}
-use Rattle.row_slots.specs.Slots.{emptied, replaced, spread, IsBlock}
+use Rattle.row_slots.specs.Slots.{empty_slot, replace_row, spread, IsBlock}
 
 module _ {R : Type 0} where
   -- ---- slots that are empty
@@ -15,12 +15,12 @@ module _ {R : Type 0} where
   none_at (suc count) zero = refl
   none_at (suc count) (suc place) = none_at count place
 
-  emptied_nones : (count place : ℕ) → emptied {R = R} place (replicate count None) ≡ replicate count None
+  emptied_nones : (count place : ℕ) → empty_slot {R = R} place (replicate count None) ≡ replicate count None
   emptied_nones zero place = refl
   emptied_nones (suc count) zero = refl
   emptied_nones (suc count) (suc place) = ap (λ rest. None ∷ rest) (emptied_nones count place)
 
-  replaced_nones : (count place : ℕ) (row : R) → replaced place row (replicate count None) ≡ replicate count None
+  replaced_nones : (count place : ℕ) (row : R) → replace_row place row (replicate count None) ≡ replicate count None
   replaced_nones zero place row = refl
   replaced_nones (suc count) zero row = refl
   replaced_nones (suc count) (suc place) row = ap (λ rest. None ∷ rest) (replaced_nones count place row)
@@ -38,13 +38,13 @@ module _ {R : Type 0} where
   get-spread (slot ∷ slots) place = refl
 
   pub spread-emptied : (place : ℕ) (slots : List (Option R)) →
-      spread (emptied place slots) ≡ emptied place (spread slots)
+      spread (empty_slot place slots) ≡ empty_slot place (spread slots)
   spread-emptied place [] = sym (emptied_nones 64 place)
   spread-emptied zero (slot ∷ slots) = refl
   spread-emptied (suc place) (slot ∷ slots) = refl
 
   pub spread-replaced : (place : ℕ) (row : R) (slots : List (Option R)) →
-      spread (replaced place row slots) ≡ replaced place row (spread slots)
+      spread (replace_row place row slots) ≡ replace_row place row (spread slots)
   spread-replaced place row [] = sym (replaced_nones 64 place row)
   spread-replaced zero row (None ∷ slots) = refl
   spread-replaced zero row (Some first ∷ slots) = refl
@@ -60,13 +60,13 @@ module _ {R : Type 0} where
   spread-nones (slot ∷ slots) whole none =
       sym (nones (slot ∷ slots) none ∙ ap (λ count. replicate count None) whole)
 
-  pub length-emptied : (place : ℕ) (slots : List (Option R)) → length (emptied place slots) ≡ length slots
+  pub length-emptied : (place : ℕ) (slots : List (Option R)) → length (empty_slot place slots) ≡ length slots
   length-emptied place [] = refl
   length-emptied zero (slot ∷ slots) = refl
   length-emptied (suc place) (slot ∷ slots) = ap suc (length-emptied place slots)
 
   pub length-replaced : (place : ℕ) (row : R) (slots : List (Option R)) →
-      length (replaced place row slots) ≡ length slots
+      length (replace_row place row slots) ≡ length slots
   length-replaced place row [] = refl
   length-replaced zero row (None ∷ slots) = refl
   length-replaced zero row (Some first ∷ slots) = refl

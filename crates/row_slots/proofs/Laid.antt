@@ -5,7 +5,7 @@ use Rattle.std.specs.List.{AllByRecursion}
 use Rattle.std.proofs.Math.ListN.{set}
 use Rattle.std.proofs.lemmas.List.{length-append}
 use Rattle.std.proofs.lemmas.Option.{none-some, same_Some}
-use Rattle.row_slots.specs.Slots.{emptied, replaced, laid, IsBlock}
+use Rattle.row_slots.specs.Slots.{empty_slot, replace_row, slots_of, IsBlock}
 
 module _ {X : Type 0} where
   pub get-within : (xs ys : List X) (place : ℕ) → place < length xs → slice_get (xs ++ ys) place ≡ slice_get xs place
@@ -41,25 +41,25 @@ module _ {R : Type 0} where
   pub get-laid : (blocks : List (List (Option R))) (last : List (Option R)) (which place : ℕ) (block : List (Option R))
       →
       AllByRecursion IsBlock blocks → slice_get blocks which ≡ Some block → place < 64 →
-      slice_get (laid blocks last) (64 * which + place) ≡ slice_get block place
+      slice_get (slots_of blocks last) (64 * which + place) ≡ slice_get block place
   get-laid [] last which place block whole there within = absurd (none-some block there)
   get-laid (first ∷ blocks) last zero place block whole there within =
       let is : first ≡ block = same_Some first block there in
-      ap (slice_get (first ++ laid blocks last)) (omega arith)
-      ∙ get-within first (laid blocks last) place (omega (arith, whole.0))
+      ap (slice_get (first ++ slots_of blocks last)) (omega arith)
+      ∙ get-within first (slots_of blocks last) place (omega (arith, whole.0))
       ∙ ap (λ b. slice_get b place) is
   get-laid (first ∷ blocks) last (suc which) place block whole there within =
-      ap (slice_get (first ++ laid blocks last)) (omega (arith, whole.0))
-      ∙ get-after first (laid blocks last) (64 * which + place)
+      ap (slice_get (first ++ slots_of blocks last)) (omega (arith, whole.0))
+      ∙ get-after first (slots_of blocks last) (64 * which + place)
       ∙ get-laid blocks last which place block whole.1 there within
 
   pub get-last : (blocks : List (List (Option R))) (last : List (Option R)) (place : ℕ) →
       AllByRecursion IsBlock blocks →
-      slice_get (laid blocks last) (64 * length blocks + place) ≡ slice_get last place
+      slice_get (slots_of blocks last) (64 * length blocks + place) ≡ slice_get last place
   get-last [] last place whole = ap (slice_get last) (omega arith)
   get-last (first ∷ blocks) last place whole =
-      ap (slice_get (first ++ laid blocks last)) (omega (arith, whole.0))
-      ∙ get-after first (laid blocks last) (64 * length blocks + place)
+      ap (slice_get (first ++ slots_of blocks last)) (omega (arith, whole.0))
+      ∙ get-after first (slots_of blocks last) (64 * length blocks + place)
       ∙ get-last blocks last place whole.1
 
   -- ---- one slot is changed
@@ -89,81 +89,84 @@ module _ {R : Type 0} where
 
     changed-laid : (blocks : List (List (Option R))) (last : List (Option R)) (which place : ℕ)
         (block : List (Option R)) → AllByRecursion IsBlock blocks → slice_get blocks which ≡ Some block → place < 64 →
-        laid (set blocks which (changed place block)) last ≡ changed (64 * which + place) (laid blocks last)
+        slots_of (set blocks which (changed place block)) last ≡ changed (64 * which + place) (slots_of blocks last)
     changed-laid [] last which place block whole there within = absurd (none-some block there)
     changed-laid (first ∷ blocks) last zero place block whole there within =
         let is : block ≡ first = sym (same_Some first block there) in
-        ap (λ b. changed place b ++ laid blocks last) is
-        ∙ sym (changed-within first (laid blocks last) place (omega (arith, whole.0)))
-        ∙ ap (λ p. changed p (first ++ laid blocks last)) (omega arith)
+        ap (λ b. changed place b ++ slots_of blocks last) is
+        ∙ sym (changed-within first (slots_of blocks last) place (omega (arith, whole.0)))
+        ∙ ap (λ p. changed p (first ++ slots_of blocks last)) (omega arith)
     changed-laid (first ∷ blocks) last (suc which) place block whole there within =
         ap (λ rest. first ++ rest) (changed-laid blocks last which place block whole.1 there within)
-        ∙ sym (changed-after first (laid blocks last) (64 * which + place))
-        ∙ ap (λ p. changed p (first ++ laid blocks last)) (omega (arith, whole.0))
+        ∙ sym (changed-after first (slots_of blocks last) (64 * which + place))
+        ∙ ap (λ p. changed p (first ++ slots_of blocks last)) (omega (arith, whole.0))
 
     changed-last : (blocks : List (List (Option R))) (last : List (Option R)) (place : ℕ) →
         AllByRecursion IsBlock blocks →
-        laid blocks (changed place last) ≡ changed (64 * length blocks + place) (laid blocks last)
+        slots_of blocks (changed place last) ≡ changed (64 * length blocks + place) (slots_of blocks last)
     changed-last [] last place whole = ap (λ p. changed p last) (omega arith)
     changed-last (first ∷ blocks) last place whole =
         ap (λ rest. first ++ rest) (changed-last blocks last place whole.1)
-        ∙ sym (changed-after first (laid blocks last) (64 * length blocks + place))
-        ∙ ap (λ p. changed p (first ++ laid blocks last)) (omega (arith, whole.0))
+        ∙ sym (changed-after first (slots_of blocks last) (64 * length blocks + place))
+        ∙ ap (λ p. changed p (first ++ slots_of blocks last)) (omega (arith, whole.0))
 
   emptied_here : (slot : Option R) (slots rest : List (Option R)) →
-      emptied zero ((slot ∷ slots) ++ rest) ≡ emptied zero (slot ∷ slots) ++ rest
+      empty_slot zero ((slot ∷ slots) ++ rest) ≡ empty_slot zero (slot ∷ slots) ++ rest
   emptied_here slot slots rest = refl
 
   emptied_later : (place : ℕ) (slot : Option R) (slots : List (Option R)) →
-      emptied (suc place) (slot ∷ slots) ≡ slot ∷ emptied place slots
+      empty_slot (suc place) (slot ∷ slots) ≡ slot ∷ empty_slot place slots
   emptied_later place slot slots = refl
 
   pub emptied-laid : (blocks : List (List (Option R))) (last : List (Option R)) (which place : ℕ)
       (block : List (Option R)) → AllByRecursion IsBlock blocks → slice_get blocks which ≡ Some block → place < 64 →
-      laid (set blocks which (emptied place block)) last ≡ emptied (64 * which + place) (laid blocks last)
-  emptied-laid = changed-laid emptied emptied_here emptied_later
+      slots_of (set blocks which (empty_slot place block)) last ≡ empty_slot (64 * which + place) (slots_of blocks last)
+  emptied-laid = changed-laid empty_slot emptied_here emptied_later
 
   pub emptied-last : (blocks : List (List (Option R))) (last : List (Option R)) (place : ℕ) →
       AllByRecursion IsBlock blocks →
-      laid blocks (emptied place last) ≡ emptied (64 * length blocks + place) (laid blocks last)
-  emptied-last = changed-last emptied emptied_here emptied_later
+      slots_of blocks (empty_slot place last) ≡ empty_slot (64 * length blocks + place) (slots_of blocks last)
+  emptied-last = changed-last empty_slot emptied_here emptied_later
 
   module _ (row : R) where
     replaced_here : (slot : Option R) (slots rest : List (Option R)) →
-        replaced zero row ((slot ∷ slots) ++ rest) ≡ replaced zero row (slot ∷ slots) ++ rest
+        replace_row zero row ((slot ∷ slots) ++ rest) ≡ replace_row zero row (slot ∷ slots) ++ rest
     replaced_here None slots rest = refl
     replaced_here (Some first) slots rest = refl
 
     replaced_later : (place : ℕ) (slot : Option R) (slots : List (Option R)) →
-        replaced (suc place) row (slot ∷ slots) ≡ slot ∷ replaced place row slots
+        replace_row (suc place) row (slot ∷ slots) ≡ slot ∷ replace_row place row slots
     replaced_later place slot slots = refl
 
     pub replaced-laid : (blocks : List (List (Option R))) (last : List (Option R)) (which place : ℕ)
         (block : List (Option R)) → AllByRecursion IsBlock blocks → slice_get blocks which ≡ Some block → place < 64 →
-        laid (set blocks which (replaced place row block)) last ≡ replaced (64 * which + place) row (laid blocks last)
-    replaced-laid = changed-laid (λ place slots. replaced place row slots) replaced_here replaced_later
+        slots_of (set blocks which (replace_row place row block)) last
+        ≡ replace_row (64 * which + place) row (slots_of blocks last)
+    replaced-laid = changed-laid (λ place slots. replace_row place row slots) replaced_here replaced_later
 
     pub replaced-last : (blocks : List (List (Option R))) (last : List (Option R)) (place : ℕ) →
         AllByRecursion IsBlock blocks →
-        laid blocks (replaced place row last) ≡ replaced (64 * length blocks + place) row (laid blocks last)
-    replaced-last = changed-last (λ place slots. replaced place row slots) replaced_here replaced_later
+        slots_of blocks (replace_row place row last)
+        ≡ replace_row (64 * length blocks + place) row (slots_of blocks last)
+    replaced-last = changed-last (λ place slots. replace_row place row slots) replaced_here replaced_later
 
   -- ---- one more slot, and one more block
 
   pub laid-push : (blocks : List (List (Option R))) (last : List (Option R)) (slot : Option R) →
-      laid blocks (last ++ slot ∷ []) ≡ laid blocks last ++ slot ∷ []
+      slots_of blocks (last ++ slot ∷ []) ≡ slots_of blocks last ++ slot ∷ []
   laid-push [] last slot = refl
   laid-push (first ∷ blocks) last slot =
-      ap (λ rest. first ++ rest) (laid-push blocks last slot) ∙ sym (append_assoc first (laid blocks last) (slot ∷ []))
+      ap (λ rest. first ++ rest) (laid-push blocks last slot)
+      ∙ sym (append_assoc first (slots_of blocks last) (slot ∷ []))
 
   pub laid-settled : (blocks : List (List (Option R))) (block last : List (Option R)) →
-      laid (blocks ++ block ∷ []) last ≡ laid blocks (block ++ last)
+      slots_of (blocks ++ block ∷ []) last ≡ slots_of blocks (block ++ last)
   laid-settled [] block last = refl
   laid-settled (first ∷ blocks) block last = ap (λ rest. first ++ rest) (laid-settled blocks block last)
 
   pub length-laid : (blocks : List (List (Option R))) (last : List (Option R)) → AllByRecursion IsBlock blocks →
-      length (laid blocks last) ≡ 64 * length blocks + length last
+      length (slots_of blocks last) ≡ 64 * length blocks + length last
   length-laid [] last whole = omega arith
   length-laid (first ∷ blocks) last whole =
-      length-append first (laid blocks last)
+      length-append first (slots_of blocks last)
       ∙ omega (arith, whole.0, length-laid blocks last whole.1)

@@ -9,7 +9,7 @@ use Rattle.std.proofs.lemmas.Bool.{false≢true}
 use Rattle.std.proofs.lemmas.List.{length-map, map-append}
 use Rattle.std.proofs.lemmas.Option.{none-some, same_Some}
 use Rattle.std.proofs.lemmas.Simd.{map-map}
-use Rattle.row_slots.specs.Slots.{rows_in, places_from, places_of, emptied}
+use Rattle.row_slots.specs.Slots.{rows_in, places_from, places_of, empty_slot}
 
 -- ---- the next numbers of a list
 
@@ -129,7 +129,7 @@ module _ {R : Type 0} where
 
     -- the place of a row is gone once its slot is emptied
     pub places_of-emptied : (place : ℕ) (slots : List (Option R)) (row : R) → row_at slots place ≡ Some row →
-        places_of test (emptied place slots)
+        places_of test (empty_slot place slots)
         ≡ cond (test row) (remove_key (nat_eq place) (places_of test slots)) (places_of test slots)
     places_of-emptied place [] row there = absurd (none-some row there)
     places_of-emptied zero (None ∷ slots) row there = absurd (none-some row there)
@@ -139,11 +139,11 @@ module _ {R : Type 0} where
         ∙ ap (λ last. cond (test last) (remove_key (nat_eq zero) (places_of test (Some first ∷ slots)))
         (places_of test (Some first ∷ slots))) (same_Some first row there)
     places_of-emptied (suc place) (None ∷ slots) row there =
-        places_of-none (emptied place slots) ∙ ap (map suc) (places_of-emptied place slots row there)
+        places_of-none (empty_slot place slots) ∙ ap (map suc) (places_of-emptied place slots row there)
         ∙ next_without (test row) place (places_of test slots)
         ∙ ap (λ places. cond (test row) (remove_key (nat_eq (suc place)) places) places) (sym (places_of-none slots))
     places_of-emptied (suc place) (Some first ∷ slots) row there =
-        places_of-some first (emptied place slots)
+        places_of-some first (empty_slot place slots)
         ∙ ap (λ rest. cond (test first) (0 ∷ rest) rest)
         (ap (map suc) (places_of-emptied place slots row there)
         ∙ next_without (test row) place (places_of test slots))
@@ -222,7 +222,7 @@ module _ {R : Type 0} where
     -- without the one row that passes the test
     pub rows_in-emptied : (place : ℕ) (slots : List (Option R)) (row : R) → row_at slots place ≡ Some row →
         test row ≡ true → length (filter test (rows_in slots)) ≤ 1 →
-        rows_in (emptied place slots) ≡ filter (λ row. not (test row)) (rows_in slots)
+        rows_in (empty_slot place slots) ≡ filter (λ row. not (test row)) (rows_in slots)
     rows_in-emptied place [] row there passes once = absurd (none-some row there)
     rows_in-emptied zero (None ∷ slots) row there passes once = absurd (none-some row there)
     rows_in-emptied zero (Some first ∷ slots) row there passes once =
@@ -234,7 +234,7 @@ module _ {R : Type 0} where
     rows_in-emptied (suc place) (Some first ∷ slots) row there passes once =
         elim (test first) as
         (λ b. length (cond b (first ∷ filter test (rows_in slots)) (filter test (rows_in slots))) ≤ 1 →
-        first ∷ rows_in (emptied place slots)
+        first ∷ rows_in (empty_slot place slots)
         ≡ cond (not b) (first ∷ filter (λ r. not (test r)) (rows_in slots))
         (filter (λ r. not (test r)) (rows_in slots))) [
           | true ↦ λ once. absurd (omega (arith, some_passes place slots row there passes))

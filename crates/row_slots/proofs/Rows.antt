@@ -5,7 +5,7 @@ use Rattle.std.specs.Option.{option_flatten}
 use Rattle.std.proofs.Math.ListN.{set}
 use Rattle.std.proofs.lemmas.Bool.{false≢true}
 use Rattle.std.proofs.lemmas.Option.{none-some}
-use Rattle.row_slots.specs.Slots.{rows_in, emptied, replaced}
+use Rattle.row_slots.specs.Slots.{rows_in, empty_slot, replace_row}
 
 module _ {R : Type 0} where
   pub rows_in-push : (slots : List (Option R)) (row : R) → rows_in (slots ++ Some row ∷ []) ≡ rows_in slots ++ row ∷ []
@@ -13,21 +13,21 @@ module _ {R : Type 0} where
   rows_in-push (None ∷ slots) row = rows_in-push slots row
   rows_in-push (Some first ∷ slots) row = ap (λ rows. first ∷ rows) (rows_in-push slots row)
 
-  pub emptied-set : (place : ℕ) (slots : List (Option R)) → set slots place None ≡ emptied place slots
+  pub emptied-set : (place : ℕ) (slots : List (Option R)) → set slots place None ≡ empty_slot place slots
   emptied-set place [] = refl
   emptied-set zero (slot ∷ slots) = refl
   emptied-set (suc place) (slot ∷ slots) = ap (λ rest. slot ∷ rest) (emptied-set place slots)
 
   -- a slot that is empty, or is not there, is emptied for nothing
   pub emptied-empty : (place : ℕ) (slots : List (Option R)) → option_flatten (slice_get slots place) ≡ None →
-      emptied place slots ≡ slots
+      empty_slot place slots ≡ slots
   emptied-empty place [] empty = refl
   emptied-empty zero (slot ∷ slots) empty = ap (λ first. first ∷ slots) (sym empty)
   emptied-empty (suc place) (slot ∷ slots) empty = ap (λ rest. slot ∷ rest) (emptied-empty place slots empty)
 
   -- the row of a full slot is another one
   pub replaced-set : (place : ℕ) (row : R) (slots : List (Option R)) (first : R) →
-      option_flatten (slice_get slots place) ≡ Some first → set slots place (Some row) ≡ replaced place row slots
+      option_flatten (slice_get slots place) ≡ Some first → set slots place (Some row) ≡ replace_row place row slots
   replaced-set place row [] first there = absurd (none-some first there)
   replaced-set zero row (None ∷ slots) first there = absurd (none-some first there)
   replaced-set zero row (Some other ∷ slots) first there = refl
@@ -36,7 +36,7 @@ module _ {R : Type 0} where
 
   -- a slot that is empty, or is not there, stays so
   pub replaced-empty : (place : ℕ) (row : R) (slots : List (Option R)) →
-      option_flatten (slice_get slots place) ≡ None → replaced place row slots ≡ slots
+      option_flatten (slice_get slots place) ≡ None → replace_row place row slots ≡ slots
   replaced-empty place row [] empty = refl
   replaced-empty zero row (None ∷ slots) empty = refl
   replaced-empty zero row (Some first ∷ slots) empty = absurd (none-some first (sym empty))

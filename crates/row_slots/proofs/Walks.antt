@@ -1,6 +1,6 @@
 -- The rows that are still to come, from a slot on.
 use Rattle.std.proofs.Common.{◌≡◌, ℕ, zero, suc, ◌≤◌, List, [], ◌∷◌, length, drop, slice_get, Option, Some, None, refl}
-use Rattle.std.proofs.Common.{ap, ◌∙◌, ◌+◌, sym, subst, arith, add-one}
+use Rattle.std.proofs.Common.{ap, ◌∙◌, ◌+◌, sym, arith, add-one}
 use Rattle.std.specs.Option.{option_flatten}
 use Rattle.row_slots.specs.Slots.{rows_in}
 

@@ -28,17 +28,17 @@ module _ {R : Type 0} where
   places_of test slots = places_from test 0 slots
 
   -- the slot of this place is empty then
-  abbrev pub emptied : ℕ → List (Option R) → List (Option R)
-  emptied place [] = []
-  emptied zero (slot ∷ slots) = None ∷ slots
-  emptied (suc place) (slot ∷ slots) = slot ∷ emptied place slots
+  abbrev pub empty_slot : ℕ → List (Option R) → List (Option R)
+  empty_slot place [] = []
+  empty_slot zero (slot ∷ slots) = None ∷ slots
+  empty_slot (suc place) (slot ∷ slots) = slot ∷ empty_slot place slots
 
   -- the row in the slot of this place is another one then; an empty slot stays empty
-  abbrev pub replaced : ℕ → R → List (Option R) → List (Option R)
-  replaced place row [] = []
-  replaced zero row (None ∷ slots) = None ∷ slots
-  replaced zero row (Some first ∷ slots) = Some row ∷ slots
-  replaced (suc place) row (slot ∷ slots) = slot ∷ replaced place row slots
+  abbrev pub replace_row : ℕ → R → List (Option R) → List (Option R)
+  replace_row place row [] = []
+  replace_row zero row (None ∷ slots) = None ∷ slots
+  replace_row zero row (Some first ∷ slots) = Some row ∷ slots
+  replace_row (suc place) row (slot ∷ slots) = slot ∷ replace_row place row slots
 
   -- the slots of a block: where none is kept all are empty
   abbrev pub spread : List (Option R) → List (Option R)
@@ -50,6 +50,6 @@ module _ {R : Type 0} where
   IsBlock slots = length slots ≡ 64
 
   -- the slots of blocks, one block after the other, and then the last ones
-  abbrev pub laid : List (List (Option R)) → List (Option R) → List (Option R)
-  laid [] last = last
-  laid (block ∷ blocks) last = block ++ laid blocks last
+  abbrev pub slots_of : List (List (Option R)) → List (Option R) → List (Option R)
+  slots_of [] last = last
+  slots_of (block ∷ blocks) last = block ++ slots_of blocks last

@@ -2,7 +2,7 @@ ghost use Rattle.std.specs.Prelude.{◌≡◌, length, slice_get, option_copied,
 ghost use Rattle.std.specs.Prelude.{is_some, vec_capacity};
 ghost use Rattle.std.specs.List.{list_any};
 ghost use Rattle.std.specs.Option.{option_flatten};
-ghost use Rattle.row_slots.specs.Slots.{emptied, replaced};
+ghost use Rattle.row_slots.specs.Slots.{empty_slot, replace_row};
 
 use std::marker::Model;
 
@@ -53,7 +53,7 @@ impl<R: Drop> Block<R> {
     /// Takes the row out of a slot, if one is there. The time grows with the slots of a block.
     pub(crate) fn take(&mut self, place: usize) -> Option<R>
         ensures row { result ≡ option_flatten (slice_get self.old place) }
-        ensures slots { self.new ≡ emptied place self.old }
+        ensures slots { self.new ≡ empty_slot place self.old }
     {
         let row = self.take_row(place);
         self.let_go();
@@ -63,7 +63,7 @@ impl<R: Drop> Block<R> {
     // Takes the row out of a slot, and keeps the memory of the block.
     fn take_row(&mut self, place: usize) -> Option<R>
         ensures row { result ≡ option_flatten (slice_get self.old place) }
-        ensures slots { self.new ≡ emptied place self.old }
+        ensures slots { self.new ≡ empty_slot place self.old }
     {
         take_at(&mut self.slots, place)
     }
@@ -79,7 +79,7 @@ impl<R: Drop> Block<R> {
 
     /// Puts a row in place of the one in a slot, if one is there.
     pub(crate) fn set(&mut self, place: usize, row: R)
-        ensures { self.new ≡ replaced place row self.old }
+        ensures { self.new ≡ replace_row place row self.old }
     {
         set_at(&mut self.slots, place, row);
     }
@@ -102,7 +102,7 @@ pub(crate) fn row_at<R>(slots: &Vec<Option<R>>, place: usize) -> Option<&R>
 /// Takes the row out of a slot, if one is there.
 pub(crate) fn take_at<R: Drop>(slots: &mut Vec<Option<R>>, place: usize) -> Option<R>
     ensures row { result ≡ option_flatten (slice_get slots.old.items place) }
-    ensures slots { slots.new.items ≡ emptied place slots.old.items }
+    ensures slots { slots.new.items ≡ empty_slot place slots.old.items }
     ensures len { vec_len slots.new ≡ vec_len slots.old }
     ensures capacity { vec_capacity slots.new ≡ vec_capacity slots.old }
 {
@@ -112,7 +112,7 @@ pub(crate) fn take_at<R: Drop>(slots: &mut Vec<Option<R>>, place: usize) -> Opti
 
 /// Puts a row in place of the one in a slot, if one is there.
 pub(crate) fn set_at<R: Drop>(slots: &mut Vec<Option<R>>, place: usize, row: R)
-    ensures slots { slots.new.items ≡ replaced place row slots.old.items }
+    ensures slots { slots.new.items ≡ replace_row place row slots.old.items }
     ensures len { vec_len slots.new ≡ vec_len slots.old }
     ensures capacity { vec_capacity slots.new ≡ vec_capacity slots.old }
 {

@@ -1,7 +1,7 @@
 ghost use Rattle.std.specs.Prelude.{◌≡◌, ◌<◌, ◌≤◌, ◌+◌, ◌-◌, ◌++◌, ◌∷◌, [], length, Some};
 ghost use Rattle.std.specs.Prelude.{slice_get, option_copied, IsOk, OnOk, OnErr, IfOk};
 ghost use Rattle.std.specs.Option.{option_flatten};
-ghost use Rattle.row_slots.specs.Slots.{emptied, replaced, rows_in};
+ghost use Rattle.row_slots.specs.Slots.{empty_slot, replace_row, rows_in};
 
 use crate::block::{BLOCK, Block, row_at, set_at, take_at};
 use crate::walk::SlotWalk;
@@ -31,12 +31,12 @@ impl<R: Drop> Drop for Slots<R> {
 impl<R> Model for Slots<R> {
     ghost use Rattle.std.specs.Prelude.{◌+◌, ◌*◌, ◌-◌, ◌≤◌, min, vec_len, vec_capacity};
     ghost use Rattle.std.specs.List.{AllByRecursion};
-    ghost use Rattle.row_slots.specs.Slots.{Slotted, IsBlock, laid};
+    ghost use Rattle.row_slots.specs.Slots.{Slotted, IsBlock, slots_of};
 
     ghost Value = { Slotted R };
 
     ghost view = { λ a. record {
-      slots = laid a.settled.items a.last.items;
+      slots = slots_of a.settled.items a.last.items;
       spare = min (vec_capacity a.last - vec_len a.last)
           (4294967295 - (64 * vec_len a.settled + vec_len a.last));
     } };
@@ -103,7 +103,7 @@ impl<R: Drop> Slots<R> {
     /// Takes the row out of a slot, if one is there.
     pub fn take(&mut self, place: u32) -> Option<R>
         ensures row { result ≡ option_flatten (slice_get self.old.slots place) }
-        ensures slots { self.new.slots ≡ emptied place self.old.slots }
+        ensures slots { self.new.slots ≡ empty_slot place self.old.slots }
         ensures spare { self.old.spare ≤ self.new.spare }
     {
         let place = place as usize;
@@ -118,7 +118,7 @@ impl<R: Drop> Slots<R> {
 
     /// Puts a row in place of the one in a slot, if one is there.
     pub fn set(&mut self, place: u32, row: R)
-        ensures slots { self.new.slots ≡ replaced place row self.old.slots }
+        ensures slots { self.new.slots ≡ replace_row place row self.old.slots }
         ensures spare { self.old.spare ≤ self.new.spare }
     {
         let place = place as usize;

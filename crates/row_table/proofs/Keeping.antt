@@ -7,7 +7,7 @@ use Rattle.std.specs.List.{AllByRecursion, IsDistinct}
 use Rattle.std.specs.Map.{keys_of, values_of, lookup}
 use Rattle.indexmap.specs.IndexMap.{IndexMap, get, values, index_map_len, IsUnique}
 use Rattle.row_table.specs.Tables.{row_of, with_row, without_row, changed_row, IsByNumber}
-use Rattle.row_table.specs.Keeping.{by_number, tabled, IsKept}
+use Rattle.row_table.specs.Keeping.{by_number, table_of, IsKept}
 use Rattle.row_table.proofs.Rows.{same_rows, row_of-with_row, IsByNumber-with_row, row_of-without_row, length-with_row}
 use Rattle.row_table.proofs.Rows.{IsByNumber-without_row, row_of-changed_row, IsByNumber-changed_row}
 
@@ -72,16 +72,16 @@ module _ {R : Type 0} (number_of : R → ℕ) where
       ∙ ap suc (length-by_number entries rest numbered.1)
 
   module _ {S : Type 0} where
-    pub IsByNumber-tabled : (map : IndexMap ℕ R S) → IsByNumber number_of (tabled number_of map).rows
+    pub IsByNumber-tabled : (map : IndexMap ℕ R S) → IsByNumber number_of (table_of number_of map).rows
     IsByNumber-tabled map = IsByNumber-by_number (values map)
 
     pub row_of-tabled : (map : IndexMap ℕ R S) → IsKept number_of map → (number : ℕ) →
-        row_of number_of number (tabled number_of map).rows ≡ get eqb map number
+        row_of number_of number (table_of number_of map).rows ≡ get eqb map number
     row_of-tabled map kept number =
         row_of-by_number number map.entries (numbered_entries map.entries kept.unique kept.numbered)
 
     pub length-tabled : (map : IndexMap ℕ R S) → IsKept number_of map →
-        length (tabled number_of map).rows ≡ index_map_len map
+        length (table_of number_of map).rows ≡ index_map_len map
     length-tabled map kept =
         length-by_number map.entries kept.unique (numbered_entries map.entries kept.unique kept.numbered)
 
@@ -110,10 +110,10 @@ module _ {R : Type 0} (number_of : R → ℕ) where
 
       rows_updated : (row : Option R) → IsUpdated old new number row → (rows : List R) → IsByNumber number_of rows →
           ((q : ℕ) →
-          row_of number_of q rows ≡ cond (eqb number q) row (row_of number_of q (tabled number_of old).rows)) →
-          (tabled number_of new).rows ≡ rows
+          row_of number_of q rows ≡ cond (eqb number q) row (row_of number_of q (table_of number_of old).rows)) →
+          (table_of number_of new).rows ≡ rows
       rows_updated row is rows rising same =
-          same_rows number_of (tabled number_of new).rows rows (IsByNumber-tabled new) rising
+          same_rows number_of (table_of number_of new).rows rows (IsByNumber-tabled new) rising
           (λ q. row_of-tabled new (IsKept-updated row is) q ∙ is.changes q
           ∙ ap (λ had. cond (eqb number q) row had) (sym (row_of-tabled old is.kept q)) ∙ sym (same q))
 
@@ -130,9 +130,9 @@ module _ {R : Type 0} (number_of : R → ℕ) where
 
       -- a row was put under its number
       pub rows-put : (row : R) → number_of row ≡ number → IsUpdated old new number (Some row) →
-          (tabled number_of new).rows ≡ with_row number_of row (tabled number_of old).rows
+          (table_of number_of new).rows ≡ with_row number_of row (table_of number_of old).rows
       rows-put row at is =
-          let rows = (tabled number_of old).rows in
+          let rows = (table_of number_of old).rows in
           rows_updated (Some row) is (with_row number_of row rows)
           (IsByNumber-with_row number_of row rows (IsByNumber-tabled old))
           (λ q. row_of-with_row number_of q row rows
@@ -140,9 +140,9 @@ module _ {R : Type 0} (number_of : R → ℕ) where
 
       -- the row of the number was taken out
       pub rows-removed : IsUpdated old new number None →
-          (tabled number_of new).rows ≡ without_row number_of number (tabled number_of old).rows
+          (table_of number_of new).rows ≡ without_row number_of number (table_of number_of old).rows
       rows-removed is =
-          let rows = (tabled number_of old).rows in
+          let rows = (table_of number_of old).rows in
           rows_updated None is (without_row number_of number rows)
           (IsByNumber-without_row number_of number rows (IsByNumber-tabled old))
           (λ q. row_of-without_row number_of q number rows)
@@ -150,9 +150,9 @@ module _ {R : Type 0} (number_of : R → ℕ) where
       -- the row of the number was changed
       pub rows-changed : (change : R → R) → ((row : R) → number_of (change row) ≡ number_of row) → (row : R) →
           get eqb old number ≡ Some row → IsUpdated old new number (Some (change row)) →
-          (tabled number_of new).rows ≡ changed_row number_of number change (tabled number_of old).rows
+          (table_of number_of new).rows ≡ changed_row number_of number change (table_of number_of old).rows
       rows-changed change keeps row there is =
-          let rows = (tabled number_of old).rows in
+          let rows = (table_of number_of old).rows in
           rows_updated (Some (change row)) is (changed_row number_of number change rows)
           (IsByNumber-changed_row number_of change keeps number rows (IsByNumber-tabled old))
           (λ q. row_of-changed_row number_of change keeps q number rows

@@ -1,6 +1,6 @@
 -- The numbers of all rows, rising.
-use Rattle.std.proofs.Common.{◌≡◌, ℕ, suc, ◌<◌, Bool, true, false, cond, ◌||◌, eqb, nat_eq, List, [], ◌∷◌, length, map}
-use Rattle.std.proofs.Common.{get_or, Option, Some, None, is_some, refl, sym, ap, ◌∙◌, inl, inr, arith, ⊎_elim}
+use Rattle.std.proofs.Common.{◌≡◌, ℕ, suc, ◌<◌, Bool, true, false, cond, eqb, nat_eq, List, [], ◌∷◌, length, map}
+use Rattle.std.proofs.Common.{get_or, Some, None, is_some, refl, sym, ap, ◌∙◌, inl, inr, arith, ⊎_elim}
 use Rattle.std.specs.List.{AllPairs, dedup}
 use Rattle.std.specs.List.Sorted.{IsPermutation, IsSorted}
 use Rattle.std.specs.Map.{keys_of, lookup}
@@ -12,9 +12,9 @@ use Rattle.std.proofs.lemmas.List.Kept.{AllPairs-from_increasing, Contains-dedup
 use Rattle.std.proofs.lemmas.List.Sorted.{list_any-IsPermutation}
 use Rattle.std.proofs.lemmas.Map.Keys.{IsStrictlyIncreasing-dedup}
 use Rattle.std.proofs.lemmas.Map.Made.{is_member-Decides}
-use Rattle.indexmap.specs.IndexMap.{IndexMap, get, keys}
+use Rattle.indexmap.specs.IndexMap.{IndexMap, keys}
 use Rattle.row_table.specs.Tables.{row_of, AllAbove, IsByNumber}
-use Rattle.row_table.specs.Keeping.{tabled, IsKept}
+use Rattle.row_table.specs.Keeping.{table_of, IsKept}
 use Rattle.row_table.proofs.Keeping.{row_of-tabled, IsByNumber-tabled}
 use Rattle.row_table.proofs.Rows.{same_rows}
 
@@ -92,9 +92,9 @@ module _ {R : Type 0} (number_of : R → ℕ) where
   module _ {S : Type 0} where
     pub numbers-sorted : (table : IndexMap ℕ R S) → IsKept number_of table → (given sorted : List ℕ) →
         given ≡ keys table → IsPermutation given sorted → IsSorted nat_cmp sorted →
-        dedup eqb sorted ≡ map number_of (tabled number_of table).rows
+        dedup eqb sorted ≡ map number_of (table_of number_of table).rows
     numbers-sorted table kept given sorted is moved is_sorted =
-        let rows : List R = (tabled number_of table).rows in
+        let rows : List R = (table_of number_of table).rows in
         let same : (k : ℕ) → has (dedup eqb sorted) k ≡ has (map number_of rows) k = λ k.
         has-dedup sorted k ∙ sym (list_any-IsPermutation (nat_eq k) given sorted moved) ∙ ap (λ l. has l k) is
         ∙ has_key k table.entries ∙ sym (ap is_some (row_of-tabled number_of table kept k)) ∙ sym (has_row k rows) in

@@ -10,8 +10,8 @@ module _ {R : Type 0} (number_of : R → ℕ) where
   by_number (row ∷ rows) = with_row number_of row (by_number rows)
 
   -- what a map of rows is as a table
-  abbrev pub tabled : {S : Type 0} → IndexMap ℕ R S → Tabled R
-  tabled map = record { rows = by_number (values map); spare = spare map }
+  abbrev pub table_of : {S : Type 0} → IndexMap ℕ R S → Tabled R
+  table_of map = record { rows = by_number (values map); spare = spare map }
 
   -- no two rows have one number, and each row is kept under its own
   pub record IsKept {S : Type 0} (map : IndexMap ℕ R S) : Type 0 where

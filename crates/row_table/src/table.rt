@@ -17,11 +17,11 @@ pub struct Table<K: Keyed> {
 
 impl<K: Keyed> Model for Table<K> {
     ghost use Rattle.row_table.specs.Tables.{Tabled};
-    ghost use Rattle.row_table.specs.Keeping.{tabled, IsKept};
+    ghost use Rattle.row_table.specs.Keeping.{table_of, IsKept};
 
     ghost Value = { Tabled K.Row };
 
-    ghost view = { λ t. tabled K.number_of t.rows };
+    ghost view = { λ t. table_of K.number_of t.rows };
 
     ghost invariant = { λ t. IsKept K.number_of t.rows };
 }

@@ -10,7 +10,7 @@ use Rattle.kom_types.specs.Sessions.{Session, is_session}
 use Rattle.std.proofs.lemmas.List.{length-map}
 use Rattle.row_slots.specs.declared.lists.Lists.{Lists}
 use Rattle.row_slots.specs.Lists.{list_of, room_of}
-use Rattle.sessions.specs.Accepting.{accepts, accepting, placed, moved, IsAccepting, MayMove}
+use Rattle.sessions.specs.Accepting.{accepts, acceptors, insert_number, after_move, IsAccepting, MayMove}
 use Rattle.sessions.specs.Rows.{IsRising, with_row}
 use Rattle.sessions.proofs.Moved.{moved-after}
 use Rattle.sessions.proofs.Rising.{number_of, AllAbove, NoneIs, none_above, with_row-none, filter-none, KeepsNumbers}
@@ -33,7 +33,7 @@ above-numbers test number (row ∷ rows) above =
       | false ↦ rest
     ]
 
-placed-first : (number : ℕ) (list : List ℕ) → Above number list → placed number list ≡ number ∷ list
+placed-first : (number : ℕ) (list : List ℕ) → Above number list → insert_number number list ≡ number ∷ list
 placed-first number [] above = refl
 placed-first number (other ∷ others) above =
     let below : nat_lt number other ≡ true = lt-ltb _ _ above.0 in rw below refl
@@ -77,7 +77,7 @@ module _ (message number : ℕ) (change : Session → Session) (keeps : KeepsNum
   changed-here : (row : Session) (rows : List Session) (old : Session) (was is : Bool) → IsRising (row ∷ rows) →
       is_session number row ≡ true → find (is_session number) (row ∷ rows) ≡ Some old → accepts message old ≡ was →
       accepts message (change old) ≡ is →
-      accepting message (after (row ∷ rows)) ≡ moved number was is (accepting message (row ∷ rows))
+      acceptors message (after (row ∷ rows)) ≡ after_move number was is (acceptors message (row ∷ rows))
   changed-here row rows old was is rising here found was_is is_is =
       let same : Some row ≡ Some old = rw here at found in
       let old_is : old ≡ row = cc in
@@ -87,20 +87,20 @@ module _ (message number : ℕ) (change : Session → Session) (keeps : KeepsNum
       let was' : accepts message row ≡ was = rw (← old_is) was_is in
       let is' : accepts message (change row) ≡ is = rw (← old_is) is_is in
       let kept : number_of (change row) ≡ number = keeps row ∙ number_is in
-      let list : List ℕ = accepting message rows in
+      let list : List ℕ = acceptors message rows in
       let above' : Above number list = above-numbers (accepts message) number rows above in
       rw (here, rest, was', is')
       (elim was as (λ b. map number_of (cond is (change row ∷ filter (accepts message) rows)
-      (filter (accepts message) rows)) ≡ moved number b is (map number_of (cond b
+      (filter (accepts message) rows)) ≡ after_move number b is (map number_of (cond b
       (row ∷ filter (accepts message) rows) (filter (accepts message) rows)))) [
         | true ↦ elim is as (λ b. map number_of (cond b (change row ∷ filter (accepts message) rows)
-            (filter (accepts message) rows)) ≡ moved number true b (number_of row ∷ list)) [
+            (filter (accepts message) rows)) ≡ after_move number true b (number_of row ∷ list)) [
               | true ↦ ap (λ n. n ∷ list) (keeps row)
               | false ↦
                   let first : nat_eq number (number_of row) ≡ true = eq-eqb _ _ (sym number_is) in rw first refl
             ]
         | false ↦ elim is as (λ b. map number_of (cond b (change row ∷ filter (accepts message) rows)
-            (filter (accepts message) rows)) ≡ moved number false b list) [
+            (filter (accepts message) rows)) ≡ after_move number false b list) [
               | true ↦ ap (λ n. n ∷ list) kept ∙ sym (placed-first number list above')
               | false ↦ refl
             ]
@@ -108,13 +108,13 @@ module _ (message number : ℕ) (change : Session → Session) (keeps : KeepsNum
 
   changed-there : (row : Session) (rows : List Session) (old : Session) (was is : Bool) → IsRising (row ∷ rows) →
       is_session number row ≡ false → find (is_session number) rows ≡ Some old →
-      accepting message (after rows) ≡ moved number was is (accepting message rows) →
-      accepting message (after (row ∷ rows)) ≡ moved number was is (accepting message (row ∷ rows))
+      acceptors message (after rows) ≡ after_move number was is (acceptors message rows) →
+      acceptors message (after (row ∷ rows)) ≡ after_move number was is (acceptors message (row ∷ rows))
   changed-there row rows old was is rising there found rest =
       let below : number_of row < number = above-found (number_of row) number rows old rising.0 found in
       rw there
       (elim (accepts message row) as (λ b. map number_of (cond b (row ∷ filter (accepts message) (after rows))
-      (filter (accepts message) (after rows))) ≡ moved number was is (map number_of (cond b
+      (filter (accepts message) (after rows))) ≡ after_move number was is (map number_of (cond b
       (row ∷ filter (accepts message) rows) (filter (accepts message) rows)))) [
         | true ↦ ap (λ list. number_of row ∷ list) rest ∙ sym (moved-after number (number_of row) was is _ below)
         | false ↦ rest
@@ -123,7 +123,7 @@ module _ (message number : ℕ) (change : Session → Session) (keeps : KeepsNum
   -- the session is among those that accept the message, or is not, as its row says
   pub accepting-changed : (rows : List Session) (old : Session) (was is : Bool) → IsRising rows →
       find (is_session number) rows ≡ Some old → accepts message old ≡ was → accepts message (change old) ≡ is →
-      accepting message (after rows) ≡ moved number was is (accepting message rows)
+      acceptors message (after rows) ≡ after_move number was is (acceptors message rows)
   accepting-changed [] old was is rising found was_is is_is = cc
   accepting-changed (row ∷ rows) old was is rising found was_is is_is =
       elim (cases_Bool (is_session number row)) [
@@ -150,8 +150,8 @@ above-at bound (first ∷ list) (suc place) number above at = above-at bound lis
 
 -- of the first row, and the others
 found-first : (message : ℕ) (row : Session) (rows : List Session) (place number : ℕ) → IsRising (row ∷ rows) →
-    slice_get (number_of row ∷ accepting message rows) place ≡ Some number → accepts message row ≡ true →
-    ((later : ℕ) → slice_get (accepting message rows) later ≡ Some number →
+    slice_get (number_of row ∷ acceptors message rows) place ≡ Some number → accepts message row ≡ true →
+    ((later : ℕ) → slice_get (acceptors message rows) later ≡ Some number →
     find (is_session number) rows ≡ slice_get (filter (accepts message) rows) later) →
     find (is_session number) (row ∷ rows) ≡ slice_get (filter (accepts message) (row ∷ rows)) place
 found-first message row rows zero number rising at accepted rest =
@@ -160,7 +160,7 @@ found-first message row rows zero number rising at accepted rest =
     rw (accepted, here) refl
 found-first message row rows (suc place) number rising at accepted rest =
     let below : number_of row < number =
-    above-at (number_of row) (accepting message rows) place number
+    above-at (number_of row) (acceptors message rows) place number
     (above-numbers (accepts message) (number_of row) rows rising.0) at in
     let apart : is_session number row ≡ false = ne_eqb _ _ (λ e. omega arith) in
     rw (accepted, apart) (rest place at)
@@ -168,8 +168,8 @@ found-first message row rows (suc place) number rising at accepted rest =
 -- the same where the session is closed
 pub accepting-closed : (message number : ℕ) (rows : List Session) (old : Session) (was : Bool) → IsRising rows →
     find (is_session number) rows ≡ Some old → accepts message old ≡ was →
-    accepting message (filter (λ row. not (is_session number row)) rows) ≡ moved number was false
-    (accepting message rows)
+    acceptors message (filter (λ row. not (is_session number row)) rows) ≡ after_move number was false
+    (acceptors message rows)
 accepting-closed message number [] old was rising found was_is = cc
 accepting-closed message number (row ∷ rows) old was rising found was_is =
     elim (cases_Bool (is_session number row)) [
@@ -183,7 +183,7 @@ accepting-closed message number (row ∷ rows) old was rising found was_is =
           let rest : filter (λ row. not (is_session number row)) rows ≡ rows = filter-none number rows none in
           let first : nat_eq number (number_of row) ≡ true = eq-eqb _ _ (sym number_is) in
           rw (here, rest, was')
-          (elim was as (λ b. accepting message rows ≡ moved number b false (map number_of (cond b
+          (elim was as (λ b. acceptors message rows ≡ after_move number b false (map number_of (cond b
           (row ∷ filter (accepts message) rows) (filter (accepts message) rows)))) [
             | true ↦ rw first refl
             | false ↦ refl
@@ -192,11 +192,11 @@ accepting-closed message number (row ∷ rows) old was rising found was_is =
           let found' : find (is_session number) rows ≡ Some old = rw there at found in
           let below : number_of row < number = above-found (number_of row) number rows old rising.0 found' in
           let kept : List Session = filter (λ row. not (is_session number row)) rows in
-          let rest : accepting message kept ≡ moved number was false (accepting message rows) =
+          let rest : acceptors message kept ≡ after_move number was false (acceptors message rows) =
           accepting-closed message number rows old was rising.1 found' was_is in
           rw there
           (elim (accepts message row) as (λ b. map number_of (cond b (row ∷ filter (accepts message) kept)
-          (filter (accepts message) kept)) ≡ moved number was false (map number_of (cond b
+          (filter (accepts message) kept)) ≡ after_move number was false (map number_of (cond b
           (row ∷ filter (accepts message) rows) (filter (accepts message) rows)))) [
             | true ↦ ap (λ list. number_of row ∷ list) rest ∙ sym (moved-after number (number_of row) was false _ below)
             | false ↦ rest
@@ -206,7 +206,7 @@ accepting-closed message number (row ∷ rows) old was rising found was_is =
 -- a session that accepts the message is among those that do
 pub accepting-member : (message number : ℕ) (rows : List Session) (old : Session) →
     find (is_session number) rows ≡ Some old → accepts message old ≡ true →
-    is_member nat_eq (accepting message rows) number ≡ true
+    is_member nat_eq (acceptors message rows) number ≡ true
 accepting-member message number [] old found accepted = cc
 accepting-member message number (row ∷ rows) old found accepted =
     elim (cases_Bool (is_session number row)) [
@@ -218,7 +218,7 @@ accepting-member message number (row ∷ rows) old found accepted =
           let first : nat_eq number (number_of row) ≡ true = eq-eqb _ _ (sym number_is) in
           rw (accepted', first) refl
       | inr there ↦
-          let rest : is_member nat_eq (accepting message rows) number ≡ true =
+          let rest : is_member nat_eq (acceptors message rows) number ≡ true =
           accepting-member message number rows old (rw there at found) accepted in
           elim (accepts message row) as (λ b. is_member nat_eq (map number_of (cond b
           (row ∷ filter (accepts message) rows) (filter (accepts message) rows))) number ≡ true) [
@@ -227,10 +227,10 @@ accepting-member message number (row ∷ rows) old found accepted =
           ]
     ]
 
-accepting-within : (message : ℕ) (rows : List Session) → length (accepting message rows) ≤ length rows
+accepting-within : (message : ℕ) (rows : List Session) → length (acceptors message rows) ≤ length rows
 accepting-within message [] = omega arith
 accepting-within message (row ∷ rows) =
-    let rest : length (accepting message rows) ≤ length rows = accepting-within message rows in
+    let rest : length (acceptors message rows) ≤ length rows = accepting-within message rows in
     elim (accepts message row) as (λ b. length (map number_of (cond b (row ∷ filter (accepts message) rows)
     (filter (accepts message) rows))) ≤ length (row ∷ rows)) [
       | true ↦ omega arith
@@ -240,7 +240,7 @@ accepting-within message (row ∷ rows) =
 -- if a session does not accept the message, fewer do than there are
 pub accepting-fewer : (message number : ℕ) (rows : List Session) (old : Session) →
     find (is_session number) rows ≡ Some old → accepts message old ≡ false →
-    length (accepting message rows) < length rows
+    length (acceptors message rows) < length rows
 accepting-fewer message number [] old found silent = cc
 accepting-fewer message number (row ∷ rows) old found silent =
     elim (cases_Bool (is_session number row)) [
@@ -248,10 +248,10 @@ accepting-fewer message number (row ∷ rows) old found silent =
           let same : Some row ≡ Some old = rw here at found in
           let old_is : old ≡ row = cc in
           let silent' : accepts message row ≡ false = rw (← old_is) silent in
-          let within : length (accepting message rows) ≤ length rows = accepting-within message rows in
+          let within : length (acceptors message rows) ≤ length rows = accepting-within message rows in
           rw silent' (omega arith)
       | inr there ↦
-          let rest : length (accepting message rows) < length rows =
+          let rest : length (acceptors message rows) < length rows =
           accepting-fewer message number rows old (rw there at found) silent in
           elim (accepts message row) as (λ b. length (map number_of (cond b (row ∷ filter (accepts message) rows)
           (filter (accepts message) rows))) < length (row ∷ rows)) [
@@ -262,10 +262,10 @@ accepting-fewer message number (row ∷ rows) old found silent =
 
 -- one session more, that does not accept the message
 pub accepting-push : (message : ℕ) (rows : List Session) (row : Session) → accepts message row ≡ false →
-    accepting message (rows ++ row ∷ []) ≡ accepting message rows
+    acceptors message (rows ++ row ∷ []) ≡ acceptors message rows
 accepting-push message [] row silent = rw silent refl
 accepting-push message (first ∷ rows) row silent =
-    let rest : accepting message (rows ++ row ∷ []) ≡ accepting message rows = accepting-push message rows row silent in
+    let rest : acceptors message (rows ++ row ∷ []) ≡ acceptors message rows = accepting-push message rows row silent in
     elim (accepts message first) as (λ b. map number_of (cond b (first ∷ filter (accepts message) (rows ++ row ∷ []))
     (filter (accepts message) (rows ++ row ∷ []))) ≡ map number_of (cond b (first ∷ filter (accepts message) rows)
     (filter (accepts message) rows))) [
@@ -275,7 +275,7 @@ accepting-push message (first ∷ rows) row silent =
 
 -- the session that stands at a place among those that accept the message is found by its number
 pub accepting-found : (message : ℕ) (rows : List Session) (place number : ℕ) → IsRising rows →
-    slice_get (accepting message rows) place ≡ Some number →
+    slice_get (acceptors message rows) place ≡ Some number →
     find (is_session number) rows ≡ slice_get (filter (accepts message) rows) place
 accepting-found message [] place number rising at = absurd (absent-at place number at)
 accepting-found message (row ∷ rows) place number rising at =
@@ -283,11 +283,11 @@ accepting-found message (row ∷ rows) place number rising at =
       | inl accepted ↦ found-first message row rows place number rising (rw accepted at at) accepted
           (λ later. accepting-found message rows later number rising.1)
       | inr silent ↦
-          let at' : slice_get (accepting message rows) place ≡ Some number = rw silent at at in
+          let at' : slice_get (acceptors message rows) place ≡ Some number = rw silent at at in
           let later : find (is_session number) rows ≡ slice_get (filter (accepts message) rows) place =
           accepting-found message rows place number rising.1 at' in
           let below : number_of row < number =
-          above-at (number_of row) (accepting message rows) place number
+          above-at (number_of row) (acceptors message rows) place number
           (above-numbers (accepts message) (number_of row) rows rising.0) at' in
           let apart : is_session number row ≡ false = ne_eqb _ _ (λ e. omega arith) in
           rw (silent, apart) later
@@ -298,10 +298,10 @@ abbrev pub KeepsAccepted : (Session → Session) → Type 0
 KeepsAccepted change = (row : Session) → (change row).seat.accepted ≡ row.seat.accepted
 
 accepting-kept : (message number : ℕ) (change : Session → Session) → KeepsNumbers change → KeepsAccepted change →
-    (rows : List Session) → accepting message (with_row number change rows) ≡ accepting message rows
+    (rows : List Session) → acceptors message (with_row number change rows) ≡ acceptors message rows
 accepting-kept message number change numbers accepted [] = refl
 accepting-kept message number change numbers accepted (row ∷ rows) =
-    let rest : accepting message (with_row number change rows) ≡ accepting message rows =
+    let rest : acceptors message (with_row number change rows) ≡ acceptors message rows =
     accepting-kept message number change numbers accepted rows in
     let same : accepts message (change row) ≡ accepts message row =
     ap (λ bits. is_on (2 ^ message) bits) (accepted row) in
@@ -341,9 +341,9 @@ may-move lists rows number message old true true are below found was_is = tt
 may-move lists rows number message old true false are below found was_is =
     rw (are.numbers message below) (accepting-member message number rows old found was_is)
 may-move lists rows number message old false true are below found was_is =
-    let fewer : length (accepting message rows) < length rows = accepting-fewer message number rows old found was_is in
-    let list : list_of lists message ≡ accepting message rows = are.numbers message below in
+    let fewer : length (acceptors message rows) < length rows = accepting-fewer message number rows old found was_is in
+    let list : list_of lists message ≡ acceptors message rows = are.numbers message below in
     let room : length rows ≤ length (list_of lists message) + room_of lists message = are.room message below in
-    let counted : length (list_of lists message) ≡ length (accepting message rows) = ap length list in
+    let counted : length (list_of lists message) ≡ length (acceptors message rows) = ap length list in
     omega arith
 may-move lists rows number message old false false are below found was_is = tt

@@ -3,7 +3,7 @@ use Rattle.std.proofs.Common.{◌≡◌, ℕ, ◌+◌, ◌^◌, ◌<◌, ◌≤�
 use Rattle.kom_types.specs.Bits.{is_on}
 use Rattle.row_slots.specs.declared.lists.Lists.{Lists}
 use Rattle.row_slots.specs.Lists.{list_of, room_of}
-use Rattle.sessions.specs.Accepting.{HasRoom, moved, MayMove}
+use Rattle.sessions.specs.Accepting.{HasRoom, after_move, MayMove}
 
 -- room was made in the lists below a number
 pub record Reserved (old new : Lists) (count next : ℕ) : Type 0 where
@@ -14,7 +14,7 @@ pub record Reserved (old new : Lists) (count next : ℕ) : Type 0 where
 -- the lists below a number were changed
 pub record Changed (old new : Lists) (session was is next : ℕ) : Type 0 where
   pub done : (message : ℕ) → message < next →
-      list_of new message ≡ moved session (is_on (2 ^ message) was) (is_on (2 ^ message) is) (list_of old message)
+      list_of new message ≡ after_move session (is_on (2 ^ message) was) (is_on (2 ^ message) is) (list_of old message)
   pub left : (message : ℕ) → next ≤ message → list_of new message ≡ list_of old message
   pub left_rooms : (message : ℕ) → next ≤ message → room_of new message ≡ room_of old message
   pub rooms : (message : ℕ) →

@@ -4,14 +4,15 @@ use Rattle.kom_types.specs.declared.items.Item.{Item}
 use Rattle.kom_types.specs.declared.seats.Seat.{Seat}
 use Rattle.kom_types.specs.declared.session_changes.SessionChange.{SessionChange}
 use Rattle.kom_types.specs.declared.session_changes.SessionChange.TheVariants as change
-use Rattle.kom_types.specs.Sessions.{Session, Limits, fits, queued, drained, changed, with_person, with_invisible}
+use Rattle.kom_types.specs.Sessions.{Session, Limits, fits, queue, after_drain, after_change, with_person}
+use Rattle.kom_types.specs.Sessions.{with_invisible}
 use Rattle.sessions.proofs.Accepted.{KeepsAccepted}
 use Rattle.sessions.proofs.Rising.{number_of, KeepsNumbers}
 
 abbrev accepted_of : Session → ℕ
 accepted_of row = row.seat.accepted
 
-pub queued_keeps : (limits : Limits) (entry : ℕ) (item : Item) → KeepsNumbers (queued limits entry item)
+pub queued_keeps : (limits : Limits) (entry : ℕ) (item : Item) → KeepsNumbers (queue limits entry item)
 queued_keeps limits entry item row =
     let more : Session = record row { waiting = row.waiting ++ record { item = item; entry = entry } ∷ [] } in
     let over : Session = record row { overrun = true } in
@@ -24,7 +25,7 @@ queued_keeps limits entry item row =
     ]
 
 -- what happens to a session but for a change keeps what it accepts
-pub queued_silent : (limits : Limits) (entry : ℕ) (item : Item) → KeepsAccepted (queued limits entry item)
+pub queued_silent : (limits : Limits) (entry : ℕ) (item : Item) → KeepsAccepted (queue limits entry item)
 queued_silent limits entry item row =
     let more : Session = record row { waiting = row.waiting ++ record { item = item; entry = entry } ∷ [] } in
     let over : Session = record row { overrun = true } in
@@ -37,7 +38,7 @@ queued_silent limits entry item row =
       ]
     ]
 
-pub drained_keeps : (below : ℕ) → KeepsNumbers (drained below)
+pub drained_keeps : (below : ℕ) → KeepsNumbers (after_drain below)
 drained_keeps below row = refl
 
 person_keeps : (person : ℕ) (invisible : Bool) (moment : ℕ) (seat : Seat) →
@@ -51,7 +52,7 @@ person_keeps person invisible moment seat =
       | false ↦ refl
     ]
 
-pub changed_keeps : (what : SessionChange) (moment : ℕ) → KeepsNumbers (changed what moment)
+pub changed_keeps : (what : SessionChange) (moment : ℕ) → KeepsNumbers (after_change what moment)
 changed_keeps (change.Person session person invisible) moment row = person_keeps person invisible moment row.seat
 changed_keeps (change.Level session level) moment row = refl
 changed_keeps (change.Working session conference) moment row = refl

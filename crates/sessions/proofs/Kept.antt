@@ -13,7 +13,7 @@ use Rattle.kom_types.specs.Bits.{is_on}
 use Rattle.kom_types.specs.Sessions.{Session, is_session}
 use Rattle.row_slots.specs.declared.lists.Lists.{Lists}
 use Rattle.row_slots.specs.Lists.{list_of}
-use Rattle.sessions.specs.Accepting.{accepts, accepting, moved, HasRoom, IsAccepting}
+use Rattle.sessions.specs.Accepting.{accepts, acceptors, after_move, HasRoom, IsAccepting}
 use Rattle.sessions.specs.Rows.{IsRising, with_row}
 use Rattle.sessions.proofs.Accepted.{accepting-push, accepting-changed, accepting-closed, accepting-found}
 use Rattle.sessions.proofs.Rising.{KeepsNumbers}
@@ -60,15 +60,15 @@ within-filter keep (row ∷ rows) =
 pub closed : (old new : Lists) (rows : List Session) (number : ℕ) (row : Session) → IsRising rows →
     find (is_session number) rows ≡ Some row → IsAccepting old rows →
     ((message : ℕ) → message < 32 →
-    list_of new message ≡ moved number (accepts message row) (is_on (2 ^ message) 0) (list_of old message)) →
+    list_of new message ≡ after_move number (accepts message row) (is_on (2 ^ message) 0) (list_of old message)) →
     ((count : ℕ) → HasRoom old count → HasRoom new count) →
     IsAccepting new (filter (λ row. not (is_session number row)) rows)
 closed old new rows number row rising found are lists room = record {
   numbers = λ message below.
       let none : is_on (2 ^ message) 0 ≡ false = silent-bit message 0 refl in
-      let gone : list_of new message ≡ moved number (accepts message row) false (list_of old message) =
+      let gone : list_of new message ≡ after_move number (accepts message row) false (list_of old message) =
       rw none at lists message below in
-      gone ∙ ap (moved number (accepts message row) false) (are.numbers message below)
+      gone ∙ ap (after_move number (accepts message row) false) (are.numbers message below)
       ∙ sym (accepting-closed message number rows row (accepts message row) rising found refl);
   room = has-room-less new (length rows) _ (within-filter (λ row. not (is_session number row)) rows)
       (room (length rows) are.room);
@@ -78,11 +78,12 @@ closed old new rows number row rising found are lists room = record {
 pub changed-lists : (old new : Lists) (rows : List Session) (number : ℕ) (change : Session → Session) (row : Session) →
     KeepsNumbers change → IsRising rows → find (is_session number) rows ≡ Some row → IsAccepting old rows →
     ((message : ℕ) → message < 32 →
-    list_of new message ≡ moved number (accepts message row) (accepts message (change row)) (list_of old message)) →
+    list_of new message
+    ≡ after_move number (accepts message row) (accepts message (change row)) (list_of old message)) →
     ((count : ℕ) → HasRoom old count → HasRoom new count) → IsAccepting new (with_row number change rows)
 changed-lists old new rows number change row keeps rising found are lists room = record {
   numbers = λ message below. lists message below
-      ∙ ap (moved number (accepts message row) (accepts message (change row))) (are.numbers message below)
+      ∙ ap (after_move number (accepts message row) (accepts message (change row))) (are.numbers message below)
       ∙ sym (accepting-changed message number change keeps rows row (accepts message row) (accepts message (change row))
       rising found refl refl);
   room = rw (length-map rows (λ row. cond (is_session number row) (change row) row)) (room (length rows) are.room);
@@ -116,7 +117,7 @@ nth-seat message rows place =
 
 -- the seat at a place among those that accept a message is that of the session whose number stands there
 pub nth-there : (message : ℕ) (rows : List Session) (place number : ℕ) → IsRising rows →
-    Some number ≡ slice_get (accepting message rows) place →
+    Some number ≡ slice_get (acceptors message rows) place →
     find (λ seat. seat.number == number) (map (λ row. row.seat) rows) ≡ nth_seat message rows place
 nth-there message rows place number rising at =
     find-seat number rows
@@ -128,7 +129,7 @@ no-row None none = refl
 no-row (Some row) none = cc
 
 pub nth-absent : (message : ℕ) (rows : List Session) (place : ℕ) →
-    None ≡ slice_get (accepting message rows) place → nth_seat message rows place ≡ None
+    None ≡ slice_get (acceptors message rows) place → nth_seat message rows place ≡ None
 nth-absent message rows place none =
     let mapped = slice_get-map (λ row. row.seat.number) (filter (accepts message) rows) place in
     let gone = no-row (slice_get (filter (accepts message) rows) place) (sym mapped ∙ sym none) in

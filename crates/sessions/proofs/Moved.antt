@@ -6,7 +6,7 @@ use Rattle.std.specs.List.{prefix_len}
 use Rattle.std.specs.Set.{remove_key, is_member}
 use Rattle.std.proofs.lemmas.Bool.{cases_Bool, ne_eqb, le-ltb, ltb-false}
 use Rattle.std.proofs.lemmas.Map.Made.{length-remove_key}
-use Rattle.sessions.specs.Accepting.{place_among, placed, moved}
+use Rattle.sessions.specs.Accepting.{place_among, insert_number, after_move}
 
 -- how many of a list come before its first greater number
 abbrev before : ℕ → List ℕ → ℕ
@@ -22,7 +22,7 @@ before-within number (other ∷ others) =
     ]
 
 -- where a number has its place
-insert-before : (number : ℕ) (list : List ℕ) → insert list (before number list) number ≡ placed number list
+insert-before : (number : ℕ) (list : List ℕ) → insert list (before number list) number ≡ insert_number number list
 insert-before number [] = refl
 insert-before number (other ∷ others) =
     elim (cases_Bool (nat_lt number other)) [
@@ -42,7 +42,8 @@ place_among-before number list =
           rw past (omega arith)
     ]
 
-pub insert_placed : (number : ℕ) (list : List ℕ) → insert list (place_among number list) number ≡ placed number list
+pub insert_placed : (number : ℕ) (list : List ℕ) →
+    insert list (place_among number list) number ≡ insert_number number list
 insert_placed number list = rw (place_among-before number list) (insert-before number list)
 
 pub place_among-within : (number : ℕ) (list : List ℕ) → place_among number list ≤ length list
@@ -55,7 +56,7 @@ room_left number list there = length-remove_key (nat_eq number) list there
 
 -- a smaller number before the others stays before them
 pub moved-after : (number first : ℕ) (was is : Bool) (list : List ℕ) → first < number →
-    moved number was is (first ∷ list) ≡ first ∷ moved number was is list
+    after_move number was is (first ∷ list) ≡ first ∷ after_move number was is list
 moved-after number first true true list below = refl
 moved-after number first true false list below =
     let apart : nat_eq number first ≡ false = ne_eqb _ _ (λ e. omega arith) in rw apart refl

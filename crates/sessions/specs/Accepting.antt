@@ -13,8 +13,8 @@ abbrev pub accepts : ℕ → Session → Bool
 accepts message row = is_on (2 ^ message) row.seat.accepted
 
 -- the numbers of the sessions that accept a message
-abbrev pub accepting : ℕ → List Session → List ℕ
-accepting message rows = map (λ row. row.seat.number) (filter (accepts message) rows)
+abbrev pub acceptors : ℕ → List Session → List ℕ
+acceptors message rows = map (λ row. row.seat.number) (filter (accepts message) rows)
 
 -- each list may hold so many sessions without memory
 abbrev pub HasRoom : Lists → ℕ → Type 0
@@ -23,7 +23,7 @@ HasRoom lists count = (message : ℕ) → message < 32
 
 -- the lists are those of the rows, and each may hold all sessions
 pub record IsAccepting (lists : Lists) (rows : List Session) : Type 0 where
-  pub numbers : (message : ℕ) → message < 32 → list_of lists message ≡ accepting message rows
+  pub numbers : (message : ℕ) → message < 32 → list_of lists message ≡ acceptors message rows
   pub room : HasRoom lists (length rows)
 
 -- the place of a number among rising ones: before the first that is greater
@@ -31,18 +31,18 @@ abbrev pub place_among : ℕ → List ℕ → ℕ
 place_among number list = unwrap_or (position (nat_lt number) list) (length list)
 
 -- with a number in its place among rising ones
-abbrev pub placed : ℕ → List ℕ → List ℕ
-placed number [] = number ∷ []
-placed number (other ∷ others) =
-    if nat_lt number other then number ∷ other ∷ others else other ∷ placed number others
+abbrev pub insert_number : ℕ → List ℕ → List ℕ
+insert_number number [] = number ∷ []
+insert_number number (other ∷ others) =
+    if nat_lt number other then number ∷ other ∷ others else other ∷ insert_number number others
 
 -- the numbers of sessions, when one of them that was among them, or was not, is among them now, or
 -- is not
-abbrev pub moved : ℕ → Bool → Bool → List ℕ → List ℕ
-moved session true true list = list
-moved session true false list = remove_key (nat_eq session) list
-moved session false true list = placed session list
-moved session false false list = list
+abbrev pub after_move : ℕ → Bool → Bool → List ℕ → List ℕ
+after_move session true true list = list
+after_move session true false list = remove_key (nat_eq session) list
+after_move session false true list = insert_number session list
+after_move session false false list = list
 
 -- what is to hold before such a move: a session that goes is in the list, and for one that comes
 -- there is room

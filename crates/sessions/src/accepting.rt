@@ -3,7 +3,7 @@ ghost use Rattle.std.specs.Prelude.{length, position, slice_get, nat_lt, OnOk, I
 ghost use Rattle.std.specs.Set.{is_member};
 ghost use Rattle.kom_types.specs.Bits.{is_on};
 ghost use Rattle.row_slots.specs.Lists.{list_of, room_of, HasOnlyChanged};
-ghost use Rattle.sessions.specs.Accepting.{HasRoom, place_among, moved, MayMove};
+ghost use Rattle.sessions.specs.Accepting.{HasRoom, place_among, after_move, MayMove};
 
 use kom_types::Memory;
 use row_slots::Lists;
@@ -68,7 +68,7 @@ impl Accepting {
             → MayMove self.old.lists session message
             (is_on (2 ^ message) was) (is_on (2 ^ message) is) }
         ensures lists { (message : ℕ) → message < 32 → list_of self.new.lists message
-            ≡ moved session (is_on (2 ^ message) was) (is_on (2 ^ message) is)
+            ≡ after_move session (is_on (2 ^ message) was) (is_on (2 ^ message) is)
             (list_of self.old.lists message) }
         ensures room { (count : ℕ) → HasRoom self.old.lists count → HasRoom self.new.lists count }
     {
@@ -87,7 +87,7 @@ impl Accepting {
     fn change_in(&mut self, message: u32, session: u32, was: bool, is: bool)
         requires { MayMove self.old.lists session message was is }
         ensures list { list_of self.new.lists message
-            ≡ moved session was is (list_of self.old.lists message) }
+            ≡ after_move session was is (list_of self.old.lists message) }
         ensures room { length (list_of self.old.lists message) + room_of self.old.lists message
             ≤ length (list_of self.new.lists message) + room_of self.new.lists message }
         ensures others { HasOnlyChanged self.old.lists self.new.lists message }

@@ -1,7 +1,7 @@
 ghost use Rattle.std.specs.Prelude.{◌≡◌, ◌^◌, ◌-◌, [], length, min, map, take, IfOk, IsTrue, ◌↔◌};
 ghost use Rattle.kom_types.specs.Printing.{print_of};
-ghost use Rattle.kom_types.specs.Sessions.{waiting_limits, fresh_seat, fresh_session, queued};
-ghost use Rattle.kom_types.specs.Sessions.{drained_count, drained, changed};
+ghost use Rattle.kom_types.specs.Sessions.{waiting_limits, fresh_seat, fresh_session, queue};
+ghost use Rattle.kom_types.specs.Sessions.{drained_count, after_drain, after_change};
 ghost use Rattle.sessions.specs.Rows.{takes};
 
 use crate::changing::change_seat;
@@ -92,7 +92,7 @@ impl SessionRow {
     pub(crate) fn queue(&mut self, item: Item, len: u64, entry: u64, news: &mut u64) -> bool
         requires { len ≡ min (length (print_of item)) (2 ^ 64 - 1) }
         ensures taken { result ≡ takes item self.old }
-        ensures row { self.new ≡ queued waiting_limits entry item self.old }
+        ensures row { self.new ≡ queue waiting_limits entry item self.old }
     {
         if self.overrun {
             return false;
@@ -111,7 +111,7 @@ impl SessionRow {
         requires { into.old.items ≡ [] }
         ensures given { into.new.items
             ≡ map (λ one. one.item) (take (drained_count below self.old.waiting) self.old.waiting) }
-        ensures rest { self.new ≡ drained below self.old }
+        ensures rest { self.new ≡ after_drain below self.old }
     {
         self.outbox.drain_into(below, into);
     }
@@ -119,7 +119,7 @@ impl SessionRow {
     /// Makes a change of the session, at this moment. Its end raises this count of news, and the
     /// row keeps the new count.
     pub(crate) fn change(&mut self, change: SessionChange, at: Moment, news: &mut u64)
-        ensures { self.new ≡ changed change at self.old }
+        ensures { self.new ≡ after_change change at self.old }
     {
         if is_end(&change) {
             self.news = raised(news);

@@ -3,8 +3,8 @@ ghost use Rattle.std.specs.Prelude.{filter, find, length, take, option_copied, I
 ghost use Rattle.std.specs.Prelude.{IsSome, Some, min, map};
 ghost use Rattle.kom_types.specs.Bits.{is_on};
 ghost use Rattle.kom_types.specs.Printing.{print_of};
-ghost use Rattle.kom_types.specs.Sessions.{is_session, waiting_limits, queued, drained_count};
-ghost use Rattle.kom_types.specs.Sessions.{drained, changed_session, is_stop, changed};
+ghost use Rattle.kom_types.specs.Sessions.{is_session, waiting_limits, queue, drained_count};
+ghost use Rattle.kom_types.specs.Sessions.{after_drain, changed_session, is_stop, after_change};
 ghost use Rattle.sessions.specs.Rows.{AllBelow, IsRising, with_row, takes};
 
 use crate::accepting::Accepting;
@@ -153,7 +153,7 @@ impl Sessions {
         requires len { len ≡ min (length (print_of item)) (2 ^ 64 - 1) }
         ensures taken { IfSome (find (is_session session) self.old)
             (λ row. result ≡ takes item row) }
-        ensures rows { self.new ≡ with_row session (queued waiting_limits entry item) self.old }
+        ensures rows { self.new ≡ with_row session (queue waiting_limits entry item) self.old }
     {
         let row = self.rows.get_mut(&session).unwrap();
         row.queue(item, len, entry, &mut self.news)
@@ -166,7 +166,7 @@ impl Sessions {
         requires empty { into.old.items ≡ [] }
         ensures given { IfSome (find (is_session session) self.old) (λ row. into.new.items
             ≡ map (λ one. one.item) (take (drained_count below row.waiting) row.waiting)) }
-        ensures rest { self.new ≡ with_row session (drained below) self.old }
+        ensures rest { self.new ≡ with_row session (after_drain below) self.old }
     {
         let row = self.rows.get_mut(&session).unwrap();
         row.drain_into(below, into);
@@ -176,7 +176,7 @@ impl Sessions {
     pub fn change(&mut self, change: SessionChange, at: Moment)
         requires of_session { is_stop change ≡ false }
         requires there { IsSome (find (is_session (changed_session change)) self.old) }
-        ensures { self.new ≡ with_row (changed_session change) (changed change at) self.old }
+        ensures { self.new ≡ with_row (changed_session change) (after_change change at) self.old }
     {
         let session = session_of(&change);
         let row = self.rows.get_mut(&session).unwrap();

@@ -1,7 +1,7 @@
 //! The aux-items of a text that is made.
 ghost use Rattle.std.specs.Prelude.{◌≡◌, ◌≤◌, true, length, filter, IfOk};
 ghost use Rattle.kom_types.specs.declared.limits.TheConstants.{MOST_AUX_ITEMS};
-ghost use Rattle.kom_types.specs.AuxItems.{inherited};
+ghost use Rattle.kom_types.specs.AuxItems.{inherit};
 ghost use Rattle.kom_model.specs.Db.{items_of};
 ghost use Rattle.kom_model.specs.calls.NewTexts as NewTexts;
 
@@ -38,7 +38,7 @@ fn push_inherited(items: &mut AuxRows, asked: &Asked<'_>, named: &[MiscInput]) -
 /// What a commented text hands down.
 fn inherit(items: &mut AuxRows, asked: &Asked<'_>, text: u32) -> Result<(), Memory>
     ensures { IfOk result (λ done. items.new
-        ≡ inherited items.old (items_of asked.now.db true text)) }
+        ≡ inherit items.old (items_of asked.now.db true text)) }
 {
     let parent = ItemsOf::of(asked.rows(), true, text);
     aux_items::inherit(asked.allocator(), items, &parent)

@@ -90,7 +90,7 @@ pub fn sub_footnote(asked: &Asked<'_>, child: u32, parent: u32) -> Result<Decisi
 
 /// A comment, or a footnote, that is linked to a text now.
 fn linked(asked: &Asked<'_>, child: u32, parent: u32, footnote: bool) -> Effect
-    ensures { result ≡ Texts.linked asked.now child parent footnote }
+    ensures { result ≡ Texts.linked_now asked.now child parent footnote }
 {
     Effect::LinkAdded(TextLink {
         child,

@@ -83,7 +83,7 @@ pub(crate) fn new_recipient(
 
 /// The conference was written in now.
 pub(crate) fn written(asked: &Asked<'_>, conference: u32) -> Effect
-    ensures { result ≡ Texts.written asked.now conference }
+    ensures { result ≡ Texts.written_now asked.now conference }
 {
     Effect::ConfField {
         number: conference,
@@ -93,7 +93,7 @@ pub(crate) fn written(asked: &Asked<'_>, conference: u32) -> Effect
 
 fn added_effects(asked: &Asked<'_>, given: Recipient) -> Result<EffectList, Memory>
     ensures { IfOk result (λ effects. effects
-        ≡ Effect.RecipientAdded given ∷ Texts.written asked.now given.conference ∷ []) }
+        ≡ Effect.RecipientAdded given ∷ Texts.written_now asked.now given.conference ∷ []) }
 {
     let conference = given.conference;
     let mut effects = Sequence::new(asked.allocator());

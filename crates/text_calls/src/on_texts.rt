@@ -58,7 +58,7 @@ fn copy_of_part(
     end: u32,
 ) -> Result<Bytes, Memory>
     ensures { IfOk result
-        (λ bytes. bytes ≡ Texts.cut start end (Texts.body_of rows.now.db text)) }
+        (λ bytes. bytes ≡ Texts.bytes_between start end (Texts.body_of rows.now.db text)) }
 {
     match rows.text(text) {
         None => Ok(Bytes::new(alloc)),
@@ -67,7 +67,7 @@ fn copy_of_part(
 }
 
 fn part(bytes: &[u8], start: u32, end: u32) -> &[u8]
-    ensures { result.now ≡ Texts.cut start end bytes.now }
+    ensures { result.now ≡ Texts.bytes_between start end bytes.now }
 {
     let start = (start as usize).min(bytes.len());
     let end = (end as usize + 1).min(bytes.len());

@@ -6,7 +6,7 @@ ghost use Rattle.kom_types.specs.tables.Texts.{link_of, links_from, links_into, 
 ghost use Rattle.kom_types.specs.tables.Texts.{created_by, mark_of, marks_of, marks_on};
 ghost use Rattle.kom_types.specs.tables.Texts.{shown_mark};
 ghost use Rattle.local_maps.specs.Pairs.{least_of, AllBelow, IsRising};
-ghost use Rattle.misc_links.specs.Linked.{touching};
+ghost use Rattle.misc_links.specs.Linked.{links_of_text};
 ghost use Rattle.texts.specs.Keeping.{IsFrom};
 
 use crate::texts::Texts;
@@ -122,7 +122,7 @@ impl Texts {
     /// The links from a text and into it, in the order of adding. The time grows with their number,
     /// times its logarithm.
     pub fn links_of(&self, text: u32) -> Result<Vec<TextLink>, Memory>
-        ensures { IfOk result (λ links. links.items ≡ touching text self.now.rows.links) }
+        ensures { IfOk result (λ links. links.items ≡ links_of_text text self.now.rows.links) }
     {
         self.links.of_text(text)
     }

@@ -3,11 +3,11 @@ ghost use Rattle.kom_types.specs.declared.acts.Act.TheVariants as act;
 ghost use Rattle.kom_model.specs.State.{IsSound};
 ghost use Rattle.kom_model.specs.Refusal.{refusal_of};
 ghost use Rattle.kom_model.specs.Making.{IsConnect};
-ghost use Rattle.kom_model.specs.After.{sent};
+ghost use Rattle.kom_model.specs.After.{after_sending};
 ghost use Rattle.kom_model.specs.Out.{given_from, taken_by};
 ghost use Rattle.kom_model.specs.Kept.{kept_of};
-ghost use Rattle.kom_state.specs.Keepers.{appended};
-ghost use Rattle.kom_core.specs.Steps.{Changes, ChangesBy, greeting, made_of};
+ghost use Rattle.kom_state.specs.Keepers.{append_pending};
+ghost use Rattle.kom_core.specs.Steps.{Changes, ChangesBy, greeting_entry, made_of};
 
 use super::{ServerState, later};
 use crate::asking::Asking;
@@ -31,7 +31,7 @@ impl ServerState {
         requires possible { refusal_of self.old entry.now.act ≡ None }
         requires none { items.old.items ≡ [] }
         ensures step { IfOk result (λ both. Changes self.old entry.now self.new both.0 both.1) }
-        ensures kept { IfOk result (λ both. K.pending keeper.new ≡ appended
+        ensures kept { IfOk result (λ both. K.pending keeper.new ≡ append_pending
             (kept_of self.old (made_of self.old entry.now both.1)) (K.pending keeper.old)) }
         ensures err { OnErr result (self.new ≡ self.old) }
         ensures unkept { OnErr result (K.pending keeper.new ≡ K.pending keeper.old) }
@@ -88,8 +88,8 @@ impl ServerState {
         requires sound { IsSound self.old }
         requires possible { refusal_of self.old (act.Connect user.now host.now) ≡ None }
         ensures number { IfOk result (λ number. number ≡ self.old.connects + 1) }
-        ensures step { IfOk result (λ number. self.new ≡ sent self.old
-            (made_of self.old (greeting pass moment user.now host.now) false)) }
+        ensures step { IfOk result (λ number. self.new ≡ after_sending self.old
+            (made_of self.old (greeting_entry pass moment user.now host.now) false)) }
         ensures err { OnErr result (self.new ≡ self.old) }
     {
         let number = self.connects + 1;

@@ -6,7 +6,7 @@ ghost use Rattle.kom_model.specs.State.{IsSound};
 ghost use Rattle.kom_types.specs.Sessions.{waiting_limits};
 ghost use Rattle.kom_model.specs.After.{make_change, make_changes, queue_all, reply_to};
 ghost use Rattle.kom_core.specs.Deciding.{IsFirm, IsLong, ComesTo, effects_by};
-ghost use Rattle.kom_state.specs.Keepers.{appended};
+ghost use Rattle.kom_state.specs.Keepers.{append_pending};
 ghost use Rattle.kom_core.specs.Steps.{CarriesOut, Answers, IsOf};
 
 use super::{ServerState, later};
@@ -26,7 +26,7 @@ impl ServerState {
         requires sound { IsSound self.old }
         ensures answers { Answers self.old asking.now result self.new }
         ensures kept { K.pending keeper.new
-            ≡ appended (if result then [] else effects_by self.old asking.now)
+            ≡ append_pending (if result then [] else effects_by self.old asking.now)
             (K.pending keeper.old) }
         ensures rest { K.stays keeper.old keeper.new }
     {
@@ -69,7 +69,7 @@ impl ServerState {
             CarriesOut self.old asking.now all.0 all.2.items self.new) }
         ensures len { IfOk result (λ all. IsLong asking.now.reference all.0 all.1) }
         ensures kept { OnOk result (K.pending keeper.new
-            ≡ appended (effects_by self.old asking.now) (K.pending keeper.old)) }
+            ≡ append_pending (effects_by self.old asking.now) (K.pending keeper.old)) }
         ensures err { OnErr result (self.new ≡ self.old) }
         ensures unkept { OnErr result (K.pending keeper.new ≡ K.pending keeper.old) }
         ensures rest { K.stays keeper.old keeper.new }
@@ -108,7 +108,7 @@ impl ServerState {
         ensures ok { OnOk result (
             self.new ≡ record self.old { db = apply_all effects self.old.db }) }
         ensures kept { OnOk result (
-            K.pending keeper.new ≡ appended effects (K.pending keeper.old)) }
+            K.pending keeper.new ≡ append_pending effects (K.pending keeper.old)) }
         ensures err { OnErr result (self.new ≡ self.old) }
         ensures unkept { OnErr result (K.pending keeper.new ≡ K.pending keeper.old) }
         ensures rest { K.stays keeper.old keeper.new }

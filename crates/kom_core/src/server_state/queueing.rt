@@ -1,6 +1,6 @@
 ghost use Rattle.std.specs.Prelude.{◌≡◌, ◌-◌, ◌^◌, length, min};
 ghost use Rattle.kom_types.specs.Printing.{print_of};
-ghost use Rattle.kom_types.specs.Sessions.{waiting_limits, queued};
+ghost use Rattle.kom_types.specs.Sessions.{waiting_limits, queue};
 ghost use Rattle.kom_model.specs.After.{with_session, queue_all};
 
 use super::ServerState;
@@ -22,7 +22,7 @@ impl ServerState {
     /// Queues an item for a session, if that is there.
     pub(super) fn queue(&mut self, session: u32, item: Item)
         ensures { self.new
-            ≡ with_session session (queued waiting_limits self.old.entries item) self.old }
+            ≡ with_session session (queue waiting_limits self.old.entries item) self.old }
     {
         let len = printed_len(&item);
         self.queue_measured(session, item, len);
@@ -32,7 +32,7 @@ impl ServerState {
     pub(super) fn queue_measured(&mut self, session: u32, item: Item, len: u64)
         requires { len ≡ min (length (print_of item)) (2 ^ 64 - 1) }
         ensures { self.new
-            ≡ with_session session (queued waiting_limits self.old.entries item) self.old }
+            ≡ with_session session (queue waiting_limits self.old.entries item) self.old }
     {
         if self.sessions.get(session).is_some() {
             self.sessions.queue(session, item, len, self.entries);

@@ -23,14 +23,14 @@ use Rattle.kom_types.specs.declared.texts.MarkRow.{MarkRow}
 use Rattle.kom_types.specs.declared.texts.Recipient.{Recipient}
 use Rattle.kom_types.specs.tables.AuxItems.{is_item_of}
 use Rattle.kom_types.specs.tables.Conferences.{number_of_conference}
-use Rattle.kom_types.specs.tables.Memberships.{is_membership, count_of, closed_up, without_membership}
+use Rattle.kom_types.specs.tables.Memberships.{is_membership, closed_up, without_membership}
 use Rattle.kom_types.specs.tables.Memberships as Memberships
-use Rattle.kom_types.specs.tables.Persons.{number_of_person, counted}
+use Rattle.kom_types.specs.tables.Persons.{number_of_person, count_up}
 use Rattle.kom_types.specs.tables.Texts as Texts
 use Rattle.kom_types.specs.tables.Texts.{is_recipient, is_mark, by_text}
 use Rattle.kom_model.specs.Db.{Db, conference_of, person_of, membership_of, memberships_of, members_of, memberships_at}
 use Rattle.kom_model.specs.Db.{recipient_of, locals_of, mark_of, marks_of, items_of}
-use Rattle.kom_model.specs.Effects.{fits, made, apply, all_fit}
+use Rattle.kom_model.specs.Effects.{fits, after_effect, apply, all_fit}
 use Rattle.kom_model.specs.Whole.{IsWhole, key_of}
 use Rattle.kom_model.specs.State.{AreSeated}
 use Rattle.kom_model.specs.calls.Call.{Asked}
@@ -169,21 +169,21 @@ module _ (number : ℕ) (base : Db) where
   module _ (recipients : List Recipient) (marks : List MarkRow) (keys : List (ℕ × ℕ)) (items : List ItemRow) where
     counted-left : (person : ℕ) (what : Counter) (by : ℕ) (db : Db) →
         Left number base recipients marks keys items db →
-        Left number base recipients marks keys items (made (effect.Counted person what by) db)
-    unfolding made
+        Left number base recipients marks keys items (after_effect (effect.Counted person what by) db)
+    unfolding after_effect
     counted-left person what by db left = record {
       conference = left.conference;
       person = ap is_some (find-mapped (λ (row : PersonRow). row.number == number)
-          (λ row. cond (row.number == person) (counted what by row) row)
+          (λ row. cond (row.number == person) (count_up what by row) row)
           (λ row. ap (λ n. n == number) (same row)) db.persons)
-          ∙ some-told (λ row. cond (row.number == person) (counted what by row) row)
+          ∙ some-told (λ row. cond (row.number == person) (count_up what by row) row)
           (row_of number_of_person number db.persons) ∙ left.person;
       recipients = left.recipients;
       marks = left.marks;
       keys = left.keys;
       items = left.items;
     } where
-      same : (row : PersonRow) → (cond (row.number == person) (counted what by row) row).number ≡ row.number
+      same : (row : PersonRow) → (cond (row.number == person) (count_up what by row) row).number ≡ row.number
       same row = elim (cases_Bool (row.number == person)) [
         | inl here ↦ rw here (counted-number what by row)
         | inr there ↦ rw there refl
@@ -215,7 +215,7 @@ module _ (number : ℕ) (base : Db) where
               let by : ℕ = asked.moment - seat.login in
               let fit = counted-fits by db left here in
               let made_left : apply (effect.Counted number counter.TimePresent by) db
-              ≡ made (effect.Counted number counter.TimePresent by) db = rw fit refl in
+              ≡ after_effect (effect.Counted number counter.TimePresent by) db = rw fit refl in
               rw (long, at) (and_from _ _ fit (subst (λ db.
               all_fit (flat_map (seat_left asked) (filter (λ seat. seat.person == number) seats) ++ rest) db ≡ true)
               (sym made_left) (left-all asked rest after seats seated.1 _
@@ -374,9 +374,10 @@ module _ (asked : Asked) (number : ℕ) (whole : IsWhole asked.db) where
       ∙ rw (equal number) refl
 
   after-person : (db : Db) → LeftAll db →
-      fits (effect.ConfGone number) (made (effect.PersonGone number) db) ≡ true
-  unfolding made
-  after-person db left = conf-fits (made (effect.PersonGone number) db) left.conference left.recipients left.keys
+      fits (effect.ConfGone number) (after_effect (effect.PersonGone number) db) ≡ true
+  unfolding after_effect
+  after-person db left =
+      conf-fits (after_effect (effect.PersonGone number) db) left.conference left.recipients left.keys
       left.items (person-left db left)
 
   last-fit : (db : Db) → LeftAll db → all_fit (gone_person base number ++ effect.ConfGone number ∷ []) db ≡ true
@@ -410,8 +411,8 @@ module _ (asked : Asked) (number : ℕ) (whole : IsWhole asked.db) where
       Left number base recipients_left marks_left keys_left rows db →
       is_some (find (same_item false number x) rows) ≡ true →
       Left number base recipients_left marks_left keys_left (filter (λ row. not (same_item false number x row)) rows)
-      (made (effect.AuxGone false number x.item.number) db)
-  unfolding made
+      (after_effect (effect.AuxGone false number x.item.number) db)
+  unfolding after_effect
   item-gone x rows db left there = record {
     conference = left.conference;
     person = left.person;
@@ -443,8 +444,8 @@ module _ (asked : Asked) (number : ℕ) (whole : IsWhole asked.db) where
   key-gone : (x : ℕ × ℕ) (keys : List (ℕ × ℕ)) (db : Db) →
       Left number base recipients_left marks_left keys base.items db → is_some (find (same_pair x) keys) ≡ true →
       Left number base recipients_left marks_left (filter (λ key. not (same_pair x key)) keys) base.items
-      (made (effect.MemberGone x.0 x.1) db)
-  unfolding made
+      (after_effect (effect.MemberGone x.0 x.1) db)
+  unfolding after_effect
   key-gone x keys db left there = record {
     conference = left.conference;
     person = left.person;
@@ -483,8 +484,8 @@ module _ (asked : Asked) (number : ℕ) (whole : IsWhole asked.db) where
       Left number base recipients_left rows keys_first base.items db →
       is_some (find (same_mark number x) rows) ≡ true →
       Left number base recipients_left (filter (λ row. not (same_mark number x row)) rows) keys_first base.items
-      (made (effect.MarkGone number x.text) db)
-  unfolding made
+      (after_effect (effect.MarkGone number x.text) db)
+  unfolding after_effect
   mark-gone x rows db left there = record {
     conference = left.conference;
     person = left.person;
@@ -534,8 +535,8 @@ module _ (asked : Asked) (number : ℕ) (whole : IsWhole asked.db) where
       Left number base rows base.marks keys_first base.items db →
       is_some (find (same_recipient number x) rows) ≡ true →
       Left number base (filter (λ row. not (same_recipient number x row)) rows) base.marks keys_first base.items
-      (made (effect.RecipientGone x.text number) db)
-  unfolding made
+      (after_effect (effect.RecipientGone x.text number) db)
+  unfolding after_effect
   recipient-gone x rows db left there = record {
     conference = left.conference;
     person = left.person;

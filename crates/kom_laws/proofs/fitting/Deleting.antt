@@ -18,7 +18,7 @@ use Rattle.kom_types.specs.tables.AuxItems.{is_item, is_item_of}
 use Rattle.kom_types.specs.tables.Texts.{is_recipient, is_link, is_mark}
 use Rattle.kom_model.specs.Db.{Db, text_of, recipient_of, recipients_of, link_of, links_of, links_from, links_into}
 use Rattle.kom_model.specs.Db.{mark_of, marks_on, items_of}
-use Rattle.kom_model.specs.Effects.{fits, made, all_fit}
+use Rattle.kom_model.specs.Effects.{fits, after_effect, all_fit}
 use Rattle.kom_model.specs.Whole.{IsWhole}
 use Rattle.kom_model.specs.calls.Call.{Asked}
 use Rattle.kom_model.specs.calls.Guards.{caller, login_guard, text_guard, unless}
@@ -96,9 +96,9 @@ unfolding fits link_of
 link-fit db row rows = refl
 
 link-made : (db : Db) (row : TextLink) (rows : List TextLink) →
-    made (effect.LinkGone row.child row.parent row.footnote) (record db { links = rows })
+    after_effect (effect.LinkGone row.child row.parent row.footnote) (record db { links = rows })
     ≡ record db { links = filter (λ other. not (same_link row other)) rows }
-unfolding made
+unfolding after_effect
 link-made db row rows = refl
 
 recipient-fit : (db : Db) (row : Recipient) (rows : List Recipient) →
@@ -108,9 +108,9 @@ unfolding fits recipient_of
 recipient-fit db row rows = refl
 
 recipient-made : (db : Db) (row : Recipient) (rows : List Recipient) →
-    made (effect.RecipientGone row.text row.conference) (record db { recipients = rows })
+    after_effect (effect.RecipientGone row.text row.conference) (record db { recipients = rows })
     ≡ record db { recipients = filter (λ other. not (same_recipient row other)) rows }
-unfolding made
+unfolding after_effect
 recipient-made db row rows = refl
 
 mark-fit : (db : Db) (row : MarkRow) (rows : List MarkRow) →
@@ -119,9 +119,9 @@ unfolding fits mark_of
 mark-fit db row rows = refl
 
 mark-made : (db : Db) (row : MarkRow) (rows : List MarkRow) →
-    made (effect.MarkGone row.person row.text) (record db { marks = rows })
+    after_effect (effect.MarkGone row.person row.text) (record db { marks = rows })
     ≡ record db { marks = filter (λ other. not (same_mark row other)) rows }
-unfolding made
+unfolding after_effect
 mark-made db row rows = refl
 
 -- an item of an object with a number is there, by the items that are told
@@ -149,9 +149,9 @@ unfolding fits items_of
 item-fit text db row rows = item-named true text row.item.number rows
 
 item-made : (text : ℕ) (db : Db) (row : ItemRow) (rows : List ItemRow) →
-    made (effect.AuxGone true text row.item.number) (record db { items = rows })
+    after_effect (effect.AuxGone true text row.item.number) (record db { items = rows })
     ≡ record db { items = filter (λ other. not (same_item true text row other)) rows }
-unfolding made
+unfolding after_effect
 item-made text db row rows = refl
 
 -- ---- the call

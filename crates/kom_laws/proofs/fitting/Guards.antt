@@ -20,11 +20,11 @@ use Rattle.kom_model.specs.declared.call_errors.Refused.{Refused}
 use Rattle.kom_model.specs.declared.viewers.Viewer.{Viewer}
 use Rattle.kom_model.specs.Db.{Db, conference_of, conference_head_of, person_of, text_of, text_author_of, membership_of}
 use Rattle.kom_model.specs.Db.{membership_kind_of, conferences_of}
-use Rattle.kom_model.specs.Decide.{limited}
+use Rattle.kom_model.specs.Decide.{limit_reply}
 use Rattle.kom_model.specs.Effects.{fits, is_free, all_fit}
 use Rattle.kom_model.specs.Rights.{sees, reads, is_member}
 use Rattle.kom_model.specs.State.{AreSeated}
-use Rattle.kom_model.specs.calls.Call.{Asked, Definition, decided, refuse}
+use Rattle.kom_model.specs.calls.Call.{Asked, Definition, outcome_of, refuse}
 use Rattle.kom_model.specs.calls.Guards.{Guard, unless, refusal, caller, viewer_at, login_guard}
 use Rattle.kom_model.specs.calls.Guards.{conference_guard, text_guard, free_guard, taken_by, name_guard}
 use Rattle.kom_model.specs.calls.Guards.{size_guard}
@@ -36,7 +36,7 @@ pub one-fits : (what : Effect) (db : Db) → fits what db ≡ true → all_fit (
 one-fits what db fit = rw fit refl
 
 fits-limited : (reference : ℕ) (decision : Decision) (db : Db) → all_fit decision.effects db ≡ true →
-    all_fit (limited reference decision).effects db ≡ true
+    all_fit (limit_reply reference decision).effects db ≡ true
 fits-limited reference decision db fit =
     cond_both (nat_le (length (print_of (item.Reply reference decision.reply))) LONGEST_REPLY) decision
     (refuse (record { code = error.LONG_ARRAY; status = 0 })) (λ (decision : Decision).
@@ -45,11 +45,11 @@ fits-limited reference decision db fit =
 -- where no early guard refuses, its effects fit
 pub decided-fits : (reference : ℕ) (definition : Definition) (db : Db) →
     (definition.early ≡ None → all_fit definition.rest.effects db ≡ true) →
-    all_fit (limited reference (decided definition)).effects db ≡ true
+    all_fit (limit_reply reference (outcome_of definition)).effects db ≡ true
 decided-fits reference definition db fit =
-    fits-limited reference (decided definition) db (by definition.early definition.rest fit) where
+    fits-limited reference (outcome_of definition) db (by definition.early definition.rest fit) where
       by : (early : Option Refused) (rest : Decision) → (early ≡ None → all_fit rest.effects db ≡ true) →
-          all_fit (decided (record { early = early; rest = rest })).effects db ≡ true
+          all_fit (outcome_of (record { early = early; rest = rest })).effects db ≡ true
       by None rest fit = fit refl
       by (Some refused) rest fit = refl
 

@@ -35,11 +35,11 @@ use Rattle.kom_types.specs.tables.Conferences.{number_of_conference}
 use Rattle.kom_types.specs.tables.Texts as Texts
 use Rattle.kom_types.specs.tables.Texts.{number_of_text}
 use Rattle.kom_model.specs.Db.{Db, text_of, conference_of, items_of, next_item_of}
-use Rattle.kom_model.specs.Effects.{fits, made, all_fit, has_object}
+use Rattle.kom_model.specs.Effects.{fits, after_effect, all_fit, has_object}
 use Rattle.kom_model.specs.Shown.{text_adder, conference_adder}
-use Rattle.kom_model.specs.calls.AuxItems.{items_added, item_effects, numbers_guard, changed, object_of}
+use Rattle.kom_model.specs.calls.AuxItems.{items_added, item_effects, numbers_guard, change_items, object_of}
 use Rattle.kom_model.specs.calls.AuxItems.{modify_text_info, modify_conf_info}
-use Rattle.kom_model.specs.calls.Call.{Asked, done}
+use Rattle.kom_model.specs.calls.Call.{Asked, done_with}
 use Rattle.kom_model.specs.calls.Guards.{Guard, caller, refusal, first_refusal, items_guard, new_items_guard}
 use Rattle.kom_model.specs.calls.Guards.{with_items}
 use Rattle.kom_model.specs.calls.Guards.{login_guard, text_guard, conference_guard}
@@ -49,7 +49,7 @@ use Rattle.kom_laws.proofs.fitting.Guards.{text-there, conference-there}
 
 -- an effect that fits, before others that fit after it
 pub fit-then : (what : Effect) (rest : List Effect) (db : Db) → fits what db ≡ true →
-    all_fit rest (made what db) ≡ true → all_fit (what ∷ rest) db ≡ true
+    all_fit rest (after_effect what db) ≡ true → all_fit (what ∷ rest) db ≡ true
 fit-then what rest db fit after = rw fit after
 
 -- ---- what an object bears: the number that its next item gets, and its items
@@ -97,8 +97,8 @@ gone-next false object rows db = refl
 bears-gone : (on_text : Bool) (object drawn : ℕ) (held : List AuxRow) (db : Db) (number : ℕ) →
     Bears on_text object drawn held db →
     Bears on_text object drawn (filter (λ (item : AuxRow). not (item.number == number)) held)
-    (made (effect.AuxGone on_text object number) db)
-unfolding made items_of
+    (after_effect (effect.AuxGone on_text object number) db)
+unfolding after_effect items_of
 bears-gone on_text object drawn held db number bears =
     let left : List ItemRow = filter (λ row. not (is_item on_text object number row)) db.items in
     record {
@@ -139,8 +139,8 @@ added-items on_text object item rows =
 
 pub bears-added : (on_text : Bool) (object drawn : ℕ) (held : List AuxRow) (db : Db) (item : AuxRow) →
     Bears on_text object drawn held db →
-    Bears on_text object (item.number + 1) (held ++ item ∷ []) (made (effect.AuxAdded on_text object item) db)
-unfolding made items_of next_item_of text_of conference_of
+    Bears on_text object (item.number + 1) (held ++ item ∷ []) (after_effect (effect.AuxAdded on_text object item) db)
+unfolding after_effect items_of next_item_of text_of conference_of
 bears-added true object drawn held db item bears = record {
   there = has-made number_of_text (λ row. true) (Texts.with_item_drawn item.number) (λ row. refl) object db.texts
       (λ row. refl) bears.there;
@@ -189,7 +189,7 @@ item-fits on_text object drawn held db item bears next =
 
 -- what else is known of the rows is kept by an item that is added
 module _ (Also : Db → Type 0) (on_text : Bool) (object : ℕ)
-    (keeps : (item : AuxRow) (db : Db) → Also db → Also (made (effect.AuxAdded on_text object item) db))
+    (keeps : (item : AuxRow) (db : Db) → Also db → Also (after_effect (effect.AuxAdded on_text object item) db))
     (rest : List Effect) (after : (db : Db) → Also db → all_fit rest db ≡ true) where
   pub items-fit : (items : List AuxRow) (drawn : ℕ) (held : List AuxRow) (db : Db) →
       Bears on_text object drawn held db → Also db → CanAdd drawn (length held) items →
@@ -198,7 +198,7 @@ module _ (Also : Db → Type 0) (on_text : Bool) (object : ℕ)
   items-fit (item ∷ items) drawn held db bears also can =
       fit-then (effect.AuxAdded on_text object item) (items_added on_text object items ++ rest) db
       (item-fits on_text object drawn held db item bears can.0)
-      (items-fit items (item.number + 1) (held ++ item ∷ []) (made (effect.AuxAdded on_text object item) db)
+      (items-fit items (item.number + 1) (held ++ item ∷ []) (after_effect (effect.AuxAdded on_text object item) db)
       (bears-added on_text object drawn held db item bears) (keeps item db also)
       (can-same (drawn + 1) (item.number + 1) (length held + 1) (length (held ++ item ∷ [])) items
       (omega (arith, can.0.number)) (omega (arith, length-append held (item ∷ []))) can.1))
@@ -375,8 +375,10 @@ module _ (on_text : Bool) (object drawn : ℕ) (adder : Adder) (items : List Aux
       fit-then (effect.AuxGone on_text object number)
       (map (λ (number : ℕ). effect.AuxGone on_text object number) todo ++ rest) db
       (gone-fits on_text object number db here)
-      (gone-fit todo (earlier ++ number ∷ []) (index + 1) (made (effect.AuxGone on_text object number) db) parts.1
-      (subst (λ (held : List AuxRow). Bears on_text object drawn held (made (effect.AuxGone on_text object number) db))
+      (gone-fit todo (earlier ++ number ∷ []) (index + 1)
+      (after_effect (effect.AuxGone on_text object number) db) parts.1
+      (subst (λ (held : List AuxRow). Bears on_text object drawn held
+      (after_effect (effect.AuxGone on_text object number) db))
       (left-step earlier number items) (bears-gone on_text object drawn (left_after earlier items) db number bears))
       (λ db bears. after db (subst (λ (gone : List ℕ). Bears on_text object drawn (left_after gone items) db)
       (append_assoc earlier (number ∷ []) todo) bears)))
@@ -421,14 +423,14 @@ left-none (item ∷ items) = ap (λ (items : List AuxRow). item ∷ items) (left
 
 changed-fits : (asked : Asked) (on_text : Bool) (on : Object) (adder : Adder) (change : AuxChange) →
     has_object asked.db on_text change.object ≡ true →
-    all_fit (changed asked on_text on adder change).effects asked.db ≡ true
+    all_fit (change_items asked on_text on adder change).effects asked.db ≡ true
 changed-fits asked on_text on adder change there =
     let next : ℕ = next_item_of asked.db on_text change.object in
     let items : List AuxRow = items_of asked.db on_text change.object in
     let guards : List Guard =
     items_guard on adder items change.delete change.add ∷ numbers_guard asked.db on_text change ∷ [] in
     let added : List AuxRow = items_from next adder.person asked.moment change.add in
-    with_items-fit (first_refusal guards) (done (item_effects asked on_text adder change) []) asked.db (λ passes.
+    with_items-fit (first_refusal guards) (done_with (item_effects asked on_text adder change) []) asked.db (λ passes.
     let pass = all-pass guards passes in
     let parts = items-pass on adder items change.delete change.add pass.0 in
     let last = leb-true (next + length change.add) (LAST_DRAWN + 1)

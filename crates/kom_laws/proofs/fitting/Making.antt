@@ -31,7 +31,7 @@ use Rattle.kom_types.specs.tables.Memberships as Memberships
 use Rattle.kom_types.specs.tables.Persons.{number_of_person, fresh_person, with_hash, password_hash}
 use Rattle.kom_model.specs.Db.{Db, conference_of, conferences_of, person_of, memberships_of, items_of}
 use Rattle.kom_model.specs.Db.{next_item_of, next_conference_of}
-use Rattle.kom_model.specs.Effects.{fits, made, all_fit}
+use Rattle.kom_model.specs.Effects.{fits, after_effect, all_fit}
 use Rattle.kom_model.specs.State.{AreSeated}
 use Rattle.kom_model.specs.Whole.{IsWhole, has_letterbox, has_person, has_drawn_item}
 use Rattle.kom_model.specs.calls.AuxItems.{items_added}
@@ -153,7 +153,7 @@ made_conf-fits : (asked : Asked) (given : NewConference) (by : ℕ) → IsWhole 
     all_fit (effect.ConfAdded (next_conference_of asked.db) given.name given.kind asked.moment by by
     ∷ items_added false (next_conference_of asked.db) (items_from 1 by asked.moment given.aux_items)
     ++ counts by counter.CreatedConferences 1) asked.db ≡ true
-unfolding made person_of next_conference_of
+unfolding after_effect person_of next_conference_of
 made_conf-fits asked given by whole there named free protected drawn can =
     let db : Db = asked.db in
     let number : ℕ = db.next_conference in
@@ -163,7 +163,8 @@ made_conf-fits asked given by whole there named free protected drawn can =
     (conf_added-fits db whole given.name given.kind asked.moment by by named free protected drawn)
     (items-fit (λ (db : Db). is_some (person_of db by) ≡ true) false number (λ item db is. is)
     (counts by counter.CreatedConferences 1) (λ db is. counts-fit db by counter.CreatedConferences 1 is) items 1 []
-    (made make db) (bears-given db whole given.name given.kind asked.moment by by (made make db) refl refl) there can)
+    (after_effect make db)
+    (bears-given db whole given.name given.kind asked.moment by by (after_effect make db) refl refl) there can)
 
 pub create_conf-fits : (asked : Asked) (given : NewConference) → IsWhole asked.db → AreSeated asked.db asked.seats →
     (create_conf asked given).early ≡ None → all_fit (create_conf asked given).rest.effects asked.db ≡ true
@@ -183,16 +184,16 @@ module _ (db : Db) (whole : IsWhole db) (name : List ℕ) (at by flags : ℕ) (p
   person = db.next_conference
 
   abbrev boxed : Db
-  boxed = made (effect.ConfAdded person name letterbox_type at by person) db
+  boxed = after_effect (effect.ConfAdded person name letterbox_type at by person) db
 
   abbrev peopled : Db
-  peopled = made (effect.PersonAdded person first_privileges flags at) boxed
+  peopled = after_effect (effect.PersonAdded person first_privileges flags at) boxed
 
   abbrev locked : Db
-  locked = made (effect.Password person (password_hash person password)) peopled
+  locked = after_effect (effect.Password person (password_hash person password)) peopled
 
   abbrev joined : Db
-  joined = made (effect.MemberSet person person 0 highest_priority by at 0) locked
+  joined = after_effect (effect.MemberSet person person 0 highest_priority by at 0) locked
 
   -- a person has its letterbox, and so there is none of the number
   person-absent : row_of number_of_person person db.persons ≡ None
@@ -206,7 +207,7 @@ module _ (db : Db) (whole : IsWhole db) (name : List ℕ) (at by flags : ℕ) (p
       ]) (next-absent db whole)))) db.persons whole.persons.housed)
 
   person_added-fits : fits (effect.PersonAdded person first_privileges flags at) boxed ≡ true
-  unfolding fits made conference_of person_of
+  unfolding fits after_effect conference_of person_of
   person_added-fits = and_from _ _
       (ap (λ (found : Option ConferenceRow). elim found as (λ _. Bool) [
         | None ↦ false
@@ -221,7 +222,7 @@ module _ (db : Db) (whole : IsWhole db) (name : List ℕ) (at by flags : ℕ) (p
       ∙ rw (eq-eqb person person refl) refl
 
   person-made : is_some (person_of peopled person) ≡ true
-  unfolding made person_of
+  unfolding after_effect person_of
   person-made = ap is_some person-found
 
   password-fits : fits (effect.Password person (password_hash person password)) peopled ≡ true
@@ -229,7 +230,7 @@ module _ (db : Db) (whole : IsWhole db) (name : List ℕ) (at by flags : ℕ) (p
   password-fits = person-made
 
   person-locked : (number : ℕ) → is_some (person_of peopled number) ≡ true → is_some (person_of locked number) ≡ true
-  unfolding made person_of
+  unfolding after_effect person_of
   person-locked number there = has-changed number_of_person (λ row. true) (with_hash (password_hash person password))
       (λ row. refl) person peopled.persons (λ row found is. refl) number there
 
@@ -242,7 +243,7 @@ module _ (db : Db) (whole : IsWhole db) (name : List ℕ) (at by flags : ℕ) (p
       true≢false (sym here ∙ ap is_some person-absent))) db.memberships whole.memberships.person_there)
 
   member_set-fits : fits (effect.MemberSet person person 0 highest_priority by at 0) locked ≡ true
-  unfolding fits made conference_of person_of memberships_of
+  unfolding fits after_effect conference_of person_of memberships_of
   member_set-fits =
       let many = count-memberships person db.memberships in
       let none = none-joined in
@@ -253,19 +254,19 @@ module _ (db : Db) (whole : IsWhole db) (name : List ℕ) (at by flags : ℕ) (p
 
   -- whoever was there still is
   still-there : (number : ℕ) → is_some (person_of db number) ≡ true → is_some (person_of joined number) ≡ true
-  unfolding made person_of
+  unfolding after_effect person_of
   still-there number there = person-locked number (has-with_row number_of_person (λ row. true)
       (fresh_person person first_privileges flags at) db.persons (ap is_none person-absent) number there)
 
   bears-letterbox : Bears false person 1 [] joined
-  unfolding made
+  unfolding after_effect
   bears-letterbox = bears-given db whole name letterbox_type at by person joined refl refl
 
 made_person-fits : (asked : Asked) (given : NewPerson) → IsWhole asked.db → AreSeated asked.db asked.seats →
     name_guard given.name ≡ None → free_guard asked.db 0 given.name ≡ None → drawn_guard asked.db ≡ None →
     CanAdd 1 0 (items_from 1 (maker (caller asked).person (next_conference_of asked.db)) asked.moment given.aux_items) →
     all_fit (person_effects asked (next_conference_of asked.db) given) asked.db ≡ true
-unfolding made person_of next_conference_of
+unfolding after_effect person_of next_conference_of
 made_person-fits asked given whole seated named free drawn can =
     let db : Db = asked.db in
     let person : ℕ = db.next_conference in

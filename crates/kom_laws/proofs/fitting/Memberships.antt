@@ -14,10 +14,10 @@ use Rattle.kom_types.specs.declared.effects.Effect.TheVariants as effect
 use Rattle.kom_types.specs.declared.memberships.MembershipRow.{MembershipRow}
 use Rattle.kom_types.specs.declared.memberships.ReadRange.{ReadRange}
 use Rattle.kom_types.specs.tables.Memberships.{is_membership}
-use Rattle.read_ranges.specs.Changed.{rise_after, up_to, unmarked, all_marked, size_of}
+use Rattle.read_ranges.specs.Changed.{rise_after, up_to, mark_unread, all_marked, size_of}
 use Rattle.kom_model.specs.declared.viewers.Viewer.{Viewer}
 use Rattle.kom_model.specs.Db.{Db, conference_of, person_of, membership_of, membership_kind_of, memberships_of}
-use Rattle.kom_model.specs.Effects.{fits, made, all_fit}
+use Rattle.kom_model.specs.Effects.{fits, after_effect, all_fit}
 use Rattle.kom_model.specs.Rights.{is_member}
 use Rattle.kom_model.specs.Shown.{shows_membership}
 use Rattle.kom_model.specs.Whole.{IsWhole, RiseApart}
@@ -125,7 +125,7 @@ module _ (asked : Asked) where
   mark_as_unread-fits conference local whole passes =
       let others : List Guard = local_guards (highest_of asked.db conference) local in
       let pass = all-pass (reader_guards asked conference ++ others) passes in
-      read-fits conference (unmarked local (had_read asked conference))
+      read-fits conference (mark_unread local (had_read asked conference))
       (pass-both (reader_guards asked conference) others pass).0
       (rise-tested _ (unmarked-rise local (had_read asked conference) (had-read whole conference)))
 
@@ -141,7 +141,7 @@ module _ (asked : Asked) where
   pub mark_as_read-fits : (conference : ℕ) (locals : List ℕ) → IsWhole asked.db → AreSeated asked.db asked.seats →
       (mark_as_read asked conference locals).early ≡ None →
       all_fit (mark_as_read asked conference locals).rest.effects asked.db ≡ true
-  unfolding fits made person_of
+  unfolding fits after_effect person_of
   mark_as_read-fits conference locals whole seated passes =
       let others : List Guard = all_locals_guards (highest_of asked.db conference) locals in
       let pass = all-pass (reader_guards asked conference ++ others) passes in
@@ -152,7 +152,7 @@ module _ (asked : Asked) where
       (passed (is_member asked.db (caller asked).person conference) _ conference both.0.1.1.0))
       (rise-tested ranges (all_marked-rise locals (had_read asked conference)
       (some-locals (highest_of asked.db conference) locals both.1) (had-read whole conference))) in
-      rw fit (counts-fit (made what asked.db) (caller asked).person counter.ReadTexts
+      rw fit (counts-fit (after_effect what asked.db) (caller asked).person counter.ReadTexts
       (size_of ranges - size_of (had_read asked conference)) (caller-there asked seated both.0.0))
 
   pub sub_member-fits : (conference person : ℕ) → (sub_member asked conference person).early ≡ None →

@@ -14,7 +14,7 @@ use Rattle.kom_types.specs.declared.limits.TheConstants.{MOST_RECIPIENTS}
 use Rattle.row_table.specs.Tables.{row_of, with_row, changed_row}
 use Rattle.row_table.proofs.Rows.{row_of-with_row, row_of-changed_row}
 use Rattle.kom_types.specs.AuxItems.{kind_of, AuxKind, items_from, passes_on, may_stand}
-use Rattle.kom_types.specs.AuxItems.{with_inherited, inherited}
+use Rattle.kom_types.specs.AuxItems.{with_inherited, inherit}
 use Rattle.kom_types.specs.Bits.{alike}
 use Rattle.kom_types.specs.declared.errors.TheConstants as error
 use Rattle.kom_types.specs.declared.aux_items.AuxRow.{AuxRow}
@@ -40,7 +40,7 @@ use Rattle.kom_types.specs.tables.Texts as Texts
 use Rattle.kom_types.specs.tables.Texts.{number_of_text, fresh_text, is_recipient, is_link, lines_of}
 use Rattle.kom_model.specs.Db.{Db, conference_of, person_of, text_of, recipient_of, recipients_of, link_of, links_from}
 use Rattle.kom_model.specs.Db.{links_into, next_local_of, next_created_of, next_item_of, items_of, next_text_of}
-use Rattle.kom_model.specs.Effects.{fits, made, all_fit, is_recipient_tag}
+use Rattle.kom_model.specs.Effects.{fits, after_effect, all_fit, is_recipient_tag}
 use Rattle.kom_model.specs.Effects.{most_links}
 use Rattle.kom_model.specs.State.{AreSeated}
 use Rattle.kom_model.specs.Whole.{IsWhole, has_text}
@@ -191,8 +191,8 @@ with_inherited-can items item can short = by (kind_of item.tag) refl where
       (λ not. can)
 
 inherited-can : (parent items : List AuxRow) → CanAdd 1 0 items →
-    AllByRecursion (λ item. length item.content ≤ LONGEST_CONTENT) parent → CanAdd 1 0 (inherited items parent)
-unfolding inherited
+    AllByRecursion (λ item. length item.content ≤ LONGEST_CONTENT) parent → CanAdd 1 0 (inherit items parent)
+unfolding inherit
 inherited-can [] items can short = can
 inherited-can (item ∷ parent) items can short =
     inherited-can parent (with_inherited items item) (with_inherited-can items item can short.0) short.1
@@ -212,7 +212,7 @@ inherited_from-can : (db : Db) → IsWhole db → (named : List MiscInput) (item
     CanAdd 1 0 (inherited_from db items named)
 inherited_from-can db whole [] items can = can
 inherited_from-can db whole (item ∷ named) items can =
-    inherited_from-can db whole named (inherited items (items_of db true item.value))
+    inherited_from-can db whole named (inherit items (items_of db true item.value))
     (inherited-can (items_of db true item.value) items can (items-short db whole true item.value))
 
 -- ---- counters
@@ -225,7 +225,7 @@ counts-then person which by rest db there after =
     cond_both (by == 0) [] (effect.Counted person which by ∷ [])
     (λ (effects : List Effect). all_fit (effects ++ rest) db ≡ true) (λ _. after db there)
     (λ _. fit-then (effect.Counted person which by) rest db there
-    (after (made (effect.Counted person which by) db) (counted-there db person person which by there)))
+    (after (after_effect (effect.Counted person which by) db) (counted-there db person person which by there)))
 
 module _ (asked : Asked) (whole : IsWhole asked.db) (anonymous : Bool) (author : ℕ) (body : List ℕ) where
   abbrev base : Db
@@ -471,7 +471,7 @@ module _ (asked : Asked) (whole : IsWhole asked.db) (anonymous : Bool) (author :
   item-step : (before : List MiscInput) (item : MiscInput) (rest : List Effect) →
       item_guard asked anonymous before item ≡ None → has_local base item ≡ true →
       After (before ++ item ∷ []) rest → After before (item_effect asked text item ∷ rest)
-  unfolding made
+  unfolding after_effect
   item-step before item rest passes left after conferences recipients links to by =
       let to_one = cond-none (names_recipient item) (recipient_guard asked anonymous before item.value) _ passes in
       cond_both (names_recipient item) (effect.RecipientAdded (given before item))
@@ -614,8 +614,8 @@ module _ (asked : Asked) (whole : IsWhole asked.db) (anonymous : Bool) (author :
     ]) text-absent);
   }
 
-  ready-item : (item : AuxRow) (db : Db) → Ready db → Ready (made (effect.AuxAdded true text item) db)
-  unfolding made text_of conference_of
+  ready-item : (item : AuxRow) (db : Db) → Ready db → Ready (after_effect (effect.AuxAdded true text item) db)
+  unfolding after_effect text_of conference_of
   ready-item item db ready = record {
     numbered = has-changed number_of_text (λ row. row.author == author && row.created_local == 0)
         (Texts.with_item_drawn item.number) (λ row. refl) text db.texts (λ row found is. is) text ready.numbered;
@@ -624,8 +624,8 @@ module _ (asked : Asked) (whole : IsWhole asked.db) (anonymous : Bool) (author :
   }
 
   ready-written : (number : ℕ) (db : Db) → Ready db →
-      Ready (made (effect.ConfField number (field.LastWritten asked.moment)) db)
-  unfolding made text_of conference_of
+      Ready (after_effect (effect.ConfField number (field.LastWritten asked.moment)) db)
+  unfolding after_effect text_of conference_of
   ready-written number db ready = record {
     numbered = ready.numbered;
     conferences = λ other there. has-changed number_of_conference (λ row. true)
@@ -648,7 +648,8 @@ module _ (asked : Asked) (whole : IsWhole asked.db) (anonymous : Bool) (author :
   written-then (item ∷ items) rest there after db ready =
       fit-then (item_written asked item) (map (item_written asked) items ++ rest) db
       (written-fits item.value db ready there.0)
-      (written-then items rest there.1 after (made (item_written asked item) db) (ready-written item.value db ready))
+      (written-then items rest there.1 after (after_effect (item_written asked item) db)
+      (ready-written item.value db ready))
 
   -- the author counts the text
   created-fits : (db : Db) → Ready db → is_some (person_of base author) ≡ true →
@@ -676,8 +677,8 @@ module _ (asked : Asked) (whole : IsWhole asked.db) (anonymous : Bool) (author :
         by person drawn left (Some found) is one two three = and_from _ _ one (and_from _ _ (and_from _ _ is two) three)
 
   created-there : (db : Db) → Ready db → is_some (person_of base author) ≡ true → (local : ℕ) →
-      is_some (person_of (made (effect.Created author local text) db) author) ≡ true
-  unfolding made person_of
+      is_some (person_of (after_effect (effect.Created author local text) db) author) ≡ true
+  unfolding after_effect person_of
   created-there db ready there local = has-changed number_of_person (λ row. true) (with_created_drawn local)
       (λ row. refl) author db.persons (λ row found is. refl) author
       (ap (λ (rows : List PersonRow). is_some (row_of number_of_person author rows)) ready.persons ∙ there)
@@ -693,7 +694,7 @@ module _ (asked : Asked) (whole : IsWhole asked.db) (anonymous : Bool) (author :
       (counts author counter.CreatedLines (lines_of body) ++ counts author counter.CreatedBytes (length body)) db
       (created-fits db ready there last)
       (counts-then author counter.CreatedLines (lines_of body) (counts author counter.CreatedBytes (length body))
-      (made (effect.Created author local text) db) (created-there db ready there local)
+      (after_effect (effect.Created author local text) db) (created-there db ready there local)
       (λ db there. counts-fit db author counter.CreatedBytes (length body) there))
 
   text_added-fits : nat_le text LAST_DRAWN ≡ true → nat_le (length body) LONGEST_BODY ≡ true →
@@ -716,7 +717,7 @@ made_text-fits : (asked : Asked) (anonymous : Bool) (author : ℕ) (given : NewT
     ∷ map (item_effect asked (next_text_of asked.db)) given.misc_inputs
     ++ items_added true (next_text_of asked.db) (new_items asked given)
     ++ map (item_written asked) (filter names_recipient given.misc_inputs) ++ last) asked.db ≡ true
-unfolding made next_text_of
+unfolding after_effect next_text_of
 made_text-fits asked anonymous author given last whole short passes drawn left can after =
     let text : ℕ = asked.db.next_text in
     let items : List MiscInput = given.misc_inputs in
@@ -732,7 +733,7 @@ made_text-fits asked anonymous author given last whole short passes drawn left c
     names_recipient items (named-there asked whole anonymous author given.body items [] passes)) in
     fit-then make (map (item_effect asked text) items ++ added ++ written ++ last) asked.db
     (text_added-fits asked whole anonymous author given.body drawn short)
-    (subst (λ (effects : List Effect). all_fit effects (made make asked.db) ≡ true)
+    (subst (λ (effects : List Effect). all_fit effects (after_effect make asked.db) ≡ true)
     (sym (in-order (map (item_effect asked text) items) added written last))
     (all-items asked whole anonymous author given.body items [] (added ++ (written ++ last)) passes left
     (λ conferences recipients links to by.

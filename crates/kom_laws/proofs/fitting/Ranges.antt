@@ -4,8 +4,8 @@ use Rattle.std.proofs.Common.{◌++◌, Some, None, refl, arith, inl, inr, nat_l
 use Rattle.std.specs.List.{AllByRecursion, filter, find}
 use Rattle.std.proofs.lemmas.Bool.{cases_Bool, and_from, lt-ltb, le-leb, ltb-true, ltb-false, eqb-false}
 use Rattle.kom_types.specs.declared.memberships.ReadRange.{ReadRange}
-use Rattle.read_ranges.specs.Changed.{numbers_of, noted, marked, all_marked, unmarked, rise_after}
-use Rattle.read_ranges.specs.Numbers.{numbers_from, numbers_in, with_number, cut}
+use Rattle.read_ranges.specs.Changed.{numbers_of, insert_new, mark_read, all_marked, mark_unread, rise_after}
+use Rattle.read_ranges.specs.Numbers.{numbers_from, numbers_in, with_number, as_ranges}
 use Rattle.read_ranges.specs.Reads.{ReadRow, is_read_of}
 use Rattle.kom_model.specs.Db.{Db, read_of}
 use Rattle.kom_model.specs.Whole.{IsWhole, RiseApart}
@@ -51,7 +51,8 @@ rises-kept least keep (n ∷ numbers) rise = elim (cases_Bool (keep n)) [
       (rises-kept (n + 1) keep numbers rise.1))
 ]
 
-rises-noted : (least n : ℕ) (numbers : List ℕ) → least ≤ n → RisesFrom least numbers → RisesFrom least (noted n numbers)
+rises-noted : (least n : ℕ) (numbers : List ℕ) → least ≤ n → RisesFrom least numbers →
+    RisesFrom least (insert_new n numbers)
 rises-noted least n [] low rise = (low, tt)
 rises-noted least n (first ∷ numbers) low rise = elim (cases_Bool (nat_lt n first)) [
   | inl before ↦
@@ -82,21 +83,21 @@ rise-lower least higher [] low rise = tt
 rise-lower least higher (one ∷ ranges) low rise =
     let first = rise.0 in (omega (arith, first, low), rise.1, rise.2)
 
-rise-cut : (least : ℕ) (numbers : List ℕ) → RisesFrom least numbers → RiseApart least (cut numbers)
+rise-cut : (least : ℕ) (numbers : List ℕ) → RisesFrom least numbers → RiseApart least (as_ranges numbers)
 rise-cut least [] rise = tt
 rise-cut least (n ∷ numbers) rise =
-    rise-lower least n (with_number n (cut numbers)) rise.0 (rise-with n (cut numbers) (rise-cut
+    rise-lower least n (with_number n (as_ranges numbers)) rise.0 (rise-with n (as_ranges numbers) (rise-cut
     (n + 1) numbers rise.1))
 
-pub unmarked-rise : (n : ℕ) (ranges : List ReadRange) → RiseApart 1 ranges → RiseApart 1 (unmarked n ranges)
+pub unmarked-rise : (n : ℕ) (ranges : List ReadRange) → RiseApart 1 ranges → RiseApart 1 (mark_unread n ranges)
 unmarked-rise n ranges rise = rise-cut 1 _ (rises-kept 1 (λ other. not (other == n)) (numbers_of ranges)
     (rises-numbers 1 ranges rise))
 
 pub all_marked-rise : (numbers : List ℕ) (ranges : List ReadRange) → AllByRecursion (λ n. 1 ≤ n) numbers →
     RiseApart 1 ranges → RiseApart 1 (all_marked numbers ranges)
 all_marked-rise [] ranges some rise = rise
-all_marked-rise (n ∷ numbers) ranges some rise = all_marked-rise numbers (marked n ranges) some.1
-    (rise-cut 1 (noted n (numbers_of ranges)) (rises-noted 1 n (numbers_of ranges) some.0
+all_marked-rise (n ∷ numbers) ranges some rise = all_marked-rise numbers (mark_read n ranges) some.1
+    (rise-cut 1 (insert_new n (numbers_of ranges)) (rises-noted 1 n (numbers_of ranges) some.0
     (rises-numbers 1 ranges rise)))
 
 -- ranges that rise pass the test of an effect

@@ -7,7 +7,7 @@ use Rattle.std.proofs.lemmas.Bool.{cases_Bool, and_from, or_left, or_right, not_
 use Rattle.std.proofs.lemmas.Bool.{false_from_ne_true}
 use Rattle.kom_types.specs.declared.effects.Effect.{Effect}
 use Rattle.kom_model.specs.Db.{Db}
-use Rattle.kom_model.specs.Effects.{fits, made, apply, all_fit}
+use Rattle.kom_model.specs.Effects.{fits, after_effect, apply, all_fit}
 use Rattle.kom_laws.proofs.masking.Rows.{find-thinned}
 use Rattle.kom_model.proofs.whole.Counts.{all-weaker, count-kept, none-counted}
 
@@ -146,7 +146,7 @@ module _ {X : Type 0} (same : X → X → Bool) (test : X → Bool)
   -- effects that take them away fit, and those after them do if they do over what is left
   pub removed-fit : (gone : X → Effect) (put : List X → Db) →
       ((x : X) (rows : List X) → fits (gone x) (put rows) ≡ is_some (find (same x) rows)) →
-      ((x : X) (rows : List X) → made (gone x) (put rows) ≡ put (filter (λ row. not (same x row)) rows)) →
+      ((x : X) (rows : List X) → after_effect (gone x) (put rows) ≡ put (filter (λ row. not (same x row)) rows)) →
       (rest : List Effect) (todo rows : List X) → ArePresent todo rows → all_fit rest (put (taken todo rows)) ≡ true →
       all_fit (map gone todo ++ rest) (put rows) ≡ true
   removed-fit gone put fit make rest [] rows present after = after
@@ -160,13 +160,13 @@ module _ {X : Type 0} (same : X → X → Bool) (test : X → Bool)
   pub removed-hold : (gone : X → Effect) (Holds : List X → Db → Type 0) →
       ((x : X) (rows : List X) (db : Db) → Holds rows db → fits (gone x) db ≡ is_some (find (same x) rows)) →
       ((x : X) (rows : List X) (db : Db) → Holds rows db → is_some (find (same x) rows) ≡ true →
-      Holds (filter (λ row. not (same x row)) rows) (made (gone x) db)) →
+      Holds (filter (λ row. not (same x row)) rows) (after_effect (gone x) db)) →
       (rest : List Effect) (todo rows : List X) (db : Db) → Holds rows db → ArePresent todo rows →
       ((db : Db) → Holds (taken todo rows) db → all_fit rest db ≡ true) → all_fit (map gone todo ++ rest) db ≡ true
   removed-hold gone Holds fit make rest [] rows db holds present after = after db holds
   removed-hold gone Holds fit make rest (x ∷ todo) rows db holds present after =
       let here : fits (gone x) db ≡ true = fit x rows db holds ∙ present.0 in
-      let left : apply (gone x) db ≡ made (gone x) db = rw here refl in
+      let left : apply (gone x) db ≡ after_effect (gone x) db = rw here refl in
       and_from _ _ here (subst (λ db. all_fit (map gone todo ++ rest) db ≡ true) (sym left)
-      (removed-hold gone Holds fit make rest todo (filter (λ row. not (same x row)) rows) (made (gone x) db)
+      (removed-hold gone Holds fit make rest todo (filter (λ row. not (same x row)) rows) (after_effect (gone x) db)
       (make x rows db holds present.0) present.1 after))

@@ -12,13 +12,13 @@ use Rattle.kom_types.specs.declared.effects.Counter.TheVariants as counter
 use Rattle.kom_types.specs.declared.effects.Effect.{Effect}
 use Rattle.kom_types.specs.declared.effects.Effect.TheVariants as effect
 use Rattle.kom_types.specs.declared.seats.Seat.{Seat}
-use Rattle.kom_types.specs.tables.Persons.{number_of_person, counted}
+use Rattle.kom_types.specs.tables.Persons.{number_of_person, count_up}
 use Rattle.kom_model.specs.Db.{Db, person_of}
-use Rattle.kom_model.specs.Effects.{fits, made, all_fit}
+use Rattle.kom_model.specs.Effects.{fits, after_effect, all_fit}
 use Rattle.kom_model.specs.State.{IsSeated, AreSeated}
 use Rattle.kom_model.specs.calls.Guards.{caller, person_guard, password_guard}
-use Rattle.kom_model.specs.calls.Call.{Asked, done}
-use Rattle.kom_model.specs.calls.Sessions.{counts, seat_left, logout, login, disconnect, session_meant, ended}
+use Rattle.kom_model.specs.calls.Call.{Asked, done_with}
+use Rattle.kom_model.specs.calls.Sessions.{counts, seat_left, logout, login, disconnect, session_meant, end_session}
 use Rattle.kom_model.proofs.Fields.{counted-number}
 use Rattle.kom_model.proofs.Guards.{all-pass, person-there}
 use Rattle.kom_model.proofs.whole.Found.{has-changed}
@@ -36,9 +36,9 @@ counts-fit db person counter by there = elim (cases_Bool (by == 0)) [
 
 -- a person that is there stays, whoever is counted
 pub counted-there : (db : Db) (person at : ℕ) (which : Counter) (by : ℕ) → is_some (person_of db person) ≡ true →
-    is_some (person_of (made (effect.Counted at which by) db) person) ≡ true
-unfolding made person_of
-counted-there db person at which by there = has-changed number_of_person (λ row. true) (counted which by)
+    is_some (person_of (after_effect (effect.Counted at which by) db) person) ≡ true
+unfolding after_effect person_of
+counted-there db person at which by there = has-changed number_of_person (λ row. true) (count_up which by)
     (counted-number which by) at db.persons (λ row found is. refl) person there
 
 -- the seat that a test finds is one of them
@@ -86,8 +86,8 @@ module _ (asked : Asked) where
         by : (found : Option Seat) →
             all_fit (elim found [ None ↦ [] | Some seat ↦ seat_left asked seat ]) asked.db ≡ true →
             all_fit (elim found as (λ _. Decision) [
-              | None ↦ done [] []
-              | Some seat ↦ ended asked seat
+              | None ↦ done_with [] []
+              | Some seat ↦ end_session asked seat
             ]).effects asked.db
             ≡ true
         by None fit = refl
@@ -114,7 +114,7 @@ module _ (asked : Asked) where
               | inl none ↦ rw some (rw none alone)
               | inr long ↦ rw some (rw long (fit-then (effect.Counted seat.person counter.TimePresent by)
                   (effect.LoggedIn person asked.moment seat.user ∷ []) asked.db here
-                  (logged_in-fits (made (effect.Counted seat.person counter.TimePresent by) asked.db) person
+                  (logged_in-fits (after_effect (effect.Counted seat.person counter.TimePresent by) asked.db) person
                   asked.moment seat.user (counted-there asked.db person seat.person counter.TimePresent by there)
                   short)))
             ]

@@ -15,21 +15,21 @@ use Rattle.kom_model.specs.declared.viewers.Viewer.{Viewer}
 use Rattle.kom_model.specs.Db.{Db, conference_of, text_of, recipient_of, recipients_of, next_local_of}
 use Rattle.kom_model.specs.Db.{link_of}
 use Rattle.kom_model.specs.Db.{links_from, links_into, mark_of, marks_of}
-use Rattle.kom_model.specs.Effects.{fits, made, is_recipient_tag, most_links, all_fit}
+use Rattle.kom_model.specs.Effects.{fits, after_effect, is_recipient_tag, most_links, all_fit}
 use Rattle.kom_model.specs.Shown.{shows_recipient}
 use Rattle.kom_model.specs.State.{AreSeated}
 use Rattle.kom_model.specs.calls.Call.{Asked}
 use Rattle.kom_model.specs.calls.Guards.{caller, login_guard, text_guard, conference_guard, submit_guard, unless}
-use Rattle.kom_model.specs.calls.Texts.{get_text, body_of, add_recipient, new_recipient, written, local_guard}
+use Rattle.kom_model.specs.calls.Texts.{get_text, body_of, add_recipient, new_recipient, written_now, local_guard}
 use Rattle.kom_model.specs.calls.Texts.{sub_recipient, shows_to, may_take, author_of, add_comment, sub_comment}
-use Rattle.kom_model.specs.calls.Texts.{add_footnote, sub_footnote, linked, unlinked_guard, into_guard, from_guard}
+use Rattle.kom_model.specs.calls.Texts.{add_footnote, sub_footnote, linked_now, unlinked_guard, into_guard, from_guard}
 use Rattle.kom_model.specs.calls.Texts.{linked_guard, owns_text, linker_of, made_text, mark_text, unmark_text}
 use Rattle.kom_laws.proofs.fitting.Conferences.{found-set}
 use Rattle.kom_laws.proofs.fitting.Guards.{one-fits, all-pass, passed, conference-there, text-there, caller-there}
 use Rattle.kom_model.proofs.whole.Found.{has-changed}
 
 -- an effect that fits, and one that fits after it
-two-fit : (first second : Effect) (db : Db) → fits first db ≡ true → fits second (made first db) ≡ true →
+two-fit : (first second : Effect) (db : Db) → fits first db ≡ true → fits second (after_effect first db) ≡ true →
     all_fit (first ∷ second ∷ []) db ≡ true
 two-fit first second db fit after = rw fit (rw after refl)
 
@@ -55,10 +55,10 @@ module _ (asked : Asked) where
 
   -- the conference is there after a recipient is added
   written-fits : (given : Recipient) → is_some (conference_of asked.db given.conference) ≡ true →
-      fits (written asked given.conference) (made (effect.RecipientAdded given) asked.db) ≡ true
-  unfolding fits made conference_of
+      fits (written_now asked given.conference) (after_effect (effect.RecipientAdded given) asked.db) ≡ true
+  unfolding fits after_effect conference_of
   written-fits given there = found-set asked given.conference (field.LastWritten asked.moment) (λ row. refl)
-      (conference_of (made (effect.RecipientAdded given) asked.db) given.conference)
+      (conference_of (after_effect (effect.RecipientAdded given) asked.db) given.conference)
       (has-changed number_of_conference (λ row. true) (with_local_drawn given.local) (λ row. refl) given.conference
       asked.db.conferences (λ row found is. refl) given.conference there)
 
@@ -80,7 +80,7 @@ module _ (asked : Asked) where
       let next = next_local_of asked.db conference in
       let level : nat_le next next ≡ true = le-leb next next (omega arith) in
       let given : Recipient = new_recipient asked text conference tag (caller asked).person in
-      two-fit (effect.RecipientAdded given) (written asked conference) asked.db
+      two-fit (effect.RecipientAdded given) (written_now asked conference) asked.db
       (and_from _ _ (and_from _ _ (and_from _ _ (and_from _ _ (and_from _ _
       (text-there asked.db (caller asked) text pass.1.0) there) new) tagged) (and_from _ _ level left)) room)
       (written-fits given there)
@@ -101,9 +101,9 @@ module _ (asked : Asked) where
       is_some (text_of asked.db parent) ≡ true → is_none (link_of asked.db child parent footnote) ≡ true →
       nat_lt (length (links_into asked.db parent footnote)) (most_links footnote) ≡ true →
       nat_lt (length (links_from asked.db child footnote)) (most_links footnote) ≡ true →
-      all_fit (linked asked child parent footnote ∷ []) asked.db ≡ true
+      all_fit (linked_now asked child parent footnote ∷ []) asked.db ≡ true
   unfolding fits
-  linked-fits child parent footnote one other new into from = one-fits (linked asked child parent footnote) asked.db
+  linked-fits child parent footnote one other new into from = one-fits (linked_now asked child parent footnote) asked.db
       (and_from _ _ (and_from _ _ (and_from _ _ (and_from _ _ one other) new) from) into)
 
   pub add_comment-fits : (child parent : ℕ) → (add_comment asked child parent).early ≡ None →

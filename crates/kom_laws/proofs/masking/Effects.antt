@@ -12,13 +12,13 @@ use Rattle.kom_types.specs.tables.AuxItems.{is_item}
 use Rattle.kom_types.specs.tables.Conferences as Conferences
 use Rattle.kom_types.specs.tables.Conferences.{number_of_conference, with_name, with_local_drawn, fresh_conference}
 use Rattle.kom_types.specs.tables.Persons as Persons
-use Rattle.kom_types.specs.tables.Persons.{number_of_person, fresh_person, counted, logged_in, with_hash}
+use Rattle.kom_types.specs.tables.Persons.{number_of_person, fresh_person, count_up, logged_in, with_hash}
 use Rattle.kom_types.specs.tables.Persons.{with_created_drawn}
 use Rattle.kom_types.specs.tables.Texts as Texts
 use Rattle.kom_types.specs.tables.Texts.{number_of_text, fresh_text, with_created_local, is_recipient, is_link}
-use Rattle.read_ranges.specs.Merged.{merged}
+use Rattle.read_ranges.specs.Merged.{merge_all}
 use Rattle.kom_model.specs.Db.{Db}
-use Rattle.kom_model.specs.Effects.{made, without_number, member_row}
+use Rattle.kom_model.specs.Effects.{after_effect, without_number, member_row}
 use Rattle.kom_laws.specs.masking.Masks.{Mask, masked_db, masked_conference, stays_recipient, blank_conference}
 use Rattle.kom_laws.specs.masking.Masks.{masked_text, masked_membership, masked_read, masked_person, stays_link}
 use Rattle.kom_laws.specs.masking.Masks.{stays_item, blank_person, blank_text}
@@ -132,8 +132,8 @@ module _ (mask : Mask) (db : Db) where
       same-db conferences persons memberships reads same recipients links refl items refl refl
 
   pub effect-masked : (what : Effect) →
-      masked_db mask (made what (masked_db mask db)) ≡ masked_db mask (made what db)
-  unfolding made
+      masked_db mask (after_effect what (masked_db mask db)) ≡ masked_db mask (after_effect what db)
+  unfolding after_effect
   effect-masked (effect.ConfAdded number name kind at creator supervisor) = by-conferences _ _ _
       (added-masked number_of_conference mask.conference blank_conference (λ row. refl) (λ row. refl)
       (fresh_conference number name kind at creator supervisor) db.conferences)
@@ -157,7 +157,7 @@ module _ (mask : Mask) (db : Db) where
   effect-masked (effect.LoggedIn number at user) =
       by-persons _ _ (persons-changed number (logged_in at user) (λ row. refl) (λ row. refl))
   effect-masked (effect.Counted number counter by) = by-persons _ _
-      (persons-changed number (counted counter by) (counted-number counter by) (counted-blank counter by))
+      (persons-changed number (count_up counter by) (counted-number counter by) (counted-blank counter by))
   effect-masked (effect.TextAdded number author at body) = by-texts _ _ _
       (added-masked number_of_text mask.text blank_text (λ row. refl) (λ row. refl)
       (fresh_text number author at body) db.texts)
@@ -183,7 +183,7 @@ module _ (mask : Mask) (db : Db) where
       texts recipients links refl items refl refl
   effect-masked (effect.ReadSet person conference at ranges) = same-db conferences persons
       (read-set mask person conference at db.memberships)
-      (ranges-set mask person conference (merged ranges) db.reads) texts recipients links refl items refl refl
+      (ranges-set mask person conference (merge_all ranges) db.reads) texts recipients links refl items refl refl
   effect-masked (effect.MarkSet person text kind) =
       same-db conferences persons memberships reads texts recipients links refl items refl refl
   effect-masked (effect.MarkGone person text) =

@@ -10,7 +10,7 @@ use Rattle.kom_types.specs.declared.effects.PersonField.TheVariants as person_fi
 use Rattle.kom_types.specs.declared.persons.PersonRow.{PersonRow}
 use Rattle.kom_types.specs.tables.Conferences as Conferences
 use Rattle.kom_types.specs.tables.Persons as Persons
-use Rattle.kom_types.specs.tables.Persons.{counted}
+use Rattle.kom_types.specs.tables.Persons.{count_up}
 use Rattle.kom_laws.specs.masking.Masks.{blank_conference, blank_person}
 
 pub field-blank : (what : ConfField) (row : ConferenceRow) →
@@ -34,7 +34,7 @@ person_field-blank (person_field.Flags flags) row = refl
 person_field-blank (person_field.UserArea text) row = refl
 
 pub counted-blank : (what : Counter) (by : ℕ) (row : PersonRow) →
-    blank_person (counted what by (blank_person row)) ≡ blank_person (counted what by row)
+    blank_person (count_up what by (blank_person row)) ≡ blank_person (count_up what by row)
 counted-blank counter.TimePresent by row = refl
 counted-blank counter.CreatedLines by row = refl
 counted-blank counter.CreatedBytes by row = refl

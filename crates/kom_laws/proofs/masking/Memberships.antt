@@ -6,7 +6,7 @@ use Rattle.std.specs.Prelude.{map, option_map, min}
 use Rattle.std.specs.List.{filter, find}
 use Rattle.std.proofs.lemmas.Bool.{cases_Bool, and_parts}
 use Rattle.kom_types.specs.declared.memberships.MembershipRow.{MembershipRow}
-use Rattle.kom_types.specs.tables.Memberships.{is_membership, closed_up, opened, at_place, count_of}
+use Rattle.kom_types.specs.tables.Memberships.{is_membership, closed_up, with_gap, at_place, count_of}
 use Rattle.kom_types.specs.tables.Memberships.{with_membership, without_membership, with_new, set_again}
 use Rattle.kom_types.specs.tables.Memberships.{membership_of}
 use Rattle.read_ranges.specs.Reads.{read_at}
@@ -52,8 +52,8 @@ module _ (mask : Mask) where
       (λ row. at_place (row.position - 1) row) (λ row. refl) (λ row. refl) (λ row. refl) rows
 
   opened-masked : (person place : ℕ) (rows : List MembershipRow) →
-      map (masked_membership mask) (opened person place (map (masked_membership mask) rows))
-      ≡ map (masked_membership mask) (opened person place rows)
+      map (masked_membership mask) (with_gap person place (map (masked_membership mask) rows))
+      ≡ map (masked_membership mask) (with_gap person place rows)
   opened-masked person place rows = picked (λ row. row.person == person && nat_le place row.position)
       (λ row. at_place (row.position + 1) row) (λ row. refl) (λ row. refl) (λ row. refl) rows
 
@@ -115,12 +115,12 @@ module _ (mask : Mask) where
   new-membership given rows =
       let place = min given.position (count_of given.person rows) in
       ap (λ count. let place = min given.position count in map (masked_membership mask)
-      (opened given.person place (map (masked_membership mask) rows) ++ at_place place given ∷ []))
+      (with_gap given.person place (map (masked_membership mask) rows) ++ at_place place given ∷ []))
       (count-masked given.person rows)
-      ∙ map-added (opened given.person place (map (masked_membership mask) rows)) (at_place place given)
+      ∙ map-added (with_gap given.person place (map (masked_membership mask) rows)) (at_place place given)
       ∙ ap (λ rows. rows ++ masked_membership mask (at_place place given) ∷ [])
       (opened-masked given.person place rows)
-      ∙ sym (map-added (opened given.person place rows) (at_place place given))
+      ∙ sym (map-added (with_gap given.person place rows) (at_place place given))
 
   -- rows in which another row stands, that is the same once it is masked
   replaced-masked : (person conference : ℕ) (given given' : MembershipRow) →
@@ -170,7 +170,7 @@ module _ (mask : Mask) where
       let put : ℕ → MembershipRow → MembershipRow =
       λ place old. at_place place (record given { last_time_read = old.last_time_read }) in
       let moved : ℕ → ℕ → List MembershipRow → List MembershipRow =
-      λ place from rows. opened given.person place (closed_up given.person from rows) in
+      λ place from rows. with_gap given.person place (closed_up given.person from rows) in
       let replace : MembershipRow → List MembershipRow → List MembershipRow =
       λ row rows. map (λ other. cond (is_membership given.person given.conference other) row other) rows in
       let place = min given.position (count_of given.person rows - 1) in
@@ -180,7 +180,7 @@ module _ (mask : Mask) where
       ∙ sym (replaced-masked given.person given.conference (put place given') (put place given') refl
       (moved place old.position (map (masked_membership mask) rows)))
       ∙ ap (λ rows. map (masked_membership mask) (replace (put place given') rows))
-      (through (closed_up given.person old.position) (opened given.person place)
+      (through (closed_up given.person old.position) (with_gap given.person place)
       (closed-masked given.person old.position) (opened-masked given.person place) rows)
       ∙ replaced-masked given.person given.conference (put place old) (put place given')
       (kept-time given old place same) (moved place old.position rows)

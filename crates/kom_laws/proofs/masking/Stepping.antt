@@ -7,14 +7,14 @@ use Rattle.std.proofs.lemmas.Bool.{cases_Bool, and_parts}
 use Rattle.kom_types.specs.declared.aux_items.ItemRow.{ItemRow}
 use Rattle.kom_types.specs.declared.effects.Effect.{Effect}
 use Rattle.kom_model.specs.Db.{Db}
-use Rattle.kom_model.specs.Effects.{made, fits, apply, apply_all, all_fit}
+use Rattle.kom_model.specs.Effects.{after_effect, fits, apply, apply_all, all_fit}
 use Rattle.kom_laws.specs.masking.Laws.{HidesMore}
 use Rattle.kom_laws.specs.masking.Masks.{Mask, masked_db, masked_conference, stays_recipient, masked_text}
 use Rattle.kom_laws.specs.masking.Masks.{masked_membership, masked_read, masked_person, stays_link, stays_item}
 use Rattle.kom_laws.proofs.masking.Effects.{same-db, effect-masked}
 
 -- an effect that fits is made
-applied : (what : Effect) (db : Db) → fits what db ≡ true → apply what db ≡ made what db
+applied : (what : Effect) (db : Db) → fits what db ≡ true → apply what db ≡ after_effect what db
 applied what db fit = rw fit refl
 
 pub effects-masked : (mask : Mask) (effects : List Effect) (one other : Db) →
@@ -27,7 +27,7 @@ effects-masked mask (what ∷ effects) one other fit fit' same =
     effects-masked mask effects (apply what one) (apply what other) first.1 first'.1
     (ap (masked_db mask) (applied what one first.0)
     ∙ sym (effect-masked mask one what)
-    ∙ ap (λ db. masked_db mask (made what db)) same
+    ∙ ap (λ db. masked_db mask (after_effect what db)) same
     ∙ effect-masked mask other what
     ∙ sym (ap (masked_db mask) (applied what other first'.0)))
 

@@ -4,7 +4,7 @@ use Rattle.std.specs.Prelude.{◌≡◌, ℕ, true, List}
 use Rattle.kom_types.specs.declared.effects.Effect.{Effect}
 use Rattle.kom_model.specs.Db.{Db, conference_head_of, membership_kind_of, person_flags_of}
 use Rattle.kom_model.specs.Db.{text_author_of}
-use Rattle.kom_model.specs.Effects.{made, apply_all, all_fit}
+use Rattle.kom_model.specs.Effects.{after_effect, apply_all, all_fit}
 use Rattle.kom_laws.specs.masking.Masks.{Mask, masked_db}
 
 -- what one mask hides the other hides too
@@ -29,7 +29,8 @@ pub record TellsRights (mask : Mask) (db : Db) : Type 0 where
 -- stays.
 pub record StandMasked : Type 0 where
   pub effect : (mask : Mask) (db : Db) (what : Effect)
-      → masked_db mask (made what (masked_db mask db)) ≡ masked_db mask (made what db)
+      → masked_db mask (after_effect what (masked_db mask db))
+      ≡ masked_db mask (after_effect what db)
   pub effects : (mask : Mask) (effects : List Effect) (one other : Db)
       → all_fit effects one ≡ true → all_fit effects other ≡ true
       → masked_db mask one ≡ masked_db mask other

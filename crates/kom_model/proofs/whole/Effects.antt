@@ -4,7 +4,7 @@ use Rattle.std.proofs.lemmas.Bool.{cond_both}
 use Rattle.kom_types.specs.declared.effects.Effect.{Effect}
 use Rattle.kom_types.specs.declared.effects.Effect.TheVariants as effect
 use Rattle.kom_model.specs.Db.{Db, empty_db}
-use Rattle.kom_model.specs.Effects.{fits, made, apply, apply_all, most_links}
+use Rattle.kom_model.specs.Effects.{fits, after_effect, apply, apply_all, most_links}
 use Rattle.kom_model.specs.Whole.{IsWhole}
 use Rattle.kom_model.proofs.whole.OnConferences.{conf_added-whole, conf_gone-whole, conf_named-whole, conf_field-whole}
 use Rattle.kom_model.proofs.whole.OnMembers.{member_set-whole, member_gone-whole, read_set-whole}
@@ -15,7 +15,7 @@ use Rattle.kom_model.proofs.whole.OnTexts.{recipient_gone-whole}
 use Rattle.kom_model.proofs.whole.OnTexts.{link_added-whole, link_gone-whole, mark_set-whole, mark_gone-whole}
 use Rattle.kom_model.proofs.whole.OnTexts.{aux_added-whole, aux_gone-whole}
 
-pub made-whole : (what : Effect) (db : Db) → fits what db ≡ true → IsWhole db → IsWhole (made what db)
+pub made-whole : (what : Effect) (db : Db) → fits what db ≡ true → IsWhole db → IsWhole (after_effect what db)
 made-whole (effect.ConfAdded number name kind at creator supervisor) db fit whole =
     conf_added-whole db whole number name kind at creator supervisor fit
 made-whole (effect.ConfGone number) db fit whole = conf_gone-whole db whole number fit
@@ -47,7 +47,7 @@ made-whole (effect.Created person local text) db fit whole = created-whole db wh
 
 -- an effect that does not fit changes nothing
 pub apply-whole : (what : Effect) (db : Db) → IsWhole db → IsWhole (apply what db)
-apply-whole what db whole = cond_both (fits what db) (made what db) db IsWhole
+apply-whole what db whole = cond_both (fits what db) (after_effect what db) db IsWhole
     (λ fit. made-whole what db fit whole) (λ fit. whole)
 
 pub effects-whole : (effects : List Effect) (db : Db) → IsWhole db → IsWhole (apply_all effects db)

@@ -10,7 +10,7 @@ use Rattle.kom_types.specs.declared.conferences.ConferenceRow.{ConferenceRow}
 use Rattle.kom_types.specs.declared.memberships.MembershipRow.{MembershipRow}
 use Rattle.kom_types.specs.declared.memberships.ReadRange.{ReadRange}
 use Rattle.kom_types.specs.declared.persons.PersonRow.{PersonRow}
-use Rattle.kom_types.specs.tables.Memberships.{is_membership, membership_of, closed_up, opened, at_place, by_position}
+use Rattle.kom_types.specs.tables.Memberships.{is_membership, membership_of, closed_up, with_gap, at_place, by_position}
 use Rattle.kom_types.specs.tables.Memberships.{memberships_of, count_of, with_membership, without_membership}
 use Rattle.kom_types.specs.tables.Memberships.{with_new, set_again, replaced_by}
 use Rattle.read_ranges.specs.Reads.{ReadRow, is_read_of, with_reader, without_reader, with_read, read_at}
@@ -32,7 +32,7 @@ keys-closed person place rows = keyed-mapped key_of
     (λ row. same-key key_of (row.person == person && nat_lt place row.position) _ row refl) rows
 
 keys-opened : (person place : ℕ) (rows : List MembershipRow) →
-    map key_of (opened person place rows) ≡ map key_of rows
+    map key_of (with_gap person place rows) ≡ map key_of rows
 keys-opened person place rows = keyed-mapped key_of
     (λ row. cond (row.person == person && nat_le place row.position) (at_place (row.position + 1) row) row)
     (λ row. same-key key_of (row.person == person && nat_le place row.position) _ row refl) rows
@@ -216,7 +216,7 @@ module _ (persons : List PersonRow) (conferences : List ConferenceRow) where
             let keyed = count-keyed key_of (is_of given.person) rows in
             omega (arith, less, same, keyed) in
             let keys : map key_of (with_new given rows) ≡ map key_of rows ++ (given.person, given.conference) ∷ [] =
-            keyed-more key_of (opened given.person place rows) (at_place place given)
+            keyed-more key_of (with_gap given.person place rows) (at_place place given)
             ∙ ap (λ keys. keys ++ (given.person, given.conference) ∷ []) (keys-opened given.person place rows) in
             rw none (of-pairs _ _ (subst Pairs (sym keys) (pairs-more (has_person persons) (has_conference conferences)
             MOST_MEMBERSHIPS given.person given.conference (map key_of rows) person conference apart free

@@ -18,7 +18,7 @@ use Rattle.kom_types.specs.tables.Conferences.{number_of_conference, is_letterbo
 use Rattle.kom_types.specs.tables.Conferences.{is_secret_protected}
 use Rattle.kom_types.specs.tables.Persons.{number_of_person}
 use Rattle.kom_model.specs.Db.{Db, conference_of, person_of, members_of, locals_of, conferences_of, items_of}
-use Rattle.kom_model.specs.Effects.{fits, made, may_set}
+use Rattle.kom_model.specs.Effects.{fits, after_effect, may_set}
 use Rattle.kom_model.specs.Whole.{IsWhole}
 use Rattle.kom_model.proofs.Fields.{field-number}
 use Rattle.kom_model.proofs.whole.Conferences.{conferences-more, conferences-fewer, conferences-same, conferences-named}
@@ -109,8 +109,8 @@ item-there number row apart on =
 module _ (db : Db) (whole : IsWhole db) where
   pub conf_added-whole : (number : ℕ) (name : List ℕ) (kind at creator supervisor : ℕ) →
       fits (effect.ConfAdded number name kind at creator supervisor) db ≡ true →
-      IsWhole (made (effect.ConfAdded number name kind at creator supervisor) db)
-  unfolding fits made conference_of conferences_of
+      IsWhole (after_effect (effect.ConfAdded number name kind at creator supervisor) db)
+  unfolding fits after_effect conference_of conferences_of
   conf_added-whole number name kind at creator supervisor fit =
       let guarded = and_parts _ (is_secret_protected kind) fit in
       let named = and_parts _ _ guarded.0 in
@@ -124,8 +124,8 @@ module _ (db : Db) (whole : IsWhole db) where
       (leb-true _ _ numbers.1) (leb-true _ _ free.0) (not-true _ free.1))
 
   pub conf_named-whole : (number : ℕ) (name : List ℕ) → fits (effect.ConfNamed number name) db ≡ true →
-      IsWhole (made (effect.ConfNamed number name) db)
-  unfolding fits made conferences_of
+      IsWhole (after_effect (effect.ConfNamed number name) db)
+  unfolding fits after_effect conferences_of
   conf_named-whole number name fit =
       let named = (and_parts _ _ fit).1 in
       let free = and_parts _ _ named in
@@ -145,8 +145,8 @@ module _ (db : Db) (whole : IsWhole db) where
   may-found what found row is may = rw is at may
 
   pub conf_field-whole : (number : ℕ) (what : ConfField) → fits (effect.ConfField number what) db ≡ true →
-      IsWhole (made (effect.ConfField number what) db)
-  unfolding fits made conference_of
+      IsWhole (after_effect (effect.ConfField number what) db)
+  unfolding fits after_effect conference_of
   conf_field-whole number what fit =
       conferences-whole db whole (changed_row number_of_conference number (Conferences.with_field what) db.conferences)
       db.next_conference
@@ -157,8 +157,8 @@ module _ (db : Db) (whole : IsWhole db) where
       (field-number what) (field-name what))
 
   pub conf_gone-whole : (number : ℕ) → fits (effect.ConfGone number) db ≡ true →
-      IsWhole (made (effect.ConfGone number) db)
-  unfolding fits made person_of members_of locals_of items_of
+      IsWhole (after_effect (effect.ConfGone number) db)
+  unfolding fits after_effect person_of members_of locals_of items_of
   conf_gone-whole number fit =
       let bare = (and_parts _ _ fit).1 in
       let person = and_parts _ (is_none (row_of number_of_person number db.persons)) bare in

@@ -6,10 +6,10 @@ use Rattle.kom_types.specs.declared.effects.Effect.TheVariants as effect
 use Rattle.kom_types.specs.declared.memberships.MembershipRow.{MembershipRow}
 use Rattle.kom_types.specs.declared.memberships.ReadRange.{ReadRange}
 use Rattle.read_ranges.specs.Changed.{rise_after}
-use Rattle.read_ranges.specs.Merged.{merged, with_range}
+use Rattle.read_ranges.specs.Merged.{merge_all, with_range}
 use Rattle.read_ranges.specs.Reads.{ReadRow}
 use Rattle.kom_model.specs.Db.{Db, conference_of, person_of, membership_of, memberships_of}
-use Rattle.kom_model.specs.Effects.{fits, made, member_row}
+use Rattle.kom_model.specs.Effects.{fits, after_effect, member_row}
 use Rattle.kom_model.specs.Whole.{IsWhole, AreMemberships, RiseApart}
 use Rattle.kom_model.proofs.whole.Memberships.{memberships-set, memberships-gone, memberships-read}
 
@@ -29,13 +29,13 @@ rise-before least one (next ∷ ranges) first order rise = elim (cases_Bool (nex
 ]
 
 rise-merged : (end : ℕ) (ranges : List ReadRange) → rise_after end ranges ≡ true →
-    RiseApart (end + 1) (merged ranges)
+    RiseApart (end + 1) (merge_all ranges)
 rise-merged end [] rise = tt
 rise-merged end (one ∷ ranges) rise =
     let parts = and_parts _ (rise_after one.last ranges) rise in
     let order = and_parts (nat_lt end one.first) (nat_le one.first one.last) parts.0 in
     let first = ltb-true end one.first order.0 in
-    rise-before (end + 1) one (merged ranges) (omega (arith, first)) (leb-true one.first one.last order.1)
+    rise-before (end + 1) one (merge_all ranges) (omega (arith, first)) (leb-true one.first one.last order.1)
     (rise-merged one.last ranges parts.1)
 
 module _ (db : Db) (whole : IsWhole db) where
@@ -55,8 +55,8 @@ module _ (db : Db) (whole : IsWhole db) where
 
   pub member_set-whole : (person conference position priority added_by added_at kind : ℕ) →
       fits (effect.MemberSet person conference position priority added_by added_at kind) db ≡ true →
-      IsWhole (made (effect.MemberSet person conference position priority added_by added_at kind) db)
-  unfolding fits made person_of conference_of membership_of memberships_of
+      IsWhole (after_effect (effect.MemberSet person conference position priority added_by added_at kind) db)
+  unfolding fits after_effect person_of conference_of membership_of memberships_of
   member_set-whole person conference position priority added_by added_at kind fit =
       let room = and_parts _ _ fit in
       let there = and_parts _ _ room.0 in
@@ -64,17 +64,17 @@ module _ (db : Db) (whole : IsWhole db) where
       (member_row person conference position priority added_by added_at kind) there.0 there.1 room.1)
 
   pub member_gone-whole : (person conference : ℕ) → fits (effect.MemberGone person conference) db ≡ true →
-      IsWhole (made (effect.MemberGone person conference) db)
-  unfolding fits made membership_of
+      IsWhole (after_effect (effect.MemberGone person conference) db)
+  unfolding fits after_effect membership_of
   member_gone-whole person conference fit = memberships-whole _ _
       (memberships-gone db.persons db.conferences db.memberships db.reads whole.memberships person conference fit)
 
   pub read_set-whole : (person conference at : ℕ) (ranges : List ReadRange) →
       fits (effect.ReadSet person conference at ranges) db ≡ true →
-      IsWhole (made (effect.ReadSet person conference at ranges) db)
-  unfolding fits made
+      IsWhole (after_effect (effect.ReadSet person conference at ranges) db)
+  unfolding fits after_effect
   read_set-whole person conference at ranges fit =
       let rise = (and_parts _ (rise_after 0 ranges) fit).1 in
-      let one : RiseApart 1 (merged ranges) = rise-merged 0 ranges rise in
+      let one : RiseApart 1 (merge_all ranges) = rise-merged 0 ranges rise in
       memberships-whole _ _ (memberships-read db.persons db.conferences db.memberships db.reads whole.memberships
-      person conference at (merged ranges) one)
+      person conference at (merge_all ranges) one)

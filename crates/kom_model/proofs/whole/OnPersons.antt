@@ -16,12 +16,12 @@ use Rattle.kom_types.specs.declared.persons.PersonRow.{PersonRow}
 use Rattle.kom_types.specs.declared.texts.TextRow.{TextRow}
 use Rattle.kom_types.specs.tables.Memberships as Memberships
 use Rattle.kom_types.specs.tables.Persons as Persons
-use Rattle.kom_types.specs.tables.Persons.{number_of_person, fresh_person, counted, with_created_drawn, with_hash}
+use Rattle.kom_types.specs.tables.Persons.{number_of_person, fresh_person, count_up, with_created_drawn, with_hash}
 use Rattle.kom_types.specs.tables.Persons.{logged_in}
 use Rattle.kom_types.specs.tables.Texts as Texts
 use Rattle.kom_types.specs.tables.Texts.{number_of_text, with_created_local}
 use Rattle.kom_model.specs.Db.{Db, conference_of, person_of, text_of, memberships_of, marks_of, next_created_of}
-use Rattle.kom_model.specs.Effects.{fits, made, without_number, may_number}
+use Rattle.kom_model.specs.Effects.{fits, after_effect, without_number, may_number}
 use Rattle.kom_model.specs.Whole.{IsWhole, IsNumbered, is_created, has_drawn_created}
 use Rattle.kom_model.proofs.Fields.{person_field-number, counted-number}
 use Rattle.kom_model.proofs.whole.Counts.{all-weaker, all-of, none-counted}
@@ -41,7 +41,7 @@ field-created (person_field.Privileges privileges) row = same-number row.next_cr
 field-created (person_field.Flags flags) row = same-number row.next_created
 field-created (person_field.UserArea text) row = same-number row.next_created
 
-counted-created : (what : Counter) (by : ℕ) (row : PersonRow) → row.next_created ≤ (counted what by row).next_created
+counted-created : (what : Counter) (by : ℕ) (row : PersonRow) → row.next_created ≤ (count_up what by row).next_created
 counted-created counter.TimePresent by row = same-number row.next_created
 counted-created counter.CreatedLines by row = same-number row.next_created
 counted-created counter.CreatedBytes by row = same-number row.next_created
@@ -86,8 +86,8 @@ next-found found row local is next =
 module _ (db : Db) (whole : IsWhole db) where
   pub person_added-whole : (number privileges flags last_login : ℕ) →
       fits (effect.PersonAdded number privileges flags last_login) db ≡ true →
-      IsWhole (made (effect.PersonAdded number privileges flags last_login) db)
-  unfolding fits made conference_of person_of
+      IsWhole (after_effect (effect.PersonAdded number privileges flags last_login) db)
+  unfolding fits after_effect conference_of person_of
   person_added-whole number privileges flags last_login fit =
       let parts = and_parts _ _ fit in
       let given : PersonRow = fresh_person number privileges flags last_login in
@@ -103,28 +103,30 @@ module _ (db : Db) (whole : IsWhole db) where
       (persons-changed number change db.persons numbers (λ row found. created row))
       (persons-same db.persons db.conferences whole.persons number change numbers)
 
-  pub person_field-whole : (number : ℕ) (what : PersonField) → IsWhole (made (effect.PersonField number what) db)
-  unfolding made
+  pub person_field-whole : (number : ℕ) (what : PersonField) →
+      IsWhole (after_effect (effect.PersonField number what) db)
+  unfolding after_effect
   person_field-whole number what =
       changed number (Persons.with_field what) (person_field-number what) (field-created what)
 
-  pub password-whole : (number : ℕ) (hash : List ℕ) → IsWhole (made (effect.Password number hash) db)
-  unfolding made
+  pub password-whole : (number : ℕ) (hash : List ℕ) → IsWhole (after_effect (effect.Password number hash) db)
+  unfolding after_effect
   password-whole number hash = changed number (with_hash hash) (λ row. refl) (λ row. same-number row.next_created)
 
-  pub logged_in-whole : (number at : ℕ) (user : List ℕ) → IsWhole (made (effect.LoggedIn number at user) db)
-  unfolding made
+  pub logged_in-whole : (number at : ℕ) (user : List ℕ) → IsWhole (after_effect (effect.LoggedIn number at user) db)
+  unfolding after_effect
   logged_in-whole number at user = changed number (logged_in at user) (λ row. refl)
       (λ row. same-number row.next_created)
 
-  pub counted-whole : (number : ℕ) (counter : Counter) (by : ℕ) → IsWhole (made (effect.Counted number counter by) db)
-  unfolding made
+  pub counted-whole : (number : ℕ) (counter : Counter) (by : ℕ) →
+      IsWhole (after_effect (effect.Counted number counter by) db)
+  unfolding after_effect
   counted-whole number counter by =
-      changed number (counted counter by) (counted-number counter by) (counted-created counter by)
+      changed number (count_up counter by) (counted-number counter by) (counted-created counter by)
 
   pub person_gone-whole : (number : ℕ) → fits (effect.PersonGone number) db ≡ true →
-      IsWhole (made (effect.PersonGone number) db)
-  unfolding fits made person_of memberships_of marks_of
+      IsWhole (after_effect (effect.PersonGone number) db)
+  unfolding fits after_effect person_of memberships_of marks_of
   person_gone-whole number fit =
       let bare = and_parts (length (Memberships.memberships_of number db.memberships) == 0)
       (length (Texts.marks_of number db.marks) == 0)
@@ -176,8 +178,8 @@ module _ (db : Db) (whole : IsWhole db) where
   text-found (Some row) person local test is = (row, (refl, is))
 
   pub created-whole : (person local text : ℕ) → fits (effect.Created person local text) db ≡ true →
-      IsWhole (made (effect.Created person local text) db)
-  unfolding fits made text_of person_of next_created_of
+      IsWhole (after_effect (effect.Created person local text) db)
+  unfolding fits after_effect text_of person_of next_created_of
   created-whole person local text fit =
       let found = text-found (row_of number_of_text text db.texts) person local _ fit in
       let row = found.0 in

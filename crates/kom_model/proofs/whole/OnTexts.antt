@@ -25,7 +25,7 @@ use Rattle.kom_types.specs.tables.Texts as Texts
 use Rattle.kom_types.specs.tables.Texts.{number_of_text, fresh_text, is_recipient, is_link}
 use Rattle.kom_model.specs.Db.{Db, conference_of, person_of, text_of, recipient_of, recipients_of, link_of, links_from}
 use Rattle.kom_model.specs.Db.{links_into, mark_of, marks_of, marks_on, next_local_of, next_item_of, items_of}
-use Rattle.kom_model.specs.Effects.{fits, made}
+use Rattle.kom_model.specs.Effects.{fits, after_effect}
 use Rattle.kom_model.specs.Whole.{IsWhole, AreLinks, AreMarks, has_drawn_local, has_drawn_item}
 use Rattle.kom_model.proofs.whole.Appended.{recipients-kept, recipients-more, links-kept, links-more, items-kept}
 use Rattle.kom_model.proofs.whole.Appended.{items-more}
@@ -62,8 +62,8 @@ module _ {R : Type 0} (next : R → ℕ) where
 module _ (db : Db) (whole : IsWhole db) where
   pub text_added-whole : (number author at : ℕ) (body : List ℕ) →
       fits (effect.TextAdded number author at body) db ≡ true →
-      IsWhole (made (effect.TextAdded number author at body) db)
-  unfolding fits made text_of
+      IsWhole (after_effect (effect.TextAdded number author at body) db)
+  unfolding fits after_effect text_of
   text_added-whole number author at body fit =
       let short = and_parts _ _ fit in
       let absent = and_parts _ _ short.0 in
@@ -102,8 +102,8 @@ module _ (db : Db) (whole : IsWhole db) where
       let there : (row.object == number) ≡ false = rw on at apart in not_from_false _ there
 
   pub text_gone-whole : (number : ℕ) → fits (effect.TextGone number) db ≡ true →
-      IsWhole (made (effect.TextGone number) db)
-  unfolding fits made text_of recipients_of links_from links_into marks_on items_of
+      IsWhole (after_effect (effect.TextGone number) db)
+  unfolding fits after_effect text_of recipients_of links_from links_into marks_on items_of
   text_gone-whole number fit =
       let items = and_parts _ _ (and_parts _ _ fit).1 in
       let marks = and_parts _ _ items.0 in
@@ -138,8 +138,8 @@ module _ (db : Db) (whole : IsWhole db) where
 
   -- ---- recipients
   pub recipient_added-whole : (given : Recipient) → fits (effect.RecipientAdded given) db ≡ true →
-      IsWhole (made (effect.RecipientAdded given) db)
-  unfolding fits made text_of conference_of recipient_of recipients_of next_local_of
+      IsWhole (after_effect (effect.RecipientAdded given) db)
+  unfolding fits after_effect text_of conference_of recipient_of recipients_of next_local_of
   recipient_added-whole given fit =
       let room = and_parts _ _ fit in
       let draws = and_parts _ _ room.0 in
@@ -191,8 +191,8 @@ module _ (db : Db) (whole : IsWhole db) where
           | inr apart ↦ and_left _ _ apart
         ]
 
-  pub recipient_gone-whole : (text conference : ℕ) → IsWhole (made (effect.RecipientGone text conference) db)
-  unfolding made
+  pub recipient_gone-whole : (text conference : ℕ) → IsWhole (after_effect (effect.RecipientGone text conference) db)
+  unfolding after_effect
   recipient_gone-whole text conference = record {
     conferences = whole.conferences;
     persons = whole.persons;
@@ -219,8 +219,8 @@ module _ (db : Db) (whole : IsWhole db) where
   }
 
   pub link_added-whole : (given : TextLink) → fits (effect.LinkAdded given) db ≡ true →
-      IsWhole (made (effect.LinkAdded given) db)
-  unfolding fits made text_of link_of links_from links_into
+      IsWhole (after_effect (effect.LinkAdded given) db)
+  unfolding fits after_effect text_of link_of links_from links_into
   link_added-whole given fit =
       let into = and_parts _ _ fit in
       let from = and_parts _ _ into.0 in
@@ -230,8 +230,8 @@ module _ (db : Db) (whole : IsWhole db) where
       (ltb-true _ _ from.1) (ltb-true _ _ into.1))
 
   pub link_gone-whole : (child parent : ℕ) (footnote : Bool) →
-      IsWhole (made (effect.LinkGone child parent footnote) db)
-  unfolding made
+      IsWhole (after_effect (effect.LinkGone child parent footnote) db)
+  unfolding after_effect
   link_gone-whole child parent footnote = links-whole (filter (λ row. not (is_link child parent footnote row)) db.links)
       (links-kept db.texts db.links whole.links (λ row. not (is_link child parent footnote row)))
 
@@ -249,16 +249,16 @@ module _ (db : Db) (whole : IsWhole db) where
   }
 
   pub mark_set-whole : (person text kind : ℕ) → fits (effect.MarkSet person text kind) db ≡ true →
-      IsWhole (made (effect.MarkSet person text kind) db)
-  unfolding fits made person_of text_of mark_of marks_of
+      IsWhole (after_effect (effect.MarkSet person text kind) db)
+  unfolding fits after_effect person_of text_of mark_of marks_of
   mark_set-whole person text kind fit =
       let room = and_parts _ _ fit in
       let there = and_parts _ _ room.0 in
       let given : MarkRow = record { person = person; text = text; kind = kind } in
       marks-whole _ (marks-set db.persons db.texts db.marks whole.marks given there.0 there.1 room.1)
 
-  pub mark_gone-whole : (person text : ℕ) → IsWhole (made (effect.MarkGone person text) db)
-  unfolding made
+  pub mark_gone-whole : (person text : ℕ) → IsWhole (after_effect (effect.MarkGone person text) db)
+  unfolding after_effect
   mark_gone-whole person text = marks-whole _ (marks-gone db.persons db.texts db.marks whole.marks person text)
 
   -- ---- aux-items
@@ -286,8 +286,9 @@ module _ (db : Db) (whole : IsWhole db) where
       omega (arith, less, same)
 
   pub aux_added-whole : (on_text : Bool) (object : ℕ) (item : AuxRow) →
-      fits (effect.AuxAdded on_text object item) db ≡ true → IsWhole (made (effect.AuxAdded on_text object item) db)
-  unfolding fits made text_of conference_of next_item_of items_of
+      fits (effect.AuxAdded on_text object item) db ≡ true →
+      IsWhole (after_effect (effect.AuxAdded on_text object item) db)
+  unfolding fits after_effect text_of conference_of next_item_of items_of
   aux_added-whole true object item fit =
       let short = and_parts _ _ fit in
       let room = and_parts _ _ short.0 in
@@ -358,8 +359,9 @@ module _ (db : Db) (whole : IsWhole db) where
             (few false object room.1);
       }
 
-  pub aux_gone-whole : (on_text : Bool) (object number : ℕ) → IsWhole (made (effect.AuxGone on_text object number) db)
-  unfolding made
+  pub aux_gone-whole : (on_text : Bool) (object number : ℕ) →
+      IsWhole (after_effect (effect.AuxGone on_text object number) db)
+  unfolding after_effect
   aux_gone-whole on_text object number = record {
     conferences = whole.conferences;
     persons = whole.persons;

@@ -1,5 +1,5 @@
 -- A counter that may be raised leaves whole rows whole.
-use Rattle.std.proofs.Common.{◌≡◌, ℕ, ◌+◌, ◌<◌, ◌≤◌, true, false, ◌==◌, List, Option, Some, None, refl, sym, ◌∙◌}
+use Rattle.std.proofs.Common.{◌≡◌, ℕ, ◌+◌, ◌<◌, ◌≤◌, true, false, ◌==◌, Option, Some, None, refl, sym, ◌∙◌}
 use Rattle.std.proofs.Common.{subst, arith, true≢false}
 use Rattle.std.specs.Prelude.{nat_le}
 use Rattle.std.proofs.lemmas.Bool.{and_parts, leb-true}
@@ -12,7 +12,7 @@ use Rattle.kom_types.specs.declared.raised.RaisedCounter.{RaisedCounter}
 use Rattle.kom_types.specs.declared.raised.RaisedCounter.TheVariants as counter
 use Rattle.kom_types.specs.declared.texts.TextRow.{TextRow}
 use Rattle.kom_types.specs.tables.Conferences.{number_of_conference}
-use Rattle.kom_types.specs.tables.Persons.{number_of_person, last_count}
+use Rattle.kom_types.specs.tables.Persons.{number_of_person}
 use Rattle.kom_types.specs.tables.Texts.{number_of_text}
 use Rattle.kom_model.specs.Db.{Db, conference_of, person_of, text_of}
 use Rattle.kom_model.specs.Raising.{may_raise, raised_in, may_raise_to, raised_to, is_between}

@@ -16,8 +16,8 @@ use Rattle.kom_types.specs.declared.replies.Reply.TheVariants as reply
 use Rattle.kom_model.specs.Db.{Db, items_of, next_item_of}
 use Rattle.kom_model.specs.Effects.{has_letterbox}
 use Rattle.kom_model.specs.Shown.{text_adder, conference_adder}
-use Rattle.kom_model.specs.calls.Call.{Asked, Definition, answer, done, unguarded}
-use Rattle.kom_model.specs.calls.Guards.{Guard, guarded, first_refusal, unless, caller}
+use Rattle.kom_model.specs.calls.Call.{Asked, Definition, answer, done_with, without_guard}
+use Rattle.kom_model.specs.calls.Guards.{Guard, with_guards, first_refusal, unless, caller}
 use Rattle.kom_model.specs.calls.Guards.{login_guard, conference_guard, text_guard, items_guard}
 use Rattle.kom_model.specs.calls.Guards.{with_items}
 
@@ -27,7 +27,7 @@ known_tags = map (λ known. known.tag) aux_kinds
 
 -- call 96, query-predefined-aux-items
 abbrev pub query_predefined_aux_items : Definition
-query_predefined_aux_items = unguarded (answer (reply.Numbers known_tags))
+query_predefined_aux_items = without_guard (answer (reply.Numbers known_tags))
 
 -- what a conference is to aux-items
 abbrev pub object_of : Db → ℕ → Object
@@ -52,22 +52,22 @@ item_effects asked on_text adder change =
     (next_item_of asked.db on_text change.object) adder.person asked.moment change.add)
 
 -- what a change of the items of an object comes to
-abbrev pub changed : Asked → Bool → Object → Adder → AuxChange → Decision
-changed asked on_text on adder change = with_items
+abbrev pub change_items : Asked → Bool → Object → Adder → AuxChange → Decision
+change_items asked on_text on adder change = with_items
     (first_refusal
     (items_guard on adder (items_of asked.db on_text change.object) change.delete change.add
     ∷ numbers_guard asked.db on_text change ∷ []))
-    (done (item_effects asked on_text adder change) [])
+    (done_with (item_effects asked on_text adder change) [])
 
 -- call 92, modify-text-info
 abbrev pub modify_text_info : Asked → AuxChange → Definition
-modify_text_info asked change = guarded
+modify_text_info asked change = with_guards
     (login_guard (caller asked) ∷ text_guard asked.db (caller asked) change.object ∷ [])
-    (changed asked true object.Text (text_adder asked.db (caller asked) change.object) change)
+    (change_items asked true object.Text (text_adder asked.db (caller asked) change.object) change)
 
 -- call 93, modify-conf-info
 abbrev pub modify_conf_info : Asked → AuxChange → Definition
-modify_conf_info asked change = guarded
+modify_conf_info asked change = with_guards
     (login_guard (caller asked) ∷ conference_guard asked.db (caller asked) change.object ∷ [])
-    (changed asked false (object_of asked.db change.object)
+    (change_items asked false (object_of asked.db change.object)
     (conference_adder asked.db (caller asked) change.object) change)

@@ -35,36 +35,36 @@ abbrev pub answer : Reply → Decision
 answer reply = record { reply = reply; effects = []; changes = [] }
 
 -- a good reply without a result, with effects on the stored rows and changes of sessions
-abbrev pub done : List Effect → List SessionChange → Decision
-done effects changes = record { reply = reply.Done; effects = effects; changes = changes }
+abbrev pub done_with : List Effect → List SessionChange → Decision
+done_with effects changes = record { reply = reply.Done; effects = effects; changes = changes }
 
 -- a refused call changes nothing
 abbrev pub refuse : Refused → Decision
 refuse refused = answer (reply.Refused refused.code refused.status)
 
 -- no guard refuses the call
-abbrev pub unguarded : Decision → Definition
-unguarded decision = record { early = None; rest = decision }
+abbrev pub without_guard : Decision → Definition
+without_guard decision = record { early = None; rest = decision }
 
 -- a guard refuses the call before anything else is looked at
-abbrev pub refused : ℕ → ℕ → Definition
-refused code status =
+abbrev pub refused_with : ℕ → ℕ → Definition
+refused_with code status =
     let refusal : Refused = record { code = code; status = status } in
     record { early = Some refusal; rest = refuse refusal }
 
 -- what a definition comes to
-abbrev pub decided : Definition → Decision
-decided definition =
+abbrev pub outcome_of : Definition → Decision
+outcome_of definition =
     elim definition.early [ Some refused ↦ refuse refused | None ↦ definition.rest ]
 
 -- The code of a call gives what its definition says: what the call comes to if no early guard
 -- refuses it; what a guard refuses; or that memory ran out, but never in place of an early guard.
 abbrev pub Meets : Definition → Result Decision CallError → Type 0
 Meets definition (Ok decision) = (definition.early ≡ None) × (decision ≡ definition.rest)
-Meets definition (Err (error.Refused refused)) = decided definition ≡ refuse refused
+Meets definition (Err (error.Refused refused)) = outcome_of definition ≡ refuse refused
 Meets definition (Err error.Memory) = definition.early ≡ None
 
 -- the same of a call that takes no memory
 abbrev pub MeetsFirmly : Definition → Result Decision Refused → Type 0
 MeetsFirmly definition (Ok decision) = (definition.early ≡ None) × (decision ≡ definition.rest)
-MeetsFirmly definition (Err refused) = decided definition ≡ refuse refused
+MeetsFirmly definition (Err refused) = outcome_of definition ≡ refuse refused

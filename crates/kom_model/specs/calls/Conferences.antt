@@ -30,8 +30,8 @@ use Rattle.kom_model.specs.Db.{next_local_of, locals_of, marks_of, memberships_a
 use Rattle.kom_model.specs.Rights.{sees}
 use Rattle.kom_model.specs.Shown.{conference_told}
 use Rattle.kom_model.specs.calls.AuxItems.{items_added}
-use Rattle.kom_model.specs.calls.Call.{Asked, Definition, answer, done, unguarded}
-use Rattle.kom_model.specs.calls.Guards.{Guard, guarded, refusal, unless, caller}
+use Rattle.kom_model.specs.calls.Call.{Asked, Definition, answer, done_with, without_guard}
+use Rattle.kom_model.specs.calls.Guards.{Guard, with_guards, refusal, unless, caller}
 use Rattle.kom_model.specs.calls.Guards.{login_guard, conference_guard, supervisor_guard}
 use Rattle.kom_model.specs.calls.Guards.{size_guard}
 use Rattle.kom_model.specs.calls.Guards.{name_guard, free_guard, type_guard, drawn_guard}
@@ -47,14 +47,15 @@ owner_guards asked number =
 
 -- call 3, change-name
 abbrev pub change_name : Asked → ℕ → List ℕ → Definition
-change_name asked number name = guarded
+change_name asked number name = with_guards
     (owner_guards asked number ++ name_guard name ∷ free_guard asked.db number name ∷ [])
-    (done (effect.ConfNamed number name ∷ []) [])
+    (done_with (effect.ConfNamed number name ∷ []) [])
 
 -- a field of a conference is set
 abbrev pub set_field : Asked → ℕ → List Guard → ConfField → Definition
 set_field asked number guards what =
-    guarded (owner_guards asked number ++ guards) (done (effect.ConfField number what ∷ []) [])
+    with_guards (owner_guards asked number ++ guards)
+    (done_with (effect.ConfField number what ∷ []) [])
 
 -- call 16, set-presentation, and call 17, set-etc-motd: a text, or 0
 abbrev pub set_presentation : Asked → ℕ → ℕ → Definition
@@ -129,9 +130,9 @@ left_by_deletion number seat =
 
 -- call 11, delete-conf
 abbrev pub delete_conf : Asked → ℕ → Definition
-delete_conf asked number = guarded
+delete_conf asked number = with_guards
     (owner_guards asked number)
-    (done (gone_conference asked number) (filter_map (left_by_deletion number) asked.seats))
+    (done_with (gone_conference asked number) (filter_map (left_by_deletion number) asked.seats))
 
 -- a person that may make conferences, or the session is strong
 abbrev pub may_make_conferences : Db → ℕ → Bool
@@ -149,7 +150,7 @@ abbrev pub create_conf : Asked → NewConference → Definition
 create_conf asked given =
     let number = next_conference_of asked.db in
     let by = (caller asked).person in
-    guarded
+    with_guards
     (login_guard (caller asked) ∷ create_conf_guard asked.db (caller asked)
     ∷ name_guard given.name ∷ unless (not (is_letterbox given.kind)) error.LETTERBOX 0
     ∷ type_guard given.kind ∷ free_guard asked.db 0 given.name ∷ drawn_guard asked.db ∷ [])
@@ -172,7 +173,7 @@ name_of row = record { name = row.name; kind = bit_and row.kind 240; number = ro
 
 -- call 76, lookup-z-name
 abbrev pub lookup_z_name : Asked → List ℕ → Bool → Bool → Definition
-lookup_z_name asked pattern persons conferences = guarded
+lookup_z_name asked pattern persons conferences = with_guards
     (size_guard pattern LONGEST_NAME ∷ [])
     (answer (reply.ConferenceNames (map name_of (filter
     (λ row. finds pattern row.name && is_wanted persons conferences row
@@ -193,13 +194,13 @@ uconference_of db number = elim (conference_of db number) [
 
 -- call 78, get-uconf-stat
 abbrev pub get_uconf_stat : Asked → ℕ → Definition
-get_uconf_stat asked number = guarded
+get_uconf_stat asked number = with_guards
     (login_guard (caller asked) ∷ conference_guard asked.db (caller asked) number ∷ [])
     (answer (uconference_of asked.db number))
 
 -- call 85, get-collate-table: what each byte counts as
 abbrev pub get_collate_table : Definition
-get_collate_table = unguarded (answer (reply.Text (map fold (range_with_len 0 256))))
+get_collate_table = without_guard (answer (reply.Text (map fold (range_with_len 0 256))))
 
 -- what is replied of a conference
 abbrev pub conference_reply : Db → Viewer → ℕ → Reply
@@ -210,13 +211,13 @@ conference_reply db caller number = elim (conference_of db number) [
 
 -- call 91, get-conf-stat
 abbrev pub get_conf_stat : Asked → ℕ → Definition
-get_conf_stat asked number = guarded
+get_conf_stat asked number = with_guards
     (login_guard (caller asked) ∷ conference_guard asked.db (caller asked) number ∷ [])
     (answer (conference_reply asked.db (caller asked) number))
 
 -- call 114, first-unused-conf-no
 abbrev pub first_unused_conf_no : Asked → Definition
-first_unused_conf_no asked = unguarded (answer (reply.Number (next_conference_of asked.db)))
+first_unused_conf_no asked = without_guard (answer (reply.Number (next_conference_of asked.db)))
 
 -- the first of these conferences that is seen
 abbrev pub first_seen : Asked → (ConferenceRow → Bool) → List ConferenceRow → Option ConferenceRow
@@ -226,10 +227,10 @@ first_seen asked test rows =
 -- a number is answered, or that there is none
 abbrev pub nearest : Asked → ℕ → Option ConferenceRow → Definition
 nearest asked start None =
-    guarded (login_guard (caller asked) ∷ refusal error.UNDEFINED_CONFERENCE start
+    with_guards (login_guard (caller asked) ∷ refusal error.UNDEFINED_CONFERENCE start
     ∷ []) (answer reply.Done)
 nearest asked start (Some row) =
-    guarded (login_guard (caller asked) ∷ []) (answer (reply.Number row.number))
+    with_guards (login_guard (caller asked) ∷ []) (answer (reply.Number row.number))
 
 -- call 116, find-next-conf-no
 abbrev pub find_next_conf_no : Asked → ℕ → Definition

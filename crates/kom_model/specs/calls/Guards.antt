@@ -46,8 +46,8 @@ first_refusal (None ∷ guards) = first_refusal guards
 first_refusal (Some refused ∷ guards) = Some refused
 
 -- a call that these guards refuse, the first before the next, and that else comes to this
-abbrev pub guarded : List Guard → Decision → Definition
-guarded guards decision = record { early = first_refusal guards; rest = decision }
+abbrev pub with_guards : List Guard → Decision → Definition
+with_guards guards decision = record { early = first_refusal guards; rest = decision }
 
 -- who looks from a seat: nobody, if there is none
 abbrev pub viewer_at : Db → Option Seat → Viewer

@@ -19,7 +19,7 @@ use Rattle.kom_types.specs.declared.session_changes.SessionChange.{SessionChange
 use Rattle.kom_types.specs.declared.session_changes.SessionChange.TheVariants as change
 use Rattle.kom_types.specs.tables.Conferences.{is_read_protected, forbids_secret}
 use Rattle.kom_types.specs.tables.Persons.{last_count}
-use Rattle.read_ranges.specs.Changed.{size_of, all_marked, unmarked, up_to, has_unread}
+use Rattle.read_ranges.specs.Changed.{size_of, all_marked, mark_unread, up_to, has_unread}
 use Rattle.kom_model.specs.declared.viewers.Viewer.{Viewer}
 use Rattle.kom_model.specs.Db.{Db, conference_of, membership_of, membership_kind_of}
 use Rattle.kom_model.specs.Db.{memberships_of, read_of, next_local_of, first_local_of}
@@ -28,8 +28,8 @@ use Rattle.kom_model.specs.Shown.{shows_membership}
 use Rattle.kom_types.specs.tables.Memberships.{is_passive, is_secret_membership, member_of}
 use Rattle.kom_model.specs.Shown.{is_reserved, members_shown, memberships_shown, ranges_shown}
 use Rattle.kom_model.specs.Shown.{time_shown}
-use Rattle.kom_model.specs.calls.Call.{Asked, Definition, answer, done}
-use Rattle.kom_model.specs.calls.Guards.{Guard, guarded, unless, caller, login_guard}
+use Rattle.kom_model.specs.calls.Call.{Asked, Definition, answer, done_with}
+use Rattle.kom_model.specs.calls.Guards.{Guard, with_guards, unless, caller, login_guard}
 use Rattle.kom_model.specs.calls.Guards.{conference_guard, person_guard, supervisor_guard}
 use Rattle.kom_model.specs.calls.Sessions.{counts}
 
@@ -86,32 +86,33 @@ all_locals_guards highest (local ∷ locals) =
 abbrev pub mark_as_read : Asked → ℕ → List ℕ → Definition
 mark_as_read asked conference locals =
     let ranges = all_marked locals (had_read asked conference) in
-    guarded
+    with_guards
     (reader_guards asked conference
     ++ all_locals_guards (highest_of asked.db conference) locals)
-    (done
+    (done_with
     (reads_now asked conference ranges
     ∷ counts (caller asked).person counter.ReadTexts
     (size_of ranges - size_of (had_read asked conference))) [])
 
 -- call 109, mark-as-unread
 abbrev pub mark_as_unread : Asked → ℕ → ℕ → Definition
-mark_as_unread asked conference local = guarded
+mark_as_unread asked conference local = with_guards
     (reader_guards asked conference ++ local_guards (highest_of asked.db conference) local)
-    (done (reads_now asked conference (unmarked local (had_read asked conference)) ∷ []) [])
+    (done_with (reads_now asked conference (mark_unread local (had_read asked conference)) ∷ []) [])
 
 -- call 40, set-unread: all but the last ones were read
 abbrev pub set_unread : Asked → ℕ → ℕ → Definition
-set_unread asked conference count = guarded
+set_unread asked conference count = with_guards
     (reader_guards asked conference)
-    (done (reads_now asked conference (up_to (highest_of asked.db conference - count)) ∷ []) [])
+    (done_with
+    (reads_now asked conference (up_to (highest_of asked.db conference - count)) ∷ []) [])
 
 -- call 77, set-last-read: all up to this one were read; 0 is none
 abbrev pub set_last_read : Asked → ℕ → ℕ → Definition
-set_last_read asked conference local = guarded
+set_last_read asked conference local = with_guards
     (reader_guards asked conference
     ++ drawn_local_guard (highest_of asked.db conference) local ∷ [])
-    (done (reads_now asked conference (up_to local) ∷ []) [])
+    (done_with (reads_now asked conference (up_to local) ∷ []) [])
 
 -- the range at a place of a list, after one with this end: it is one, it comes after that, and its
 -- numbers were drawn
@@ -129,10 +130,10 @@ ranges_guards highest place end (one ∷ ranges) =
 
 -- call 110, set-read-ranges: ranges that touch become one
 abbrev pub set_read_ranges : Asked → ℕ → List ReadRange → Definition
-set_read_ranges asked conference ranges = guarded
+set_read_ranges asked conference ranges = with_guards
     (reader_guards asked conference
     ++ ranges_guards (highest_of asked.db conference) 0 0 ranges)
-    (done (reads_now asked conference ranges ∷ []) [])
+    (done_with (reads_now asked conference ranges ∷ []) [])
 
 -- the guards of the conference that the caller goes into: none with 0
 abbrev pub entered_guards : Asked → ℕ → List Guard
@@ -142,9 +143,9 @@ entered_guards asked conference = if conference == 0 then [] else
 
 -- call 2, change-conference: into a conference that the caller is a member of, or 0, into none
 abbrev pub change_conference : Asked → ℕ → Definition
-change_conference asked conference = guarded
+change_conference asked conference = with_guards
     (login_guard (caller asked) ∷ entered_guards asked conference)
-    (done [] (change.Working asked.session conference ∷ []))
+    (done_with [] (change.Working asked.session conference ∷ []))
 
 -- the sessions of a person that are in a conference are in none then
 abbrev pub is_in_conference : ℕ → ℕ → Seat → Bool
@@ -162,12 +163,12 @@ may_end db caller conference person = not (person == conference)
 
 -- call 15, sub-member
 abbrev pub sub_member : Asked → ℕ → ℕ → Definition
-sub_member asked conference person = guarded
+sub_member asked conference person = with_guards
     (login_guard (caller asked) ∷ conference_guard asked.db (caller asked) conference
     ∷ person_guard asked.db person ∷ row_guard asked.db (caller asked) person conference
     ∷ unless (may_end asked.db (caller asked) conference person)
     error.PERMISSION_DENIED conference ∷ [])
-    (done (effect.MemberGone person conference ∷ []) (left_by person conference asked.seats))
+    (done_with (effect.MemberGone person conference ∷ []) (left_by person conference asked.seats))
 
 -- a conference takes no secret memberships
 abbrev pub refuses_secret : Db → ℕ → Bool
@@ -235,11 +236,11 @@ member_effects asked person conference priority place kind =
 
 -- call 100, add-member
 abbrev pub add_member : Asked → ℕ → ℕ → ℕ → ℕ → ℕ → Definition
-add_member asked conference person priority place kind = guarded
+add_member asked conference person priority place kind = with_guards
     (login_guard (caller asked) ∷ conference_guard asked.db (caller asked) conference
     ∷ person_guard asked.db person ∷ secret_guard asked.db conference kind
     ∷ joins_guards asked.db (caller asked) person conference)
-    (done (member_effects asked person conference priority place kind) [])
+    (done_with (member_effects asked person conference priority place kind) [])
 
 -- a membership that is there gets another type
 abbrev pub type_effects : Db → ℕ → ℕ → ℕ → List Effect
@@ -250,12 +251,12 @@ type_effects db person conference kind = elim (membership_of db person conferenc
 
 -- call 102, set-membership-type
 abbrev pub set_membership_type : Asked → ℕ → ℕ → ℕ → Definition
-set_membership_type asked person conference kind = guarded
+set_membership_type asked person conference kind = with_guards
     (login_guard (caller asked) ∷ person_guard asked.db person
     ∷ conference_guard asked.db (caller asked) conference
     ∷ row_guard asked.db (caller asked) person conference
     ∷ supervisor_guard asked.db (caller asked) person ∷ secret_guard asked.db conference kind ∷ [])
-    (done (type_effects asked.db person conference kind) [])
+    (done_with (type_effects asked.db person conference kind) [])
 
 -- a membership is shown to the caller
 abbrev pub is_shown : Asked → MembershipRow → Bool
@@ -269,7 +270,7 @@ is_unread db row = has_unread (first_local_of db row.conference) (highest_of db 
 
 -- call 52, get-unread-confs
 abbrev pub get_unread_confs : Asked → ℕ → Definition
-get_unread_confs asked person = guarded
+get_unread_confs asked person = with_guards
     (login_guard (caller asked) ∷ person_guard asked.db person
     ∷ unless (not (is_reserved asked.db person)
     || supervises asked.db (caller asked).person person || (caller asked).strong)
@@ -295,7 +296,7 @@ shown_memberships asked person = memberships_shown asked.db (caller asked) perso
 
 -- call 101, get-members
 abbrev pub get_members : Asked → ℕ → ℕ → ℕ → Definition
-get_members asked conference first count = guarded
+get_members asked conference first count = with_guards
     (login_guard (caller asked) ∷ conference_guard asked.db (caller asked) conference
     ∷ place_guard first (shown_members asked conference) ∷ [])
     (answer (reply.Members (map member_of (part first count (shown_members asked conference)))))
@@ -304,8 +305,8 @@ get_members asked conference first count = guarded
 abbrev pub at_most : ℕ → List ReadRange → List ReadRange
 at_most most ranges = if most == 0 then ranges else take most ranges
 
-abbrev pub told : Bool → List ReadRange → RangesShown
-told want_ranges ranges =
+abbrev pub ranges_or_count : Bool → List ReadRange → RangesShown
+ranges_or_count want_ranges ranges =
     if want_ranges then shown.All ranges else shown.Count (length ranges)
 
 -- what the caller is told that a person has read, and when that was set
@@ -322,7 +323,7 @@ membership_told asked want_ranges most place row = record {
   last_time_read = time_told asked row;
   conference = row.conference;
   priority = row.priority;
-  ranges = told want_ranges (at_most most (ranges_told asked row));
+  ranges = ranges_or_count want_ranges (at_most most (ranges_told asked row));
   added_by = row.added_by;
   added_at = row.added_at;
   kind = row.kind;
@@ -344,7 +345,7 @@ told_reply asked person conference want_ranges most =
 
 -- call 107, query-read-texts
 abbrev pub query_read_texts : Asked → ℕ → ℕ → Bool → ℕ → Definition
-query_read_texts asked person conference want_ranges most = guarded
+query_read_texts asked person conference want_ranges most = with_guards
     (login_guard (caller asked) ∷ person_guard asked.db person
     ∷ conference_guard asked.db (caller asked) conference
     ∷ row_guard asked.db (caller asked) person conference ∷ [])
@@ -359,7 +360,7 @@ all_told asked want_ranges most place (row ∷ rows) =
 
 -- call 108, get-membership
 abbrev pub get_membership : Asked → ℕ → ℕ → ℕ → Bool → ℕ → Definition
-get_membership asked person first count want_ranges most = guarded
+get_membership asked person first count want_ranges most = with_guards
     (login_guard (caller asked) ∷ person_guard asked.db person
     ∷ place_guard first (shown_memberships asked person) ∷ [])
     (answer (reply.Memberships (all_told asked want_ranges most first

@@ -5,7 +5,7 @@ use Rattle.std.specs.Prelude.{if◌then◌else◌}
 use Rattle.std.specs.List.{list_any, list_all}
 use Rattle.kom_types.specs.declared.limits.TheConstants.{LAST_DRAWN, LONGEST_BODY, MOST_RECIPIENTS}
 use Rattle.kom_types.specs.declared.errors.TheConstants as error
-use Rattle.kom_types.specs.AuxItems.{items_from, inherited}
+use Rattle.kom_types.specs.AuxItems.{items_from, inherit}
 use Rattle.kom_types.specs.declared.aux_items.AuxRow.{AuxRow}
 use Rattle.kom_types.specs.declared.aux_items.Object.TheVariants as object
 use Rattle.kom_types.specs.declared.effects.Counter.TheVariants as counter
@@ -23,11 +23,11 @@ use Rattle.kom_model.specs.Effects.{is_recipient_tag}
 use Rattle.kom_model.specs.Effects.{most_links}
 use Rattle.kom_model.specs.calls.AuxItems.{items_added}
 use Rattle.kom_model.specs.calls.Call.{Asked, Definition}
-use Rattle.kom_model.specs.calls.Guards.{Guard, guarded, refusal, first_refusal, unless, caller}
+use Rattle.kom_model.specs.calls.Guards.{Guard, with_guards, refusal, first_refusal, unless, caller}
 use Rattle.kom_model.specs.calls.Guards.{login_guard, conference_guard, text_guard, submit_guard}
 use Rattle.kom_model.specs.calls.Guards.{size_guard, new_items_guard, with_items}
 use Rattle.kom_model.specs.calls.Sessions.{counts}
-use Rattle.kom_model.specs.calls.Texts.{made_text, new_recipient, written, into_guard}
+use Rattle.kom_model.specs.calls.Texts.{made_text, new_recipient, written_now, into_guard}
 
 -- whether an item names a recipient, or a text that is commented, or has a footnote
 abbrev pub names_recipient : MiscInput → Bool
@@ -139,7 +139,7 @@ item_effect asked text item =
 
 -- the conference that an item names was written in now
 abbrev pub item_written : Asked → MiscInput → Effect
-item_written asked item = written asked item.value
+item_written asked item = written_now asked item.value
 
 -- the text is counted among those that its author made
 abbrev pub author_effects : Asked → ℕ → List ℕ → List Effect
@@ -152,7 +152,7 @@ author_effects asked text body = let person = (caller asked).person in
 -- that it comments, in the order in which these are named
 abbrev pub inherited_from : Db → List AuxRow → List MiscInput → List AuxRow
 inherited_from db items named =
-    fold (λ items item. inherited items (items_of db true item.value)) items named
+    fold (λ items item. inherit items (items_of db true item.value)) items named
 
 abbrev pub new_items : Asked → NewText → List AuxRow
 new_items asked given = inherited_from asked.db
@@ -170,7 +170,7 @@ text_effects asked anonymous text given =
 
 -- a text is made, by the caller or without an author
 abbrev pub new_text : Bool → Asked → NewText → Definition
-new_text anonymous asked given = let number = next_text_of asked.db in guarded
+new_text anonymous asked given = let number = next_text_of asked.db in with_guards
     (login_guard (caller asked) ∷ size_guard given.body LONGEST_BODY
     ∷ first_refusal (item_guards asked anonymous [] given.misc_inputs)
     ∷ unless (has_numbers asked.db (caller asked).person anonymous given.misc_inputs)

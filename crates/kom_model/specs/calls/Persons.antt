@@ -18,8 +18,8 @@ use Rattle.kom_model.specs.declared.viewers.Viewer.{Viewer}
 use Rattle.kom_model.specs.Db.{Db, person_of, next_conference_of}
 use Rattle.kom_model.specs.Shown.{person_told}
 use Rattle.kom_model.specs.calls.AuxItems.{items_added}
-use Rattle.kom_model.specs.calls.Call.{Asked, Definition, answer, done}
-use Rattle.kom_model.specs.calls.Guards.{Guard, guarded, unless, caller, login_guard}
+use Rattle.kom_model.specs.calls.Call.{Asked, Definition, answer, done_with}
+use Rattle.kom_model.specs.calls.Guards.{Guard, with_guards, unless, caller, login_guard}
 use Rattle.kom_model.specs.calls.Guards.{text_or_none_guard}
 use Rattle.kom_model.specs.calls.Guards.{person_guard, strong_guard, supervisor_guard, size_guard}
 use Rattle.kom_model.specs.calls.Guards.{name_guard, free_guard, drawn_guard, password_guard}
@@ -28,33 +28,34 @@ use Rattle.kom_model.specs.calls.Sessions.{counts}
 
 -- call 7, set-priv-bits
 abbrev pub set_priv_bits : Asked → ℕ → ℕ → Definition
-set_priv_bits asked person privileges = guarded
+set_priv_bits asked person privileges = with_guards
     (login_guard (caller asked) ∷ person_guard asked.db person ∷ strong_guard (caller asked) ∷ [])
-    (done (effect.PersonField person (field.Privileges privileges) ∷ []) [])
+    (done_with (effect.PersonField person (field.Privileges privileges) ∷ []) [])
 
 -- call 8, set-passwd: the old password is that of the caller
 abbrev pub set_passwd : Asked → PasswordChange → Definition
-set_passwd asked given = guarded
+set_passwd asked given = with_guards
     (login_guard (caller asked) ∷ person_guard asked.db given.person
     ∷ supervisor_guard asked.db (caller asked) given.person
     ∷ password_guard asked.db (caller asked) (caller asked).person given.old_password
     ∷ size_guard given.new_password LONGEST_PASSWORD ∷ [])
-    (done (effect.Password given.person (password_hash given.person given.new_password) ∷ []) [])
+    (done_with
+    (effect.Password given.person (password_hash given.person given.new_password) ∷ []) [])
 
 -- call 106, set-pers-flags
 abbrev pub set_pers_flags : Asked → ℕ → ℕ → Definition
-set_pers_flags asked person flags = guarded
+set_pers_flags asked person flags = with_guards
     (login_guard (caller asked) ∷ person_guard asked.db person
     ∷ supervisor_guard asked.db (caller asked) person ∷ [])
-    (done (effect.PersonField person (field.Flags flags) ∷ []) [])
+    (done_with (effect.PersonField person (field.Flags flags) ∷ []) [])
 
 -- call 57, set-user-area: a text, or 0
 abbrev pub set_user_area : Asked → ℕ → ℕ → Definition
-set_user_area asked person text = guarded
+set_user_area asked person text = with_guards
     (login_guard (caller asked) ∷ person_guard asked.db person
     ∷ supervisor_guard asked.db (caller asked) person
     ∷ text_or_none_guard asked.db (caller asked) text ∷ [])
-    (done (effect.PersonField person (field.UserArea text) ∷ []) [])
+    (done_with (effect.PersonField person (field.UserArea text) ∷ []) [])
 
 -- what is replied of a person
 abbrev pub person_reply : Db → Viewer → ℕ → Reply
@@ -65,7 +66,7 @@ person_reply db caller number = elim (person_of db number) [
 
 -- call 49, get-person-stat
 abbrev pub get_person_stat : Asked → ℕ → Definition
-get_person_stat asked person = guarded
+get_person_stat asked person = with_guards
     (login_guard (caller asked) ∷ person_guard asked.db person ∷ [])
     (answer (person_reply asked.db (caller asked) person))
 
@@ -109,7 +110,7 @@ person_effects asked person given = let by = maker (caller asked).person person 
 abbrev pub create_person : Asked → NewPerson → Definition
 create_person asked given =
     let number = next_conference_of asked.db in
-    guarded
+    with_guards
     (create_person_guard asked.db (caller asked) ∷ name_guard given.name
     ∷ size_guard given.password LONGEST_PASSWORD ∷ free_guard asked.db 0 given.name
     ∷ drawn_guard asked.db ∷ [])

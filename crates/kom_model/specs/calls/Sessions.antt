@@ -26,14 +26,14 @@ use Rattle.kom_model.specs.Messages.{send_message}
 use Rattle.kom_model.specs.Rights.{supervises}
 use Rattle.kom_model.specs.Sending.{accepts, delivered_to}
 use Rattle.kom_model.specs.Shown.{working_shown}
-use Rattle.kom_model.specs.calls.Call.{Asked, Definition, answer, done, unguarded, seat_of}
-use Rattle.kom_model.specs.calls.Guards.{guarded, unless, caller, login_guard, session_guard}
+use Rattle.kom_model.specs.calls.Call.{Asked, Definition, answer, done_with, without_guard, seat_of}
+use Rattle.kom_model.specs.calls.Guards.{with_guards, unless, caller, login_guard, session_guard}
 use Rattle.kom_model.specs.calls.Guards.{size_guard, person_guard, password_guard, seat_at}
 use Rattle.kom_model.specs.calls.Guards.{conference_or_none_guard}
 
 -- call 56, who-am-i: the number of the caller's session
 abbrev pub who_am_i : Asked → Definition
-who_am_i asked = unguarded (answer (reply.Number asked.session))
+who_am_i asked = without_guard (answer (reply.Number asked.session))
 
 abbrev pub is_message : ℕ → Bool
 is_message number = is_among MESSAGE_NUMBERS number
@@ -50,7 +50,7 @@ accept_reply None = reply.Done
 -- call 80, accept-async: the session accepts the messages of these numbers, also where the call is
 -- refused for one that is of none
 abbrev pub accept_async : Asked → List ℕ → Definition
-accept_async asked numbers = unguarded (record {
+accept_async asked numbers = without_guard (record {
   reply = accept_reply (find (λ number. not (is_message number)) numbers);
   effects = [];
   changes = change.Accept asked.session (accepted_bits numbers) ∷ [];
@@ -65,19 +65,19 @@ accepted_of asked = elim (seat_of asked) [
 
 -- call 81, query-async: their numbers, rising
 abbrev pub query_async : Asked → Definition
-query_async asked = unguarded (answer (reply.Numbers (accepted_of asked)))
+query_async asked = without_guard (answer (reply.Numbers (accepted_of asked)))
 
 -- call 4, change-what-i-am-doing
 abbrev pub change_what_i_am_doing : Asked → List ℕ → Definition
-change_what_i_am_doing asked doing = guarded
+change_what_i_am_doing asked doing = with_guards
     (size_guard doing LONGEST_NAME ∷ [])
-    (done [] (change.Doing asked.session doing ∷ []))
+    (done_with [] (change.Doing asked.session doing ∷ []))
 
 -- call 42, enable
 abbrev pub enable : Asked → ℕ → Definition
-enable asked level = guarded
+enable asked level = with_guards
     (login_guard (caller asked) ∷ [])
-    (done [] (change.Level asked.session level ∷ []))
+    (done_with [] (change.Level asked.session level ∷ []))
 
 -- the caller's client has told what it is
 abbrev pub has_told : Asked → Bool
@@ -85,27 +85,27 @@ has_told asked = elim (seat_of asked) [ None ↦ false | Some seat ↦ seat.clie
 
 -- call 69, set-client-version: a client tells it once
 abbrev pub set_client_version : Asked → ClientVersion → Definition
-set_client_version asked given = guarded
+set_client_version asked given = with_guards
     (size_guard given.name LONGEST_NAME ∷ size_guard given.version LONGEST_NAME
     ∷ unless (not (has_told asked)) error.CLIENT_IS_CRAZY 0 ∷ [])
-    (done [] (change.Client asked.session given.name given.version ∷ []))
+    (done_with [] (change.Client asked.session given.name given.version ∷ []))
 
 -- call 70, get-client-name, and call 71, get-client-version: empty where none was told
 abbrev pub get_client_name : Asked → ℕ → Definition
-get_client_name asked number = guarded
+get_client_name asked number = with_guards
     (session_guard asked.seats number ∷ [])
     (answer (reply.Text
     (elim (seat_at asked.seats number) [ None ↦ [] | Some seat ↦ seat.client ])))
 
 abbrev pub get_client_version : Asked → ℕ → Definition
-get_client_version asked number = guarded
+get_client_version asked number = with_guards
     (session_guard asked.seats number ∷ [])
     (answer (reply.Text
     (elim (seat_at asked.seats number) [ None ↦ [] | Some seat ↦ seat.version ])))
 
 -- call 82, user-active
 abbrev pub user_active : Asked → Definition
-user_active asked = unguarded (done [] (change.Active asked.session ∷ []))
+user_active asked = without_guard (done_with [] (change.Active asked.session ∷ []))
 
 -- a counter rises, unless by nothing
 abbrev pub counts : ℕ → Counter → ℕ → List Effect
@@ -134,7 +134,7 @@ leaving_changes asked =
 
 -- call 1, logout
 abbrev pub logout : Asked → Definition
-logout asked = unguarded (done (leaving_effects asked) (leaving_changes asked))
+logout asked = without_guard (done_with (leaving_effects asked) (leaving_changes asked))
 
 -- the user name of the caller's greeting
 abbrev pub user_of : Asked → List ℕ
@@ -142,9 +142,9 @@ user_of asked = elim (seat_of asked) [ None ↦ [] | Some seat ↦ seat.user ]
 
 -- call 62, login: whoever is logged in is logged out first
 abbrev pub login : Asked → ℕ → List ℕ → Bool → Definition
-login asked person password invisible = guarded
+login asked person password invisible = with_guards
     (person_guard asked.db person ∷ password_guard asked.db (caller asked) person password ∷ [])
-    (done
+    (done_with
     (leaving_effects asked ++ effect.LoggedIn person asked.moment (user_of asked) ∷ [])
     (leaving_changes asked ++ change.Person asked.session person invisible ∷ []))
 
@@ -155,11 +155,11 @@ is_sent asked recipient text = not (length (delivered_to asked.db asked.seats
 
 -- call 53, send-message: somebody gets it
 abbrev pub send_message_to : Asked → ℕ → List ℕ → Definition
-send_message_to asked recipient text = guarded
+send_message_to asked recipient text = with_guards
     (login_guard (caller asked) ∷ size_guard text LONGEST_MESSAGE
     ∷ conference_or_none_guard asked.db (caller asked) recipient
     ∷ unless (is_sent asked recipient text) error.MESSAGE_NOT_SENT recipient ∷ [])
-    (done [] [])
+    (done_with [] [])
 
 -- the session that a number means: the caller's own with 0
 abbrev pub session_meant : Asked → ℕ → ℕ
@@ -174,15 +174,17 @@ may_disconnect asked session = session == asked.session || (caller asked).strong
     ]
 
 -- whoever is logged in at a session is logged out, and it ends
-abbrev pub ended : Asked → Seat → Decision
-ended asked seat = done (seat_left asked seat) (seat_leaves seat ++ change.Ended seat.number ∷ [])
+abbrev pub end_session : Asked → Seat → Decision
+end_session asked seat =
+    done_with (seat_left asked seat) (seat_leaves seat ++ change.Ended seat.number ∷ [])
 
 -- call 55, disconnect: whoever is logged in is logged out, and the session makes no call any more
 abbrev pub disconnect : Asked → ℕ → Definition
-disconnect asked number = let session = session_meant asked number in guarded
+disconnect asked number = let session = session_meant asked number in with_guards
     (session_guard asked.seats session
     ∷ unless (may_disconnect asked session) error.PERMISSION_DENIED session ∷ [])
-    (elim (seat_at asked.seats session) [ None ↦ done [] [] | Some seat ↦ ended asked seat ])
+    (elim (seat_at asked.seats session)
+    [ None ↦ done_with [] [] | Some seat ↦ end_session asked seat ])
 
 -- for how many seconds a person has done nothing
 abbrev pub idle_of : ℕ → Seat → ℕ
@@ -213,7 +215,7 @@ dynamic_of asked seat = record {
 -- call 83, who-is-on-dynamic: the sessions that are asked for, of which no call has ended one, and
 -- those alone that were idle for at most so many seconds, unless that is 0
 abbrev pub who_is_on_dynamic : Asked → Bool → Bool → ℕ → Definition
-who_is_on_dynamic asked visible invisible most = unguarded (answer (reply.DynamicSessions
+who_is_on_dynamic asked visible invisible most = without_guard (answer (reply.DynamicSessions
     (map (dynamic_of asked)
     (filter (is_asked_for asked.moment visible invisible most) asked.seats))))
 
@@ -228,9 +230,9 @@ static_of seat = record {
 
 -- call 84, get-static-session-info: this server asks no other one who its client is
 abbrev pub get_static_session_info : Asked → ℕ → Definition
-get_static_session_info asked number = guarded
+get_static_session_info asked number = with_guards
     (session_guard asked.seats number ∷ [])
     (elim (seat_at asked.seats number) [
-      | None ↦ done [] []
+      | None ↦ done_with [] []
       | Some seat ↦ answer (reply.StaticSession (static_of seat))
     ])

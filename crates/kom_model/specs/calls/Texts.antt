@@ -24,8 +24,8 @@ use Rattle.kom_model.specs.Db.{next_local_of, next_created_of, mark_of, marks_of
 use Rattle.kom_model.specs.Effects.{is_recipient_tag, most_links}
 use Rattle.kom_model.specs.Rights.{supervises, reads, is_author}
 use Rattle.kom_model.specs.Shown.{shows_recipient, shown_stat}
-use Rattle.kom_model.specs.calls.Call.{Asked, Definition, answer, done, unguarded}
-use Rattle.kom_model.specs.calls.Guards.{Guard, guarded, refusal, unless, caller, login_guard}
+use Rattle.kom_model.specs.calls.Call.{Asked, Definition, answer, done_with, without_guard}
+use Rattle.kom_model.specs.calls.Guards.{Guard, with_guards, refusal, unless, caller, login_guard}
 use Rattle.kom_model.specs.calls.Guards.{conference_guard, person_guard, text_guard, reads_guard}
 use Rattle.kom_model.specs.calls.Guards.{submit_guard}
 
@@ -45,16 +45,16 @@ owns_text db caller text =
     made_text db caller text || supervises db caller.person (author_of db text) || caller.strong
 
 -- what is asked of a text's bytes, from the first to the last one, as far as there are some
-abbrev pub cut : ℕ → ℕ → List ℕ → List ℕ
-cut start end bytes = take (end + 1 - start) (drop start bytes)
+abbrev pub bytes_between : ℕ → ℕ → List ℕ → List ℕ
+bytes_between start end bytes = take (end + 1 - start) (drop start bytes)
 
 -- call 25, get-text
 abbrev pub get_text : Asked → ℕ → ℕ → ℕ → Definition
-get_text asked text start end = guarded
+get_text asked text start end = with_guards
     (login_guard (caller asked) ∷ text_guard asked.db (caller asked) text
     ∷ unless (nat_le start (length (body_of asked.db text))) error.INDEX_OUT_OF_RANGE start ∷ [])
     (record {
-      reply = reply.Text (cut start end (body_of asked.db text));
+      reply = reply.Text (bytes_between start end (body_of asked.db text));
       effects = effect.Counted (caller asked).person counter.TextFetches 1 ∷ [];
       changes = [];
     })
@@ -68,7 +68,7 @@ text_reply db caller number = elim (text_of db number) [
 
 -- call 90, get-text-stat
 abbrev pub get_text_stat : Asked → ℕ → Definition
-get_text_stat asked text = guarded
+get_text_stat asked text = with_guards
     (login_guard (caller asked) ∷ text_guard asked.db (caller asked) text ∷ [])
     (answer (text_reply asked.db (caller asked) text))
 
@@ -83,10 +83,10 @@ gone_text db text =
 
 -- call 29, delete-text
 abbrev pub delete_text : Asked → ℕ → Definition
-delete_text asked text = guarded
+delete_text asked text = with_guards
     (login_guard (caller asked) ∷ text_guard asked.db (caller asked) text
     ∷ unless (owns_text asked.db (caller asked) text) error.PERMISSION_DENIED text ∷ [])
-    (done (gone_text asked.db text) [])
+    (done_with (gone_text asked.db text) [])
 
 -- a local number of the conference is left
 abbrev pub local_guard : Db → ℕ → Guard
@@ -105,12 +105,12 @@ new_recipient asked text conference tag sender = record {
 }
 
 -- the conference was written in now
-abbrev pub written : Asked → ℕ → Effect
-written asked conference = effect.ConfField conference (field.LastWritten asked.moment)
+abbrev pub written_now : Asked → ℕ → Effect
+written_now asked conference = effect.ConfField conference (field.LastWritten asked.moment)
 
 -- call 30, add-recipient
 abbrev pub add_recipient : Asked → ℕ → ℕ → ℕ → Definition
-add_recipient asked text conference tag = guarded
+add_recipient asked text conference tag = with_guards
     (login_guard (caller asked) ∷ text_guard asked.db (caller asked) text
     ∷ conference_guard asked.db (caller asked) conference
     ∷ unless (is_recipient_tag tag) error.ILLEGAL_INFO_TYPE tag
@@ -119,9 +119,9 @@ add_recipient asked text conference tag = guarded
     ∷ unless (nat_lt (length (recipients_of asked.db text)) MOST_RECIPIENTS)
     error.RECIPIENT_LIMIT text
     ∷ local_guard asked.db conference ∷ [])
-    (done
+    (done_with
     (effect.RecipientAdded (new_recipient asked text conference tag (caller asked).person)
-    ∷ written asked conference ∷ []) [])
+    ∷ written_now asked conference ∷ []) [])
 
 -- a recipient that is there is shown to the caller
 abbrev pub shows_to : Db → Viewer → ℕ → ℕ → Bool
@@ -147,16 +147,16 @@ may_take db caller text conference =
 
 -- call 31, sub-recipient
 abbrev pub sub_recipient : Asked → ℕ → ℕ → Definition
-sub_recipient asked text conference = guarded
+sub_recipient asked text conference = with_guards
     (login_guard (caller asked) ∷ text_guard asked.db (caller asked) text
     ∷ unless (not (conference == 0)) error.CONFERENCE_ZERO 0
     ∷ unless (shows_to asked.db (caller asked) text conference) error.NOT_RECIPIENT conference
     ∷ unless (may_take asked.db (caller asked) text conference) error.PERMISSION_DENIED text ∷ [])
-    (done (effect.RecipientGone text conference ∷ []) [])
+    (done_with (effect.RecipientGone text conference ∷ []) [])
 
 -- a comment, or a footnote, that is linked to a text now
-abbrev pub linked : Asked → ℕ → ℕ → Bool → Effect
-linked asked child parent footnote = effect.LinkAdded (record {
+abbrev pub linked_now : Asked → ℕ → ℕ → Bool → Effect
+linked_now asked child parent footnote = effect.LinkAdded (record {
   child = child;
   parent = parent;
   footnote = footnote;
@@ -180,14 +180,14 @@ from_guard db child footnote code =
 
 -- call 32, add-comment
 abbrev pub add_comment : Asked → ℕ → ℕ → Definition
-add_comment asked child parent = guarded
+add_comment asked child parent = with_guards
     (login_guard (caller asked) ∷ text_guard asked.db (caller asked) child
     ∷ text_guard asked.db (caller asked) parent
     ∷ unless (not (child == parent)) error.PERMISSION_DENIED child
     ∷ unlinked_guard asked.db child parent false error.ALREADY_COMMENT
     ∷ into_guard asked.db parent false error.COMMENT_LIMIT parent
     ∷ from_guard asked.db child false error.COMMENT_LIMIT ∷ [])
-    (done (linked asked child parent false ∷ []) [])
+    (done_with (linked_now asked child parent false ∷ []) [])
 
 -- two texts are linked so
 abbrev pub linked_guard : Db → ℕ → ℕ → Bool → ℕ → Guard
@@ -196,18 +196,18 @@ linked_guard db child parent footnote code =
 
 -- call 33, sub-comment
 abbrev pub sub_comment : Asked → ℕ → ℕ → Definition
-sub_comment asked child parent = guarded
+sub_comment asked child parent = with_guards
     (login_guard (caller asked) ∷ text_guard asked.db (caller asked) child
     ∷ text_guard asked.db (caller asked) parent
     ∷ linked_guard asked.db child parent false error.NOT_COMMENT
     ∷ unless (owns_text asked.db (caller asked) child
     || linker_of asked.db child parent false == (caller asked).person)
     error.PERMISSION_DENIED child ∷ [])
-    (done (effect.LinkGone child parent false ∷ []) [])
+    (done_with (effect.LinkGone child parent false ∷ []) [])
 
 -- call 37, add-footnote
 abbrev pub add_footnote : Asked → ℕ → ℕ → Definition
-add_footnote asked child parent = guarded
+add_footnote asked child parent = with_guards
     (login_guard (caller asked) ∷ text_guard asked.db (caller asked) child
     ∷ text_guard asked.db (caller asked) parent
     ∷ unless (not (child == parent)) error.PERMISSION_DENIED child
@@ -216,42 +216,42 @@ add_footnote asked child parent = guarded
     ∷ unlinked_guard asked.db child parent true error.ALREADY_FOOTNOTE
     ∷ into_guard asked.db parent true error.FOOTNOTE_LIMIT parent
     ∷ from_guard asked.db child true error.FOOTNOTE_LIMIT ∷ [])
-    (done (linked asked child parent true ∷ []) [])
+    (done_with (linked_now asked child parent true ∷ []) [])
 
 -- call 38, sub-footnote
 abbrev pub sub_footnote : Asked → ℕ → ℕ → Definition
-sub_footnote asked child parent = guarded
+sub_footnote asked child parent = with_guards
     (login_guard (caller asked) ∷ text_guard asked.db (caller asked) child
     ∷ text_guard asked.db (caller asked) parent
     ∷ linked_guard asked.db child parent true error.NOT_FOOTNOTE
     ∷ unless (made_text asked.db (caller asked) child || (caller asked).strong)
     error.PERMISSION_DENIED child ∷ [])
-    (done (effect.LinkGone child parent true ∷ []) [])
+    (done_with (effect.LinkGone child parent true ∷ []) [])
 
 -- call 72, mark-text: the mark may be there already
 abbrev pub mark_text : Asked → ℕ → ℕ → Definition
-mark_text asked text kind = let person = (caller asked).person in guarded
+mark_text asked text kind = let person = (caller asked).person in with_guards
     (login_guard (caller asked) ∷ text_guard asked.db (caller asked) text
     ∷ unless (is_some (mark_of asked.db person text)
     || nat_lt (length (marks_of asked.db person)) MOST_MARKS) error.MARK_LIMIT 0 ∷ [])
-    (done (effect.MarkSet person text kind ∷ []) [])
+    (done_with (effect.MarkSet person text kind ∷ []) [])
 
 -- call 73, unmark-text: also of a text that is not read any more
 abbrev pub unmark_text : Asked → ℕ → Definition
-unmark_text asked text = let person = (caller asked).person in guarded
+unmark_text asked text = let person = (caller asked).person in with_guards
     (login_guard (caller asked) ∷ unless (not (text == 0)) error.TEXT_ZERO 0
     ∷ unless (is_some (mark_of asked.db person text)) error.NOT_MARKED text ∷ [])
-    (done (effect.MarkGone person text ∷ []) [])
+    (done_with (effect.MarkGone person text ∷ []) [])
 
 -- call 23, get-marks
 abbrev pub get_marks : Asked → Definition
-get_marks asked = guarded
+get_marks asked = with_guards
     (login_guard (caller asked) ∷ [])
     (answer (reply.Marks (map shown_mark (marks_of asked.db (caller asked).person))))
 
 -- call 115, first-unused-text-no
 abbrev pub first_unused_text_no : Asked → Definition
-first_unused_text_no asked = unguarded (answer (reply.Number (next_text_of asked.db)))
+first_unused_text_no asked = without_guard (answer (reply.Number (next_text_of asked.db)))
 
 -- the first of these texts that is read
 abbrev pub first_read : Asked → (TextRow → Bool) → List TextRow → Option TextRow
@@ -260,9 +260,10 @@ first_read asked test rows = find (λ row. test row && reads asked.db (caller as
 -- a text's number is answered, or that there is none
 abbrev pub nearest_text : Asked → ℕ → Option TextRow → Definition
 nearest_text asked start None =
-    guarded (login_guard (caller asked) ∷ refusal error.NO_SUCH_TEXT start ∷ []) (answer reply.Done)
+    with_guards (login_guard (caller asked) ∷ refusal error.NO_SUCH_TEXT start ∷ [])
+    (answer reply.Done)
 nearest_text asked start (Some row) =
-    guarded (login_guard (caller asked) ∷ []) (answer (reply.Number row.number))
+    with_guards (login_guard (caller asked) ∷ []) (answer (reply.Number row.number))
 
 -- call 60, find-next-text-no
 abbrev pub find_next_text_no : Asked → ℕ → Definition
@@ -283,7 +284,7 @@ count_guard count = unless (nat_le count MOST_MAPPED) error.INDEX_OUT_OF_RANGE c
 
 -- call 103, local-to-global
 abbrev pub local_to_global : Asked → ℕ → ℕ → ℕ → Definition
-local_to_global asked conference first count = guarded
+local_to_global asked conference first count = with_guards
     (login_guard (caller asked) ∷ conference_guard asked.db (caller asked) conference
     ∷ reads_guard asked.db (caller asked) conference ∷ first_guard first ∷ count_guard count ∷ [])
     (answer (reply.Mapping (mapping_up (locals_of asked.db conference)
@@ -291,7 +292,7 @@ local_to_global asked conference first count = guarded
 
 -- call 121, local-to-global-reverse
 abbrev pub local_to_global_reverse : Asked → ℕ → ℕ → ℕ → Definition
-local_to_global_reverse asked conference ceiling count = guarded
+local_to_global_reverse asked conference ceiling count = with_guards
     (login_guard (caller asked) ∷ conference_guard asked.db (caller asked) conference
     ∷ reads_guard asked.db (caller asked) conference ∷ count_guard count ∷ [])
     (answer (reply.Mapping (mapping_down (locals_of asked.db conference)
@@ -305,7 +306,7 @@ created_up asked person first count = mapping_up
 
 -- call 104, map-created-texts
 abbrev pub map_created_texts : Asked → ℕ → ℕ → ℕ → Definition
-map_created_texts asked person first count = guarded
+map_created_texts asked person first count = with_guards
     (login_guard (caller asked) ∷ person_guard asked.db person ∷ first_guard first
     ∷ count_guard count ∷ [])
     (answer (reply.Mapping (created_up asked person first count)))

@@ -23,7 +23,7 @@ use Rattle.kom_snapshot.proofs.Keeping.{effects-listed, empty-listed}
 use Rattle.kom_model.proofs.whole.Counts.{all-of, all-weaker}
 use Rattle.kom_types.specs.declared.raised.RaisedCounter.TheVariants as counter
 use Rattle.kom_snapshot.specs.Listed.{IsListed, IsListedConference, IsListedPerson, IsListedText}
-use Rattle.kom_snapshot.specs.Snap.{snap, effects_of, raised_of, raised, conference_effects, person_effects}
+use Rattle.kom_snapshot.specs.Snap.{snap, effects_of, raised_of, raise_to, conference_effects, person_effects}
 use Rattle.kom_snapshot.specs.Snap.{created_effects, membership_list}
 use Rattle.kom_snapshot.specs.Snapshot.{stands_for, raise_all, all_may_raise}
 use Rattle.kom_snapshot.specs.Laws.{SnapshotStands, MadeStands}
@@ -260,17 +260,19 @@ module _ (db : Db) (whole : IsWhole db) (protected : IsProtected db) (listed : I
 
   all-raised : Raises (raised_of db) with_items with_all
   all-raised =
-      raises-append _ (map (λ row. raised counter.Sessions row.number row.sessions) db.persons) with_items
+      raises-append _ (map (λ row. raise_to counter.Sessions row.number row.sessions) db.persons) with_items
       with_conference_items with_all
-      (raises-append _ (map (λ row. raised counter.ConferenceItems row.number row.next_item) db.conferences) with_items
+      (raises-append _
+      (map (λ row. raise_to counter.ConferenceItems row.number row.next_item) db.conferences) with_items
       with_text_items with_conference_items
-      (raises-append _ (map (λ row. raised counter.TextItems row.number row.next_item) db.texts) with_items with_created
+      (raises-append _
+      (map (λ row. raise_to counter.TextItems row.number row.next_item) db.texts) with_items with_created
       with_text_items
-      (raises-append _ (map (λ row. raised counter.Created row.number row.next_created) db.persons) with_items
+      (raises-append _ (map (λ row. raise_to counter.Created row.number row.next_created) db.persons) with_items
       with_locals with_created
-      (raises-append (raised counter.Conferences 0 db.next_conference ∷ []) _ with_items with_next_conference
+      (raises-append (raise_to counter.Conferences 0 db.next_conference ∷ []) _ with_items with_next_conference
       with_locals (conferences-raised with_items db.next_conference conferences-within whole.conferences.limited)
-      (raises-append (raised counter.Texts 0 db.next_text ∷ []) _ with_next_conference with_next_text with_locals
+      (raises-append (raise_to counter.Texts 0 db.next_text ∷ []) _ with_next_conference with_next_text with_locals
       (texts-raised with_next_conference db.next_text texts-within whole.texts.limited)
       (locals-raised db.conferences whole.conferences.rising listed.conferences with_next_text locals
       items.of_conferences recipients.within)))

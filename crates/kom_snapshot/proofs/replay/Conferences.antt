@@ -16,7 +16,7 @@ use Rattle.kom_types.specs.Names.{clash}
 use Rattle.kom_types.specs.tables.Conferences as Conferences
 use Rattle.kom_types.specs.tables.Conferences.{number_of_conference, fresh_conference, is_secret_protected}
 use Rattle.kom_model.specs.Db.{Db, conference_of, conferences_of}
-use Rattle.kom_model.specs.Effects.{fits, made, may_set}
+use Rattle.kom_model.specs.Effects.{fits, after_effect, may_set}
 use Rattle.kom_model.specs.Whole.{is_apart}
 use Rattle.kom_model.proofs.whole.Counts.{all-weaker}
 use Rattle.kom_snapshot.specs.Snap.{conference_effects}
@@ -39,7 +39,7 @@ field-step : (db : Db) (front : List ConferenceRow) (row : ConferenceRow) (what 
     AllBelow number_of_conference row.number front → may_set what row ≡ true →
     Replays (effect.ConfField row.number what ∷ []) (conferences_in db (front ++ row ∷ []))
     (conferences_in db (front ++ Conferences.with_field what row ∷ []))
-unfolding fits made conference_of
+unfolding fits after_effect conference_of
 field-step db front row what below may = replays-one (effect.ConfField row.number what)
     (conferences_in db (front ++ row ∷ [])) (conferences_in db (front ++ Conferences.with_field what row ∷ []))
     (subst (λ (found : Option ConferenceRow). (elim found [ None ↦ false | Some row ↦ may_set what row ]) ≡ true)
@@ -77,7 +77,7 @@ module _ (all : List ConferenceRow) (rising : IsByNumber number_of_conference al
             ++ fresh_conference row.number row.name row.kind row.created row.creator row.supervisor ∷ [];
         next_conference = row.number + 1;
       })
-  unfolding fits made conference_of conferences_of
+  unfolding fits after_effect conference_of conferences_of
   added db front row rest next same least =
       let below = below-mapped number_of_conference bare_conference (λ one. refl) row.number front
       (below-one number_of_conference front row rest (subst (IsByNumber number_of_conference) (sym same) rising)) in

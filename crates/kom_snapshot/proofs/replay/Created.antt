@@ -15,7 +15,7 @@ use Rattle.kom_types.specs.declared.texts.TextRow.{TextRow}
 use Rattle.kom_types.specs.tables.Persons.{number_of_person, with_created_drawn}
 use Rattle.kom_types.specs.tables.Texts.{number_of_text, created_by, with_created_local}
 use Rattle.kom_model.specs.Db.{Db, text_of, person_of, next_created_of}
-use Rattle.kom_model.specs.Effects.{fits, made}
+use Rattle.kom_model.specs.Effects.{fits, after_effect}
 use Rattle.kom_model.specs.Whole.{IsNumbered, has_drawn_created, is_created}
 use Rattle.kom_model.proofs.whole.Counts.{all-along, all-weaker, all-of}
 use Rattle.kom_snapshot.specs.Listed.{IsListedPerson}
@@ -113,9 +113,9 @@ module _ (texts : List TextRow) (persons : List PersonRow) (rising : IsByNumber 
         (le-leb (next person) pair.local least)))
         (le-leb pair.local LAST_DRAWN (omega (arith, last, drawn)))))
 
-    pair-makes : made (effect.Created person pair.local pair.text) (state next number)
+    pair-makes : after_effect (effect.Created person pair.local pair.text) (state next number)
         ≡ state (set_at person (pair.local + 1) next) (set_at pair.text pair.local number)
-    unfolding made
+    unfolding after_effect
     pair-makes =
         let people = drawn-counting number_of_person with_next (λ n one. refl) person (pair.local + 1)
         (with_created_drawn pair.local) (λ n one. refl) next persons in

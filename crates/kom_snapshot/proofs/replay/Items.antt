@@ -21,7 +21,7 @@ use Rattle.kom_types.specs.tables.Conferences.{number_of_conference}
 use Rattle.kom_types.specs.tables.Texts as Texts
 use Rattle.kom_types.specs.tables.Texts.{number_of_text}
 use Rattle.kom_model.specs.Db.{Db, conference_of, text_of, items_of, next_item_of}
-use Rattle.kom_model.specs.Effects.{fits, made}
+use Rattle.kom_model.specs.Effects.{fits, after_effect}
 use Rattle.kom_model.specs.Whole.{AreItems, has_drawn_item}
 use Rattle.kom_model.proofs.whole.Counts.{all-along}
 use Rattle.kom_model.proofs.whole.OnConferences.{told-length}
@@ -122,9 +122,9 @@ module _ (all : List ItemRow) (texts : List TextRow) (table : List ConferenceRow
           (le-leb item.number LAST_DRAWN (omega (arith, last, written.1.1))))
           (known of_text front rest same)) (room of_text front rest same)) (short of_text front rest same)
 
-      text-makes : made (effect.AuxAdded true object item) (state of_texts of_conferences front)
+      text-makes : after_effect (effect.AuxAdded true object item) (state of_texts of_conferences front)
           ≡ state (set_at object (item.number + 1) of_texts) of_conferences (front ++ of_text ∷ [])
-      unfolding made
+      unfolding after_effect
       text-makes = ap (λ rows. record (state of_texts of_conferences (front ++ of_text ∷ [])) { texts = rows })
           (drawn-counting number_of_text (with_text_item created) (λ n one. refl) object (item.number + 1)
           (Texts.with_item_drawn item.number) (λ n one. refl) of_texts texts)
@@ -168,9 +168,9 @@ module _ (all : List ItemRow) (texts : List TextRow) (table : List ConferenceRow
           (known of_conference front rest same)) (room of_conference front rest same))
           (short of_conference front rest same)
 
-      home-makes : made (effect.AuxAdded false object item) (state of_texts of_conferences front)
+      home-makes : after_effect (effect.AuxAdded false object item) (state of_texts of_conferences front)
           ≡ state of_texts (set_at object (item.number + 1) of_conferences) (front ++ of_conference ∷ [])
-      unfolding made
+      unfolding after_effect
       home-makes =
           ap (λ rows. record (state of_texts of_conferences (front ++ of_conference ∷ [])) { conferences = rows })
           (drawn-counting number_of_conference (with_conference_item locals) (λ n one. refl) object (item.number + 1)

@@ -12,7 +12,7 @@ use Rattle.kom_types.specs.declared.texts.TextLink.{TextLink}
 use Rattle.kom_types.specs.declared.texts.TextRow.{TextRow}
 use Rattle.kom_types.specs.tables.Texts.{number_of_text, is_link}
 use Rattle.kom_model.specs.Db.{Db, text_of, link_of, links_from, links_into}
-use Rattle.kom_model.specs.Effects.{fits, made, most_links}
+use Rattle.kom_model.specs.Effects.{fits, after_effect, most_links}
 use Rattle.kom_model.specs.Whole.{AreLinks, has_text}
 use Rattle.kom_snapshot.proofs.replay.Replaying.{Replays, replays-none, replays-one, replays-append}
 use Rattle.kom_snapshot.proofs.replay.Tables.{all-at, none-before, room-before}
@@ -28,7 +28,7 @@ module _ (all : List TextLink) (texts : List TextRow) (whole : AreLinks all text
 
   one : (front : List TextLink) (row : TextLink) (rest : List TextLink) → front ++ row ∷ rest ≡ all →
       Replays (effect.LinkAdded row ∷ []) (state front) (state (front ++ row ∷ []))
-  unfolding fits made text_of link_of links_from links_into
+  unfolding fits after_effect text_of link_of links_from links_into
   one front row rest same =
       let at : (P : TextLink → Type 0) → AllByRecursion P all → P row =
       λ P holds. all-at P front row rest (subst (AllByRecursion P) (sym same) holds) in

@@ -14,9 +14,9 @@ use Rattle.kom_types.specs.declared.texts.MarkRow.{MarkRow}
 use Rattle.kom_types.specs.declared.texts.TextRow.{TextRow}
 use Rattle.kom_types.specs.tables.Persons.{number_of_person}
 use Rattle.kom_types.specs.tables.Texts as Texts
-use Rattle.kom_types.specs.tables.Texts.{number_of_text, is_mark, with_mark}
+use Rattle.kom_types.specs.tables.Texts.{number_of_text, is_mark}
 use Rattle.kom_model.specs.Db.{Db, text_of, person_of, mark_of, marks_of}
-use Rattle.kom_model.specs.Effects.{fits, made}
+use Rattle.kom_model.specs.Effects.{fits, after_effect}
 use Rattle.kom_model.specs.Whole.{AreMarks, has_text, has_person}
 use Rattle.kom_model.proofs.whole.Marks.{count-marks}
 use Rattle.kom_snapshot.proofs.replay.Replaying.{Replays, replays-none, replays-one, replays-append}
@@ -35,7 +35,7 @@ module _ (all : List MarkRow) (persons : List PersonRow) (texts : List TextRow) 
 
   one : (front : List MarkRow) (row : MarkRow) (rest : List MarkRow) → front ++ row ∷ rest ≡ all →
       Replays (mark_effect row ∷ []) (state front) (state (front ++ row ∷ []))
-  unfolding fits made text_of person_of mark_of marks_of
+  unfolding fits after_effect text_of person_of mark_of marks_of
   one front row rest same =
       let at : (P : MarkRow → Type 0) → AllByRecursion P all → P row =
       λ P holds. all-at P front row rest (subst (AllByRecursion P) (sym same) holds) in

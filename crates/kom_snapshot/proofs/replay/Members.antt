@@ -17,14 +17,14 @@ use Rattle.kom_types.specs.declared.memberships.ReadRange.{ReadRange}
 use Rattle.kom_types.specs.declared.persons.PersonRow.{PersonRow}
 use Rattle.kom_types.specs.tables.Conferences.{number_of_conference}
 use Rattle.kom_types.specs.tables.Memberships as Memberships
-use Rattle.kom_types.specs.tables.Memberships.{is_membership, opened, count_of, at_place, with_membership, with_new}
+use Rattle.kom_types.specs.tables.Memberships.{is_membership, with_gap, count_of, at_place, with_membership, with_new}
 use Rattle.kom_types.specs.tables.Memberships.{set_again}
 use Rattle.kom_types.specs.tables.Persons.{number_of_person}
 use Rattle.read_ranges.specs.Changed.{rise_after}
-use Rattle.read_ranges.specs.Merged.{merged, with_range}
+use Rattle.read_ranges.specs.Merged.{merge_all, with_range}
 use Rattle.read_ranges.specs.Reads.{ReadRow, is_read_of, with_reader, with_read, read_at, read_of}
 use Rattle.kom_model.specs.Db.{Db, person_of, conference_of, membership_of, memberships_of}
-use Rattle.kom_model.specs.Effects.{fits, made}
+use Rattle.kom_model.specs.Effects.{fits, after_effect}
 use Rattle.kom_model.specs.Whole.{AreMemberships, RiseApart, has_person, has_conference, key_of, read_key_of}
 use Rattle.kom_model.proofs.whole.Counts.{all-along, all-mapped, all-of, none-found}
 use Rattle.kom_model.proofs.whole.Memberships.{count-memberships}
@@ -137,11 +137,11 @@ both same rest = λ i. same i ∷ rest i
 
 moved : (row : MembershipRow) (front back : List MembershipRow) → AllByRecursion (IsApart row) back
     → (let all = front ++ back in
-    opened row.person (rank row all) (ranked all back) ≡ ranked (all ++ row ∷ []) back)
+    with_gap row.person (rank row all) (ranked all back) ≡ ranked (all ++ row ∷ []) back)
 moved row front [] apart = refl
 moved row front (other ∷ back) apart =
     let P : List MembershipRow → Type 0 = λ all.
-    opened row.person (rank row all) (ranked all back) ≡ ranked (all ++ row ∷ []) back in
+    with_gap row.person (rank row all) (ranked all back) ≡ ranked (all ++ row ∷ []) back in
     let rest : P (front ++ other ∷ back) =
     subst P (append_assoc front (other ∷ []) back) (moved row (front ++ other ∷ []) back apart.1) in
     both (moved_one row other front back apart.0) rest
@@ -180,7 +180,7 @@ step row rows apart =
     omega (arith, within row rows rows) in
     set_new (at_place (rank row rows) (unread row)) (ranked rows rows)
     (find-none (is_membership row.person row.conference) (ranked rows rows) (others row rows rows apart))
-    ∙ ap (λ (n : ℕ). opened row.person n (ranked rows rows) ++ at_place n (unread row) ∷ []) there
+    ∙ ap (λ (n : ℕ). with_gap row.person n (ranked rows rows) ++ at_place n (unread row) ∷ []) there
     ∙ ap (λ (l : List MembershipRow). l ++ at_place (rank row rows) (unread row) ∷ []) (moved row [] rows apart)
 
 ranked_more : (row : MembershipRow) (rows : List MembershipRow) →
@@ -194,11 +194,11 @@ ranked_more row rows =
     ∙ sym (map-append (λ (r : MembershipRow). at_place (rank r (rows ++ row ∷ [])) r) rows (row ∷ []))
 
 -- ---- ranges that rise and do not touch are as they are when those that touch are made one
-merged-same : (least : ℕ) (ranges : List ReadRange) → RiseApart least ranges → merged ranges ≡ ranges
+merged-same : (least : ℕ) (ranges : List ReadRange) → RiseApart least ranges → merge_all ranges ≡ ranges
 merged-same least [] rise = refl
 merged-same least (one ∷ []) rise = refl
 merged-same least (one ∷ next ∷ ranges) rise =
-    let rest : merged (next ∷ ranges) ≡ next ∷ ranges = merged-same (one.last + 2) (next ∷ ranges) rise.2 in
+    let rest : merge_all (next ∷ ranges) ≡ next ∷ ranges = merged-same (one.last + 2) (next ∷ ranges) rise.2 in
     let after : one.last + 2 ≤ next.first = rise.2.0 in
     ap (with_range one) rest
     ∙ rw (ne_eqb next.first (one.last + 1) (λ e. omega (arith, e, after))) refl
@@ -299,9 +299,9 @@ module _ (all : List MembershipRow) (reads : List ReadRow) (persons : List Perso
         (or_right _ _ (lt-ltb (length (Memberships.memberships_of row.person (ranked front front)))
         MOST_MEMBERSHIPS (omega (arith, few, sorted, kept))))
 
-    set_makes : made (effect.MemberSet row.person row.conference (rank row front) row.priority row.added_by
+    set_makes : after_effect (effect.MemberSet row.person row.conference (rank row front) row.priority row.added_by
         row.added_at row.kind) (after front) ≡ between
-    unfolding made
+    unfolding after_effect
     set_makes =
         let members = step row front apart in
         let read : with_reader row.person row.conference (map read_row front) ≡ map read_row front ++ unread_row ∷ [] =
@@ -315,9 +315,9 @@ module _ (all : List MembershipRow) (reads : List ReadRow) (persons : List Perso
         (find-last (is_membership row.person row.conference) front_after (at_place (rank row front) (unread row)) key)
         (rises 0 (read_of row.person row.conference reads) (found-rises reads whole.ranges row.person row.conference))
 
-    read_makes : made (effect.ReadSet row.person row.conference row.last_time_read
+    read_makes : after_effect (effect.ReadSet row.person row.conference row.last_time_read
         (read_of row.person row.conference reads)) between ≡ after (front ++ row ∷ [])
-    unfolding made
+    unfolding after_effect
     read_makes =
         let members : read_at row.person row.conference row.last_time_read
         (front_after ++ at_place (rank row front) (unread row) ∷ []) ≡ ranked (front ++ row ∷ []) (front ++ row ∷ []) =
@@ -327,10 +327,10 @@ module _ (all : List MembershipRow) (reads : List ReadRow) (persons : List Perso
         ∙ ranked_more row front in
         let ranges = merged-same 1 (read_of row.person row.conference reads)
         (found-rises reads whole.ranges row.person row.conference) in
-        let read : with_read row.person row.conference (merged (read_of row.person row.conference reads))
+        let read : with_read row.person row.conference (merge_all (read_of row.person row.conference reads))
         (map read_row front ++ unread_row ∷ []) ≡ map read_row (front ++ row ∷ []) =
         last-changed (is_read_of row.person row.conference)
-        (λ one. record one { ranges = merged (read_of row.person row.conference reads) }) (map read_row front)
+        (λ one. record one { ranges = merge_all (read_of row.person row.conference reads) }) (map read_row front)
         unread_row others_read key
         ∙ ap (λ ranges. map read_row front ++ (record unread_row { ranges = ranges }) ∷ []) ranges
         ∙ sym (map-append read_row front (row ∷ [])) in

@@ -13,10 +13,10 @@ use Rattle.kom_types.specs.declared.effects.Effect.TheVariants as effect
 use Rattle.kom_types.specs.declared.effects.PersonField.TheVariants as person_field
 use Rattle.kom_types.specs.declared.persons.PersonRow.{PersonRow}
 use Rattle.kom_types.specs.tables.Persons as Persons
-use Rattle.kom_types.specs.tables.Persons.{number_of_person, fresh_person, with_hash, logged_in, counted, last_count}
-use Rattle.kom_types.specs.tables.Persons.{raised}
+use Rattle.kom_types.specs.tables.Persons.{number_of_person, fresh_person, with_hash, logged_in, count_up, last_count}
+use Rattle.kom_types.specs.tables.Persons.{raise_by}
 use Rattle.kom_model.specs.Db.{Db, conference_of, person_of}
-use Rattle.kom_model.specs.Effects.{fits, made, has_letterbox}
+use Rattle.kom_model.specs.Effects.{fits, after_effect, has_letterbox}
 use Rattle.kom_snapshot.specs.Listed.{IsListedPerson}
 use Rattle.kom_snapshot.specs.Snap.{person_effects, count_effects, count_effect, unless_zero}
 use Rattle.kom_snapshot.proofs.replay.Replaying.{Replays, replays-none, replays-one, replays-append, replays-unless}
@@ -52,19 +52,19 @@ module _ (db : Db) (front : List PersonRow) (row : PersonRow) (below : AllBelow 
 
   area-step : (text : ℕ) → Replays (effect.PersonField row.number (person_field.UserArea text) ∷ [])
       (persons_in db (front ++ row ∷ [])) (persons_in db (front ++ (record row { user_area = text }) ∷ []))
-  unfolding fits made person_of
+  unfolding fits after_effect person_of
   area-step text = replays-one _ _ _ there
       (changed (Persons.with_field (person_field.UserArea text)) (record row { user_area = text }) refl)
 
   hash-step : (hash : List ℕ) → Replays (effect.Password row.number hash ∷ [])
       (persons_in db (front ++ row ∷ [])) (persons_in db (front ++ (record row { hash = hash }) ∷ []))
-  unfolding fits made person_of
+  unfolding fits after_effect person_of
   hash-step hash = replays-one _ _ _ there (changed (with_hash hash) (record row { hash = hash }) refl)
 
   login-step : (user : List ℕ) → length user ≤ LONGEST_USER_NAME → row.sessions ≡ 0 →
       Replays (effect.LoggedIn row.number row.last_login user ∷ []) (persons_in db (front ++ row ∷ []))
       (persons_in db (front ++ (record row { user = user; sessions = 1 }) ∷ []))
-  unfolding fits made person_of
+  unfolding fits after_effect person_of
   login-step user short none = replays-one _ _ _ (and_from _ _ there (le-leb (length user) LONGEST_USER_NAME short))
       (changed (logged_in row.last_login user) (record row { user = user; sessions = 1 })
       (ap (λ n. record row { user = user; sessions = n }) (once row.sessions none)))
@@ -72,14 +72,14 @@ module _ (db : Db) (front : List PersonRow) (row : PersonRow) (below : AllBelow 
       once : (count : ℕ) → count ≡ 0 → min (count + 1) last_count ≡ 1
       once count none = omega (arith, none)
 
-  count-step : (what : Counter) (by : ℕ) (new : PersonRow) → counted what by row ≡ new →
+  count-step : (what : Counter) (by : ℕ) (new : PersonRow) → count_up what by row ≡ new →
       Replays (effect.Counted row.number what by ∷ []) (persons_in db (front ++ row ∷ []))
       (persons_in db (front ++ new ∷ []))
-  unfolding fits made person_of
-  count-step what by new same = replays-one _ _ _ there (changed (counted what by) new same)
+  unfolding fits after_effect person_of
+  count-step what by new same = replays-one _ _ _ there (changed (count_up what by) new same)
 
 -- a count that begins at 0
-counted-all : (by : ℕ) → by ≤ last_count → raised by 0 ≡ by
+counted-all : (by : ℕ) → by ≤ last_count → raise_by by 0 ≡ by
 counted-all by less = omega (arith, less)
 
 module _ (db : Db) (front : List PersonRow) (number : ℕ) (below : AllBelow number_of_person number front) where
@@ -88,7 +88,7 @@ module _ (db : Db) (front : List PersonRow) (number : ℕ) (below : AllBelow num
 
   -- a counter of the last person, which is as it was made, is raised
   counter-step : (what : Counter) (by : ℕ) (row : ℕ → PersonRow) → (row 0).number ≡ number →
-      counted what by (row 0) ≡ row (raised by 0) → by ≤ last_count →
+      count_up what by (row 0) ≡ row (raise_by by 0) → by ≤ last_count →
       Replays (count_effect number what by) (ending (row 0)) (ending (row by))
   counter-step what by row numbered counts bounded =
       replays-unless by (effect.Counted number what by) (λ n. ending (row n))
@@ -203,7 +203,7 @@ module _ (all : List PersonRow) (rising : IsByNumber number_of_person all)
 
       added : Replays (effect.PersonAdded row.number row.privileges row.flags row.last_login ∷ []) (state front)
           (persons_in db (before ++ fresh ∷ []))
-      unfolding fits made person_of conference_of
+      unfolding fits after_effect person_of conference_of
       added = replays-one _ _ _
           (and_from _ _ (at (λ row. has_letterbox db row.number ≡ true) housed)
           (ap is_none (row-absent number_of_person row.number before below)))

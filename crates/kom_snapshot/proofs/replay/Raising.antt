@@ -17,7 +17,7 @@ use Rattle.kom_model.specs.Db.{Db, conference_of, person_of, text_of}
 use Rattle.kom_types.specs.declared.raised.Raised.{Raised}
 use Rattle.kom_types.specs.declared.raised.RaisedCounter.TheVariants as counter
 use Rattle.kom_snapshot.specs.Listed.{IsListedConference, IsListedPerson, IsListedText}
-use Rattle.kom_snapshot.specs.Snap.{raised}
+use Rattle.kom_snapshot.specs.Snap.{raise_to}
 use Rattle.kom_model.specs.Raising.{may_raise, raised_in, is_between}
 use Rattle.kom_snapshot.proofs.replay.Conferences.{conf_as}
 use Rattle.kom_snapshot.proofs.replay.Persons.{begun, person_as}
@@ -88,12 +88,12 @@ module _ (all : List ConferenceRow) (rising : IsByNumber number_of_conference al
 
   pub locals-raised : (locals items : ℕ → ℕ) →
       AllByRecursion (λ row. locals row.number ≤ row.next_local) all →
-      Raises (map (λ row. raised counter.Locals row.number row.next_local) all)
+      Raises (map (λ row. raise_to counter.Locals row.number row.next_local) all)
       (conferences_in (map (conf_as locals items) all)) (conferences_in (map (with_items items) all))
   unfolding may_raise raised_in conference_of
   locals-raised locals items within =
       table-raised number_of_conference (conf_as locals items) (with_items items) (λ row. refl) (λ row. refl) all rising
-      conferences_in (λ row. raised counter.Locals row.number row.next_local)
+      conferences_in (λ row. raise_to counter.Locals row.number row.next_local)
       (λ front row rest same. (
         subst (λ (found : Option ConferenceRow). (elim found [
           | None ↦ false
@@ -110,12 +110,12 @@ module _ (all : List ConferenceRow) (rising : IsByNumber number_of_conference al
       )) [] all refl
 
   pub items-raised : (items : ℕ → ℕ) → AllByRecursion (λ row. items row.number ≤ row.next_item) all →
-      Raises (map (λ row. raised counter.ConferenceItems row.number row.next_item) all)
+      Raises (map (λ row. raise_to counter.ConferenceItems row.number row.next_item) all)
       (conferences_in (map (with_items items) all)) (conferences_in (map (λ (row : ConferenceRow). row) all))
   unfolding may_raise raised_in conference_of
   items-raised items within =
       table-raised number_of_conference (with_items items) (λ row. row) (λ row. refl) (λ row. refl) all rising
-      conferences_in (λ row. raised counter.ConferenceItems row.number row.next_item)
+      conferences_in (λ row. raise_to counter.ConferenceItems row.number row.next_item)
       (λ front row rest same. (
         subst (λ (found : Option ConferenceRow). (elim found [
           | None ↦ false
@@ -141,12 +141,12 @@ module _ (all : List PersonRow) (rising : IsByNumber number_of_person all)
   with_sessions row = record row { sessions = begun row.sessions }
 
   pub created-raised : (next : ℕ → ℕ) → AllByRecursion (λ row. next row.number ≤ row.next_created) all →
-      Raises (map (λ row. raised counter.Created row.number row.next_created) all)
+      Raises (map (λ row. raise_to counter.Created row.number row.next_created) all)
       (persons_in (map (person_as next) all)) (persons_in (map with_sessions all))
   unfolding may_raise raised_in person_of
   created-raised next within =
       table-raised number_of_person (person_as next) with_sessions (λ row. refl) (λ row. refl) all rising
-      persons_in (λ row. raised counter.Created row.number row.next_created)
+      persons_in (λ row. raise_to counter.Created row.number row.next_created)
       (λ front row rest same. (
         subst (λ (found : Option PersonRow). (elim found [
           | None ↦ false
@@ -168,12 +168,12 @@ module _ (all : List PersonRow) (rising : IsByNumber number_of_person all)
     | inr some ↦ let more = eqb-false count 0 some in rw some (omega (arith, more))
   ]
 
-  pub sessions-raised : Raises (map (λ row. raised counter.Sessions row.number row.sessions) all)
+  pub sessions-raised : Raises (map (λ row. raise_to counter.Sessions row.number row.sessions) all)
       (persons_in (map with_sessions all)) (persons_in (map (λ (row : PersonRow). row) all))
   unfolding may_raise raised_in person_of
   sessions-raised =
       table-raised number_of_person with_sessions (λ row. row) (λ row. refl) (λ row. refl) all rising
-      persons_in (λ row. raised counter.Sessions row.number row.sessions)
+      persons_in (λ row. raise_to counter.Sessions row.number row.sessions)
       (λ front row rest same. (
         subst (λ (found : Option PersonRow). (elim found [
           | None ↦ false
@@ -197,12 +197,12 @@ module _ (all : List TextRow) (rising : IsByNumber number_of_text all)
   with_created row = record row { created_local = created row.number }
 
   pub text_items-raised : (items : ℕ → ℕ) → AllByRecursion (λ row. items row.number ≤ row.next_item) all →
-      Raises (map (λ row. raised counter.TextItems row.number row.next_item) all)
+      Raises (map (λ row. raise_to counter.TextItems row.number row.next_item) all)
       (texts_in (map (text_as created items) all)) (texts_in (map with_created all))
   unfolding may_raise raised_in text_of
   text_items-raised items within =
       table-raised number_of_text (text_as created items) with_created (λ row. refl) (λ row. refl) all rising
-      texts_in (λ row. raised counter.TextItems row.number row.next_item)
+      texts_in (λ row. raise_to counter.TextItems row.number row.next_item)
       (λ front row rest same. (
         subst (λ (found : Option TextRow). (elim found [
           | None ↦ false
@@ -220,14 +220,14 @@ module _ (all : List TextRow) (rising : IsByNumber number_of_text all)
 
 -- ---- the next conference and the next text
 pub conferences-raised : (db : Db) (next : ℕ) → db.next_conference ≤ next → next ≤ LAST_CONFERENCE + 1 →
-    Raises (raised counter.Conferences 0 next ∷ []) db (record db { next_conference = next })
+    Raises (raise_to counter.Conferences 0 next ∷ []) db (record db { next_conference = next })
 unfolding may_raise raised_in
 conferences-raised db next lower upper = raises-cons _ [] _ _ _
     (between db.next_conference next (LAST_CONFERENCE + 1) lower upper) refl
     (raises-none (record db { next_conference = next }) (record db { next_conference = next }) refl)
 
 pub texts-raised : (db : Db) (next : ℕ) → db.next_text ≤ next → next ≤ LAST_DRAWN + 1 →
-    Raises (raised counter.Texts 0 next ∷ []) db (record db { next_text = next })
+    Raises (raise_to counter.Texts 0 next ∷ []) db (record db { next_text = next })
 unfolding may_raise raised_in
 texts-raised db next lower upper = raises-cons _ [] _ _ _
     (between db.next_text next (LAST_DRAWN + 1) lower upper) refl

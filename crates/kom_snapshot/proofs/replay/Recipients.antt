@@ -15,7 +15,7 @@ use Rattle.kom_types.specs.declared.texts.TextRow.{TextRow}
 use Rattle.kom_types.specs.tables.Conferences.{number_of_conference, with_local_drawn}
 use Rattle.kom_types.specs.tables.Texts.{number_of_text, is_recipient}
 use Rattle.kom_model.specs.Db.{Db, conference_of, text_of, recipient_of, recipients_of, next_local_of}
-use Rattle.kom_model.specs.Effects.{fits, made, is_recipient_tag}
+use Rattle.kom_model.specs.Effects.{fits, after_effect, is_recipient_tag}
 use Rattle.kom_model.specs.Whole.{AreRecipients, has_text, has_drawn_local}
 use Rattle.kom_model.proofs.whole.Counts.{all-along}
 use Rattle.kom_snapshot.specs.Listed.{RiseByKind, in_one_conference, IsListedConference}
@@ -80,9 +80,9 @@ module _ (all : List Recipient) (texts : List TextRow) (table : List ConferenceR
         (subst (λ l. length (filter (λ one. one.text == row.text) l) ≤ MOST_RECIPIENTS) (sym same)
         (whole.limited row.text)) (eq-eqb row.text row.text refl)))
 
-    makes : made (effect.RecipientAdded row) (state locals front)
+    makes : after_effect (effect.RecipientAdded row) (state locals front)
         ≡ state (set_at row.conference (row.local + 1) locals) (front ++ row ∷ [])
-    unfolding made
+    unfolding after_effect
     makes = ap (λ conferences. record db { conferences = conferences; recipients = front ++ row ∷ [] })
         (drawn-counting number_of_conference (with_local items) (λ n one. refl) row.conference (row.local + 1)
         (with_local_drawn row.local) (λ n one. refl) locals table)

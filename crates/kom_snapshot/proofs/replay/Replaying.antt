@@ -4,7 +4,7 @@ use Rattle.std.proofs.Common.{inl, inr, subst, eqb-true}
 use Rattle.std.proofs.lemmas.Bool.{cases_Bool, and_parts}
 use Rattle.kom_types.specs.declared.effects.Effect.{Effect}
 use Rattle.kom_model.specs.Db.{Db}
-use Rattle.kom_model.specs.Effects.{fits, made, apply, apply_all, all_fit}
+use Rattle.kom_model.specs.Effects.{fits, after_effect, apply, apply_all, all_fit}
 use Rattle.kom_types.specs.declared.raised.Raised.{Raised}
 use Rattle.kom_model.specs.Raising.{may_raise, raised_in}
 use Rattle.kom_snapshot.specs.Snapshot.{raise_all, all_may_raise}
@@ -23,7 +23,7 @@ pub replays-same : (old new : Db) → old ≡ new → Replays [] old new
 replays-same old new same = record { fit = refl; same = same }
 
 pub replays-cons : (what : Effect) (others : List Effect) (old mid new : Db) → fits what old ≡ true →
-    made what old ≡ mid → Replays others mid new → Replays (what ∷ others) old new
+    after_effect what old ≡ mid → Replays others mid new → Replays (what ∷ others) old new
 replays-cons what others old mid new fit makes rest =
     let one : apply what old ≡ mid = rw fit makes in
     record {
@@ -31,7 +31,7 @@ replays-cons what others old mid new fit makes rest =
       same = ap (apply_all others) one ∙ rest.same;
     }
 
-pub replays-one : (what : Effect) (old new : Db) → fits what old ≡ true → made what old ≡ new →
+pub replays-one : (what : Effect) (old new : Db) → fits what old ≡ true → after_effect what old ≡ new →
     Replays (what ∷ []) old new
 replays-one what old new fit makes = replays-cons what [] old new new fit makes (replays-none new)
 
@@ -40,9 +40,9 @@ pub replays-append : (first second : List Effect) (old mid new : Db) → Replays
 replays-append [] second old mid new one other = subst (λ db. Replays second db new) (sym one.same) other
 replays-append (what ∷ first) second old mid new one other =
     let parts = and_parts (fits what old) (all_fit first (apply what old)) one.fit in
-    let makes : apply what old ≡ made what old = rw parts.0 refl in
-    replays-cons what (first ++ second) old (made what old) new parts.0 refl
-    (replays-append first second (made what old) mid new
+    let makes : apply what old ≡ after_effect what old = rw parts.0 refl in
+    replays-cons what (first ++ second) old (after_effect what old) new parts.0 refl
+    (replays-append first second (after_effect what old) mid new
     (subst (λ db. Replays first db mid) makes (record { fit = parts.1; same = one.same })) other)
 
 -- an effect that is left out where a number is 0

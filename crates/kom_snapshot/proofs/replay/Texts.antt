@@ -12,7 +12,7 @@ use Rattle.kom_types.specs.declared.effects.Effect.TheVariants as effect
 use Rattle.kom_types.specs.declared.texts.TextRow.{TextRow}
 use Rattle.kom_types.specs.tables.Texts.{number_of_text, fresh_text, lines_of}
 use Rattle.kom_model.specs.Db.{Db, text_of}
-use Rattle.kom_model.specs.Effects.{fits, made}
+use Rattle.kom_model.specs.Effects.{fits, after_effect}
 use Rattle.kom_model.proofs.whole.Counts.{all-weaker}
 use Rattle.kom_snapshot.proofs.replay.Replaying.{Replays, replays-none, replays-one, replays-append}
 use Rattle.kom_snapshot.proofs.replay.Tables.{ones, all-at, below-one, above-one, below-mapped, row-last}
@@ -41,7 +41,7 @@ module _ (all : List TextRow) (rising : IsByNumber number_of_text all)
   one : (front : List TextRow) (row : TextRow) (rest : List TextRow) (next : ℕ) →
       front ++ row ∷ rest ≡ all → next ≤ row.number →
       Replays (text_effect row ∷ []) (state front next) (state (front ++ row ∷ []) (row.number + 1))
-  unfolding fits made text_of
+  unfolding fits after_effect text_of
   one front row rest next same least =
       let below = below-mapped number_of_text bare_text (λ one. refl) row.number front
       (below-one number_of_text front row rest (subst (IsByNumber number_of_text) (sym same) rising)) in

@@ -88,21 +88,21 @@ elements element (suc count) tokens =
     then (elements element count tail) (λ values. Took (value ∷ values)))
 
 -- a brace ends the elements
-abbrev pub closed : {X : Type 0} → X → List Token → Taken X
-closed values [] = Departs Malformed
-closed values (Digits digits ∷ tail) = Departs Malformed
-closed values (Text bytes ∷ tail) = Departs Malformed
-closed values (Open ∷ tail) = Departs Malformed
-closed values (Close ∷ tail) = Took values tail
-closed values (Star ∷ tail) = Departs Malformed
-closed values (Signed sign digits ∷ tail) = Departs Malformed
+abbrev pub close_array : {X : Type 0} → X → List Token → Taken X
+close_array values [] = Departs Malformed
+close_array values (Digits digits ∷ tail) = Departs Malformed
+close_array values (Text bytes ∷ tail) = Departs Malformed
+close_array values (Open ∷ tail) = Departs Malformed
+close_array values (Close ∷ tail) = Took values tail
+close_array values (Star ∷ tail) = Departs Malformed
+close_array values (Signed sign digits ∷ tail) = Departs Malformed
 
 -- the elements of an array of this length, in braces; none may be told by a star
 abbrev pub array_of : {X : Type 0} → (List Token → Taken X) → ℕ → List Token → Taken (List X)
 array_of element count [] = Departs Malformed
 array_of element count (Digits digits ∷ tail) = Departs Malformed
 array_of element count (Text bytes ∷ tail) = Departs Malformed
-array_of element count (Open ∷ tail) = then (elements element count tail) closed
+array_of element count (Open ∷ tail) = then (elements element count tail) close_array
 array_of element count (Close ∷ tail) = Departs Malformed
 array_of element count (Star ∷ tail) =
     elim count [ zero ↦ Took [] tail | suc more ↦ Departs Malformed ]

@@ -75,8 +75,8 @@ closed_up person place rows =
     then at_place (row.position - 1) row else row) rows
 
 -- the person's memberships from a place on make room
-abbrev pub opened : ℕ → ℕ → List MembershipRow → List MembershipRow
-opened person place rows =
+abbrev pub with_gap : ℕ → ℕ → List MembershipRow → List MembershipRow
+with_gap person place rows =
     map (λ row. if row.person == person && nat_le place row.position
     then at_place (row.position + 1) row else row) rows
 
@@ -97,14 +97,14 @@ replaced_by given rows =
 -- it.
 abbrev pub with_new : MembershipRow → List MembershipRow → List MembershipRow
 with_new given rows = let place = min given.position (count_of given.person rows) in
-    opened given.person place rows ++ at_place place given ∷ []
+    with_gap given.person place rows ++ at_place place given ∷ []
 
 -- A membership that is set again is first taken out of its place; it keeps its turn in the order of
 -- joining, and when its record of what was read was set.
 abbrev pub set_again : MembershipRow → MembershipRow → List MembershipRow → List MembershipRow
 set_again given old rows = let place = min given.position (count_of given.person rows - 1) in
     replaced_by (at_place place (record given { last_time_read = old.last_time_read }))
-    (opened given.person place (closed_up given.person old.position rows))
+    (with_gap given.person place (closed_up given.person old.position rows))
 
 -- A membership is set.
 abbrev pub with_membership : MembershipRow → List MembershipRow → List MembershipRow

@@ -55,20 +55,20 @@ password_hash person password = sha256 (to_be_bytes w32 person ++ password)
 abbrev pub last_count : ℕ
 last_count = 4294967295
 
-abbrev pub raised : ℕ → ℕ → ℕ
-raised by count = min (count + by) last_count
+abbrev pub raise_by : ℕ → ℕ → ℕ
+raise_by by count = min (count + by) last_count
 
 -- with one of its counters higher
-abbrev pub counted : Counter → ℕ → PersonRow → PersonRow
-counted counter.TimePresent by row = record row { time_present = raised by row.time_present }
-counted counter.CreatedLines by row = record row { created_lines = raised by row.created_lines }
-counted counter.CreatedBytes by row = record row { created_bytes = raised by row.created_bytes }
-counted counter.ReadTexts by row = record row { read_texts = raised by row.read_texts }
-counted counter.TextFetches by row = record row { text_fetches = raised by row.text_fetches }
-counted counter.CreatedPersons by row =
-    record row { created_persons = raised by row.created_persons }
-counted counter.CreatedConferences by row =
-    record row { created_conferences = raised by row.created_conferences }
+abbrev pub count_up : Counter → ℕ → PersonRow → PersonRow
+count_up counter.TimePresent by row = record row { time_present = raise_by by row.time_present }
+count_up counter.CreatedLines by row = record row { created_lines = raise_by by row.created_lines }
+count_up counter.CreatedBytes by row = record row { created_bytes = raise_by by row.created_bytes }
+count_up counter.ReadTexts by row = record row { read_texts = raise_by by row.read_texts }
+count_up counter.TextFetches by row = record row { text_fetches = raise_by by row.text_fetches }
+count_up counter.CreatedPersons by row =
+    record row { created_persons = raise_by by row.created_persons }
+count_up counter.CreatedConferences by row =
+    record row { created_conferences = raise_by by row.created_conferences }
 
 -- with one field set
 abbrev pub with_field : PersonField → PersonRow → PersonRow
@@ -83,7 +83,7 @@ with_hash hash row = record row { hash = hash }
 -- after a login: its moment, the user name that was told of it, and one session more
 abbrev pub logged_in : ℕ → List ℕ → PersonRow → PersonRow
 logged_in at user row =
-    record row { last_login = at; user = user; sessions = raised 1 row.sessions }
+    record row { last_login = at; user = user; sessions = raise_by 1 row.sessions }
 
 -- with a local number drawn among its created texts, and so all before it
 abbrev pub with_created_drawn : ℕ → PersonRow → PersonRow

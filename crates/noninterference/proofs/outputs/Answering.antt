@@ -4,7 +4,7 @@ use Rattle.std.specs.Prelude.{is_some}
 use Rattle.kom_types.specs.declared.calls.Call.{Call}
 use Rattle.kom_types.specs.calls.Numbers.{number_of_call}
 use Rattle.kom_model.specs.declared.call_errors.Refused.{Refused}
-use Rattle.kom_model.specs.Decide.{decision_of, definition_of, is_firm, limited, was_refused}
+use Rattle.kom_model.specs.Decide.{decision_of, definition_of, is_firm, limit_reply, was_refused}
 use Rattle.kom_model.specs.Effects.{IsProtected}
 use Rattle.kom_model.specs.declared.kinds.TheConstants.{FIRM_NUMBERS}
 use Rattle.kom_model.specs.Kinds.{is_among, accept_async}
@@ -25,7 +25,7 @@ module _ (group : Group) (asked : Asked) (call : Call) (protected : IsProtected 
 
   pub decided : decision_of (erased_asked group asked) call ≡ decision_of asked call
   unfolding decision_of
-  decided = ap (limited asked.reference) (decided-same _ _ defined)
+  decided = ap (limit_reply asked.reference) (decided-same _ _ defined)
 
   firm : is_firm (erased_asked group asked) call ≡ is_firm asked call
   unfolding is_firm

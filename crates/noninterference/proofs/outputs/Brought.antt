@@ -14,7 +14,7 @@ use Rattle.kom_model.specs.declared.viewers.Viewer.{Viewer}
 use Rattle.kom_model.specs.Db.{Db}
 use Rattle.kom_model.specs.Decide.{decision_of}
 use Rattle.kom_model.specs.Effects.{IsProtected}
-use Rattle.kom_model.specs.Sending.{Delivery, Sending, delivered, accepts}
+use Rattle.kom_model.specs.Sending.{Delivery, Sending, delivery_to, accepts}
 use Rattle.kom_model.specs.ToWhom.{sendings, sent_by, logged_out, logged_in}
 use Rattle.kom_model.specs.ToWhom.{is_refused}
 use Rattle.kom_model.specs.Viewers.{viewer_of}
@@ -109,10 +109,10 @@ module _ (group : Group) (asked : Asked) (call : Call) (seat : Seat) (protected 
   somebody-brought decision in_group =
       let before : List Sending = filter_map (logged_out asked) decision.changes
       ++ filter_map logged_in decision.changes in
-      filter_map-append (λ sending. delivered one sending seat) before _
+      filter_map-append (λ sending. delivery_to one sending seat) before _
       ∙ ap₂ (λ (first others : List Delivery). first ++ others) (same-brought before)
       (unless-refused (is_refused decision.reply) decision in_group)
-      ∙ sym (filter_map-append (λ sending. delivered asked.db sending seat) before _)
+      ∙ sym (filter_map-append (λ sending. delivery_to asked.db sending seat) before _)
 
   brought-erased : (decision : Decision) → brought_to one seat (sendings (erased_asked group asked) call decision)
       ≡ brought_to asked.db seat (sendings asked call decision)

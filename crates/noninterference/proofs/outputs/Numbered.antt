@@ -10,7 +10,7 @@ use Rattle.kom_types.specs.declared.messages.Message.TheVariants as message
 use Rattle.kom_model.specs.declared.viewers.Viewer.{Viewer}
 use Rattle.kom_model.specs.Messages.{told_if}
 use Rattle.kom_model.specs.Sending.{Sending}
-use Rattle.kom_model.specs.ToWhom.{left}
+use Rattle.kom_model.specs.ToWhom.{left_conference}
 use Rattle.kom_laws.proofs.masking.Rows.{told}
 
 -- the number of a message is that by which a session accepts it
@@ -62,7 +62,7 @@ pick-numbered pick numbered [] = tt
 pick-numbered pick numbered (row ∷ rows) =
     option-numbered (pick row) (filter_map pick rows) (numbered row) (pick-numbered pick numbered rows)
 
-pub left-numbered : (what : Effect) → IfSome (left what) IsNumbered
+pub left-numbered : (what : Effect) → IfSome (left_conference what) IsNumbered
 left-numbered (effect.MemberGone person conference) =
     record { tells = λ viewer what. numbered-if (viewer.person == person) (message.LeaveConference conference) what }
 left-numbered other = tt

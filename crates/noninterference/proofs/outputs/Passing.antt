@@ -3,8 +3,8 @@ use Rattle.std.proofs.Common.{◌≡◌, ℕ, Bool, true, false, cond, List, [],
 use Rattle.std.proofs.Common.{subst, ◌∙◌}
 use Rattle.kom_types.specs.declared.decisions.Decision.{Decision}
 use Rattle.kom_model.specs.declared.call_errors.Refused.{Refused}
-use Rattle.kom_model.specs.calls.Call.{Definition, decided}
-use Rattle.kom_model.specs.calls.Guards.{Guard, refusal, unless, first_refusal, guarded}
+use Rattle.kom_model.specs.calls.Call.{Definition, outcome_of}
+use Rattle.kom_model.specs.calls.Guards.{Guard, refusal, unless, first_refusal, with_guards}
 use Rattle.noninterference.specs.outputs.Answers.{ComesToSame}
 
 -- a guard that lets pass holds
@@ -74,15 +74,17 @@ refusing {one} {other} {ones} {others} same after =
 -- two guards, and what a call comes to after them
 pub two-guards : (first first' second second' : Guard) (rest rest' : Decision) → first ≡ first' → second ≡ second' →
     (first' ≡ None → second' ≡ None → rest ≡ rest') →
-    ComesToSame (guarded (first ∷ second ∷ []) rest) (guarded (first' ∷ second' ∷ []) rest')
+    ComesToSame (with_guards (first ∷ second ∷ []) rest) (with_guards (first' ∷ second' ∷ []) rest')
 two-guards first first' second second' rest rest' same same' after =
     simp by-guard (passing same (λ passes. passing same' (λ passes'. ended (after passes passes'))))
 
 -- definitions that come to the same are decided the same
-pub decided-same : (one other : Definition) → ComesToSame one other → decided one ≡ decided other
+pub decided-same : (one other : Definition) → ComesToSame one other → outcome_of one ≡ outcome_of other
 decided-same one other same =
-    ap (λ early. decided (record { early = early; rest = one.rest })) same.early ∙ by-rest other.early same.rest where
+    ap (λ early. outcome_of (record { early = early; rest = one.rest })) same.early
+    ∙ by-rest other.early same.rest where
       by-rest : (early : Option Refused) → (early ≡ None → one.rest ≡ other.rest) →
-          decided (record { early = early; rest = one.rest }) ≡ decided (record { early = early; rest = other.rest })
+          outcome_of (record { early = early; rest = one.rest })
+          ≡ outcome_of (record { early = early; rest = other.rest })
       by-rest None rest = rest refl
       by-rest (Some refused) rest = refl

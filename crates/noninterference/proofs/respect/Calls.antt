@@ -5,7 +5,7 @@ use Rattle.kom_model.specs.After.{decision_at, moment_of}
 use Rattle.kom_model.specs.Db.{Db}
 use Rattle.kom_model.specs.Decide.{asked_in}
 use Rattle.kom_model.specs.State.{State}
-use Rattle.kom_laws.specs.Erasing.{erased}
+use Rattle.kom_laws.specs.Erasing.{erase}
 use Rattle.kom_laws.specs.Groups.{Group}
 use Rattle.kom_laws.proofs.Calls.{decided-fit}
 use Rattle.noninterference.specs.steps.Steps.{IsReadyFor}
@@ -37,6 +37,6 @@ pub calls-vanish : HiddenCallsVanish
 calls-vanish group state pass moment session reference call hidden =
     after-silent group state moment session reference call
     (hidden-silent group state moment session reference call hidden) pass
-    ∙ ap (λ (db : Db). record (later moment (erased group state)) { db = db })
+    ∙ ap (λ (db : Db). record (later moment (erase group state)) { db = db })
     (hidden-vanish.effects group state.db (decision_at state moment session reference call).effects
     (hidden-ready group state moment session reference call hidden) hidden.masked)

@@ -25,7 +25,7 @@ use Rattle.kom_types.specs.declared.seats.Seat.{Seat}
 use Rattle.kom_types.specs.declared.texts.NewText.{NewText}
 use Rattle.kom_types.specs.declared.texts.TextRow.{TextRow}
 use Rattle.kom_types.specs.calls.Numbers.{number_of_call}
-use Rattle.read_ranges.specs.Changed.{size_of, all_marked, unmarked, up_to}
+use Rattle.read_ranges.specs.Changed.{size_of, all_marked, mark_unread, up_to}
 use Rattle.kom_model.specs.declared.call_errors.Refused.{Refused}
 use Rattle.kom_model.specs.declared.viewers.Viewer.{Viewer}
 use Rattle.kom_model.specs.Db.{conference_of, conferences_of, recipient_of, texts_of, next_item_of}
@@ -36,7 +36,7 @@ use Rattle.kom_model.specs.Shown.{text_adder, conference_adder}
 use Rattle.kom_model.specs.ToWhom.{sent_by, is_refused}
 use Rattle.kom_model.specs.Whole.{IsWhole}
 use Rattle.kom_model.specs.calls.AuxItems.{items_added, item_effects}
-use Rattle.kom_model.specs.calls.Call.{Asked, answer, done, refuse}
+use Rattle.kom_model.specs.calls.Call.{Asked, answer, done_with, refuse}
 use Rattle.kom_model.specs.calls.Conferences as Conferences
 use Rattle.kom_model.specs.calls.Guards.{Guard, caller, seat_at, new_items_guard, with_items}
 use Rattle.kom_model.specs.calls.Memberships.{reads_now, had_read}
@@ -132,7 +132,7 @@ module _ (group : Group) (asked : Asked) (outside : not (is_among group.persons 
 
   session-answered : (number : ℕ) (found : Option Seat) →
       Vanishes group asked (call.GetStaticSessionInfo number) (elim found [
-        | None ↦ done [] []
+        | None ↦ done_with [] []
         | Some seat ↦ answer (reply.StaticSession (static_of seat))
       ])
   session-answered number None = plain-vanishes (call.GetStaticSessionInfo number) _ refl refl refl
@@ -214,7 +214,7 @@ module _ (group : Group) (asked : Asked) (outside : not (is_among group.persons 
         (is_some (text_of_call call) && not (is_refused decision.reply)) ≡ false → Vanishes group asked call decision
 
     text-changed : (change : AuxChange) (adder : Adder) (guard : Guard) → Hides (call.ModifyTextInfo change)
-        (with_items guard (done (item_effects asked true adder change) []))
+        (with_items guard (done_with (item_effects asked true adder change) []))
     text-changed change adder (Some why) hidden textless = refused-vanishes (call.ModifyTextInfo change) why
     text-changed change adder None hidden textless = record {
       masked = items-masked mask true change.object change.delete (items_from
@@ -228,7 +228,7 @@ module _ (group : Group) (asked : Asked) (outside : not (is_among group.persons 
     }
 
     conference-changed : (change : AuxChange) (adder : Adder) (guard : Guard) →
-        Hides (call.ModifyConfInfo change) (with_items guard (done (item_effects asked false adder change) []))
+        Hides (call.ModifyConfInfo change) (with_items guard (done_with (item_effects asked false adder change) []))
     conference-changed change adder (Some why) hidden textless = refused-vanishes (call.ModifyConfInfo change) why
     conference-changed change adder None hidden textless = unsent-vanishes (call.ModifyConfInfo change) _
         (items-masked mask false change.object change.delete (items_from
@@ -290,7 +290,7 @@ module _ (group : Group) (asked : Asked) (outside : not (is_among group.persons 
         (conference_adder asked.db (caller asked) change.object) _ hidden textless
     change-vanishes (call.MarkAsUnread conference local) is hidden textless =
         unsent-vanishes (call.MarkAsUnread conference local) _
-        (read-masked conference (unmarked local (had_read asked conference)) hidden) refl refl
+        (read-masked conference (mark_unread local (had_read asked conference)) hidden) refl refl
     change-vanishes (call.SetReadRanges conference ranges) is hidden textless =
         unsent-vanishes (call.SetReadRanges conference ranges) _ (read-masked conference ranges hidden) refl refl
     change-vanishes other is hidden textless = absurd (true≢false (sym is))

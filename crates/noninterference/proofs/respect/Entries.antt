@@ -12,8 +12,8 @@ use Rattle.kom_types.specs.declared.calls.Call.{Call}
 use Rattle.kom_types.specs.declared.decisions.Decision.{Decision}
 use Rattle.kom_types.specs.declared.seats.Seat.{Seat}
 use Rattle.kom_types.specs.declared.session_changes.SessionChange.{SessionChange}
-use Rattle.kom_types.specs.Sessions.{Session, is_session, drained, waiting_limits}
-use Rattle.kom_model.specs.After.{decision_at, acted, sent, deliveries, moment_of}
+use Rattle.kom_types.specs.Sessions.{Session, is_session, after_drain, waiting_limits}
+use Rattle.kom_model.specs.After.{decision_at, after_act, after_sending, deliveries, moment_of}
 use Rattle.kom_model.specs.Db.{Db}
 use Rattle.kom_model.specs.Decide.{asked_in}
 use Rattle.kom_model.specs.Kinds.{is_among}
@@ -23,7 +23,7 @@ use Rattle.kom_model.specs.ToWhom.{sendings, sent_by, is_refused, logged_out, lo
 use Rattle.kom_model.specs.Viewers.{viewer_of}
 use Rattle.kom_model.specs.calls.Call.{Asked}
 use Rattle.kom_model.specs.calls.Guards.{viewer_at}
-use Rattle.kom_laws.specs.Erasing.{erased_session, erased}
+use Rattle.kom_laws.specs.Erasing.{erased_session, erase}
 use Rattle.kom_laws.specs.Groups.{Group, IsOfGroup, IsInGroup}
 use Rattle.noninterference.specs.outputs.Brought.{brought_to}
 use Rattle.noninterference.specs.steps.Steps.{HasNoOpening}
@@ -43,11 +43,12 @@ module _ (group : Group) (state : State) (made : Record) where
       items_for number (deliveries state made) ≡ []) → (session : ℕ) → is_among group.sessions session ≡ true →
       queued_for session state made ≡ []
   nothing-queued none session among =
-      let base : State = acted state made in
-      let rows : map (erased_session group) (sent state made).sessions ≡ map (erased_session group) base.sessions =
+      let base : State = after_act state made in
+      let rows : map (erased_session group) (after_sending state made).sessions
+      ≡ map (erased_session group) base.sessions =
       rows-erased group waiting_limits base.entries base base (deliveries state made) [] refl refl refl none in
-      let found : waiting_for session (sent state made) ≡ waiting_for session base =
-      ap waiting_in (sym (found-erased group session among (sent state made).sessions)
+      let found : waiting_for session (after_sending state made) ≡ waiting_for session base =
+      ap waiting_in (sym (found-erased group session among (after_sending state made).sessions)
       ∙ ap (find (is_session session)) rows ∙ found-erased group session among base.sessions) in
       ap (λ waiting. items_of (drop (length (waiting_for session base)) waiting)) found
       ∙ ap items_of (drop-length (waiting_for session base))
@@ -142,17 +143,17 @@ module _ (group : Group) (session : ℕ) (outside : is_among group.sessions sess
   blank row = record row { waiting = []; overrun = false }
 
   row-drained : (stable : ℕ) (row : Session) →
-      erased_session group (cond (is_session session row) (drained stable row) row) ≡ erased_session group row
+      erased_session group (cond (is_session session row) (after_drain stable row) row) ≡ erased_session group row
   row-drained stable row = by (is_session session row)
       (λ here. ap (is_among group.sessions) (eqb-true row.seat.number session here) ∙ outside) where
         by : (here : Bool) → (here ≡ true → is_among group.sessions row.seat.number ≡ false) →
-            erased_session group (cond here (drained stable row) row) ≡ erased_session group row
-        by true apart = ap (λ b. cond b (drained stable row) (blank row)) (apart refl)
+            erased_session group (cond here (after_drain stable row) row) ≡ erased_session group row
+        by true apart = ap (λ b. cond b (after_drain stable row) (blank row)) (apart refl)
             ∙ sym (ap (λ b. cond b row (blank row)) (apart refl))
         by false apart = refl
 
   rows-drained : (stable : ℕ) (rows : List Session) →
-      map (erased_session group) (map (λ row. cond (is_session session row) (drained stable row) row) rows)
+      map (erased_session group) (map (λ row. cond (is_session session row) (after_drain stable row) row) rows)
       ≡ map (erased_session group) rows
   rows-drained stable [] = refl
   rows-drained stable (row ∷ rows) = ap₂ (λ (first : Session) (others : List Session). first ∷ others)
@@ -169,7 +170,7 @@ module _ (group : Group) (session : ℕ) (outside : is_among group.sessions sess
     drain-vanishes : VanishesFor group state drains
     drain-vanishes =
         let rows = rows-drained state.stable state.sessions in record {
-          same = λ i. record (later moment (erased group state)) { sessions = rows i };
+          same = λ i. record (later moment (erase group state)) { sessions = rows i };
           silent = record {
             queued = nothing-queued group state drains (λ number among. refl);
             given = λ number among. ap (λ here. cond here (given_from session state ∷ []) []) (apart number among);

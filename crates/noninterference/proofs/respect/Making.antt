@@ -21,7 +21,7 @@ use Rattle.kom_types.specs.tables.Texts.{number_of_text, fresh_text, with_create
 use Rattle.kom_model.specs.declared.viewers.Viewer.{Viewer}
 use Rattle.kom_model.specs.Db.{Db, empty_db, conference_of, conference_head_of, membership_of, membership_kind_of}
 use Rattle.kom_model.specs.Db.{text_of, text_author_of, recipients_of}
-use Rattle.kom_model.specs.Effects.{fits, made, apply, apply_all}
+use Rattle.kom_model.specs.Effects.{fits, after_effect, apply, apply_all}
 use Rattle.kom_model.specs.Kinds.{is_among}
 use Rattle.kom_model.specs.Messages.{gets_text, new_text}
 use Rattle.kom_model.specs.Rights.{sees, reads_conference, reads, reads_by_recipient, is_author}
@@ -140,8 +140,8 @@ module _ (group : Group) (base : Db) (text author : ℕ) (outside : is_among gro
         by-author row true = ap (λ n. not (is_among group.persons n)) (authors row)
         by-author row false = refl
 
-  made-kept : (what : Effect) (db : Db) → stays_unread what ≡ true → IsKeptFrom db → IsKeptFrom (made what db)
-  unfolding made
+  made-kept : (what : Effect) (db : Db) → stays_unread what ≡ true → IsKeptFrom db → IsKeptFrom (after_effect what db)
+  unfolding after_effect
   made-kept (effect.RecipientAdded given) db stays kept = record {
     of_other = kept.of_other;
     recipients = all-appended IsApart db.recipients given kept.recipients (or_right _ _ stays);
@@ -189,13 +189,13 @@ module _ (group : Group) (base : Db) (text author : ℕ) (outside : is_among gro
   all-kept (what ∷ effects) db stay kept =
       let parts = and_parts (stays_unread what) (list_all stays_unread effects) stay in
       all-kept effects (apply what db) parts.1 (by (fits what db) (made-kept what db parts.0 kept)) where
-        by : (fit : Bool) → IsKeptFrom (made what db) → IsKeptFrom (cond fit (made what db) db)
+        by : (fit : Bool) → IsKeptFrom (after_effect what db) → IsKeptFrom (cond fit (after_effect what db) db)
         by true kept' = kept'
         by false kept' = kept
 
   -- no other text is made
-  next-made : (what : Effect) (db : Db) → stays_unread what ≡ true → (made what db).next_text ≡ db.next_text
-  unfolding made
+  next-made : (what : Effect) (db : Db) → stays_unread what ≡ true → (after_effect what db).next_text ≡ db.next_text
+  unfolding after_effect
   next-made (effect.RecipientAdded given) db stays = refl
   next-made (effect.LinkAdded link) db stays = refl
   next-made (effect.AuxAdded true object item) db stays = refl
@@ -210,8 +210,8 @@ module _ (group : Group) (base : Db) (text author : ℕ) (outside : is_among gro
   next-kept (what ∷ effects) db stay =
       let parts = and_parts (stays_unread what) (list_all stays_unread effects) stay in
       next-kept effects (apply what db) parts.1 ∙ by (fits what db) (next-made what db parts.0) where
-        by : (fit : Bool) → (made what db).next_text ≡ db.next_text →
-            (cond fit (made what db) db).next_text ≡ db.next_text
+        by : (fit : Bool) → (after_effect what db).next_text ≡ db.next_text →
+            (cond fit (after_effect what db) db).next_text ≡ db.next_text
         by true same = same
         by false same = refl
 
@@ -305,8 +305,8 @@ module _ (group : Group) (base : Db) (text author : ℕ) (outside : is_among gro
         (fresh_text text author at body ∷ rows))) (sym (made-none effects stay)) (rw ungot refl, tt)
 
     -- and once it is made, whatever else is made of it
-    text-kept : AllByRecursion IsApart base.recipients → IsKeptFrom (made make base)
-    unfolding made
+    text-kept : AllByRecursion IsApart base.recipients → IsKeptFrom (after_effect make base)
+    unfolding after_effect
     text-kept apart = record {
       of_other = ap (told true (λ (row : TextRow). not (is_among group.persons row.author)))
           (row_of-with_row number_of_text text (fresh_text text author at body) base.texts)
@@ -319,5 +319,5 @@ module _ (group : Group) (base : Db) (text author : ℕ) (outside : is_among gro
         IsKeptFrom (apply_all (make ∷ effects) base)
     after-kept apart fit = all-kept effects (apply make base) stay
         (subst (λ db. IsKeptFrom db) (sym once) (text-kept apart)) where
-          once : apply make base ≡ made make base
+          once : apply make base ≡ after_effect make base
           once = rw fit refl

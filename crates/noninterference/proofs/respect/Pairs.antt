@@ -38,12 +38,12 @@ use Rattle.kom_model.proofs.Protection.{IsProtected-apply_all}
 use Rattle.kom_model.proofs.whole.Counts.{all-weaker}
 use Rattle.kom_laws.specs.masking.Laws.{HidesMore}
 use Rattle.kom_laws.specs.masking.Masks.{masked_db}
-use Rattle.kom_laws.specs.Erasing.{erased_db, erased, mask_of}
+use Rattle.kom_laws.specs.Erasing.{erased_db, erase, mask_of}
 use Rattle.kom_laws.specs.Groups.{Group, IsOfGroup, is_unseen}
 use Rattle.kom_laws.proofs.Calls.{decided-fit}
 use Rattle.noninterference.specs.outputs.Brought.{brought_to}
 use Rattle.noninterference.proofs.outputs.Masked.{public-masked, conference-masked}
-use Rattle.noninterference.specs.steps.Calls.{called}
+use Rattle.noninterference.specs.steps.Calls.{record_of_call}
 use Rattle.noninterference.specs.steps.Same.{AreOfGroup, IsSameFor}
 use Rattle.noninterference.specs.steps.Steps.{HasNoOpening}
 use Rattle.noninterference.proofs.steps.Agreeing.{all-from}
@@ -70,7 +70,7 @@ pub record IsHiddenText (group : Group) (state : State) (pass moment session ref
   pub hidden : (is_outside group state session
       && is_hidden_call group state moment session reference (call.CreateText given)) ≡ true
   pub closed : HasNoOpening group state.db
-      (after state (called pass moment session reference (call.CreateText given))).db
+      (after state (record_of_call pass moment session reference (call.CreateText given))).db
   pub accepted : is_refused (decision_at state moment session reference (call.CreateText given)).reply ≡ false
 
 module _ (group : Group) (state : State) (pass moment session reference : ℕ) (given : NewText)
@@ -121,10 +121,10 @@ module _ (group : Group) (state : State) (pass moment session reference : ℕ) (
       (rows-after group state moment session reference (call.CreateText given) silent pass
       ∙ ap (λ (decision : Decision). apply_all decision.effects state.db) decided) text.closed
 
-  pub after-text : erased group (after state (called pass moment session reference (call.CreateText given)))
-      ≡ record (later moment (erased group state)) { db = erased_db group (apply_all effects state.db) }
+  pub after-text : erase group (after state (record_of_call pass moment session reference (call.CreateText given)))
+      ≡ record (later moment (erase group state)) { db = erased_db group (apply_all effects state.db) }
   after-text = after-silent group state moment session reference (call.CreateText given) silent pass
-      ∙ ap (λ (decision : Decision). record (later moment (erased group state)) {
+      ∙ ap (λ (decision : Decision). record (later moment (erase group state)) {
         db = erased_db group (apply_all decision.effects state.db);
       }) decided
 
@@ -177,7 +177,7 @@ module _ (group : Group) (one other : Db) (protected : IsProtected one) (protect
 module _ (group : Group) (one other : State) (pass pass' moment moment' session session' reference reference' : ℕ)
     (given given' : NewText) (text : IsHiddenText group one pass moment session reference given)
     (text' : IsHiddenText group other pass' moment' session' reference' given')
-    (same : erased group one ≡ erased group other) (at : moment ≡ moment')
+    (same : erase group one ≡ erase group other) (at : moment ≡ moment')
     (as_long : (length given.body == length given'.body && lines_of given.body == lines_of given'.body) ≡ true)
     (author : person_at one session ≡ person_at other session')
     (recipients : recipients_seen group one.db given ≡ recipients_seen group other.db given') where
@@ -336,8 +336,8 @@ module _ (group : Group) (one other : State) (pass pass' moment moment' session 
       (no-opening group other pass' moment' session' reference' given' text')))
       after-masked
 
-  pub pair-after : erased group (after one (called pass moment session reference (call.CreateText given)))
-      ≡ erased group (after other (called pass' moment' session' reference' (call.CreateText given')))
+  pub pair-after : erase group (after one (record_of_call pass moment session reference (call.CreateText given)))
+      ≡ erase group (after other (record_of_call pass' moment' session' reference' (call.CreateText given')))
   pair-after = after-text group one pass moment session reference given text
       ∙ (λ i. record (later (at i) (same i)) { db = erased-after i })
       ∙ sym (after-text group other pass' moment' session' reference' given' text')

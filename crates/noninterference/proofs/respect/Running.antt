@@ -10,7 +10,7 @@ use Rattle.kom_types.specs.declared.effects.Effect.TheVariants as effect
 use Rattle.kom_types.specs.declared.texts.TextRow.{TextRow}
 use Rattle.kom_types.specs.tables.Texts.{number_of_text, fresh_text}
 use Rattle.kom_model.specs.Db.{Db}
-use Rattle.kom_model.specs.Effects.{fits, made, apply, apply_all, all_fit}
+use Rattle.kom_model.specs.Effects.{fits, after_effect, apply, apply_all, all_fit}
 use Rattle.kom_laws.specs.masking.Masks.{Mask, masked_db, masked_text}
 use Rattle.kom_laws.proofs.masking.Effects.{effect-masked, same-db}
 use Rattle.kom_laws.proofs.masking.Stepping.{wider-masked}
@@ -21,7 +21,7 @@ module _ (mask : Mask) where
   -- effects one after the other, over rows without what is masked
   abbrev runs : List Effect → Db → Db
   runs [] db = db
-  runs (what ∷ effects) db = runs effects (masked_db mask (made what db))
+  runs (what ∷ effects) db = runs effects (masked_db mask (after_effect what db))
 
   -- the effects of which the mask leaves something
   abbrev pub left : List Effect → List Effect
@@ -39,7 +39,7 @@ module _ (mask : Mask) where
   runs-made [] db fit = refl
   runs-made (what ∷ effects) db fit =
       let parts = and_parts (fits what db) (all_fit effects (apply what db)) fit in
-      let once : apply what db ≡ made what db = rw parts.0 refl in
+      let once : apply what db ≡ after_effect what db = rw parts.0 refl in
       runs-made effects (apply what db) parts.1
       ∙ ap (λ (db : Db). runs effects (masked_db mask db)) once
       ∙ ap (runs effects) (sym (effect-masked mask db what))
@@ -49,12 +49,12 @@ module _ (mask : Mask) where
   runs-left [] db = refl
   runs-left (what ∷ effects) db = elim (cases_Bool (is_masked mask what)) [
     | inl hidden ↦
-        let still : masked_db mask (made what (masked_db mask db)) ≡ masked_db mask db =
+        let still : masked_db mask (after_effect what (masked_db mask db)) ≡ masked_db mask db =
         hidden-vanish.effect mask (masked_db mask db) what hidden ∙ masked-twice db in
         ap (runs effects) still ∙ runs-left effects db
         ∙ sym (ap (λ stays. runs (cond stays (what ∷ left effects) (left effects)) (masked_db mask db))
         (ap not hidden))
-    | inr shown ↦ runs-left effects (made what (masked_db mask db))
+    | inr shown ↦ runs-left effects (after_effect what (masked_db mask db))
         ∙ sym (ap (λ stays. runs (cond stays (what ∷ left effects) (left effects)) (masked_db mask db))
         (ap not shown))
   ]
@@ -79,9 +79,9 @@ module _ (mask : Mask) where
       ]
     ]
 
-    text-made : (db : Db) → masked_db mask (made (effect.TextAdded number author at body) db)
-        ≡ masked_db mask (made (effect.TextAdded number author at body') db)
-    unfolding made
+    text-made : (db : Db) → masked_db mask (after_effect (effect.TextAdded number author at body) db)
+        ≡ masked_db mask (after_effect (effect.TextAdded number author at body') db)
+    unfolding after_effect
     text-made db = same-db refl refl refl refl (text-placed db.texts) refl refl refl refl refl refl
 
   -- So the same is left of two texts that are made, whatever their bodies are, where the same is left of the effects
@@ -97,9 +97,9 @@ module _ (mask : Mask) where
       let text : Effect = effect.TextAdded number author at body in
       let text' : Effect = effect.TextAdded number author at body' in
       runs-made (text ∷ effects) one fit
-      ∙ ap (λ (db : Db). runs effects (masked_db mask (made text db))) before
+      ∙ ap (λ (db : Db). runs effects (masked_db mask (after_effect text db))) before
       ∙ ap (runs effects) (text-made number author at body body' hidden (masked_db mask other))
-      ∙ runs-left effects (made text' (masked_db mask other))
-      ∙ ap (λ effects. runs effects (masked_db mask (made text' (masked_db mask other)))) same
-      ∙ sym (runs-left effects' (made text' (masked_db mask other)))
+      ∙ runs-left effects (after_effect text' (masked_db mask other))
+      ∙ ap (λ effects. runs effects (masked_db mask (after_effect text' (masked_db mask other)))) same
+      ∙ sym (runs-left effects' (after_effect text' (masked_db mask other)))
       ∙ sym (runs-made (text' ∷ effects') other fit')

@@ -21,10 +21,10 @@ use Rattle.kom_model.specs.ToWhom.{sendings, messages_of}
 use Rattle.kom_model.specs.Viewers.{viewer_of}
 use Rattle.kom_model.specs.calls.Call.{Asked}
 use Rattle.kom_model.proofs.Queueing.{queue_all-rows}
-use Rattle.kom_laws.specs.Erasing.{erased_db, erased_session, erased}
+use Rattle.kom_laws.specs.Erasing.{erased_db, erased_session, erase}
 use Rattle.kom_laws.specs.Groups.{Group, IsOfGroup}
 use Rattle.noninterference.specs.outputs.Brought.{brought_to}
-use Rattle.noninterference.specs.steps.Calls.{called}
+use Rattle.noninterference.specs.steps.Calls.{record_of_call}
 use Rattle.noninterference.specs.steps.Same.{AreOfGroup}
 use Rattle.noninterference.proofs.steps.Calls.{IsOwn, all-onto, kept-own}
 use Rattle.noninterference.proofs.steps.Delivering.{is_for, one-at, none-delivered, one-delivered}
@@ -104,26 +104,26 @@ module _ (group : Group) (state : State) (moment session reference : ℕ) (call 
     moment = max state.moment moment;
   }
 
-  pub after-silent : (pass : ℕ) → erased group (after state (called pass moment session reference call))
-      ≡ record (later moment (erased group state)) { db = erased_db group (apply_all decision.effects state.db) }
+  pub after-silent : (pass : ℕ) → erase group (after state (record_of_call pass moment session reference call))
+      ≡ record (later moment (erase group state)) { db = erased_db group (apply_all decision.effects state.db) }
   after-silent pass =
       let between : later_with (erased_db group (apply_all decision.effects state.db))
       (map (erased_session group) (queue_all waiting_limits delivers changed).sessions)
       ≡ later_with (erased_db group (apply_all decision.effects state.db))
       (map (erased_session group) state.sessions) =
       ap (later_with (erased_db group (apply_all decision.effects state.db))) queued-same in
-      ap (λ (acted : State). erased group (record (queue_all waiting_limits delivers acted) {
+      ap (λ (acted : State). erase group (record (queue_all waiting_limits delivers acted) {
         entries = state.entries + 1;
         moment = moment_of state moment;
       })) acted-changed
-      ∙ ap (λ (sent : State). erased group (record sent {
+      ∙ ap (λ (sent : State). erase group (record sent {
         entries = state.entries + 1;
         moment = moment_of state moment;
       })) (queue_all-rows waiting_limits delivers changed) ∙ between
 
   -- the stored rows after the call
   pub rows-after : (pass : ℕ) →
-      (after state (called pass moment session reference call)).db ≡ apply_all decision.effects state.db
+      (after state (record_of_call pass moment session reference call)).db ≡ apply_all decision.effects state.db
   rows-after pass = ap (λ (sent : State). sent.db)
       (queue_all-rows waiting_limits delivers (carry_out (moment_of state moment) decision state))
       ∙ ap (λ (acted : State). acted.db) acted-changed

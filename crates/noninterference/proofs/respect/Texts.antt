@@ -22,7 +22,7 @@ use Rattle.kom_types.specs.tables.Texts.{lines_of, number_of_text}
 use Rattle.kom_model.specs.declared.viewers.Viewer.{Viewer}
 use Rattle.kom_model.specs.Db.{Db, next_text_of, text_of}
 use Rattle.kom_model.specs.Decide.{decision_of}
-use Rattle.kom_model.specs.Effects.{fits, made, all_fit, apply, apply_all, IsProtected}
+use Rattle.kom_model.specs.Effects.{fits, after_effect, all_fit, apply, apply_all, IsProtected}
 use Rattle.kom_model.specs.Kinds.{is_among}
 use Rattle.kom_model.specs.Rights.{reads_conference}
 use Rattle.kom_model.specs.ToWhom.{is_refused, of_made}
@@ -290,9 +290,9 @@ module _ (group : Group) (asked : Asked) (given : NewText) (whole : IsWhole aske
     kept = after-kept group asked.db text author outside asked.moment given.body rest rest-stays apart first-fits
 
     next-later : later.next_text ≡ text + 1
-    unfolding made
+    unfolding after_effect
     next-later = next-kept group asked.db text author outside rest (apply make asked.db) rest-stays
-        ∙ ap (λ (fit : Bool). (cond fit (made make asked.db) asked.db).next_text) first-fits
+        ∙ ap (λ (fit : Bool). (cond fit (after_effect make asked.db) asked.db).next_text) first-fits
 
     unread-later : (number : ℕ) → is_unread group asked.db number ≡ true → is_unread group later number ≡ true
     unfolding text_of next_text_of

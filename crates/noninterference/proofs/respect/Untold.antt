@@ -11,7 +11,7 @@ use Rattle.kom_model.specs.Db.{Db}
 use Rattle.kom_model.specs.Effects.{IsProtected}
 use Rattle.kom_model.specs.Messages.{takes, gets_text}
 use Rattle.kom_model.specs.Rights.{sees, reads_conference}
-use Rattle.kom_model.specs.Sending.{Delivery, Sending, delivered, accepts}
+use Rattle.kom_model.specs.Sending.{Delivery, Sending, delivery_to, accepts}
 use Rattle.kom_model.specs.Viewers.{viewer_of}
 use Rattle.kom_model.specs.Whole.{IsWhole}
 use Rattle.kom_laws.specs.Groups.{Group, IsInGroup, IsOfGroup, is_unseen, is_unread}
@@ -29,7 +29,7 @@ nothing true = refl
 nothing false = refl
 
 module _ (db : Db) (seat : Seat) where
-  untold-delivered : (sending : Sending) → sending.told (viewer_of db seat) ≡ None → delivered db sending seat ≡ None
+  untold-delivered : (sending : Sending) → sending.told (viewer_of db seat) ≡ None → delivery_to db sending seat ≡ None
   untold-delivered sending untold =
       ap (λ found. cond (seat.person == 0 || not (accepts sending.number seat)) None
       (option_map (λ message. record { session = seat.number; item = item.Message message }) found)) untold

@@ -22,13 +22,13 @@ use Rattle.kom_types.specs.declared.texts.TextRow.{TextRow}
 use Rattle.kom_types.specs.tables.AuxItems.{is_item}
 use Rattle.kom_types.specs.tables.Conferences as Conferences
 use Rattle.kom_types.specs.tables.Memberships.{is_membership}
-use Rattle.kom_types.specs.tables.Persons.{counted}
+use Rattle.kom_types.specs.tables.Persons.{count_up}
 use Rattle.kom_types.specs.tables.Texts as Texts
 use Rattle.kom_types.specs.tables.Texts.{is_recipient, is_link, number_of_text}
-use Rattle.read_ranges.specs.Merged.{merged}
+use Rattle.read_ranges.specs.Merged.{merge_all}
 use Rattle.read_ranges.specs.Reads.{ReadRow, is_read_of}
 use Rattle.kom_model.specs.Db.{Db, text_of}
-use Rattle.kom_model.specs.Effects.{fits, made, apply, apply_all}
+use Rattle.kom_model.specs.Effects.{fits, after_effect, apply, apply_all}
 use Rattle.kom_model.specs.Whole.{IsWhole}
 use Rattle.kom_model.proofs.Protection.{IsProtected-apply_all}
 use Rattle.kom_laws.specs.masking.Laws.{HidesMore}
@@ -57,7 +57,7 @@ field-vanishes (field.LastWritten at) hidden row = refl
 field-vanishes other hidden row = absurd (true≢false (sym hidden))
 
 counter-vanishes : (which : Counter) (by : ℕ) → is_hidden_counter which ≡ true → (row : PersonRow) →
-    blank_person (counted which by row) ≡ blank_person row
+    blank_person (count_up which by row) ≡ blank_person row
 counter-vanishes counter.ReadTexts by hidden row = refl
 counter-vanishes counter.TextFetches by hidden row = refl
 counter-vanishes other by hidden row = absurd (true≢false (sym hidden))
@@ -105,8 +105,9 @@ module _ (mask : Mask) (db : Db) where
       conference-goes row.on_text (mask.text row.object) (mask.conference row.object) parts.0
       (ap mask.conference (eqb-true row.object conference parts.1) ∙ hidden)
 
-  effect-vanishes : (what : Effect) → is_masked mask what ≡ true → masked_db mask (made what db) ≡ masked_db mask db
-  unfolding made
+  effect-vanishes : (what : Effect) → is_masked mask what ≡ true →
+      masked_db mask (after_effect what db) ≡ masked_db mask db
+  unfolding after_effect
   effect-vanishes (effect.ConfField number what) hidden =
       let parts = and_parts (mask.conference number) (is_hidden_field what) hidden in
       same-db (changed-vanishes (λ (row : ConferenceRow). row.number) mask.conference blank_conference number
@@ -115,7 +116,7 @@ module _ (mask : Mask) (db : Db) where
   effect-vanishes (effect.Counted person which by) hidden =
       let parts = and_parts (mask.person person) (is_hidden_counter which) hidden in
       same-db refl (changed-vanishes (λ (row : PersonRow). row.number) mask.person blank_person person
-      (counted which by) (counted-number which by) (counter-vanishes which by parts.1) parts.0 db.persons)
+      (count_up which by) (counted-number which by) (counter-vanishes which by parts.1) parts.0 db.persons)
       refl refl refl refl refl refl refl refl refl
   effect-vanishes (effect.RecipientAdded given) hidden =
       let parts = and_parts (mask.text given.text) (mask.conference given.conference) hidden in
@@ -139,7 +140,7 @@ module _ (mask : Mask) (db : Db) where
       (λ row here. ap mask.conference (eqb-true row.conference conference
       (and_parts (row.person == person) (row.conference == conference) here).1) ∙ hidden) db.memberships)
       (picked-vanish (λ (row : ReadRow). row.conference) mask.conference blank_read
-      (is_read_of person conference) (λ row. record row { ranges = merged ranges }) (λ row. refl) (λ row. refl)
+      (is_read_of person conference) (λ row. record row { ranges = merge_all ranges }) (λ row. refl) (λ row. refl)
       (λ row here. ap mask.conference (eqb-true row.conference conference
       (and_parts (row.person == person) (row.conference == conference) here).1) ∙ hidden) db.reads)
       refl refl refl refl refl refl refl
@@ -170,8 +171,8 @@ effects-vanish mask [] db hidden = refl
 effects-vanish mask (what ∷ effects) db hidden =
     let parts = and_parts (is_masked mask what) (list_all (is_masked mask) effects) hidden in
     effects-vanish mask effects (apply what db) parts.1 ∙ by (fits what db) (effect-vanishes mask db what parts.0) where
-      by : (fit : Bool) → masked_db mask (made what db) ≡ masked_db mask db →
-          masked_db mask (cond fit (made what db) db) ≡ masked_db mask db
+      by : (fit : Bool) → masked_db mask (after_effect what db) ≡ masked_db mask db →
+          masked_db mask (cond fit (after_effect what db) db) ≡ masked_db mask db
       by true same = same
       by false same = refl
 

@@ -8,14 +8,14 @@ use Rattle.kom_types.specs.declared.acts.Act.{Act}
 use Rattle.kom_types.specs.declared.acts.Act.TheVariants as act
 use Rattle.kom_types.specs.declared.acts.Record.{Record}
 use Rattle.kom_types.specs.declared.items.Item.TheVariants as item
-use Rattle.kom_types.specs.Sessions.{Session, fresh_session, is_session, drained, drained_count}
+use Rattle.kom_types.specs.Sessions.{Session, fresh_session, is_session, after_drain, drained_count}
 use Rattle.kom_model.specs.After.{after, moment_of}
 use Rattle.kom_model.specs.Kinds.{is_among}
 use Rattle.kom_model.specs.Out.{given_from, items_of, waiting_in}
 use Rattle.kom_model.specs.Refusal.{refusal_of, unless_store_refused, connect_refused, call_refused, drain_refused}
 use Rattle.kom_model.specs.Refusal.{close_refused}
 use Rattle.kom_model.specs.State.{State, session_of}
-use Rattle.kom_laws.specs.Erasing.{erased_session, erased}
+use Rattle.kom_laws.specs.Erasing.{erased_session, erase}
 use Rattle.kom_laws.specs.Groups.{Group}
 use Rattle.noninterference.specs.steps.Acts.{is_call, is_by, ActsStandErased}
 use Rattle.noninterference.proofs.steps.Following.{after-same}
@@ -51,7 +51,7 @@ module _ (group : Group) where
         by true among = ap (λ b. Some (cond b row (blank row))) (among refl)
         by false among = refl
 
-  module _ (one other : State) (same : erased group one ≡ erased group other) where
+  module _ (one other : State) (same : erase group one ≡ erase group other) where
     pub session-same : (session : ℕ) → is_among group.sessions session ≡ true →
         session_of session one ≡ session_of session other
     session-same session own = sym (found-erased session own one.sessions)
@@ -94,14 +94,14 @@ module _ (group : Group) where
 
   -- the rows that a drain leaves
   abbrev drains : ℕ → ℕ → Session → Session
-  drains session stable row = cond (is_session session row) (drained stable row) row
+  drains session stable row = cond (is_session session row) (after_drain stable row) row
 
   drained-by : (stable : ℕ) (row : Session) (here own : Bool) → is_among group.sessions row.seat.number ≡ own →
-      erased_session group (cond here (drained stable (cond own row (blank row))) (cond own row (blank row)))
-      ≡ erased_session group (cond here (drained stable row) row)
+      erased_session group (cond here (after_drain stable (cond own row (blank row))) (cond own row (blank row)))
+      ≡ erased_session group (cond here (after_drain stable row) row)
   drained-by stable row here true is = refl
-  drained-by stable row true false is = ap (λ b. cond b (drained stable (blank row)) (blank row)) is
-      ∙ sym (ap (λ b. cond b (drained stable row) (blank row)) is)
+  drained-by stable row true false is = ap (λ b. cond b (after_drain stable (blank row)) (blank row)) is
+      ∙ sym (ap (λ b. cond b (after_drain stable row) (blank row)) is)
   drained-by stable row false false is = ap (λ b. cond b (blank row) (blank row)) is
       ∙ sym (ap (λ b. cond b row (blank row)) is)
 
@@ -109,7 +109,7 @@ module _ (group : Group) where
       erased_session group (drains session stable (erased_session group row))
       ≡ erased_session group (drains session stable row)
   drained-once session stable row =
-      ap (λ n. erased_session group (cond (n == session) (drained stable (erased_session group row))
+      ap (λ n. erased_session group (cond (n == session) (after_drain stable (erased_session group row))
       (erased_session group row))) (number-erased row)
       ∙ drained-by stable row (row.seat.number == session) (is_among group.sessions row.seat.number) refl
 
@@ -136,7 +136,7 @@ module _ (group : Group) where
       ∙ ap (λ n. cond (not (n == session)) (erased_session group row ∷ leaves session (erases rows))
       (leaves session (erases rows))) (sym (number-erased row))
 
-  module _ (one other : State) (same : erased group one ≡ erased group other) (pass moment number : ℕ) where
+  module _ (one other : State) (same : erase group one ≡ erase group other) (pass moment number : ℕ) where
     -- the record of an act
     abbrev made : Act → Bool → Record
     made what short = record {
@@ -146,7 +146,7 @@ module _ (group : Group) where
     }
 
     abbrev AreSameAfter : Act → Bool → Type 0
-    AreSameAfter what short = erased group (after one (made what short)) ≡ erased group (after other (made what short))
+    AreSameAfter what short = erase group (after one (made what short)) ≡ erase group (after other (made what short))
 
     connect-leaves : (user host : List ℕ) (short : Bool) → AreSameAfter (act.Connect user host) short
     connect-leaves user host short =

@@ -18,13 +18,14 @@ use Rattle.kom_model.specs.Kinds.{is_among}
 use Rattle.kom_model.specs.Sending.{Delivery}
 use Rattle.kom_model.specs.State.{State, IsSound, seats_of}
 use Rattle.kom_model.specs.Messages.{text_aux_changed}
-use Rattle.kom_model.specs.ToWhom.{sendings, messages_of, sent_by, left, of_made, items_named, items_made, is_refused}
+use Rattle.kom_model.specs.ToWhom.{sendings, messages_of, sent_by, left_conference, of_made, items_named, items_made}
+use Rattle.kom_model.specs.ToWhom.{is_refused}
 use Rattle.kom_model.specs.ToWhom.{logged_out, logged_in}
 use Rattle.kom_model.specs.Viewers.{viewer_of}
 use Rattle.kom_model.specs.calls.Call.{Asked}
 use Rattle.kom_model.specs.calls.Guards.{viewer_at}
 use Rattle.kom_model.proofs.Changing.{make_changes-rows}
-use Rattle.kom_laws.specs.Erasing.{erased_db, erased_session, erased, mask_of}
+use Rattle.kom_laws.specs.Erasing.{erased_db, erased_session, erase, mask_of}
 use Rattle.kom_laws.specs.Groups.{Group, IsOfGroup}
 use Rattle.noninterference.specs.outputs.Answers.{erased_asked}
 use Rattle.noninterference.specs.outputs.Brought.{brought_to}
@@ -32,7 +33,7 @@ use Rattle.noninterference.proofs.outputs.Alike.{viewer-same}
 use Rattle.noninterference.proofs.outputs.Answering.{answers-erased}
 use Rattle.noninterference.proofs.outputs.Brought.{messages-erased}
 use Rattle.noninterference.proofs.outputs.Masked.{public-masked}
-use Rattle.noninterference.specs.steps.Calls.{called, ActsAlike, CallsStandErased}
+use Rattle.noninterference.specs.steps.Calls.{record_of_call, ActsAlike, CallsStandErased}
 use Rattle.noninterference.specs.steps.Same.{IsSameFor}
 use Rattle.noninterference.specs.steps.Steps.{IsReadyFor}
 use Rattle.noninterference.proofs.steps.Changing.{changes-erased}
@@ -103,8 +104,8 @@ kept-own group db number (first ∷ seats) seat others own among is = by (number
 -- what a call sends hangs on what it changes, and on whether it is refused
 sent-alike : (asked : Asked) (one other : Decision) (call : Call) → one.effects ≡ other.effects →
     sent_by asked one call ≡ sent_by asked other call
-sent-alike asked one other (call.DeleteConf conference) same = ap (filter_map left) same
-sent-alike asked one other (call.SubMember conference person) same = ap (filter_map left) same
+sent-alike asked one other (call.DeleteConf conference) same = ap (filter_map left_conference) same
+sent-alike asked one other (call.SubMember conference person) same = ap (filter_map left_conference) same
 sent-alike asked one other (call.CreateText given) same = ap (λ effects. of_made effects asked.db) same
 sent-alike asked one other (call.CreateAnonymousText given) same = ap (λ effects. of_made effects asked.db) same
 sent-alike asked one other (call.ModifyTextInfo given) same = ap (λ effects.
@@ -164,7 +165,7 @@ module _ (group : Group) (one other : State) (moment session reference : ℕ) (c
 
   -- the same is asked without what is hidden
   asked-erased : (state : State) →
-      erased_asked group (asked_at state) ≡ asked_at (erased group state)
+      erased_asked group (asked_at state) ≡ asked_at (erase group state)
   asked-erased state =
       let seats = sym (seats-erased group state.sessions) in
       λ i. record {
@@ -254,14 +255,14 @@ module _ (group : Group) (one other : State) (moment session reference : ℕ) (c
         (subst (λ effects. IsReadyFor group effects other.db) (sym alike.effects) ready') db-same
         ∙ ap (λ effects. erased_db group (apply_all effects other.db)) alike.effects
 
-    acted-same : erased group (acts one) ≡ erased group (acts other)
+    acted-same : erase group (acts one) ≡ erase group (acts other)
     acted-same =
         let moments : moment_of one moment ≡ moment_of other moment =
         ap (λ (state : State). max state.moment moment) worlds.same in
         let between : make_changes (moment_of one moment) (decision one).changes
-        (record (erased group one) { db = erased_db group (apply_all (decision one).effects one.db) })
+        (record (erase group one) { db = erased_db group (apply_all (decision one).effects one.db) })
         ≡ make_changes (moment_of other moment) (decision other).changes
-        (record (erased group other) { db = erased_db group (apply_all (decision other).effects other.db) }) =
+        (record (erase group other) { db = erased_db group (apply_all (decision other).effects other.db) }) =
         λ i. make_changes (moments i) (alike.changes i) (record (worlds.same i) { db = effects-same i }) in
         changes-erased group (moment_of one moment) (decision one).changes
         (record one { db = apply_all (decision one).effects one.db })
@@ -273,9 +274,10 @@ module _ (group : Group) (one other : State) (moment session reference : ℕ) (c
     entries-kept state = ap (λ (state : State). state.entries) (make_changes-rows (moment_of state moment)
         (decision state).changes (record state { db = apply_all (decision state).effects state.db }))
 
-    pub called-same : (pass : ℕ) → erased group (after one (called pass moment session reference call))
-        ≡ erased group (after other (called pass moment session reference call))
-    called-same pass = after-same group (called pass moment session reference call) one other worlds.same acted-same
+    pub called-same : (pass : ℕ) → erase group (after one (record_of_call pass moment session reference call))
+        ≡ erase group (after other (record_of_call pass moment session reference call))
+    called-same pass =
+        after-same group (record_of_call pass moment session reference call) one other worlds.same acted-same
         (entries-kept one) (entries-kept other) items-same
 
 pub calls-erased : CallsStandErased

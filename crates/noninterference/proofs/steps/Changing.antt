@@ -4,13 +4,13 @@ use Rattle.std.specs.Prelude.{map}
 use Rattle.kom_types.specs.declared.seats.Seat.{Seat}
 use Rattle.kom_types.specs.declared.session_changes.SessionChange.{SessionChange}
 use Rattle.kom_types.specs.declared.session_changes.SessionChange.TheVariants as change
-use Rattle.kom_types.specs.Sessions.{Session, changed_session, changed_seat, changed, is_session, is_stop}
+use Rattle.kom_types.specs.Sessions.{Session, changed_session, changed_seat, after_change, is_session, is_stop}
 use Rattle.kom_types.specs.Sessions.{with_invisible}
 use Rattle.kom_model.specs.After.{make_change, make_changes}
 use Rattle.kom_model.specs.Kinds.{is_among}
 use Rattle.kom_model.specs.State.{State}
 use Rattle.kom_laws.specs.Groups.{Group}
-use Rattle.kom_laws.specs.Erasing.{erased_db, erased_session, erased}
+use Rattle.kom_laws.specs.Erasing.{erased_db, erased_session, erase}
 
 number-changed : (what : SessionChange) (moment : ℕ) (seat : Seat) →
     (changed_seat what moment seat).number ≡ seat.number
@@ -41,19 +41,19 @@ map-commuted {X} f g same (row ∷ rows) =
 
 module _ (group : Group) (moment : ℕ) where
   abbrev changes : SessionChange → Session → Session
-  changes what row = cond (is_session (changed_session what) row) (changed what moment row) row
+  changes what row = cond (is_session (changed_session what) row) (after_change what moment row) row
 
   abbrev blank : Session → Session
   blank row = record row { waiting = []; overrun = false }
 
   -- what a change makes of a row without what waits
   changed-erased : (what : SessionChange) (row : Session) →
-      erased_session group (changed what moment row) ≡ changed what moment (erased_session group row)
-  changed-erased what row = ap (λ n. cond (is_among group.sessions n) (changed what moment row)
-      (blank (changed what moment row))) (number-changed what moment row.seat)
+      erased_session group (after_change what moment row) ≡ after_change what moment (erased_session group row)
+  changed-erased what row = ap (λ n. cond (is_among group.sessions n) (after_change what moment row)
+      (blank (after_change what moment row))) (number-changed what moment row.seat)
       ∙ by (is_among group.sessions row.seat.number) where
-        by : (own : Bool) → cond own (changed what moment row) (blank (changed what moment row))
-            ≡ changed what moment (cond own row (blank row))
+        by : (own : Bool) → cond own (after_change what moment row) (blank (after_change what moment row))
+            ≡ after_change what moment (cond own row (blank row))
         by true = refl
         by false = refl
 
@@ -66,15 +66,15 @@ module _ (group : Group) (moment : ℕ) where
   row-erased : (what : SessionChange) (row : Session) →
       erased_session group (changes what row) ≡ changes what (erased_session group row)
   row-erased what row = by (row.seat.number == changed_session what)
-      ∙ sym (ap (λ n. cond (n == changed_session what) (changed what moment (erased_session group row))
+      ∙ sym (ap (λ n. cond (n == changed_session what) (after_change what moment (erased_session group row))
       (erased_session group row)) (number-erased row)) where
-        by : (here : Bool) → erased_session group (cond here (changed what moment row) row)
-            ≡ cond here (changed what moment (erased_session group row)) (erased_session group row)
+        by : (here : Bool) → erased_session group (cond here (after_change what moment row) row)
+            ≡ cond here (after_change what moment (erased_session group row)) (erased_session group row)
         by true = changed-erased what row
         by false = refl
 
   one-erased : (what : SessionChange) (state : State) →
-      erased group (make_change moment what state) ≡ make_change moment what (erased group state)
+      erase group (make_change moment what state) ≡ make_change moment what (erase group state)
   one-erased what state =
       let rows = map-commuted (erased_session group) (changes what) (row-erased what) state.sessions in
       λ i. record state {
@@ -84,7 +84,7 @@ module _ (group : Group) (moment : ℕ) where
       }
 
   pub changes-erased : (whats : List SessionChange) (state : State) →
-      erased group (make_changes moment whats state) ≡ make_changes moment whats (erased group state)
+      erase group (make_changes moment whats state) ≡ make_changes moment whats (erase group state)
   changes-erased [] state = refl
   changes-erased (what ∷ whats) state = changes-erased whats (make_change moment what state)
       ∙ ap (make_changes moment whats) (one-erased what state)

@@ -12,7 +12,7 @@ use Rattle.kom_types.specs.declared.messages.Message.{Message}
 use Rattle.kom_types.specs.declared.seats.Seat.{Seat}
 use Rattle.kom_types.specs.Sessions.{Session}
 use Rattle.kom_model.specs.Db.{Db}
-use Rattle.kom_model.specs.Sending.{Delivery, Sending, delivered, delivered_to}
+use Rattle.kom_model.specs.Sending.{Delivery, Sending, delivery_to, delivered_to}
 use Rattle.noninterference.specs.outputs.Brought.{brought_to}
 
 abbrev pub is_for : ℕ → Delivery → Bool
@@ -75,24 +75,24 @@ module _ (number : ℕ) where
 
   delivered-kept : (db : Db) (sending : Sending) (seats : List Seat) →
       filter (is_for number) (delivered_to db seats sending)
-      ≡ filter_map (delivered db sending) (filter (λ seat. number == seat.number) seats)
+      ≡ filter_map (delivery_to db sending) (filter (λ seat. number == seat.number) seats)
   delivered-kept db sending [] = refl
   delivered-kept db sending (seat ∷ seats) =
       kept _ _ seat (delivered_to db seats sending)
-      ∙ ap (λ (others : List Delivery). cons_option (cond (number == seat.number) (delivered db sending seat) None)
+      ∙ ap (λ (others : List Delivery). cons_option (cond (number == seat.number) (delivery_to db sending seat) None)
       others) (delivered-kept db sending seats)
-      ∙ picked (number == seat.number) (delivered db sending) seat (filter (λ seat. number == seat.number) seats)
+      ∙ picked (number == seat.number) (delivery_to db sending) seat (filter (λ seat. number == seat.number) seats)
 
   all-kept : (db : Db) (seats : List Seat) (sent : List Sending) →
       filter (is_for number) (flat_map (delivered_to db seats) sent)
-      ≡ flat_map (λ sending. filter_map (delivered db sending) (filter (λ seat. number == seat.number) seats)) sent
+      ≡ flat_map (λ sending. filter_map (delivery_to db sending) (filter (λ seat. number == seat.number) seats)) sent
   all-kept db seats [] = refl
   all-kept db seats (sending ∷ sent) =
       filter-append (is_for number) (delivered_to db seats sending) (flat_map (delivered_to db seats) sent)
       ∙ ap₂ (λ (first others : List Delivery). first ++ others) (delivered-kept db sending seats)
       (all-kept db seats sent)
 
-  to-none : (db : Db) (sent : List Sending) → flat_map (λ sending. filter_map (delivered db sending) []) sent ≡ []
+  to-none : (db : Db) (sent : List Sending) → flat_map (λ sending. filter_map (delivery_to db sending) []) sent ≡ []
   to-none db [] = refl
   to-none db (sending ∷ sent) = to-none db sent
 
@@ -102,23 +102,23 @@ module _ (number : ℕ) where
   first-of (Some one) others = refl
 
   to-one : (db : Db) (seat : Seat) (sent : List Sending) →
-      flat_map (λ sending. filter_map (delivered db sending) (seat ∷ [])) sent ≡ brought_to db seat sent
+      flat_map (λ sending. filter_map (delivery_to db sending) (seat ∷ [])) sent ≡ brought_to db seat sent
   to-one db seat [] = refl
   to-one db seat (sending ∷ sent) =
-      ap (λ (others : List Delivery). cons_option (delivered db sending seat) [] ++ others) (to-one db seat sent)
-      ∙ first-of (delivered db sending seat) (brought_to db seat sent)
+      ap (λ (others : List Delivery). cons_option (delivery_to db sending seat) [] ++ others) (to-one db seat sent)
+      ∙ first-of (delivery_to db sending seat) (brought_to db seat sent)
 
   -- nothing, where there is no such session; and else what comes to its seat
   pub none-delivered : (db : Db) (seats : List Seat) (sent : List Sending) →
       filter (λ seat. number == seat.number) seats ≡ [] →
       filter (is_for number) (flat_map (delivered_to db seats) sent) ≡ []
   none-delivered db seats sent none = all-kept db seats sent
-      ∙ ap (λ (seats : List Seat). flat_map (λ sending. filter_map (delivered db sending) seats) sent) none
+      ∙ ap (λ (seats : List Seat). flat_map (λ sending. filter_map (delivery_to db sending) seats) sent) none
       ∙ to-none db sent
 
   pub one-delivered : (db : Db) (seats : List Seat) (sent : List Sending) (seat : Seat) →
       filter (λ seat. number == seat.number) seats ≡ seat ∷ [] →
       filter (is_for number) (flat_map (delivered_to db seats) sent) ≡ brought_to db seat sent
   one-delivered db seats sent seat one = all-kept db seats sent
-      ∙ ap (λ (seats : List Seat). flat_map (λ sending. filter_map (delivered db sending) seats) sent) one
+      ∙ ap (λ (seats : List Seat). flat_map (λ sending. filter_map (delivery_to db sending) seats) sent) one
       ∙ to-one db seat sent

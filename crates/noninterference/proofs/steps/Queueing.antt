@@ -3,7 +3,7 @@ use Rattle.std.proofs.Common.{◌≡◌, ℕ, Bool, true, false, cond, ◌==◌,
 use Rattle.std.specs.Prelude.{map, filter}
 use Rattle.kom_types.specs.declared.items.Item.{Item}
 use Rattle.kom_types.specs.declared.seats.Seat.{Seat}
-use Rattle.kom_types.specs.Sessions.{Session, Limits, queued, fits, with_waiting}
+use Rattle.kom_types.specs.Sessions.{Session, Limits, queue, fits, with_waiting}
 use Rattle.kom_model.specs.After.{queue_all, with_session}
 use Rattle.kom_model.specs.Kinds.{is_among}
 use Rattle.kom_model.specs.Sending.{Delivery}
@@ -18,10 +18,10 @@ items_for number deliveries = map (λ one. one.item) (filter (λ one. number == 
 -- the row of a session after items were queued
 abbrev queue_row : Limits → ℕ → List Item → Session → Session
 queue_row limits entry [] row = row
-queue_row limits entry (item ∷ items) row = queue_row limits entry items (queued limits entry item row)
+queue_row limits entry (item ∷ items) row = queue_row limits entry items (queue limits entry item row)
 
 seat-queued : (limits : Limits) (entry : ℕ) (item : Item) (row : Session) →
-    (queued limits entry item row).seat ≡ row.seat
+    (queue limits entry item row).seat ≡ row.seat
 seat-queued limits entry item row = by row.overrun (fits limits row.waiting item) where
   by : (overrun room : Bool) → (cond overrun row (cond room (with_waiting item entry row)
       (record row { overrun = true }))).seat ≡ row.seat
@@ -33,7 +33,7 @@ pub seat-row : (limits : Limits) (entry : ℕ) (items : List Item) (row : Sessio
     (queue_row limits entry items row).seat ≡ row.seat
 seat-row limits entry [] row = refl
 seat-row limits entry (item ∷ items) row =
-    seat-row limits entry items (queued limits entry item row) ∙ seat-queued limits entry item row
+    seat-row limits entry items (queue limits entry item row) ∙ seat-queued limits entry item row
 
 map-twice : {X : Type 0} (f g h : X → X) → ((row : X) → f (g row) ≡ h row) → (rows : List X) →
     map f (map g rows) ≡ map h rows
@@ -52,15 +52,15 @@ module _ (limits : Limits) (entry : ℕ) where
 
   -- one item more, first
   fills-first : (one : Delivery) (deliveries : List Delivery) (row : Session) →
-      fills deliveries (cond (row.seat.number == one.session) (queued limits entry one.item row) row)
+      fills deliveries (cond (row.seat.number == one.session) (queue limits entry one.item row) row)
       ≡ fills (one ∷ deliveries) row
   fills-first one deliveries row = by (row.seat.number == one.session) where
-    by : (here : Bool) → fills deliveries (cond here (queued limits entry one.item row) row)
+    by : (here : Bool) → fills deliveries (cond here (queue limits entry one.item row) row)
         ≡ queue_row limits entry (map (λ (one : Delivery). one.item)
         (cond here (one ∷ filter (λ one. row.seat.number == one.session) deliveries)
         (filter (λ one. row.seat.number == one.session) deliveries))) row
     by true = ap (λ (seat : Seat). queue_row limits entry (items_for seat.number deliveries)
-        (queued limits entry one.item row)) (seat-queued limits entry one.item row)
+        (queue limits entry one.item row)) (seat-queued limits entry one.item row)
     by false = refl
 
   -- what queueing makes of all rows
@@ -71,11 +71,11 @@ module _ (limits : Limits) (entry : ℕ) where
     map-id [] = refl
     map-id (row ∷ rows) = ap (λ others. row ∷ others) (map-id rows)
   rows-filled (one ∷ deliveries) state at =
-      rows-filled deliveries (with_session one.session (queued limits state.entries one.item) state) at
+      rows-filled deliveries (with_session one.session (queue limits state.entries one.item) state) at
       ∙ ap (λ place. map (fills deliveries) (map (λ (row : Session). cond (row.seat.number == one.session)
-      (queued limits place one.item row) row) state.sessions)) at
+      (queue limits place one.item row) row) state.sessions)) at
       ∙ map-twice (fills deliveries)
-      (λ (row : Session). cond (row.seat.number == one.session) (queued limits entry one.item row) row)
+      (λ (row : Session). cond (row.seat.number == one.session) (queue limits entry one.item row) row)
       (fills (one ∷ deliveries)) (fills-first one deliveries) state.sessions
 
 -- a row without what waits

@@ -14,7 +14,7 @@ use Rattle.kom_types.specs.tables.Conferences.{fresh_conference}
 use Rattle.kom_types.specs.tables.Texts as Texts
 use Rattle.kom_types.specs.tables.Texts.{number_of_text, with_created_local, fresh_text}
 use Rattle.kom_model.specs.Db.{Db, conference_of, text_of}
-use Rattle.kom_model.specs.Effects.{fits, made, apply, apply_all, all_fit, without_number}
+use Rattle.kom_model.specs.Effects.{fits, after_effect, apply, apply_all, all_fit, without_number}
 use Rattle.kom_model.proofs.Fields.{field-number}
 use Rattle.kom_laws.proofs.masking.Rows.{same-changed, told-changed}
 
@@ -58,8 +58,8 @@ first-four a b c d is = (and_parts a b (and_parts (a && b) c (and_parts (a && b 
 
 -- ---- one effect
 conference-stood : (what : Effect) (db : Db) → fits what db ≡ true → (number : ℕ) → number < db.next_conference →
-    is_some (conference_of (made what db) number) ≡ true → is_some (conference_of db number) ≡ true
-unfolding fits made conference_of
+    is_some (conference_of (after_effect what db) number) ≡ true → is_some (conference_of db number) ≡ true
+unfolding fits after_effect conference_of
 conference-stood (effect.ConfAdded given name kind at creator supervisor) db fit number less there =
     let unused : db.next_conference ≤ given = leb-true db.next_conference given (first-five _ _ _ _ _ fit) in
     there-with number_of_conference (fresh_conference given name kind at creator supervisor) db.conferences number
@@ -80,8 +80,8 @@ conference-stood (effect.AuxAdded false object item) db fit number less there =
 conference-stood other db fit number less there = there
 
 text-stood : (what : Effect) (db : Db) → fits what db ≡ true → (number : ℕ) → number < db.next_text →
-    is_some (text_of (made what db) number) ≡ true → is_some (text_of db number) ≡ true
-unfolding fits made text_of
+    is_some (text_of (after_effect what db) number) ≡ true → is_some (text_of db number) ≡ true
+unfolding fits after_effect text_of
 text-stood (effect.TextAdded given author at body) db fit number less there =
     let unused : db.next_text ≤ given = leb-true db.next_text given (first-four _ _ _ _ fit) in
     there-with number_of_text (fresh_text given author at body) db.texts number (omega arith) there
@@ -97,8 +97,9 @@ text-stood (effect.Created person local text) db fit number less there =
     sym (there-changed number_of_text text (with_created_local local) (λ row. refl) db.texts number) ∙ there
 text-stood other db fit number less there = there
 
-conferences-rise : (what : Effect) (db : Db) → fits what db ≡ true → db.next_conference ≤ (made what db).next_conference
-unfolding fits made
+conferences-rise : (what : Effect) (db : Db) → fits what db ≡ true →
+    db.next_conference ≤ (after_effect what db).next_conference
+unfolding fits after_effect
 conferences-rise (effect.ConfAdded given name kind at creator supervisor) db fit =
     let unused : db.next_conference ≤ given = leb-true db.next_conference given (first-five _ _ _ _ _ fit) in
     omega arith
@@ -106,8 +107,8 @@ conferences-rise (effect.AuxAdded true object item) db fit = omega arith
 conferences-rise (effect.AuxAdded false object item) db fit = omega arith
 conferences-rise other db fit = omega arith
 
-texts-rise : (what : Effect) (db : Db) → fits what db ≡ true → db.next_text ≤ (made what db).next_text
-unfolding fits made
+texts-rise : (what : Effect) (db : Db) → fits what db ≡ true → db.next_text ≤ (after_effect what db).next_text
+unfolding fits after_effect
 texts-rise (effect.TextAdded given author at body) db fit =
     let unused : db.next_text ≤ given = leb-true db.next_text given (first-four _ _ _ _ fit) in omega arith
 texts-rise (effect.AuxAdded true object item) db fit = omega arith
@@ -115,7 +116,7 @@ texts-rise (effect.AuxAdded false object item) db fit = omega arith
 texts-rise other db fit = omega arith
 
 -- ---- effects one after the other
-applied : (what : Effect) (db : Db) → fits what db ≡ true → apply what db ≡ made what db
+applied : (what : Effect) (db : Db) → fits what db ≡ true → apply what db ≡ after_effect what db
 applied what db fit = rw fit refl
 
 pub conferences-stood : (effects : List Effect) (db : Db) → all_fit effects db ≡ true → (number : ℕ) →
@@ -124,9 +125,9 @@ pub conferences-stood : (effects : List Effect) (db : Db) → all_fit effects db
 conferences-stood [] db fit number less there = there
 conferences-stood (what ∷ effects) db fit number less there =
     let first = and_parts (fits what db) (all_fit effects (apply what db)) fit in
-    let once : apply what db ≡ made what db = applied what db first.0 in
-    let rise : db.next_conference ≤ (made what db).next_conference = conferences-rise what db first.0 in
-    let less' : number < (made what db).next_conference = omega arith in
+    let once : apply what db ≡ after_effect what db = applied what db first.0 in
+    let rise : db.next_conference ≤ (after_effect what db).next_conference = conferences-rise what db first.0 in
+    let less' : number < (after_effect what db).next_conference = omega arith in
     conference-stood what db first.0 number less (subst (λ db. is_some (conference_of db number) ≡ true) once
     (conferences-stood effects (apply what db) first.1 number
     (subst (λ db. number < db.next_conference) (sym once) less') there))
@@ -137,9 +138,9 @@ pub texts-stood : (effects : List Effect) (db : Db) → all_fit effects db ≡ t
 texts-stood [] db fit number less there = there
 texts-stood (what ∷ effects) db fit number less there =
     let first = and_parts (fits what db) (all_fit effects (apply what db)) fit in
-    let once : apply what db ≡ made what db = applied what db first.0 in
-    let rise : db.next_text ≤ (made what db).next_text = texts-rise what db first.0 in
-    let less' : number < (made what db).next_text = omega arith in
+    let once : apply what db ≡ after_effect what db = applied what db first.0 in
+    let rise : db.next_text ≤ (after_effect what db).next_text = texts-rise what db first.0 in
+    let less' : number < (after_effect what db).next_text = omega arith in
     text-stood what db first.0 number less (subst (λ db. is_some (text_of db number) ≡ true) once
     (texts-stood effects (apply what db) first.1 number
     (subst (λ db. number < db.next_text) (sym once) less') there))

@@ -8,7 +8,7 @@ use Rattle.kom_types.specs.declared.seats.Seat.{Seat}
 use Rattle.kom_model.specs.Db.{Db}
 use Rattle.kom_model.specs.Decide.{decision_of}
 use Rattle.kom_model.specs.Effects.{IsProtected}
-use Rattle.kom_model.specs.Sending.{Delivery, Sending, delivered}
+use Rattle.kom_model.specs.Sending.{Delivery, Sending, delivery_to}
 use Rattle.kom_model.specs.ToWhom.{sendings}
 use Rattle.kom_model.specs.Viewers.{viewer_of}
 use Rattle.kom_model.specs.Whole.{IsWhole}
@@ -20,7 +20,7 @@ use Rattle.noninterference.specs.outputs.Answers.{erased_asked}
 
 -- what messages bring to one session, in order
 abbrev pub brought_to : Db → Seat → List Sending → List Delivery
-brought_to db seat sendings = filter_map (λ sending. delivered db sending seat) sendings
+brought_to db seat sendings = filter_map (λ sending. delivery_to db sending seat) sendings
 
 -- The messages of a call, by anybody, that came to the same bring the same to a session in which
 -- nobody, or a person of the group, is logged in, and which is not strong. So do those of a call of

@@ -15,10 +15,10 @@ use Rattle.kom_model.specs.Db.{Db, empty_db, memberships_of, marks_of}
 use Rattle.kom_model.specs.Effects.{IsProtected, apply_all}
 use Rattle.kom_model.specs.calls.Call.{Asked, Definition, answer}
 use Rattle.kom_model.specs.calls.Conferences.{uconference_of}
-use Rattle.kom_model.specs.calls.Guards.{guarded, unless, caller, login_guard, person_guard}
+use Rattle.kom_model.specs.calls.Guards.{with_guards, unless, caller, login_guard, person_guard}
 use Rattle.kom_model.specs.calls.Guards.{text_guard}
 use Rattle.kom_model.specs.calls.Memberships.{is_unread}
-use Rattle.kom_model.specs.calls.Texts.{body_of, cut, text_reply}
+use Rattle.kom_model.specs.calls.Texts.{body_of, bytes_between, text_reply}
 use Rattle.kom_laws.specs.Groups.{Group, IsOfGroup}
 use Rattle.noninterference.specs.outputs.Answers.{erased_asked, ComesToSame}
 
@@ -42,8 +42,8 @@ writes text body = effect.TextAdded text 7 20 body ∷ effect.RecipientAdded (re
 }) ∷ []
 
 -- Bo is a member there, and Di has marked both texts, which she may have read once
-abbrev pub stored : Db
-stored = apply_all
+abbrev pub rows_with_marks : Db
+rows_with_marks = apply_all
     (makes_person 7 (codes "Bo") ++ makes_person 9 (codes "Di")
     ++ effect.ConfAdded 10 (codes "Board") 160 10 7 7 ∷ effect.MemberSet 7 10 1 100 7 10 0 ∷ []
     ++ writes 1 (codes "sell all") ++ writes 2 (codes "no")
@@ -51,7 +51,7 @@ stored = apply_all
 
 abbrev pub di_asks : Asked
 di_asks = record {
-  db = stored;
+  db = rows_with_marks;
   seats = record (fresh_seat 3 1 (codes "di") (codes "h") 11) { person = 9; login = 12 } ∷ [];
   moment = 30;
   session = 3;
@@ -60,7 +60,7 @@ di_asks = record {
 
 -- get-text-stat, with a look into the body before it is known whether the text is read
 abbrev pub stat_by_body : Asked → ℕ → Definition
-stat_by_body asked text = guarded
+stat_by_body asked text = with_guards
     (login_guard (caller asked)
     ∷ unless (nat_le (length (body_of asked.db text)) 4) error.STRING_TOO_LONG 4
     ∷ text_guard asked.db (caller asked) text ∷ [])
@@ -68,7 +68,7 @@ stat_by_body asked text = guarded
 
 -- get-unread-confs, with memberships that are not shown
 abbrev pub all_unread_confs : Asked → ℕ → Definition
-all_unread_confs asked person = guarded
+all_unread_confs asked person = with_guards
     (login_guard (caller asked) ∷ person_guard asked.db person ∷ [])
     (answer (reply.Numbers (map (λ row. row.conference) (filter
     (λ row. not (is_passive row.kind) && is_unread asked.db row)
@@ -77,15 +77,15 @@ all_unread_confs asked person = guarded
 -- a count: get-uconf-stat of a conference that is not seen
 abbrev pub any_uconf_stat : Asked → ℕ → Definition
 any_uconf_stat asked number =
-    guarded (login_guard (caller asked) ∷ []) (answer (uconference_of asked.db number))
+    with_guards (login_guard (caller asked) ∷ []) (answer (uconference_of asked.db number))
 
 -- a length: get-text, whose range is looked at first
 abbrev pub text_by_range : Asked → ℕ → ℕ → ℕ → Definition
-text_by_range asked text start end = guarded
+text_by_range asked text start end = with_guards
     (login_guard (caller asked)
     ∷ unless (nat_le start (length (body_of asked.db text))) error.INDEX_OUT_OF_RANGE start
     ∷ text_guard asked.db (caller asked) text ∷ [])
-    (answer (reply.Text (cut start end (body_of asked.db text))))
+    (answer (reply.Text (bytes_between start end (body_of asked.db text))))
 
 -- an order: get-marks, the shortest text first
 abbrev pub by_length : Db → MarkRow → List MarkRow → List MarkRow
@@ -95,7 +95,7 @@ by_length db row (first ∷ rows) =
     then row ∷ first ∷ rows else first ∷ by_length db row rows
 
 abbrev pub marks_by_length : Asked → Definition
-marks_by_length asked = guarded
+marks_by_length asked = with_guards
     (login_guard (caller asked) ∷ [])
     (answer (reply.Marks (map shown_mark (fold (λ sorted row. by_length asked.db row sorted) []
     (marks_of asked.db (caller asked).person)))))
@@ -106,7 +106,7 @@ Leaks define = ComesToSame (define (erased_asked di di_asks)) (define di_asks) �
 
 -- The law of answers refuses each of them: its premises are met, and what it says does not hold.
 pub record LeaksAreRefused : Type 0 where
-  pub protected : IsProtected stored
+  pub protected : IsProtected rows_with_marks
   pub of_group : IsOfGroup di (caller di_asks)
   pub body : Leaks (λ asked. stat_by_body asked 1)
   pub conference : Leaks (λ asked. all_unread_confs asked 7)

@@ -10,10 +10,10 @@ use Rattle.kom_model.specs.Kinds.{is_among}
 use Rattle.kom_model.specs.State.{State, IsSound}
 use Rattle.kom_model.specs.ToWhom.{sendings}
 use Rattle.kom_model.specs.Viewers.{viewer_of}
-use Rattle.kom_laws.specs.Erasing.{erased, mask_of}
+use Rattle.kom_laws.specs.Erasing.{erase, mask_of}
 use Rattle.kom_laws.specs.Groups.{Group, IsOfGroup}
 use Rattle.noninterference.specs.outputs.Brought.{brought_to}
-use Rattle.noninterference.specs.steps.Calls.{called}
+use Rattle.noninterference.specs.steps.Calls.{record_of_call}
 use Rattle.noninterference.specs.steps.Same.{AreOfGroup}
 use Rattle.noninterference.specs.steps.Steps.{HasNoOpening}
 use Rattle.noninterference.specs.respect.Vanishing.{is_masked}
@@ -46,5 +46,5 @@ later moment state =
 abbrev pub HiddenCallsVanish : Type 0
 HiddenCallsVanish = (group : Group) (state : State) (pass moment session reference : ℕ)
     (call : Call) → IsOfHidden group state moment session reference call
-    → erased group (after state (called pass moment session reference call))
-    ≡ later moment (erased group state)
+    → erase group (after state (record_of_call pass moment session reference call))
+    ≡ later moment (erase group state)

@@ -7,7 +7,7 @@ use Rattle.kom_model.specs.After.{after}
 use Rattle.kom_model.specs.Kinds.{is_among}
 use Rattle.kom_model.specs.Out.{queued_for, given_by}
 use Rattle.kom_model.specs.State.{State, IsSound}
-use Rattle.kom_laws.specs.Erasing.{erased}
+use Rattle.kom_laws.specs.Erasing.{erase}
 use Rattle.kom_laws.specs.Groups.{Group}
 use Rattle.noninterference.specs.steps.Same.{AreOfGroup, IsSameFor}
 use Rattle.noninterference.specs.respect.Calls.{later}
@@ -36,7 +36,7 @@ pub record IsHiddenEntry (group : Group) (state : State) (made : Record) : Type 
 
 -- the state is the same but for what is hidden from the group, one entry later
 pub record VanishesFor (group : Group) (state : State) (made : Record) : Type 0 where
-  pub same : erased group (after state made) ≡ later made.entry.moment (erased group state)
+  pub same : erase group (after state made) ≡ later made.entry.moment (erase group state)
   pub silent : IsSilentTo group state made
 
 -- Local respect: such an entry leaves the state the same for the group, and sends it nothing.
@@ -64,7 +64,7 @@ pub record AreHiddenTexts (group : Group) (one other : State) (made made' : Reco
 -- the states after two entries are the same but for what is hidden from the group, and neither
 -- sends it anything
 pub record VanishAlike (group : Group) (one other : State) (made made' : Record) : Type 0 where
-  pub states : erased group (after one made) ≡ erased group (after other made')
+  pub states : erase group (after one made) ≡ erase group (after other made')
   pub silent : IsSilentTo group one made
   pub silent' : IsSilentTo group other made'
 

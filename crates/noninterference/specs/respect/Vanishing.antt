@@ -8,7 +8,7 @@ use Rattle.kom_types.specs.declared.effects.Counter.TheVariants as counter
 use Rattle.kom_types.specs.declared.effects.Effect.{Effect}
 use Rattle.kom_types.specs.declared.effects.Effect.TheVariants as effect
 use Rattle.kom_model.specs.Db.{Db}
-use Rattle.kom_model.specs.Effects.{made, apply_all}
+use Rattle.kom_model.specs.Effects.{after_effect, apply_all}
 use Rattle.kom_laws.specs.masking.Masks.{Mask, masked_db}
 use Rattle.kom_laws.specs.Erasing.{erased_db, mask_of}
 use Rattle.kom_laws.specs.Groups.{Group}
@@ -59,7 +59,7 @@ is_masked mask other = false
 -- it, leave them the same but for what is hidden from it.
 pub record HiddenVanish : Type 0 where
   pub effect : (mask : Mask) (db : Db) (what : Effect) → IsTrue (is_masked mask what)
-      → masked_db mask (made what db) ≡ masked_db mask db
+      → masked_db mask (after_effect what db) ≡ masked_db mask db
   pub effects : (group : Group) (db : Db) (effects : List Effect)
       → IsReadyFor group effects db → IsTrue (list_all (is_masked (mask_of group db)) effects)
       → erased_db group (apply_all effects db) ≡ erased_db group db

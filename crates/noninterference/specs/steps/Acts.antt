@@ -10,7 +10,7 @@ use Rattle.kom_model.specs.Out.{given_from}
 use Rattle.kom_model.specs.Refusal.{refusal_of}
 use Rattle.kom_model.specs.State.{State}
 use Rattle.kom_laws.specs.Groups.{Group}
-use Rattle.kom_laws.specs.Erasing.{erased}
+use Rattle.kom_laws.specs.Erasing.{erase}
 
 abbrev pub is_call : Act → Bool
 is_call (act.Connect user host) = false
@@ -32,11 +32,11 @@ is_by group what = elim (session_served what) [
 -- such states.
 pub record ActsStandErased : Type 0 where
   pub refused : (group : Group) (one other : State) (what : Act)
-      → erased group one ≡ erased group other → IsTrue (is_by group what)
+      → erase group one ≡ erase group other → IsTrue (is_by group what)
       → refusal_of one what ≡ refusal_of other what
   pub given : (group : Group) (one other : State) (session : ℕ)
-      → erased group one ≡ erased group other → IsTrue (is_among group.sessions session)
+      → erase group one ≡ erase group other → IsTrue (is_among group.sessions session)
       → given_from session one ≡ given_from session other
   pub after : (group : Group) (one other : State) (made : Record)
-      → erased group one ≡ erased group other → IsTrue (not (is_call made.entry.act))
-      → erased group (after one made) ≡ erased group (after other made)
+      → erase group one ≡ erase group other → IsTrue (not (is_call made.entry.act))
+      → erase group (after one made) ≡ erase group (after other made)

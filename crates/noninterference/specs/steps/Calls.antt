@@ -9,13 +9,13 @@ use Rattle.kom_model.specs.Kinds.{is_among}
 use Rattle.kom_model.specs.State.{State, IsSound}
 use Rattle.kom_model.specs.ToWhom.{is_refused}
 use Rattle.kom_laws.specs.Groups.{Group}
-use Rattle.kom_laws.specs.Erasing.{erased}
+use Rattle.kom_laws.specs.Erasing.{erase}
 use Rattle.noninterference.specs.steps.Same.{IsSameFor}
 use Rattle.noninterference.specs.steps.Steps.{IsReadyFor}
 
 -- the record of a call that is not short
-abbrev pub called : ℕ → ℕ → ℕ → ℕ → Call → Record
-called pass moment session reference call = record {
+abbrev pub record_of_call : ℕ → ℕ → ℕ → ℕ → Call → Record
+record_of_call pass moment session reference call = record {
   entry = record { pass = pass; moment = moment; act = act.Call session reference call };
   session = session;
   short = false;
@@ -47,13 +47,13 @@ pub record CallsStandErased : Type 0 where
       → IsReadyToCall group one moment session reference call
       → IsReadyToCall group other moment session reference call → IsSameFor group one other
       → IsTrue (is_among group.sessions session)
-      → erased group (after one (called pass moment session reference call))
-      ≡ erased group (after other (called pass moment session reference call))
+      → erase group (after one (record_of_call pass moment session reference call))
+      ≡ erase group (after other (record_of_call pass moment session reference call))
   pub outside : (group : Group) (one other : State) (pass moment session reference : ℕ)
       (call : Call) → IsReadyToCall group one moment session reference call
       → IsReadyToCall group other moment session reference call → IsSameFor group one other
       → IsTrue (not (is_among group.sessions session))
       → ActsAlike (decision_at one moment session reference call)
       (decision_at other moment session reference call)
-      → erased group (after one (called pass moment session reference call))
-      ≡ erased group (after other (called pass moment session reference call))
+      → erase group (after one (record_of_call pass moment session reference call))
+      ≡ erase group (after other (record_of_call pass moment session reference call))

@@ -5,7 +5,7 @@ use Rattle.kom_model.specs.Kinds.{is_among}
 use Rattle.kom_model.specs.State.{State}
 use Rattle.kom_model.specs.Viewers.{viewer_of}
 use Rattle.kom_laws.specs.Groups.{Group, IsOfGroup}
-use Rattle.kom_laws.specs.Erasing.{erased}
+use Rattle.kom_laws.specs.Erasing.{erase}
 
 -- in each session of the group nobody is logged in, or a person of the group, and none is strong
 abbrev pub AreOfGroup : Group → State → Type 0
@@ -16,4 +16,4 @@ AreOfGroup group state = AllByRecursion
 -- The sessions of the group are such, and the states are the same without what is hidden from it.
 pub record IsSameFor (group : Group) (one other : State) : Type 0 where
   pub of_group : AreOfGroup group one
-  pub same : erased group one ≡ erased group other
+  pub same : erase group one ≡ erase group other

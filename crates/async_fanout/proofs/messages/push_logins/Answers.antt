@@ -1,12 +1,12 @@
 use Rattle.std.proofs.Common.{◌++◌, ◌∙◌, ap, arith}
 use Rattle.kom_model.specs.ToWhom.{logged_in}
-use Rattle.async_fanout.specs.Delivered.{all_brought, listed}
+use Rattle.async_fanout.specs.Delivered.{all_brought, as_list}
 use Rattle.async_fanout.proofs.Brought.{brought-each}
 use Rattle.async_fanout.proofs.Pushing.{pushed_all}
 use Rattle.async_fanout.proofs.messages.push_logins.Goals as goal
 
 pub returns : goal.returns
 returns c =
-    pushed_all (λ one. all_brought c.args.asked.now (listed (logged_in one))) c.args.sent.now.items
+    pushed_all (λ one. all_brought c.args.asked.now (as_list (logged_in one))) c.args.sent.now.items
     c.args.changes.now c.loop-change.change-index c.loop-change.sent.items (omega arith) c.loop-change.invariant
     ∙ ap (λ list. c.args.sent.now.items ++ list) (brought-each c.args.asked.now (logged_in) c.args.changes.now)

@@ -1,9 +1,10 @@
 use Rattle.std.proofs.Common.{◌≡◌}
 use Rattle.async_fanout.proofs.Pushing.{pushed_to}
-use Rattle.kom_model.specs.ToWhom.{left}
-use Rattle.async_fanout.specs.Delivered.{all_brought, listed}
+use Rattle.kom_model.specs.ToWhom.{left_conference}
+use Rattle.async_fanout.specs.Delivered.{all_brought, as_list}
 use Rattle.async_fanout.proofs.on_memberships.leave.Given as goal
 
 abbrev pub invariant-loop-effect : goal.invariant-loop-effect
 invariant-loop-effect l =
-    l.sent.items ≡ pushed_to (λ one. all_brought l.asked (listed (left one))) l.fn.sent.items l.effects l.effect-index
+    l.sent.items
+    ≡ pushed_to (λ one. all_brought l.asked (as_list (left_conference one))) l.fn.sent.items l.effects l.effect-index

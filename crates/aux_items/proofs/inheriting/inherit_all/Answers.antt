@@ -1,5 +1,5 @@
 use Rattle.std.proofs.Common.{◌∙◌, sym, ap, subst, drop, ◌+◌, option_copied, arith}
-use Rattle.kom_types.specs.AuxItems.{inherited}
+use Rattle.kom_types.specs.AuxItems.{inherit}
 use Rattle.aux_items.proofs.Inheritance.{Begins, begins-more, inherited-more, inherited-all}
 use Rattle.aux_items.proofs.Scanning.{absent_past}
 use Rattle.aux_items.proofs.inheriting.inherit_all.Goals as goal
@@ -18,7 +18,7 @@ loop-place-preserved g c =
             value =
                 c.loop-place.invariant.value
                 ∙ inherited-more rows parent place item (sym w.in-Some.ensures)
-                ∙ ap (λ now. inherited now (drop (place + 1) parent)) (sym is);
+                ∙ ap (λ now. inherit now (drop (place + 1) parent)) (sym is);
             own =
                 subst (Begins c.args.rows.now) (sym is)
                 (begins-more c.args.rows.now rows c.loop-place.invariant.own item);

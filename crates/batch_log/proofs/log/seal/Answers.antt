@@ -1,11 +1,11 @@
 use Rattle.std.proofs.Common.{rules, ◌≡◌, ◌-◌, ◌++◌, ◌∷◌, [], ℕ, List, length, take, drop, ◌∙◌, ap, arith}
 use Rattle.std.specs.Int.{w64, to_le_bytes}
 use Rattle.std.proofs.lemmas.List.{length-drop, take-append-le, take_all}
-use Rattle.batch_log.specs.Batches.{sized}
+use Rattle.batch_log.specs.Batches.{with_length}
 use Rattle.batch_log.proofs.log.seal.Goals as goal
 
 pub returns-clause-items : goal.returns-clause-items
-unfolding sized
+unfolding with_length
 returns-clause-items c =
     let old = c.args.chunk.now in
     let body = drop 8 old.items in
@@ -14,7 +14,7 @@ returns-clause-items c =
     let counts : c.len.result - 8 ≡ length body = omega (arith, length-drop 8 old.items, c.len.ensures, old.ok.0) in
     let head : c.to_le_bytes.result ≡ to_le_bytes w64 (length body) =
     c.to_le_bytes.ensures ∙ ap (to_le_bytes w64) counts in
-    let written : new ≡ sized body =
+    let written : new ≡ with_length body =
     c.overwrite.ensures
     ∙ ap (λ (l : List ℕ). l ++ drop (length l) c.as_mut_slice.result.now) head
     ∙ ap (λ (l : List ℕ). to_le_bytes w64 (length body) ++ drop 8 l) lent in

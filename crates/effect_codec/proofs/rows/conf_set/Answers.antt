@@ -5,12 +5,12 @@ use Rattle.kom_types.specs.declared.effects.Effect.{Effect}
 use Rattle.kom_types.specs.declared.effects.Effect.TheVariants as effect
 use Rattle.effect_codec.specs.Fields.{OneOf, Read, Whole, Setting, and_then, value_at}
 use Rattle.effect_codec.specs.Giving.{Gives}
-use Rattle.effect_codec.specs.Table.{conf_parts, conf_field, set}
+use Rattle.effect_codec.specs.Table.{conf_parts, conf_field, set_part}
 use Rattle.effect_codec.proofs.Found.{stopped}
 use Rattle.effect_codec.proofs.rows.conf_set.Goals as goal
 
 abbrev setting_of : ℕ × ℕ → Setting
-setting_of pair = set pair.0 pair.1
+setting_of pair = set_part pair.0 pair.1
 
 abbrev made : ℕ → Setting → List ℕ → Read Effect
 made number set rest = Whole (effect.ConfField number (conf_field set)) rest

@@ -1,8 +1,8 @@
 use Rattle.std.proofs.Common.{◌∷◌, [], List, Option, refl, ap, ◌∙◌, sym}
 use Rattle.kom_types.specs.declared.effects.Effect.{Effect}
 use Rattle.kom_model.specs.Db.{Db}
-use Rattle.kom_model.specs.Effects.{apply, apply_all, fitting}
-use Rattle.kom_state.specs.Keepers.{appended}
+use Rattle.kom_model.specs.Effects.{apply, apply_all, fitting_effects}
+use Rattle.kom_state.specs.Keepers.{append_pending}
 use Rattle.kom_state.proofs.EffectLists.{apply_all-push}
 use Rattle.kom_state.proofs.Fittings.{fitting-push, appended-none, appended-append}
 use Rattle.kom_book.proofs.starting.make_all.Goals as goal
@@ -26,11 +26,12 @@ loop-effect-preserved g c =
           ∙ sym (apply_all-push yielded what first);
       kept =
           c.in_ok-make_one.ensures.kept
-          ∙ ap (λ (db : Db). appended (fitting (what ∷ []) db) (g.K.Keeper.pending c.loop-effect.keeper))
+          ∙ ap (λ (db : Db). append_pending (fitting_effects (what ∷ []) db) (g.K.Keeper.pending c.loop-effect.keeper))
           c.loop-effect.invariant.rows
-          ∙ ap (appended (fitting (what ∷ []) (apply_all yielded first))) c.loop-effect.invariant.kept
-          ∙ sym (appended-append (fitting yielded first) (fitting (what ∷ []) (apply_all yielded first)) waited)
-          ∙ ap (λ (list : List Effect). appended list waited) (sym (fitting-push yielded what first));
+          ∙ ap (append_pending (fitting_effects (what ∷ []) (apply_all yielded first))) c.loop-effect.invariant.kept
+          ∙ sym (appended-append (fitting_effects yielded first)
+          (fitting_effects (what ∷ []) (apply_all yielded first)) waited)
+          ∙ ap (λ (list : List Effect). append_pending list waited) (sym (fitting-push yielded what first));
       rest = g.met.K.Keeper.stays_on _ _ _ c.loop-effect.invariant.rest c.make_one.ensures.rest;
     }
 

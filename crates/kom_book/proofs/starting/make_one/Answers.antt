@@ -1,8 +1,7 @@
-use Rattle.std.proofs.Common.{◌≡◌, true, false, List, [], ◌∷◌, Option, refl, sym, ap, ◌∙◌, subst}
+use Rattle.std.proofs.Common.{◌≡◌, true, false, List, [], ◌∷◌, sym, ap, ◌∙◌, subst}
 use Rattle.kom_types.specs.declared.effects.Effect.{Effect}
-use Rattle.kom_model.specs.Db.{Db}
-use Rattle.kom_model.specs.Effects.{fits, apply, made}
-use Rattle.kom_state.specs.Keepers.{appended}
+use Rattle.kom_model.specs.Effects.{fits, after_effect}
+use Rattle.kom_state.specs.Keepers.{append_pending}
 use Rattle.kom_book.proofs.Kept.{apply_fit, apply_unfit, kept_fit, kept_unfit}
 use Rattle.kom_book.proofs.starting.make_one.Goals as goal
 
@@ -41,7 +40,7 @@ returns-clause-rows g c =
     let fit : fits c.args.effect c.args.rows.now.db ≡ true =
     ap (fits c.args.effect) (sym c.reserve.ensures.db) ∙ sym c.fits.ensures
     ∙ c.if-not-fits.false in
-    c.apply_effect.ensures.db ∙ ap (made c.args.effect) c.reserve.ensures.db
+    c.apply_effect.ensures.db ∙ ap (after_effect c.args.effect) c.reserve.ensures.db
     ∙ sym (apply_fit c.args.effect c.args.rows.now.db fit)
 
 pub returns-clause-kept : goal.returns-clause-kept
@@ -51,7 +50,7 @@ returns-clause-kept g c =
     ∙ c.if-not-fits.false in
     kept_fit c.args.effect c.args.rows.now.db (g.K.Keeper.pending c.args.keeper.now)
     (g.K.Keeper.pending c.keep.new.self) fit
-    (c.keep.ensures.kept ∙ ap (appended (c.args.effect ∷ [])) c.reserve-2.ensures.pending)
+    (c.keep.ensures.kept ∙ ap (append_pending (c.args.effect ∷ [])) c.reserve-2.ensures.pending)
 
 pub returns-clause-rest : goal.returns-clause-rest
 returns-clause-rest g c = g.met.K.Keeper.stays_on _ _ _ c.reserve-2.ensures.rest c.keep.ensures.rest

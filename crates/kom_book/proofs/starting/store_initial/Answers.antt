@@ -1,14 +1,14 @@
-use Rattle.std.proofs.Common.{◌≡◌, inl, inr, ℕ, true, false, List, None, Ok, Err, refl, sym, ap, ◌∙◌, subst}
+use Rattle.std.proofs.Common.{◌≡◌, inl, inr, true, false, List, None, Err, sym, ap, ◌∙◌, subst}
 use Rattle.kom_types.specs.declared.effects.Effect.{Effect}
 use Rattle.kom_model.specs.Db.{Db, empty_db}
 use Rattle.kom_model.specs.Effects.{IsProtected}
 use Rattle.kom_model.specs.Whole.{IsWhole}
-use Rattle.kom_model.specs.Initial.{initial, initial_effects}
-use Rattle.kom_model.specs.State.{opening}
+use Rattle.kom_model.specs.Initial.{initial_effects}
+use Rattle.kom_model.specs.State.{opening_state}
 use Rattle.kom_model.proofs.Opening.{IsProtected-initial, IsWhole-initial}
 use Rattle.kom_disk.specs.Faults.{Rose}
 use Rattle.batch_log.specs.declared.errors.FlushFault.TheVariants as flush
-use Rattle.kom_journal.specs.Images.{AreFor, IsKept, images, images_at, moment}
+use Rattle.kom_journal.specs.Images.{AreFor, IsKept, images, moment}
 use Rattle.kom_book.proofs.Flushing.{stays_calm}
 use Rattle.kom_book.proofs.Openings.{first_pending, first_fits, first_rows, initial_is}
 use Rattle.kom_book.proofs.starting.store_initial.Goals as goal
@@ -26,7 +26,7 @@ of-requires-clause-whole g c =
 pub returns-in-Ok-flush-clause-core : goal.returns-in-Ok-flush-clause-core
 returns-in-Ok-flush-clause-core g c =
     c.of.ensures.value
-    ∙ ap (λ (db : Db). record { state = opening db; last = None })
+    ∙ ap (λ (db : Db). record { state = opening_state db; last = None })
     (c.in-Ok.ensures.rows ∙ initial_is c.args.password.now c.args.moment)
 
 pub returns-in-Ok-flush-clause-unfailed : goal.returns-in-Ok-flush-clause-unfailed

@@ -3,7 +3,7 @@ use Rattle.std.proofs.Common.{◌≤◌, ℕ, List, [], Ok, Result}
 use Rattle.kom_client.specs.declared.talk_end.TalkEnd.{TalkEnd}
 use Rattle.kom_client.specs.Client.{HasCarried}
 use Rattle.kom_client.specs.Talking.{Types}
-use Rattle.kom_client.specs.Talkers.{typing}
+use Rattle.kom_client.specs.Talkers.{typing_of}
 use Rattle.kom_client.proofs.talking.take_keys.Given as goal
 
 abbrev pub invariant-loop : goal.invariant-loop
@@ -15,6 +15,6 @@ invariant-loop g l =
       faults : (g.K.Link.view l.fn.keys).faults ≤ (g.K.Link.view l.keys).faults;
       typed : (typed : List ℕ) × HasCarried (g.K.Link.view l.keys) typed []
           × Types one typed
-          (typing l.fn.talker l.fn.line.items (g.L.Link.view l.fn.link) (g.S.Sink.view l.fn.out))
-          (typing l.talker l.line.items (g.L.Link.view l.link) (g.S.Sink.view l.out));
+          (typing_of l.fn.talker l.fn.line.items (g.L.Link.view l.fn.link) (g.S.Sink.view l.fn.out))
+          (typing_of l.talker l.line.items (g.L.Link.view l.link) (g.S.Sink.view l.out));
     }

@@ -1,6 +1,6 @@
 use Rattle.std.proofs.Common.{refl, ◌∙◌, []}
 use Rattle.kom_client.specs.Talking.{Counts}
-use Rattle.kom_client.specs.Talkers.{typing, world}
+use Rattle.kom_client.specs.Talkers.{typing_of, world}
 use Rattle.kom_client.proofs.Talks.{talk_unsaid, talk_greeted, greeted_cause, talk_finished, finished_by}
 use Rattle.kom_client.proofs.Talks.{finished_cause}
 use Rattle.kom_client.proofs.talking.talk.Goals as goal
@@ -17,7 +17,7 @@ returns-in-Ok-greet-clause-talk g c =
     let start : Counts = record { link = link.faults; sink = sink.faults } in
     talk_finished c.args.user.now c.take_keys.result start (g.K.Link.view c.args.keys.now)
     (g.K.Link.view c.take_keys.new.keys)
-    (typing c.greet.new.self [] (g.L.Link.view c.greet.new.link) sink)
+    (typing_of c.greet.new.self [] (g.L.Link.view c.greet.new.link) sink)
     (world c.take_keys.new.talker (g.L.Link.view c.take_keys.new.link) (g.S.Sink.view c.take_keys.new.out))
     (c.in-Ok-greet.ensures.turn ∙ c.in-Ok.ensures.turn)
     (c.in-Ok-greet.ensures.greets sink c.requires.nothing_shown) c.take_keys.ensures
@@ -32,7 +32,7 @@ returns-in-Ok-greet-clause-cause g c =
     link sink at refl refl
     (finished_by c.args.user.now c.take_keys.result start (g.K.Link.view c.args.keys.now)
     (g.K.Link.view c.take_keys.new.keys)
-    (typing c.greet.new.self [] (g.L.Link.view c.greet.new.link) sink) at
+    (typing_of c.greet.new.self [] (g.L.Link.view c.greet.new.link) sink) at
     (c.in-Ok-greet.ensures.greets sink c.requires.nothing_shown) c.take_keys.ensures)
 
 pub returns-clause-talk : goal.returns-clause-talk

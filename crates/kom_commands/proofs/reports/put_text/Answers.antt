@@ -3,7 +3,7 @@ use Rattle.std.proofs.Common.{arith, append-nil, inl, inr}
 use Rattle.std.specs.Option.{IfSome}
 use Rattle.std.proofs.lemmas.List.{take-append-drop}
 use Rattle.kom_links.specs.Doors.{SinkView, Puts}
-use Rattle.kom_links.specs.Outside.{IsNothing, Rose, grown}
+use Rattle.kom_links.specs.Outside.{IsNothing, Rose, with_bytes}
 use Rattle.kom_links.specs.Talk.{IsPrefix}
 use Rattle.kom_commands.specs.Reports.{HasText}
 use Rattle.kom_commands.proofs.reports.put_text.Goals as goal
@@ -16,12 +16,12 @@ abbrev Shows : List ℕ → ℕ → Option (List ℕ) → Type 0
 Shows text faults put = IfSome put (λ bytes. IsPrefix bytes text × (faults ≡ 0 → bytes ≡ text))
 
 whole_put : (text : List ℕ) (before : Option (List ℕ)) (faults : ℕ) → IsNothing before →
-    Shows text faults (grown text before)
+    Shows text faults (with_bytes text before)
 whole_put text None faults nothing = tt
 whole_put text (Some bytes) faults nothing = rw nothing (([], append-nil text), λ _. refl)
 
 prefix_put : (text : List ℕ) (count : ℕ) (before : Option (List ℕ)) (faults : ℕ) → IsNothing before →
-    (faults ≡ 0 → ⊥) → Shows text faults (grown (take count text) before)
+    (faults ≡ 0 → ⊥) → Shows text faults (with_bytes (take count text) before)
 prefix_put text count None faults nothing failed = tt
 prefix_put text count (Some bytes) faults nothing failed =
     rw nothing ((drop count text, take-append-drop count text), λ none. absurd (failed none))

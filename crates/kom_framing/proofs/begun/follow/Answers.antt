@@ -1,6 +1,4 @@
-use Rattle.std.proofs.Common.{◌≡◌, ◌+◌, ◌++◌, List, length, sym, subst}
-use Rattle.kom_framing.specs.declared.units.Unit.{Unit as StreamUnit}
-use Rattle.kom_framing.specs.Advancing.{Follows, begun_seen}
+use Rattle.kom_framing.specs.Advancing.{begun_seen}
 use Rattle.kom_framing.proofs.Fed.{lines_pass}
 use Rattle.kom_framing.proofs.begun.follow.Goals as goal
 

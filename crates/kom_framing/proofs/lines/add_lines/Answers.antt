@@ -1,6 +1,6 @@
-use Rattle.std.proofs.Common.{◌≡◌, ◌+◌, List, ℕ, length, drop, sym, ap, subst, ◌∙◌, arith}
+use Rattle.std.proofs.Common.{◌≡◌, ◌+◌, List, ℕ, length, drop, subst, arith}
 use Rattle.kom_framing.specs.WholeLines.{AddsTo, AddsUpTo}
-use Rattle.kom_framing.proofs.WholeLines.{piece_left, adds_none, adds_further, adds_after}
+use Rattle.kom_framing.proofs.WholeLines.{piece_left, adds_none, adds_further}
 use Rattle.kom_framing.proofs.lines.add_lines.Goals as goal
 
 pub loop-at-init : goal.loop-at-init

@@ -1,6 +1,5 @@
 use Rattle.std.proofs.Common.{◌≡◌, ◌+◌, ◌-◌, ◌++◌, [], ◌∷◌, List, ℕ, length, take, sym, ap, subst, ◌∙◌, arith}
 use Rattle.std.proofs.lemmas.Bool.Decides.{nat_tests}
-use Rattle.std.proofs.lemmas.List.{length-take-le}
 use Rattle.kom_types.specs.declared.side.Side.TheVariants as sides
 use Rattle.kom_types.specs.Stream as stream
 use Rattle.kom_framing.specs.declared.units.Unit.{Unit as StreamUnit}
@@ -11,10 +10,10 @@ use Rattle.kom_framing.proofs.WholeTokens.{nothing_there}
 use Rattle.kom_framing.proofs.WholeLines.{adds_whole, unit_added, none_added}
 use Rattle.kom_framing.proofs.lines.add_whole.Goals as goal
 
-pub slice_bounds-from_slice-end : goal.slice_bounds-from_slice-end
-slice_bounds-from_slice-end c =
+pub text_of-requires : goal.text_of-requires
+text_of-requires c =
     let ends = (rw c.in-Some.is at c.in_ok-whole_line.ensures) sides.Client in
-    sym (length-take-le c.in-Some.count c.window_of-window.result.now ends.within)
+    ends.within
 
 pub overflow_sub-end : goal.overflow_sub-end
 overflow_sub-end c =
@@ -29,7 +28,7 @@ overflow_add-end c =
 pub of-requires : goal.of-requires
 of-requires c =
     let ends = (rw c.in-Some.is at c.in_ok-whole_line.ensures) sides.Client in
-    subst (λ (t : List ℕ). AreTokens t c.whole_line.new.starts.items) (sym c.in_ok-text-in-Some.ensures.ok) ends.whole
+    subst (λ (t : List ℕ). AreTokens t c.whole_line.new.starts.items) (sym c.in_ok-text-in-Some.ensures) ends.whole
 
 pub returns-then-is_empty : goal.returns-then-is_empty
 returns-then-is_empty c =
@@ -63,5 +62,5 @@ returns-in_ok-reserve-in-Some c =
     ∙ ap (λ (us : List StreamUnit). us ++ unit.Line c.of.result ∷ []) c.reserve.ensures.items
     ∙ ap (λ (l : stream.Line). units ++ unit.Line l ∷ []) c.of.ensures
     ∙ ap (λ (t : List ℕ). units ++ unit.Line (record { tokens = tokens_of t starts; end = end }) ∷ [])
-    c.in_ok-text-in-Some.ensures.ok
+    c.in_ok-text-in-Some.ensures
     ∙ unit_added units (take c.in-Some.count c.window_of-window.result.now) starts end some)

@@ -1,5 +1,5 @@
 use Rattle.std.proofs.Common.{◌≡◌, ◌+◌, List, ℕ, [], ◌∷◌, ◌++◌, drop, inr, refl, ap, subst, ◌∙◌, arith}
-use Rattle.batch_log.specs.Batches.{sized}
+use Rattle.batch_log.specs.Batches.{with_length}
 use Rattle.batch_log.specs.Walk.{HasFirst, Stands}
 use Rattle.kom_journal.specs.Opening.{IsUnfit}
 use Rattle.kom_journal.specs.Reading.{MakesPart, part}
@@ -35,7 +35,7 @@ returns-in-Err-Unfit-clause-none g c told =
     let unfit = (rw c.in-Err-Unfit.field-0-is at c.in-Err-Unfit.ensures).unfit told refl in (
       refl,
       (
-        sized first.body ++ first.gate ∷ first.after,
+        with_length first.body ++ first.gate ∷ first.after,
         first.whole,
         inr (record {
           body = first.body;

@@ -3,21 +3,21 @@ use Rattle.std.proofs.Common.{refl}
 use Rattle.sha2.specs.Sha256.{sha256, digest_bytes, hash_after, compress, rounds, schedule, first_words}
 use Rattle.kom_types.specs.Names.{finds, is_name}
 use Rattle.kom_types.specs.tables.Persons.{password_hash}
-use Rattle.kom_types.specs.AuxItems.{refused_change, inherited}
+use Rattle.kom_types.specs.AuxItems.{refused_change, inherit}
 use Rattle.kom_model.specs.Db.{items_of, next_item_of}
 use Rattle.kom_model.specs.Db.{conference_of, person_of, membership_of, memberships_of, conferences_of}
 use Rattle.kom_model.specs.Db.{next_conference_of}
 use Rattle.kom_model.specs.Db.{conference_head_of, membership_kind_of}
-use Rattle.kom_model.specs.Effects.{fits, made}
+use Rattle.kom_model.specs.Effects.{fits, after_effect}
 use Rattle.kom_model.specs.Initial.{initial}
 use Rattle.kom_model.specs.Rights.{supervises, sees}
 use Rattle.kom_rows.proofs.model.worked_calls.Goals as goal
 
 pub returns : goal.returns
-unfolding items_of next_item_of refused_change inherited
+unfolding items_of next_item_of refused_change inherit
     conference_head_of membership_kind_of finds is_name password_hash conference_of person_of membership_of
     memberships_of conferences_of
-    next_conference_of fits made initial supervises sees sha256 digest_bytes hash_after compress rounds schedule
+    next_conference_of fits after_effect initial supervises sees sha256 digest_bytes hash_after compress rounds schedule
     first_words
 returns c = record {
   hash_of_no_password = refl;

@@ -1,6 +1,6 @@
 -- Each row is computed.
 use Rattle.std.proofs.Common.{refl}
-use Rattle.kom_types.specs.AuxItems.{refused_change, inherited}
+use Rattle.kom_types.specs.AuxItems.{refused_change, inherit}
 use Rattle.kom_types.specs.Names.{is_name}
 use Rattle.kom_model.specs.Db.{conference_of, person_of, membership_of, memberships_of, memberships_at}
 use Rattle.kom_model.specs.Db.{members_of, conferences_of, next_conference_of, conference_head_of}
@@ -8,18 +8,18 @@ use Rattle.kom_model.specs.Db.{membership_kind_of, text_of, text_author_of, next
 use Rattle.kom_model.specs.Db.{next_created_of, recipient_of, recipients_of, link_of, links_from}
 use Rattle.kom_model.specs.Db.{links_into, links_of, locals_of, first_local_of, mark_of, marks_of}
 use Rattle.kom_model.specs.Db.{marks_on, items_of, next_item_of}
-use Rattle.kom_model.specs.Effects.{fits, made}
+use Rattle.kom_model.specs.Effects.{fits, after_effect}
 use Rattle.kom_model.specs.Initial.{initial}
 use Rattle.kom_model.specs.Rights.{supervises, sees, reads_conference, reads, may_submit}
 use Rattle.kom_model.specs.Shown.{shows_membership}
 use Rattle.kom_rows.proofs.model.worked_items.Goals as goal
 
 pub returns-clause-items : goal.returns-clause-items
-unfolding refused_change inherited is_name conference_of person_of membership_of memberships_of
+unfolding refused_change inherit is_name conference_of person_of membership_of memberships_of
     memberships_at members_of conferences_of next_conference_of conference_head_of
     membership_kind_of text_of text_author_of next_text_of next_local_of next_created_of
     recipient_of recipients_of link_of links_from links_into links_of locals_of first_local_of
-    mark_of marks_of marks_on items_of next_item_of fits made initial supervises sees
+    mark_of marks_of marks_on items_of next_item_of fits after_effect initial supervises sees
     reads_conference reads may_submit shows_membership
 returns-clause-items c = record {
   all_are_made = refl;
@@ -131,11 +131,11 @@ returns-clause-items c = record {
 }
 
 pub returns-clause-new_items : goal.returns-clause-new_items
-unfolding refused_change inherited is_name conference_of person_of membership_of memberships_of
+unfolding refused_change inherit is_name conference_of person_of membership_of memberships_of
     memberships_at members_of conferences_of next_conference_of conference_head_of
     membership_kind_of text_of text_author_of next_text_of next_local_of next_created_of
     recipient_of recipients_of link_of links_from links_into links_of locals_of first_local_of
-    mark_of marks_of marks_on items_of next_item_of fits made initial supervises sees
+    mark_of marks_of marks_on items_of next_item_of fits after_effect initial supervises sees
     reads_conference reads may_submit shows_membership
 returns-clause-new_items c = record {
   text_made = refl;

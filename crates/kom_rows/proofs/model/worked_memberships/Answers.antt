@@ -1,22 +1,22 @@
 -- Each row is computed.
 use Rattle.std.proofs.Common.{refl}
 use Rattle.read_ranges.specs.Numbers.{numbers_from}
-use Rattle.kom_types.specs.AuxItems.{refused_change, inherited}
+use Rattle.kom_types.specs.AuxItems.{refused_change, inherit}
 use Rattle.kom_model.specs.Db.{items_of, next_item_of}
 use Rattle.kom_model.specs.Db.{conference_of, person_of, membership_of, memberships_of, members_of, conferences_of}
 use Rattle.kom_model.specs.Db.{person_flags_of}
 use Rattle.kom_model.specs.Db.{conference_head_of, membership_kind_of, read_of, text_of, next_text_of}
 use Rattle.kom_model.specs.Db.{next_local_of, recipient_of, recipients_of, locals_of, first_local_of}
-use Rattle.kom_model.specs.Effects.{fits, made}
+use Rattle.kom_model.specs.Effects.{fits, after_effect}
 use Rattle.kom_model.specs.Rights.{supervises, sees, reads_conference}
 use Rattle.kom_model.specs.Shown.{shows_membership}
 use Rattle.kom_rows.proofs.model.worked_memberships.Goals as goal
 
 pub returns-clause-memberships : goal.returns-clause-memberships
-unfolding items_of next_item_of refused_change inherited
+unfolding items_of next_item_of refused_change inherit
     numbers_from conference_of person_of membership_of memberships_of members_of conferences_of person_flags_of
     conference_head_of membership_kind_of read_of text_of next_text_of next_local_of recipient_of recipients_of
-    locals_of first_local_of fits made supervises sees reads_conference shows_membership
+    locals_of first_local_of fits after_effect supervises sees reads_conference shows_membership
 returns-clause-memberships c = record {
   all_are_made = refl;
   places = refl;
@@ -123,10 +123,10 @@ returns-clause-memberships c = record {
 }
 
 pub returns-clause-reading : goal.returns-clause-reading
-unfolding items_of next_item_of refused_change inherited
+unfolding items_of next_item_of refused_change inherit
     numbers_from conference_of person_of membership_of memberships_of members_of conferences_of person_flags_of
     conference_head_of membership_kind_of read_of text_of next_text_of next_local_of recipient_of recipients_of
-    locals_of first_local_of fits made supervises sees reads_conference shows_membership
+    locals_of first_local_of fits after_effect supervises sees reads_conference shows_membership
 returns-clause-reading c = record {
   marks = refl;
   marks_part = refl;

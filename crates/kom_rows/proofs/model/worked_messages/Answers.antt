@@ -2,7 +2,7 @@
 use Rattle.std.proofs.Common.{refl}
 use Rattle.std.specs.Fmt.{digits}
 use Rattle.sha2.specs.Sha256.{sha256, digest_bytes, hash_after, compress, rounds, schedule, first_words}
-use Rattle.kom_types.specs.AuxItems.{refused_change, inherited}
+use Rattle.kom_types.specs.AuxItems.{refused_change, inherit}
 use Rattle.kom_types.specs.Names.{is_name}
 use Rattle.kom_types.specs.Printing.{print_of}
 use Rattle.kom_types.specs.Times.{time_of, day_from, month_from}
@@ -16,7 +16,7 @@ use Rattle.kom_model.specs.Db.{recipients_of, link_of, links_from, links_into, l
 use Rattle.kom_model.specs.Db.{first_local_of, created_by, first_created_of, mark_of, marks_of}
 use Rattle.kom_model.specs.Db.{marks_on, items_of, next_item_of}
 use Rattle.kom_model.specs.Decide.{decision_of}
-use Rattle.kom_model.specs.Effects.{fits, made}
+use Rattle.kom_model.specs.Effects.{fits, after_effect}
 use Rattle.kom_model.specs.Rights.{supervises, sees, reads_conference, reads, may_submit}
 use Rattle.kom_model.specs.Shown.{shows_membership}
 use Rattle.kom_model.specs.ToWhom.{messages_of}
@@ -24,12 +24,12 @@ use Rattle.kom_rows.proofs.model.worked_messages.Goals as goal
 
 pub returns : goal.returns
 unfolding digits sha256 digest_bytes hash_after compress rounds schedule first_words
-    refused_change inherited is_name print_of time_of day_from month_from password_hash numbers_from
+    refused_change inherit is_name print_of time_of day_from month_from password_hash numbers_from
     conference_of person_of membership_of memberships_of memberships_at members_of
     conferences_of next_conference_of conference_head_of membership_kind_of person_flags_of read_of
     text_of text_author_of texts_of next_text_of next_local_of next_created_of recipient_of
     recipients_of link_of links_from links_into links_of locals_of first_local_of created_by
-    first_created_of mark_of marks_of marks_on items_of next_item_of decision_of fits made
+    first_created_of mark_of marks_of marks_on items_of next_item_of decision_of fits after_effect
     supervises sees reads_conference reads may_submit shows_membership messages_of
 returns c = record {
   all_are_made = refl;

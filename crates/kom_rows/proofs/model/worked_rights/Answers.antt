@@ -1,18 +1,18 @@
 -- Each row is computed.
 use Rattle.std.proofs.Common.{refl}
-use Rattle.kom_types.specs.AuxItems.{refused_change, inherited}
+use Rattle.kom_types.specs.AuxItems.{refused_change, inherit}
 use Rattle.kom_model.specs.Db.{items_of, next_item_of}
 use Rattle.kom_model.specs.Db.{conference_of, person_of, membership_of, memberships_of, members_of}
 use Rattle.kom_model.specs.Db.{conferences_of}
 use Rattle.kom_model.specs.Db.{conference_head_of, membership_kind_of}
-use Rattle.kom_model.specs.Effects.{fits, made}
+use Rattle.kom_model.specs.Effects.{fits, after_effect}
 use Rattle.kom_model.specs.Rights.{supervises, sees, reads_conference}
 use Rattle.kom_rows.proofs.model.worked_rights.Goals as goal
 
 pub returns : goal.returns
-unfolding items_of next_item_of refused_change inherited
+unfolding items_of next_item_of refused_change inherit
     conference_head_of membership_kind_of conference_of person_of membership_of memberships_of members_of conferences_of
-    fits made
+    fits after_effect
     supervises sees reads_conference
 returns c = record {
   all_are_made = refl;

@@ -1,23 +1,23 @@
 -- Each row is computed.
 use Rattle.std.proofs.Common.{refl}
-use Rattle.kom_types.specs.AuxItems.{refused_change, inherited}
+use Rattle.kom_types.specs.AuxItems.{refused_change, inherit}
 use Rattle.kom_model.specs.Db.{items_of, next_item_of}
 use Rattle.kom_model.specs.Db.{conference_of, person_of, membership_of, memberships_of, memberships_at, members_of}
 use Rattle.kom_model.specs.Db.{conferences_of, conference_head_of, membership_kind_of, read_of}
 use Rattle.kom_model.specs.Db.{text_of, text_author_of, next_local_of, next_created_of}
 use Rattle.kom_model.specs.Db.{recipient_of, recipients_of, link_of, links_from, links_into, locals_of}
 use Rattle.kom_model.specs.Db.{first_local_of, created_by, first_created_of, mark_of, marks_of, marks_on}
-use Rattle.kom_model.specs.Effects.{fits, made}
+use Rattle.kom_model.specs.Effects.{fits, after_effect}
 use Rattle.kom_model.specs.Rights.{supervises, sees, reads_conference, reads}
 use Rattle.kom_model.specs.Shown.{shows_membership}
 use Rattle.kom_rows.proofs.model.worked_shown.Goals as goal
 
 pub returns : goal.returns
-unfolding items_of next_item_of refused_change inherited
+unfolding items_of next_item_of refused_change inherit
     conference_of person_of membership_of memberships_of memberships_at members_of conferences_of
     conference_head_of membership_kind_of read_of text_of text_author_of
     next_local_of next_created_of recipient_of recipients_of link_of links_from links_into locals_of
-    first_local_of created_by first_created_of mark_of marks_of marks_on fits made supervises sees
+    first_local_of created_by first_created_of mark_of marks_of marks_on fits after_effect supervises sees
     reads_conference reads shows_membership
 returns c = record {
   all_are_made = refl;

@@ -1,24 +1,24 @@
 -- Each row is computed.
 use Rattle.std.proofs.Common.{refl}
 use Rattle.kom_types.specs.Mappings.{mapping_up, mapping_down}
-use Rattle.kom_types.specs.AuxItems.{refused_change, inherited}
+use Rattle.kom_types.specs.AuxItems.{refused_change, inherit}
 use Rattle.kom_model.specs.Db.{items_of, next_item_of}
 use Rattle.kom_model.specs.Db.{conference_of, person_of, membership_of, memberships_of, conferences_of}
 use Rattle.kom_model.specs.Db.{conference_head_of, membership_kind_of, text_of, text_author_of, texts_of}
 use Rattle.kom_model.specs.Db.{next_text_of, next_local_of, next_created_of, recipient_of, recipients_of}
 use Rattle.kom_model.specs.Db.{link_of, links_from, links_into, links_of, locals_of, created_by, mark_of, marks_of}
 use Rattle.kom_model.specs.Db.{marks_on}
-use Rattle.kom_model.specs.Effects.{fits, made}
+use Rattle.kom_model.specs.Effects.{fits, after_effect}
 use Rattle.kom_model.specs.Initial.{initial}
 use Rattle.kom_model.specs.Rights.{supervises, sees, reads_conference, reads, may_submit}
 use Rattle.kom_rows.proofs.model.worked_texts.Goals as goal
 
 pub returns : goal.returns
-unfolding items_of next_item_of refused_change inherited
+unfolding items_of next_item_of refused_change inherit
     mapping_up mapping_down conference_of person_of membership_of memberships_of conferences_of
     conference_head_of membership_kind_of text_of text_author_of texts_of next_text_of next_local_of
     next_created_of recipient_of recipients_of link_of links_from links_into links_of locals_of created_by mark_of
-    marks_of marks_on fits made initial supervises sees reads_conference reads may_submit
+    marks_of marks_on fits after_effect initial supervises sees reads_conference reads may_submit
 returns c = record {
   all_are_made = refl;
   next_text = refl;

@@ -2,11 +2,11 @@
 use Rattle.std.proofs.Common.{refl}
 use Rattle.kom_types.specs.Names.{finds, is_name}
 use Rattle.kom_types.specs.Mappings.{mapping_up, mapping_down}
-use Rattle.kom_types.specs.AuxItems.{refused_change, inherited}
+use Rattle.kom_types.specs.AuxItems.{refused_change, inherit}
 use Rattle.kom_rows.proofs.types.worked_tables.Goals as goal
 
 pub returns : goal.returns
-unfolding finds is_name mapping_up mapping_down refused_change inherited
+unfolding finds is_name mapping_up mapping_down refused_change inherit
 returns c = record {
   fold_of_latin_letters = refl;
   clash_of_letters = refl;

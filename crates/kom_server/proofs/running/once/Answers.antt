@@ -2,7 +2,7 @@ use Rattle.std.proofs.Common.{ℕ, [], inl, inr, sym, ◌∙◌}
 use Rattle.std.proofs.lemmas.Bool.{false≢true}
 use Rattle.kom_model.specs.Initial.{initial}
 use Rattle.kom_server.specs.Runs.{new_server}
-use Rattle.kom_server.proofs.WholeRuns.{first_now}
+use Rattle.kom_serving.proofs.WholeRuns.{first_now}
 use Rattle.kom_server.proofs.Hiding.{hiding_run}
 use Rattle.kom_server.proofs.StoreRuns.{some_then, both_some, wrong_or_so, not_true, marked_by, never_refused, unstored}
 use Rattle.kom_server.proofs.StoreRuns.{no_disk_failed}

@@ -1,4 +1,4 @@
-use Rattle.kom_server.proofs.Overs.{all_viewed}
+use Rattle.kom_serving.proofs.Overs.{all_viewed}
 use Rattle.kom_server.proofs.StoreRuns.{some_then}
 use Rattle.kom_server.proofs.store_runs.serve_at.Goals as goal
 

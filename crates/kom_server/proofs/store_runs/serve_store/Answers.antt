@@ -3,7 +3,7 @@ use Rattle.std.specs.Prelude.{is_some}
 use Rattle.kom_links.specs.declared.world_counts.WorldCounts.{WorldCounts}
 use Rattle.kom_links.specs.WorldCounts.{with_disk}
 use Rattle.kom_model.specs.Db.{Db}
-use Rattle.kom_model.specs.State.{opening}
+use Rattle.kom_model.specs.State.{opening_state}
 use Rattle.kom_journal.specs.Images.{Image, as_read, StandsFor}
 use Rattle.store_check.specs.Stores.{IsNoStore, IsWrong}
 use Rattle.store_check.proofs.Causes.{of_content, unopened_wrong, found_so}
@@ -47,7 +47,7 @@ returns-in-Ok-open-clause-served g c =
 pub returns-in-Ok-open-clause-over : goal.returns-in-Ok-open-clause-over
 returns-in-Ok-open-clause-over g c =
     let db : Db = c.in-Ok-open.book.core.state.db in
-    let from : c.in-Ok-open.book.core.state ≡ opening db =
+    let from : c.in-Ok-open.book.core.state ≡ opening_state db =
     opened_from c.in-Ok-open.book.core.state c.in-Ok-open.ensures.plain.opening in
     let found = found_so g.W.Disk.Disk.tells _ _ g.W.Disk.Disk.bytes c.in-Ok.disk _ (StandsFor db)
     c.in-Ok.ensures.found c.in-Ok-open.ensures.was in

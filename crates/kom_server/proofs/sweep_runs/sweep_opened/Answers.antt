@@ -1,4 +1,4 @@
-use Rattle.std.proofs.Common.{inl, inr, refl, sym, ap, subst, map, ◌∙◌}
+use Rattle.std.proofs.Common.{inl, inr, sym, ap, subst, map, ◌∙◌}
 use Rattle.std.specs.Prelude.{is_some}
 use Rattle.kom_journal.specs.Images.{images_at, moment}
 use Rattle.kom_book.specs.Books.{state_in}

@@ -2,7 +2,7 @@ use Rattle.std.proofs.Common.{◌≡◌, true, false, inl, inr, refl, sym, ap, �
 use Rattle.std.proofs.lemmas.Bool.{true≢false}
 use Rattle.std.specs.Prelude.{is_some}
 use Rattle.kom_model.specs.Db.{Db}
-use Rattle.kom_model.specs.State.{opening}
+use Rattle.kom_model.specs.State.{opening_state}
 use Rattle.kom_journal.specs.Images.{Image, as_read, StandsFor}
 use Rattle.store_check.specs.Stores.{IsNoStore, IsWrong}
 use Rattle.store_check.proofs.Causes.{of_content, unopened_wrong, found_so}
@@ -40,7 +40,7 @@ returns-in-Ok-open-clause-unopened g c holds =
 pub returns-in-Ok-open-clause-swept : goal.returns-in-Ok-open-clause-swept
 returns-in-Ok-open-clause-swept g c =
     let db : Db = c.in-Ok-open.book.core.state.db in
-    let from : c.in-Ok-open.book.core.state ≡ opening db =
+    let from : c.in-Ok-open.book.core.state ≡ opening_state db =
     opened_from c.in-Ok-open.book.core.state c.in-Ok-open.ensures.plain.opening in
     let found = found_so g.W.Disk.Disk.tells _ _ g.W.Disk.Disk.bytes c.in-Ok.disk _ (StandsFor db)
     c.in-Ok.ensures.found c.in-Ok-open.ensures.was in

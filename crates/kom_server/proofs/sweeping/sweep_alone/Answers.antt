@@ -1,7 +1,7 @@
 use Rattle.std.proofs.Common.{◌≡◌, [], ◌∷◌, refl}
 use Rattle.kom_state_lock.specs.Passes.{AreReady}
 use Rattle.kom_state_lock.proofs.Ready.{ready_table, ready_every, ready_free}
-use Rattle.kom_server.proofs.WholeRuns.{dealt, both_ready}
+use Rattle.kom_serving.proofs.WholeRuns.{dealt, both_ready}
 use Rattle.kom_server.proofs.SweepRuns.{sweep_closed}
 use Rattle.kom_server.proofs.sweeping.sweep_alone.Goals as goal
 

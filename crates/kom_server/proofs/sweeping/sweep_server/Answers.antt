@@ -1,6 +1,6 @@
-use Rattle.std.proofs.Common.{◌≡◌, [], ◌∷◌, inl, inr, refl, sym, ap, subst, ◌∙◌}
+use Rattle.std.proofs.Common.{sym, ap, subst}
 use Rattle.hall_desk.specs.Acts.{IsOpening}
-use Rattle.kom_server.proofs.WholeRuns.{sole}
+use Rattle.kom_serving.proofs.WholeRuns.{sole}
 use Rattle.kom_server.proofs.SweepRuns.{sweep_from}
 use Rattle.kom_server.proofs.sweeping.sweep_server.Goals as goal
 

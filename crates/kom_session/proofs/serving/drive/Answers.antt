@@ -1,5 +1,5 @@
 use Rattle.std.proofs.Common.{rules}
-use Rattle.kom_session.specs.Known.{known, state, seen}
+use Rattle.kom_session.specs.Known.{known_by, state, sight}
 use Rattle.kom_session.proofs.Asking.{asked_none, asked_trans}
 use Rattle.kom_session.proofs.Going.{goes_same, goes_trans}
 use Rattle.kom_session.proofs.serving.drive.Goals as goal
@@ -10,7 +10,7 @@ returns-in_default-clause-over g c = c.out_of_memory.ensures.over
 pub returns-in_default-clause-goes : goal.returns-in_default-clause-goes
 returns-in_default-clause-goes g c =
     c.out_of_memory.ensures.still
-    (seen (g.K.Desk.view c.args.desk.now) (g.L.Link.view c.args.link.now)
+    (sight (g.K.Desk.view c.args.desk.now) (g.L.Link.view c.args.link.now)
     (g.C.Clock.gave c.args.clock.now))
 
 pub loop-init : goal.loop-init
@@ -34,11 +34,11 @@ step-requires-clause-can g c =
 
 pub loop-preserved : goal.loop-preserved
 loop-preserved g c =
-    let first = state (known c.args.machine.now) (seen (g.K.Desk.view c.args.desk.now)
+    let first = state (known_by c.args.machine.now) (sight (g.K.Desk.view c.args.desk.now)
     (g.L.Link.view c.args.link.now) (g.C.Clock.gave c.args.clock.now)) in
-    let mid = state (known c.loop.machine) (seen (g.K.Desk.view c.loop.desk)
+    let mid = state (known_by c.loop.machine) (sight (g.K.Desk.view c.loop.desk)
     (g.L.Link.view c.loop.link) (g.C.Clock.gave c.loop.clock)) in
-    let last = state (known c.step.new.machine) (seen (g.K.Desk.view c.step.new.desk)
+    let last = state (known_by c.step.new.machine) (sight (g.K.Desk.view c.step.new.desk)
     (g.L.Link.view c.step.new.link) (g.C.Clock.gave c.step.new.clock)) in
     record {
       can = search rules;

@@ -1,6 +1,6 @@
 use Rattle.std.proofs.Common.{◌≡◌, ◌+◌, refl, arith}
 use Rattle.kom_links.specs.Answers.{asks_in}
-use Rattle.kom_session.specs.Known.{seen}
+use Rattle.kom_session.specs.Known.{sight}
 use Rattle.kom_session.proofs.Asking.{asked_read}
 use Rattle.kom_session.proofs.Going.{goes_trans}
 use Rattle.kom_session.proofs.serving.read.Goals as goal
@@ -8,26 +8,26 @@ use Rattle.kom_session.proofs.serving.read.Goals as goal
 pub returns-in-Some-clause-goes : goal.returns-in-Some-clause-goes
 returns-in-Some-clause-goes g c = λ gave.
     c.fed.ensures c.read.new.into c.in-Some.count refl
-    (seen (g.K.Desk.view c.args.desk.now) (g.L.Link.view c.args.link.now) gave)
+    (sight (g.K.Desk.view c.args.desk.now) (g.L.Link.view c.args.link.now) gave)
     (g.L.Link.view c.read.new.self) c.in-Some.ensures
 
 pub returns-in-NotYet-clause-goes : goal.returns-in-NotYet-clause-goes
 returns-in-NotYet-clause-goes g c = λ gave. goes_trans
     (c.waited.ensures.reads c.read.new.into
-    (seen (g.K.Desk.view c.args.desk.now) (g.L.Link.view c.args.link.now) gave)
+    (sight (g.K.Desk.view c.args.desk.now) (g.L.Link.view c.args.link.now) gave)
     (g.L.Link.view c.read.new.self) c.in-NotYet.ensures)
     (c.ask.ensures.goes (g.L.Link.view c.read.new.self) gave)
 
 pub returns-in-End-clause-goes : goal.returns-in-End-clause-goes
 returns-in-End-clause-goes g c = λ gave.
     c.ended.ensures c.read.new.into
-    (seen (g.K.Desk.view c.args.desk.now) (g.L.Link.view c.args.link.now) gave)
+    (sight (g.K.Desk.view c.args.desk.now) (g.L.Link.view c.args.link.now) gave)
     (g.L.Link.view c.read.new.self) c.in-End.ensures
 
 pub returns-in-Failed-clause-goes : goal.returns-in-Failed-clause-goes
 returns-in-Failed-clause-goes g c = λ gave.
     c.unread.ensures c.read.new.into
-    (seen (g.K.Desk.view c.args.desk.now) (g.L.Link.view c.args.link.now) gave)
+    (sight (g.K.Desk.view c.args.desk.now) (g.L.Link.view c.args.link.now) gave)
     (g.L.Link.view c.read.new.self) c.in-Failed.ensures
 
 pub returns-in-Some-clause-asked : goal.returns-in-Some-clause-asked

@@ -1,4 +1,4 @@
-use Rattle.kom_session.specs.Known.{seen}
+use Rattle.kom_session.specs.Known.{sight}
 use Rattle.kom_session.specs.Serving.{ServesLink, steps_in}
 use Rattle.kom_session.specs.Waits.{NoneWaits}
 use Rattle.kom_session.proofs.Asking.{asked_all}
@@ -7,12 +7,12 @@ use Rattle.kom_session.proofs.serving.serve_link.Goals as goal
 
 pub drive-requires-clause-can : goal.drive-requires-clause-can
 drive-requires-clause-can g c =
-    let start = seen (g.K.Desk.view c.args.desk.now) (g.L.Link.view c.args.link.now)
+    let start = sight (g.K.Desk.view c.args.desk.now) (g.L.Link.view c.args.link.now)
     (g.C.Clock.gave c.args.clock.now) in (start, c.new-machine.ensures.kept start c.requires.untouched)
 
 pub close-requires-clause-can : goal.close-requires-clause-can
 close-requires-clause-can g c =
-    let start = seen (g.K.Desk.view c.args.desk.now) (g.L.Link.view c.args.link.now)
+    let start = sight (g.K.Desk.view c.args.desk.now) (g.L.Link.view c.args.link.now)
     (g.C.Clock.gave c.args.clock.now) in (
       start,
       g.L.Link.view c.drive.new.link,
@@ -21,12 +21,12 @@ close-requires-clause-can g c =
 
 -- all that is told of the link
 served : (g : given.Over) (c : goal.After-drop-machine g) →
-    ServesLink (seen (g.K.Desk.view c.args.desk.now) (g.L.Link.view c.args.link.now)
+    ServesLink (sight (g.K.Desk.view c.args.desk.now) (g.L.Link.view c.args.link.now)
     (g.C.Clock.gave c.args.clock.now)) c.close.result
-    (seen (g.K.Desk.view c.close.new.desk) (g.L.Link.view c.drive.new.link)
+    (sight (g.K.Desk.view c.close.new.desk) (g.L.Link.view c.drive.new.link)
     (g.C.Clock.gave c.close.new.clock))
 served g c =
-    let start = seen (g.K.Desk.view c.args.desk.now) (g.L.Link.view c.args.link.now)
+    let start = sight (g.K.Desk.view c.args.desk.now) (g.L.Link.view c.args.link.now)
     (g.C.Clock.gave c.args.clock.now) in
     let goes = c.drive.ensures.goes in
     c.close.ensures.closed start (g.L.Link.view c.drive.new.link)
@@ -49,7 +49,7 @@ returns-clause-waits g c =
       waits.2,
       waits.3,
       asked_all
-          (NoneWaits (steps_in (seen (g.K.Desk.view c.close.new.desk)
+          (NoneWaits (steps_in (sight (g.K.Desk.view c.close.new.desk)
           (g.L.Link.view c.drive.new.link) (g.C.Clock.gave c.close.new.clock))
           c.close.result.session waits.0))
           (g.L.Link.view c.args.link.now).reads (g.L.Link.view c.drive.new.link).reads

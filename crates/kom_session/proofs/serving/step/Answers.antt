@@ -1,5 +1,5 @@
 use Rattle.std.proofs.Common.{refl, sym}
-use Rattle.kom_session.specs.Known.{seen}
+use Rattle.kom_session.specs.Known.{sight}
 use Rattle.kom_session.proofs.Asking.{asked_more}
 use Rattle.kom_session.proofs.Going.{goes_same}
 use Rattle.kom_session.proofs.serving.step.Goals as goal
@@ -25,7 +25,7 @@ returns-in-Act-clause-asked g c =
 pub returns-in-Flush-clause-goes : goal.returns-in-Flush-clause-goes
 returns-in-Flush-clause-goes g c =
     c.flushed.ensures
-    (seen (g.K.Desk.view c.args.desk.now) (g.L.Link.view c.args.link.now)
+    (sight (g.K.Desk.view c.args.desk.now) (g.L.Link.view c.args.link.now)
     (g.C.Clock.gave c.args.clock.now)) c.now.result (g.K.Desk.view c.flush-answer.new.self)
     (g.C.Clock.gave c.now.new.self) c.flush-answer.ensures.flushes c.now.ensures.gains
 

@@ -3,7 +3,7 @@ use Rattle.std.proofs.Common.{refl}
 use Rattle.kom_model.specs.Db.{items_of, next_item_of, conference_of, person_of, membership_of, memberships_of}
 use Rattle.kom_model.specs.Db.{conferences_of, members_of, text_of, next_local_of, next_created_of, recipient_of}
 use Rattle.kom_model.specs.Db.{recipients_of, link_of, links_from, links_into, locals_of, mark_of, marks_of, marks_on}
-use Rattle.kom_model.specs.Effects.{fits, made}
+use Rattle.kom_model.specs.Effects.{fits, after_effect}
 use Rattle.kom_model.specs.Initial.{initial}
 use Rattle.kom_snapshot.specs.Snap.{snap}
 use Rattle.kom_model.specs.Raising.{may_raise, raised_in}
@@ -12,7 +12,7 @@ use Rattle.kom_snapshot.proofs.laws.worked_snapshots.Goals as goal
 pub returns : goal.returns
 unfolding items_of next_item_of conference_of person_of membership_of memberships_of conferences_of members_of
     text_of next_local_of next_created_of recipient_of recipients_of link_of links_from links_into locals_of
-    mark_of marks_of marks_on fits made initial snap may_raise raised_in
+    mark_of marks_of marks_on fits after_effect initial snap may_raise raised_in
 returns c = record {
   history_fits = refl;
   history_makes = refl;

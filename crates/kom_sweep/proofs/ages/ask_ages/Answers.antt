@@ -1,7 +1,7 @@
 use Rattle.std.proofs.Common.{[], refl, subst}
 use Rattle.kom_types.specs.declared.texts.MiscInfo.{MiscInfo}
 use Rattle.std.proofs.lemmas.Result.{err_from_is_err_and}
-use Rattle.kom_sweep.specs.Acting.{Seen, seen}
+use Rattle.kom_sweep.specs.Acting.{Seen, sight}
 use Rattle.kom_sweep.proofs.Aging.{AsksOne, ages_step, ages_end}
 use Rattle.kom_sweep.proofs.Going.{goes_none}
 use Rattle.kom_sweep.proofs.Judging.{tells-none}
@@ -10,7 +10,7 @@ use Rattle.kom_sweep.proofs.ages.ask_ages.Goals as goal
 
 pub loop-info-init : goal.loop-info-init
 loop-info-init g c =
-    let x : Seen = seen (g.K.Desk.view c.args.desk.now) (g.C.Clock.gave c.args.clock.now) c.args.talk.now.next in
+    let x : Seen = sight (g.K.Desk.view c.args.desk.now) (g.C.Clock.gave c.args.clock.now) c.args.talk.now.next in
     record {
       asked = ([], refl, goes_none c.args.session x, tells-none c.args.moment);
       opened = c.requires;
@@ -19,10 +19,10 @@ loop-info-init g c =
 
 pub loop-info-preserved : goal.loop-info-preserved
 loop-info-preserved g c =
-    let x : Seen = seen (g.K.Desk.view c.args.desk.now) (g.C.Clock.gave c.args.clock.now) c.args.talk.now.next in
-    let m : Seen = seen (g.K.Desk.view c.loop-info.desk) (g.C.Clock.gave c.loop-info.clock) c.loop-info.talk.next in
+    let x : Seen = sight (g.K.Desk.view c.args.desk.now) (g.C.Clock.gave c.args.clock.now) c.args.talk.now.next in
+    let m : Seen = sight (g.K.Desk.view c.loop-info.desk) (g.C.Clock.gave c.loop-info.clock) c.loop-info.talk.next in
     let y : Seen =
-    seen (g.K.Desk.view c.ask_age.new.desk) (g.C.Clock.gave c.ask_age.new.clock) c.ask_age.new.talk.next in
+    sight (g.K.Desk.view c.ask_age.new.desk) (g.C.Clock.gave c.ask_age.new.clock) c.ask_age.new.talk.next in
     record {
       asked = ages_step c.args.session c.args.moment c.args.infos.now c.loop-info.info-index c.info-item.result
           c.loop-info.ages
@@ -35,17 +35,17 @@ loop-info-preserved g c =
 
 pub returns-in_err-ages-clause-err : goal.returns-in_err-ages-clause-err
 returns-in_err-ages-clause-err g c =
-    let x : Seen = seen (g.K.Desk.view c.args.desk.now) (g.C.Clock.gave c.args.clock.now) c.args.talk.now.next in
-    let m : Seen = seen (g.K.Desk.view c.loop-info.desk) (g.C.Clock.gave c.loop-info.clock) c.loop-info.talk.next in
+    let x : Seen = sight (g.K.Desk.view c.args.desk.now) (g.C.Clock.gave c.args.clock.now) c.args.talk.now.next in
+    let m : Seen = sight (g.K.Desk.view c.loop-info.desk) (g.C.Clock.gave c.loop-info.clock) c.loop-info.talk.next in
     let y : Seen =
-    seen (g.K.Desk.view c.ask_age.new.desk) (g.C.Clock.gave c.ask_age.new.clock) c.ask_age.new.talk.next in
+    sight (g.K.Desk.view c.ask_age.new.desk) (g.C.Clock.gave c.ask_age.new.clock) c.ask_age.new.talk.next in
     let asked = c.loop-info.invariant.asked in
     let p = err_from_is_err_and c.from_residual.result c.from_residual.ensures.1 in
     rw (p.1, p.2) (breaks_on x m y asked.2 (none_children asked.0) c.in_err-ages.ensures.err)
 
 pub returns-clause-ok : goal.returns-clause-ok
 returns-clause-ok g c =
-    let x : Seen = seen (g.K.Desk.view c.args.desk.now) (g.C.Clock.gave c.args.clock.now) c.args.talk.now.next in
-    let m : Seen = seen (g.K.Desk.view c.loop-info.desk) (g.C.Clock.gave c.loop-info.clock) c.loop-info.talk.next in
+    let x : Seen = sight (g.K.Desk.view c.args.desk.now) (g.C.Clock.gave c.args.clock.now) c.args.talk.now.next in
+    let m : Seen = sight (g.K.Desk.view c.loop-info.desk) (g.C.Clock.gave c.loop-info.clock) c.loop-info.talk.next in
     ages_end c.args.session c.args.moment c.args.infos.now c.loop-info.info-index c.loop-info.ages x m
     c.loop-info-test.false c.loop-info.invariant.asked

@@ -1,6 +1,5 @@
-use Rattle.std.proofs.Common.{◌≡◌, ◌≤◌, ◌&&◌, ◌==◌, refl, sym, ap, ◌∙◌, arith, subst}
+use Rattle.std.proofs.Common.{refl, sym, ◌∙◌}
 use Rattle.kom_types.specs.ByteKind.{is_digit}
-use Rattle.kom_sweep.specs.Due.{spelled}
 use Rattle.kom_sweep.proofs.Spelling.{spelled_more, digits_more, not_digits, number_known, none_read}
 use Rattle.kom_sweep.proofs.names.number_of.Goals as goal
 

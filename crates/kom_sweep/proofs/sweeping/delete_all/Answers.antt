@@ -1,13 +1,13 @@
-use Rattle.std.proofs.Common.{◌≤◌, [], refl, arith, ap, ◌∙◌}
+use Rattle.std.proofs.Common.{[], refl, arith}
 use Rattle.std.proofs.lemmas.Result.{err_from_is_err_and}
-use Rattle.kom_sweep.specs.Acting.{Seen, seen}
+use Rattle.kom_sweep.specs.Acting.{Seen, sight}
 use Rattle.kom_sweep.proofs.Going.{goes_none}
 use Rattle.kom_sweep.proofs.Stepping.{deletes_step, deletes_end, deletes_all, counts}
 use Rattle.kom_sweep.proofs.sweeping.delete_all.Goals as goal
 
 pub loop-text-init : goal.loop-text-init
 loop-text-init g c =
-    let x : Seen = seen (g.K.Desk.view c.args.desk.now) (g.C.Clock.gave c.args.clock.now) c.args.talk.now.next in
+    let x : Seen = sight (g.K.Desk.view c.args.desk.now) (g.C.Clock.gave c.args.clock.now) c.args.talk.now.next in
     record {
       asked = ([], refl, refl, goes_none c.args.session x);
       counted = omega arith;
@@ -17,9 +17,9 @@ loop-text-init g c =
 
 pub loop-text-preserved : goal.loop-text-preserved
 loop-text-preserved g c =
-    let x : Seen = seen (g.K.Desk.view c.args.desk.now) (g.C.Clock.gave c.args.clock.now) c.args.talk.now.next in
-    let m : Seen = seen (g.K.Desk.view c.loop-text.desk) (g.C.Clock.gave c.loop-text.clock) c.loop-text.talk.next in
-    let y : Seen = seen (g.K.Desk.view c.ask.new.desk) (g.C.Clock.gave c.ask.new.clock) c.ask.new.self.next in
+    let x : Seen = sight (g.K.Desk.view c.args.desk.now) (g.C.Clock.gave c.args.clock.now) c.args.talk.now.next in
+    let m : Seen = sight (g.K.Desk.view c.loop-text.desk) (g.C.Clock.gave c.loop-text.clock) c.loop-text.talk.next in
+    let y : Seen = sight (g.K.Desk.view c.ask.new.desk) (g.C.Clock.gave c.ask.new.clock) c.ask.new.self.next in
     record {
       asked = deletes_step c.args.session c.loop-text.text-index _ c.loop-text.swept c.counted-swept.result
           c.args.due.now
@@ -32,9 +32,9 @@ loop-text-preserved g c =
 
 pub returns-in_err-ask-clause-err : goal.returns-in_err-ask-clause-err
 returns-in_err-ask-clause-err g c =
-    let x : Seen = seen (g.K.Desk.view c.args.desk.now) (g.C.Clock.gave c.args.clock.now) c.args.talk.now.next in
-    let m : Seen = seen (g.K.Desk.view c.loop-text.desk) (g.C.Clock.gave c.loop-text.clock) c.loop-text.talk.next in
-    let y : Seen = seen (g.K.Desk.view c.ask.new.desk) (g.C.Clock.gave c.ask.new.clock) c.ask.new.self.next in
+    let x : Seen = sight (g.K.Desk.view c.args.desk.now) (g.C.Clock.gave c.args.clock.now) c.args.talk.now.next in
+    let m : Seen = sight (g.K.Desk.view c.loop-text.desk) (g.C.Clock.gave c.loop-text.clock) c.loop-text.talk.next in
+    let y : Seen = sight (g.K.Desk.view c.ask.new.desk) (g.C.Clock.gave c.ask.new.clock) c.ask.new.self.next in
     let p = err_from_is_err_and c.from_residual.result c.from_residual.ensures.1 in
     rw (p.1, p.2)
     (deletes_end c.args.session c.loop-text.text-index _ c.args.due.now c.loop-text.swept x m y c.loop-text-test.true
@@ -42,8 +42,8 @@ returns-in_err-ask-clause-err g c =
 
 pub returns-clause-ok : goal.returns-clause-ok
 returns-clause-ok g c =
-    let x : Seen = seen (g.K.Desk.view c.args.desk.now) (g.C.Clock.gave c.args.clock.now) c.args.talk.now.next in
-    let y : Seen = seen (g.K.Desk.view c.loop-text.desk) (g.C.Clock.gave c.loop-text.clock) c.loop-text.talk.next in
+    let x : Seen = sight (g.K.Desk.view c.args.desk.now) (g.C.Clock.gave c.args.clock.now) c.args.talk.now.next in
+    let y : Seen = sight (g.K.Desk.view c.loop-text.desk) (g.C.Clock.gave c.loop-text.clock) c.loop-text.talk.next in
     deletes_all c.args.session c.loop-text.text-index c.args.due.now c.loop-text.swept x y c.loop-text-test.false
     c.loop-text.invariant.asked
 

@@ -1,7 +1,7 @@
-use Rattle.std.proofs.Common.{[], ◌∷◌, ◌++◌, inl, refl, sym, ap, ◌∙◌, None}
+use Rattle.std.proofs.Common.{[], inl, refl, sym, ◌∙◌}
 use Rattle.std.proofs.lemmas.Result.{err_from_is_err_and}
 use Rattle.kom_types.specs.declared.calls.Call.TheVariants as call
-use Rattle.kom_sweep.specs.Acting.{Seen, seen}
+use Rattle.kom_sweep.specs.Acting.{Seen, sight}
 use Rattle.kom_sweep.proofs.Going.{goes_none, stops_at}
 use Rattle.kom_sweep.proofs.Walking.{breaks_on, breaks_about}
 use Rattle.kom_sweep.proofs.Working.{log_not, log_all, log_breaks, log_cut}
@@ -9,14 +9,14 @@ use Rattle.kom_sweep.proofs.sweeping.log_in.Goals as goal
 
 pub returns-in_err-call-clause-err : goal.returns-in_err-call-clause-err
 returns-in_err-call-clause-err g c =
-    let x : Seen = seen (g.K.Desk.view c.args.desk.now) (g.C.Clock.gave c.args.clock.now) c.args.talk.now.next in
+    let x : Seen = sight (g.K.Desk.view c.args.desk.now) (g.C.Clock.gave c.args.clock.now) c.args.talk.now.next in
     let p = err_from_is_err_and c.from_residual.result c.from_residual.ensures.1 in
     rw (p.1, p.2) ([], inl refl, stops_at x x (goes_none c.args.session x))
 
 pub returns-in_err-login-clause-err : goal.returns-in_err-login-clause-err
 returns-in_err-login-clause-err g c =
-    let x : Seen = seen (g.K.Desk.view c.args.desk.now) (g.C.Clock.gave c.args.clock.now) c.args.talk.now.next in
-    let y : Seen = seen (g.K.Desk.view c.ask.new.desk) (g.C.Clock.gave c.ask.new.clock) c.ask.new.self.next in
+    let x : Seen = sight (g.K.Desk.view c.args.desk.now) (g.C.Clock.gave c.args.clock.now) c.args.talk.now.next in
+    let y : Seen = sight (g.K.Desk.view c.ask.new.desk) (g.C.Clock.gave c.ask.new.clock) c.ask.new.self.next in
     let p = err_from_is_err_and c.from_residual-in_err-login.result c.from_residual-in_err-login.ensures.1 in
     rw (p.1, p.2)
     (log_cut c.args.session c.args.person c.args.password.now c.in_ok-call.call x y c.in_ok-call.ensures
@@ -24,16 +24,16 @@ returns-in_err-login-clause-err g c =
 
 pub returns-in-Some-clause-ok : goal.returns-in-Some-clause-ok
 returns-in-Some-clause-ok g c =
-    let x : Seen = seen (g.K.Desk.view c.args.desk.now) (g.C.Clock.gave c.args.clock.now) c.args.talk.now.next in
-    let y : Seen = seen (g.K.Desk.view c.ask.new.desk) (g.C.Clock.gave c.ask.new.clock) c.ask.new.self.next in
+    let x : Seen = sight (g.K.Desk.view c.args.desk.now) (g.C.Clock.gave c.args.clock.now) c.args.talk.now.next in
+    let y : Seen = sight (g.K.Desk.view c.ask.new.desk) (g.C.Clock.gave c.ask.new.clock) c.ask.new.self.next in
     log_not c.args.session c.args.person c.args.password.now c.in_ok-call.call c.in_ok-login.login c.in-Some.refusal x y
     c.in_ok-call.ensures c.in_ok-login.ensures.ok (sym c.refusal_of.ensures ∙ c.in-Some.is)
 
 pub returns-in_err-rights-clause-err : goal.returns-in_err-rights-clause-err
 returns-in_err-rights-clause-err g c =
-    let x : Seen = seen (g.K.Desk.view c.args.desk.now) (g.C.Clock.gave c.args.clock.now) c.args.talk.now.next in
-    let m : Seen = seen (g.K.Desk.view c.ask.new.desk) (g.C.Clock.gave c.ask.new.clock) c.ask.new.self.next in
-    let y : Seen = seen (g.K.Desk.view c.ask-2.new.desk) (g.C.Clock.gave c.ask-2.new.clock) c.ask-2.new.self.next in
+    let x : Seen = sight (g.K.Desk.view c.args.desk.now) (g.C.Clock.gave c.args.clock.now) c.args.talk.now.next in
+    let m : Seen = sight (g.K.Desk.view c.ask.new.desk) (g.C.Clock.gave c.ask.new.clock) c.ask.new.self.next in
+    let y : Seen = sight (g.K.Desk.view c.ask-2.new.desk) (g.C.Clock.gave c.ask-2.new.clock) c.ask-2.new.self.next in
     let p = err_from_is_err_and c.from_residual-in_err-rights.result c.from_residual-in_err-rights.ensures.1 in
     rw (p.1, p.2)
     (log_breaks c.args.session c.args.person c.args.password.now c.in_ok-call.call c.in_ok-login.login x m y
@@ -41,10 +41,10 @@ returns-in_err-rights-clause-err g c =
 
 pub returns-in_err-stable-clause-err : goal.returns-in_err-stable-clause-err
 returns-in_err-stable-clause-err g c =
-    let x : Seen = seen (g.K.Desk.view c.args.desk.now) (g.C.Clock.gave c.args.clock.now) c.args.talk.now.next in
-    let m : Seen = seen (g.K.Desk.view c.ask.new.desk) (g.C.Clock.gave c.ask.new.clock) c.ask.new.self.next in
-    let n : Seen = seen (g.K.Desk.view c.ask-2.new.desk) (g.C.Clock.gave c.ask-2.new.clock) c.ask-2.new.self.next in
-    let y : Seen = seen (g.K.Desk.view c.ask-3.new.desk) (g.C.Clock.gave c.ask-3.new.clock) c.ask-3.new.self.next in
+    let x : Seen = sight (g.K.Desk.view c.args.desk.now) (g.C.Clock.gave c.args.clock.now) c.args.talk.now.next in
+    let m : Seen = sight (g.K.Desk.view c.ask.new.desk) (g.C.Clock.gave c.ask.new.clock) c.ask.new.self.next in
+    let n : Seen = sight (g.K.Desk.view c.ask-2.new.desk) (g.C.Clock.gave c.ask-2.new.clock) c.ask-2.new.self.next in
+    let y : Seen = sight (g.K.Desk.view c.ask-3.new.desk) (g.C.Clock.gave c.ask-3.new.clock) c.ask-3.new.self.next in
     let p = err_from_is_err_and c.from_residual-in_err-stable.result c.from_residual-in_err-stable.ensures.1 in
     rw (p.1, p.2)
     (log_breaks c.args.session c.args.person c.args.password.now c.in_ok-call.call c.in_ok-login.login x m y
@@ -53,10 +53,10 @@ returns-in_err-stable-clause-err g c =
 
 pub returns-clause-ok : goal.returns-clause-ok
 returns-clause-ok g c =
-    let x : Seen = seen (g.K.Desk.view c.args.desk.now) (g.C.Clock.gave c.args.clock.now) c.args.talk.now.next in
-    let m : Seen = seen (g.K.Desk.view c.ask.new.desk) (g.C.Clock.gave c.ask.new.clock) c.ask.new.self.next in
-    let n : Seen = seen (g.K.Desk.view c.ask-2.new.desk) (g.C.Clock.gave c.ask-2.new.clock) c.ask-2.new.self.next in
-    let y : Seen = seen (g.K.Desk.view c.ask-3.new.desk) (g.C.Clock.gave c.ask-3.new.clock) c.ask-3.new.self.next in
+    let x : Seen = sight (g.K.Desk.view c.args.desk.now) (g.C.Clock.gave c.args.clock.now) c.args.talk.now.next in
+    let m : Seen = sight (g.K.Desk.view c.ask.new.desk) (g.C.Clock.gave c.ask.new.clock) c.ask.new.self.next in
+    let n : Seen = sight (g.K.Desk.view c.ask-2.new.desk) (g.C.Clock.gave c.ask-2.new.clock) c.ask-2.new.self.next in
+    let y : Seen = sight (g.K.Desk.view c.ask-3.new.desk) (g.C.Clock.gave c.ask-3.new.clock) c.ask-3.new.self.next in
     log_all c.args.session c.args.person c.args.password.now c.in_ok-call.call c.in_ok-login.login
     c.in_ok-rights.rights c.in_ok-stable.stable c.refusal_of-2.result x m n y c.in_ok-call.ensures
     c.in_ok-login.ensures.ok (sym c.refusal_of.ensures ∙ c.in_default.is) c.in_ok-rights.ensures.ok

@@ -1,5 +1,5 @@
-use Rattle.std.proofs.Common.{◌++◌, [], inl, inr, refl, subst, Ok, Err}
-use Rattle.kom_sweep.specs.Acting.{Seen, seen, faults_of}
+use Rattle.std.proofs.Common.{inl, inr}
+use Rattle.kom_sweep.specs.Acting.{Seen, sight}
 use Rattle.kom_sweep.specs.Sweeps.{user, host}
 use Rattle.kom_sweep.proofs.Ending.{not_connected, swept}
 use Rattle.kom_sweep.proofs.Opening.{open_connected}
@@ -7,7 +7,7 @@ use Rattle.kom_sweep.proofs.sweeping.sweep.Goals as goal
 
 pub returns-in-Err-clause-sweeps : goal.returns-in-Err-clause-sweeps
 returns-in-Err-clause-sweeps g c =
-    let x : Seen = seen (g.K.Desk.view c.args.desk.now) (g.C.Clock.gave c.args.clock.now) 1 in (
+    let x : Seen = sight (g.K.Desk.view c.args.desk.now) (g.C.Clock.gave c.args.clock.now) 1 in (
       c.now-moment.result,
       c.now-moment.ensures.first,
       inl (not_connected c.now-moment.result x _ _ c.in-Err.fault _ c.now-moment.ensures.gains
@@ -16,7 +16,7 @@ returns-in-Err-clause-sweeps g c =
 
 pub returns-in-Ok-clause-sweeps : goal.returns-in-Ok-clause-sweeps
 returns-in-Ok-clause-sweeps g c =
-    let x : Seen = seen (g.K.Desk.view c.args.desk.now) (g.C.Clock.gave c.args.clock.now) 1 in (
+    let x : Seen = sight (g.K.Desk.view c.args.desk.now) (g.C.Clock.gave c.args.clock.now) 1 in (
       c.now-moment.result,
       c.now-moment.ensures.first,
       inr (

@@ -1,16 +1,14 @@
-use Rattle.std.proofs.Common.{◌≡◌, ℕ, List, [], ◌∷◌, ◌++◌, None, Some, refl, sym, ap, subst, ◌∙◌}
+use Rattle.std.proofs.Common.{◌∙◌}
 use Rattle.std.proofs.lemmas.Result.{err_from_is_err_and}
-use Rattle.kom_sweep.specs.Told.{Told, told}
-use Rattle.kom_sweep.specs.Acting.{Seen, seen, Goes}
-use Rattle.kom_sweep.specs.Sweeps.{LogsIn}
-use Rattle.kom_sweep.proofs.Working.{FindsDue, finds, work_done, works_refused, broken_first, broken_names}
+use Rattle.kom_sweep.specs.Acting.{Seen, sight}
+use Rattle.kom_sweep.proofs.Working.{finds, work_done, works_refused, broken_first, broken_names}
 use Rattle.kom_sweep.proofs.Working.{broken_texts, broken_then, broken_last}
 use Rattle.kom_sweep.proofs.sweeping.work.Goals as goal
 
 pub returns-in_err-code-clause-err : goal.returns-in_err-code-clause-err
 returns-in_err-code-clause-err g c =
-    let x : Seen = seen (g.K.Desk.view c.args.desk.now) (g.C.Clock.gave c.args.clock.now) 1 in
-    let y : Seen = seen (g.K.Desk.view c.log_in.new.desk) (g.C.Clock.gave c.log_in.new.clock) c.log_in.new.talk.next in
+    let x : Seen = sight (g.K.Desk.view c.args.desk.now) (g.C.Clock.gave c.args.clock.now) 1 in
+    let y : Seen = sight (g.K.Desk.view c.log_in.new.desk) (g.C.Clock.gave c.log_in.new.clock) c.log_in.new.talk.next in
     let p = err_from_is_err_and c.from_residual.result c.from_residual.ensures.1 in
     let logged = rw (c.new-talk.ensures) at c.in_err-code.ensures.err in
     let broken = broken_first c.args.moment c.args.person c.args.session c.args.password.now x y logged in
@@ -18,8 +16,8 @@ returns-in_err-code-clause-err g c =
 
 pub returns-in-Some-clause-ok : goal.returns-in-Some-clause-ok
 returns-in-Some-clause-ok g c =
-    let x : Seen = seen (g.K.Desk.view c.args.desk.now) (g.C.Clock.gave c.args.clock.now) 1 in
-    let y : Seen = seen (g.K.Desk.view c.log_in.new.desk) (g.C.Clock.gave c.log_in.new.clock) c.log_in.new.talk.next in
+    let x : Seen = sight (g.K.Desk.view c.args.desk.now) (g.C.Clock.gave c.args.clock.now) 1 in
+    let y : Seen = sight (g.K.Desk.view c.log_in.new.desk) (g.C.Clock.gave c.log_in.new.clock) c.log_in.new.talk.next in
     let logged = rw (c.new-talk.ensures, c.in-Some.is) at c.in_ok-code.ensures.ok in
     let works = works_refused c.args.session c.args.moment c.args.person c.args.password.now c.in-Some.code
     c.in-Some.status c.log_in.new.talk.next x y logged in
@@ -27,10 +25,10 @@ returns-in-Some-clause-ok g c =
 
 pub returns-in_err-names-clause-err : goal.returns-in_err-names-clause-err
 returns-in_err-names-clause-err g c =
-    let x : Seen = seen (g.K.Desk.view c.args.desk.now) (g.C.Clock.gave c.args.clock.now) 1 in
-    let m : Seen = seen (g.K.Desk.view c.log_in.new.desk) (g.C.Clock.gave c.log_in.new.clock) c.log_in.new.talk.next in
+    let x : Seen = sight (g.K.Desk.view c.args.desk.now) (g.C.Clock.gave c.args.clock.now) 1 in
+    let m : Seen = sight (g.K.Desk.view c.log_in.new.desk) (g.C.Clock.gave c.log_in.new.clock) c.log_in.new.talk.next in
     let y : Seen =
-    seen (g.K.Desk.view c.ask_names.new.desk) (g.C.Clock.gave c.ask_names.new.clock) c.ask_names.new.talk.next in
+    sight (g.K.Desk.view c.ask_names.new.desk) (g.C.Clock.gave c.ask_names.new.clock) c.ask_names.new.talk.next in
     let p = err_from_is_err_and c.from_residual-in_err-names.result c.from_residual-in_err-names.ensures.1 in
     let logged = rw (c.new-talk.ensures, c.in_default.is) at c.in_ok-code.ensures.ok in
     let broken = broken_names c.args.session c.args.moment c.args.person c.args.password.now x m y logged
@@ -39,12 +37,12 @@ returns-in_err-names-clause-err g c =
 
 pub returns-in_err-found-clause-err : goal.returns-in_err-found-clause-err
 returns-in_err-found-clause-err g c =
-    let x : Seen = seen (g.K.Desk.view c.args.desk.now) (g.C.Clock.gave c.args.clock.now) 1 in
-    let m : Seen = seen (g.K.Desk.view c.log_in.new.desk) (g.C.Clock.gave c.log_in.new.clock) c.log_in.new.talk.next in
+    let x : Seen = sight (g.K.Desk.view c.args.desk.now) (g.C.Clock.gave c.args.clock.now) 1 in
+    let m : Seen = sight (g.K.Desk.view c.log_in.new.desk) (g.C.Clock.gave c.log_in.new.clock) c.log_in.new.talk.next in
     let n : Seen =
-    seen (g.K.Desk.view c.ask_names.new.desk) (g.C.Clock.gave c.ask_names.new.clock) c.ask_names.new.talk.next in
+    sight (g.K.Desk.view c.ask_names.new.desk) (g.C.Clock.gave c.ask_names.new.clock) c.ask_names.new.talk.next in
     let y : Seen =
-    seen (g.K.Desk.view c.find_due.new.desk) (g.C.Clock.gave c.find_due.new.clock) c.find_due.new.talk.next in
+    sight (g.K.Desk.view c.find_due.new.desk) (g.C.Clock.gave c.find_due.new.clock) c.find_due.new.talk.next in
     let p = err_from_is_err_and c.from_residual-in_err-found.result c.from_residual-in_err-found.ensures.1 in
     let logged = rw (c.new-talk.ensures, c.in_default.is) at c.in_ok-code.ensures.ok in
     let rooms = c.in_ok-names.ensures.ok in
@@ -54,14 +52,14 @@ returns-in_err-found-clause-err g c =
 
 pub returns-in_err-swept-clause-err : goal.returns-in_err-swept-clause-err
 returns-in_err-swept-clause-err g c =
-    let x : Seen = seen (g.K.Desk.view c.args.desk.now) (g.C.Clock.gave c.args.clock.now) 1 in
-    let m : Seen = seen (g.K.Desk.view c.log_in.new.desk) (g.C.Clock.gave c.log_in.new.clock) c.log_in.new.talk.next in
+    let x : Seen = sight (g.K.Desk.view c.args.desk.now) (g.C.Clock.gave c.args.clock.now) 1 in
+    let m : Seen = sight (g.K.Desk.view c.log_in.new.desk) (g.C.Clock.gave c.log_in.new.clock) c.log_in.new.talk.next in
     let n : Seen =
-    seen (g.K.Desk.view c.ask_names.new.desk) (g.C.Clock.gave c.ask_names.new.clock) c.ask_names.new.talk.next in
+    sight (g.K.Desk.view c.ask_names.new.desk) (g.C.Clock.gave c.ask_names.new.clock) c.ask_names.new.talk.next in
     let o : Seen =
-    seen (g.K.Desk.view c.find_due.new.desk) (g.C.Clock.gave c.find_due.new.clock) c.find_due.new.talk.next in
+    sight (g.K.Desk.view c.find_due.new.desk) (g.C.Clock.gave c.find_due.new.clock) c.find_due.new.talk.next in
     let y : Seen =
-    seen (g.K.Desk.view c.delete_all.new.desk) (g.C.Clock.gave c.delete_all.new.clock) c.delete_all.new.talk.next in
+    sight (g.K.Desk.view c.delete_all.new.desk) (g.C.Clock.gave c.delete_all.new.clock) c.delete_all.new.talk.next in
     let p = err_from_is_err_and c.from_residual-in_err-swept.result c.from_residual-in_err-swept.ensures.1 in
     let logged = rw (c.new-talk.ensures, c.in_default.is) at c.in_ok-code.ensures.ok in
     let rooms = c.in_ok-names.ensures.ok in
@@ -75,15 +73,15 @@ returns-in_err-swept-clause-err g c =
 
 pub returns-in_err-logout-clause-err : goal.returns-in_err-logout-clause-err
 returns-in_err-logout-clause-err g c =
-    let x : Seen = seen (g.K.Desk.view c.args.desk.now) (g.C.Clock.gave c.args.clock.now) 1 in
-    let m : Seen = seen (g.K.Desk.view c.log_in.new.desk) (g.C.Clock.gave c.log_in.new.clock) c.log_in.new.talk.next in
+    let x : Seen = sight (g.K.Desk.view c.args.desk.now) (g.C.Clock.gave c.args.clock.now) 1 in
+    let m : Seen = sight (g.K.Desk.view c.log_in.new.desk) (g.C.Clock.gave c.log_in.new.clock) c.log_in.new.talk.next in
     let n : Seen =
-    seen (g.K.Desk.view c.ask_names.new.desk) (g.C.Clock.gave c.ask_names.new.clock) c.ask_names.new.talk.next in
+    sight (g.K.Desk.view c.ask_names.new.desk) (g.C.Clock.gave c.ask_names.new.clock) c.ask_names.new.talk.next in
     let o : Seen =
-    seen (g.K.Desk.view c.find_due.new.desk) (g.C.Clock.gave c.find_due.new.clock) c.find_due.new.talk.next in
+    sight (g.K.Desk.view c.find_due.new.desk) (g.C.Clock.gave c.find_due.new.clock) c.find_due.new.talk.next in
     let q : Seen =
-    seen (g.K.Desk.view c.delete_all.new.desk) (g.C.Clock.gave c.delete_all.new.clock) c.delete_all.new.talk.next in
-    let y : Seen = seen (g.K.Desk.view c.ask.new.desk) (g.C.Clock.gave c.ask.new.clock) c.ask.new.self.next in
+    sight (g.K.Desk.view c.delete_all.new.desk) (g.C.Clock.gave c.delete_all.new.clock) c.delete_all.new.talk.next in
+    let y : Seen = sight (g.K.Desk.view c.ask.new.desk) (g.C.Clock.gave c.ask.new.clock) c.ask.new.self.next in
     let p = err_from_is_err_and c.from_residual-in_err-logout.result c.from_residual-in_err-logout.ensures.1 in
     let logged = rw (c.new-talk.ensures, c.in_default.is) at c.in_ok-code.ensures.ok in
     let rooms = c.in_ok-names.ensures.ok in
@@ -98,15 +96,15 @@ returns-in_err-logout-clause-err g c =
 
 pub returns-clause-ok : goal.returns-clause-ok
 returns-clause-ok g c =
-    let x : Seen = seen (g.K.Desk.view c.args.desk.now) (g.C.Clock.gave c.args.clock.now) 1 in
-    let m : Seen = seen (g.K.Desk.view c.log_in.new.desk) (g.C.Clock.gave c.log_in.new.clock) c.log_in.new.talk.next in
+    let x : Seen = sight (g.K.Desk.view c.args.desk.now) (g.C.Clock.gave c.args.clock.now) 1 in
+    let m : Seen = sight (g.K.Desk.view c.log_in.new.desk) (g.C.Clock.gave c.log_in.new.clock) c.log_in.new.talk.next in
     let n : Seen =
-    seen (g.K.Desk.view c.ask_names.new.desk) (g.C.Clock.gave c.ask_names.new.clock) c.ask_names.new.talk.next in
+    sight (g.K.Desk.view c.ask_names.new.desk) (g.C.Clock.gave c.ask_names.new.clock) c.ask_names.new.talk.next in
     let o : Seen =
-    seen (g.K.Desk.view c.find_due.new.desk) (g.C.Clock.gave c.find_due.new.clock) c.find_due.new.talk.next in
+    sight (g.K.Desk.view c.find_due.new.desk) (g.C.Clock.gave c.find_due.new.clock) c.find_due.new.talk.next in
     let q : Seen =
-    seen (g.K.Desk.view c.delete_all.new.desk) (g.C.Clock.gave c.delete_all.new.clock) c.delete_all.new.talk.next in
-    let y : Seen = seen (g.K.Desk.view c.ask.new.desk) (g.C.Clock.gave c.ask.new.clock) c.ask.new.self.next in
+    sight (g.K.Desk.view c.delete_all.new.desk) (g.C.Clock.gave c.delete_all.new.clock) c.delete_all.new.talk.next in
+    let y : Seen = sight (g.K.Desk.view c.ask.new.desk) (g.C.Clock.gave c.ask.new.clock) c.ask.new.self.next in
     let logged = rw (c.new-talk.ensures, c.in_default.is) at c.in_ok-code.ensures.ok in
     let rooms = c.in_ok-names.ensures.ok in
     let texts = c.in_ok-found.ensures.ok in

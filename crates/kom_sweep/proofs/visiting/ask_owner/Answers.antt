@@ -2,8 +2,8 @@ use Rattle.std.proofs.Common.{[], ◌∷◌, None, Some, refl, sym, subst, ◌�
 use Rattle.std.proofs.lemmas.Result.{err_from_is_err_and}
 use Rattle.kom_types.specs.declared.calls.Call.TheVariants as call
 use Rattle.kom_types.specs.declared.persons.Person.{Person}
-use Rattle.kom_sweep.specs.Told.{told}
-use Rattle.kom_sweep.specs.Acting.{Seen, seen}
+use Rattle.kom_sweep.specs.Told.{tell}
+use Rattle.kom_sweep.specs.Acting.{Seen, sight}
 use Rattle.kom_sweep.specs.Due.{person_names}
 use Rattle.kom_sweep.specs.Names.{Learns}
 use Rattle.kom_sweep.proofs.Going.{stops_at}
@@ -13,8 +13,8 @@ use Rattle.kom_sweep.proofs.visiting.ask_owner.Goals as goal
 
 pub returns-in_err-ask-clause-err : goal.returns-in_err-ask-clause-err
 returns-in_err-ask-clause-err g c =
-    let x : Seen = seen (g.K.Desk.view c.args.desk.now) (g.C.Clock.gave c.args.clock.now) c.args.talk.now.next in
-    let y : Seen = seen (g.K.Desk.view c.ask.new.desk) (g.C.Clock.gave c.ask.new.clock) c.ask.new.self.next in
+    let x : Seen = sight (g.K.Desk.view c.args.desk.now) (g.C.Clock.gave c.args.clock.now) c.args.talk.now.next in
+    let y : Seen = sight (g.K.Desk.view c.ask.new.desk) (g.C.Clock.gave c.ask.new.clock) c.ask.new.self.next in
     let p = err_from_is_err_and c.from_residual.result c.from_residual.ensures.1 in
     rw (p.1, p.2) (breaks_about (call.GetPersonStat c.args.person) x y refl c.in_err-ask.ensures.err)
 
@@ -27,12 +27,12 @@ returns-in_default-clause-ok g c = (
 
 pub returns-in_err-note_person-clause-err : goal.returns-in_err-note_person-clause-err
 returns-in_err-note_person-clause-err g c =
-    let x : Seen = seen (g.K.Desk.view c.args.desk.now) (g.C.Clock.gave c.args.clock.now) c.args.talk.now.next in
-    let y : Seen = seen (g.K.Desk.view c.ask.new.desk) (g.C.Clock.gave c.ask.new.clock) c.ask.new.self.next in
+    let x : Seen = sight (g.K.Desk.view c.args.desk.now) (g.C.Clock.gave c.args.clock.now) c.args.talk.now.next in
+    let y : Seen = sight (g.K.Desk.view c.ask.new.desk) (g.C.Clock.gave c.ask.new.clock) c.ask.new.self.next in
     let p = err_from_is_err_and c.from_residual-in_err-note_person.result
     c.from_residual-in_err-note_person.ensures.1 in
     rw (p.1, p.2)
-    (told (call.GetPersonStat c.args.person) c.in_ok-ask.field-0 ∷ [], refl, stops_at x y c.in_ok-ask.ensures.ok)
+    (tell (call.GetPersonStat c.args.person) c.in_ok-ask.field-0 ∷ [], refl, stops_at x y c.in_ok-ask.ensures.ok)
 
 pub returns-clause-ok : goal.returns-clause-ok
 returns-clause-ok g c = (

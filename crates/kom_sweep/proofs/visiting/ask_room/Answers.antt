@@ -5,8 +5,8 @@ use Rattle.kom_types.specs.tables.Conferences.{is_letterbox}
 use Rattle.kom_types.specs.declared.conferences.Conference.{Conference}
 use Rattle.kom_sweep.specs.Due.{days_of, conference_names}
 use Rattle.kom_sweep.specs.Names.{Learns}
-use Rattle.kom_sweep.specs.Told.{told}
-use Rattle.kom_sweep.specs.Acting.{Seen, seen}
+use Rattle.kom_sweep.specs.Told.{tell}
+use Rattle.kom_sweep.specs.Acting.{Seen, sight}
 use Rattle.kom_sweep.proofs.Going.{stops_at}
 use Rattle.kom_sweep.proofs.Stepping.{room_untold, room_plain, room_owned}
 use Rattle.kom_sweep.proofs.Walking.{breaks_on, breaks_about}
@@ -14,42 +14,42 @@ use Rattle.kom_sweep.proofs.visiting.ask_room.Goals as goal
 
 pub returns-in_err-ask-clause-err : goal.returns-in_err-ask-clause-err
 returns-in_err-ask-clause-err g c =
-    let x : Seen = seen (g.K.Desk.view c.args.desk.now) (g.C.Clock.gave c.args.clock.now) c.args.talk.now.next in
-    let y : Seen = seen (g.K.Desk.view c.ask.new.desk) (g.C.Clock.gave c.ask.new.clock) c.ask.new.self.next in
+    let x : Seen = sight (g.K.Desk.view c.args.desk.now) (g.C.Clock.gave c.args.clock.now) c.args.talk.now.next in
+    let y : Seen = sight (g.K.Desk.view c.ask.new.desk) (g.C.Clock.gave c.ask.new.clock) c.ask.new.self.next in
     let p = err_from_is_err_and c.from_residual.result c.from_residual.ensures.1 in
     rw (p.1, p.2) (breaks_about (call.GetConfStat c.args.number) x y refl c.in_err-ask.ensures.err)
 
 pub returns-in_default-clause-ok : goal.returns-in_default-clause-ok
 returns-in_default-clause-ok g c =
-    let x : Seen = seen (g.K.Desk.view c.args.desk.now) (g.C.Clock.gave c.args.clock.now) c.args.talk.now.next in
-    let y : Seen = seen (g.K.Desk.view c.ask.new.desk) (g.C.Clock.gave c.ask.new.clock) c.ask.new.self.next in
+    let x : Seen = sight (g.K.Desk.view c.args.desk.now) (g.C.Clock.gave c.args.clock.now) c.args.talk.now.next in
+    let y : Seen = sight (g.K.Desk.view c.ask.new.desk) (g.C.Clock.gave c.ask.new.clock) c.ask.new.self.next in
     room_untold c.args.session c.args.number c.in_ok-ask.field-0 x y c.args.names.now _ c.in_ok-ask.ensures.ok
     (sym c.conference_in.ensures ∙ c.in_default.is) refl refl refl
 
 pub returns-in_err-note_conference-clause-err : goal.returns-in_err-note_conference-clause-err
 returns-in_err-note_conference-clause-err g c =
-    let x : Seen = seen (g.K.Desk.view c.args.desk.now) (g.C.Clock.gave c.args.clock.now) c.args.talk.now.next in
-    let y : Seen = seen (g.K.Desk.view c.ask.new.desk) (g.C.Clock.gave c.ask.new.clock) c.ask.new.self.next in
+    let x : Seen = sight (g.K.Desk.view c.args.desk.now) (g.C.Clock.gave c.args.clock.now) c.args.talk.now.next in
+    let y : Seen = sight (g.K.Desk.view c.ask.new.desk) (g.C.Clock.gave c.ask.new.clock) c.ask.new.self.next in
     let p = err_from_is_err_and c.from_residual-in_err-note_conference.result
     c.from_residual-in_err-note_conference.ensures.1 in
     rw (p.1, p.2)
-    (told (call.GetConfStat c.args.number) c.in_ok-ask.field-0 ∷ [], refl, stops_at x y c.in_ok-ask.ensures.ok)
+    (tell (call.GetConfStat c.args.number) c.in_ok-ask.field-0 ∷ [], refl, stops_at x y c.in_ok-ask.ensures.ok)
 
 pub returns-in_err-ask_owner-clause-err : goal.returns-in_err-ask_owner-clause-err
 returns-in_err-ask_owner-clause-err g c =
-    let x : Seen = seen (g.K.Desk.view c.args.desk.now) (g.C.Clock.gave c.args.clock.now) c.args.talk.now.next in
-    let m : Seen = seen (g.K.Desk.view c.ask.new.desk) (g.C.Clock.gave c.ask.new.clock) c.ask.new.self.next in
+    let x : Seen = sight (g.K.Desk.view c.args.desk.now) (g.C.Clock.gave c.args.clock.now) c.args.talk.now.next in
+    let m : Seen = sight (g.K.Desk.view c.ask.new.desk) (g.C.Clock.gave c.ask.new.clock) c.ask.new.self.next in
     let y : Seen =
-    seen (g.K.Desk.view c.ask_owner.new.desk) (g.C.Clock.gave c.ask_owner.new.clock) c.ask_owner.new.talk.next in
+    sight (g.K.Desk.view c.ask_owner.new.desk) (g.C.Clock.gave c.ask_owner.new.clock) c.ask_owner.new.talk.next in
     let p = err_from_is_err_and c.from_residual-in_err-ask_owner.result c.from_residual-in_err-ask_owner.ensures.1 in
     rw (p.1, p.2) (breaks_on x m y c.in_ok-ask.ensures.ok refl c.in_err-ask_owner.ensures.err)
 
 pub returns-then-is_letterbox-clause-ok : goal.returns-then-is_letterbox-clause-ok
 returns-then-is_letterbox-clause-ok g c =
-    let x : Seen = seen (g.K.Desk.view c.args.desk.now) (g.C.Clock.gave c.args.clock.now) c.args.talk.now.next in
-    let m : Seen = seen (g.K.Desk.view c.ask.new.desk) (g.C.Clock.gave c.ask.new.clock) c.ask.new.self.next in
+    let x : Seen = sight (g.K.Desk.view c.args.desk.now) (g.C.Clock.gave c.args.clock.now) c.args.talk.now.next in
+    let m : Seen = sight (g.K.Desk.view c.ask.new.desk) (g.C.Clock.gave c.ask.new.clock) c.ask.new.self.next in
     let y : Seen =
-    seen (g.K.Desk.view c.ask_owner.new.desk) (g.C.Clock.gave c.ask_owner.new.clock) c.ask_owner.new.talk.next in
+    sight (g.K.Desk.view c.ask_owner.new.desk) (g.C.Clock.gave c.ask_owner.new.clock) c.ask_owner.new.talk.next in
     room_owned c.args.session c.args.number c.in_ok-ask.field-0 c.in-Some.conference x m y c.args.names.now
     c.note_conference.new.self c.ask_owner.new.names c.in_ok-ask.ensures.ok (sym c.conference_in.ensures ∙ c.in-Some.is)
     (ap (λ (conference : Conference). is_letterbox conference.kind) (sym c.get-2.ensures) ∙ sym c.is_letterbox.ensures
@@ -61,8 +61,8 @@ returns-then-is_letterbox-clause-ok g c =
 
 pub returns-clause-ok : goal.returns-clause-ok
 returns-clause-ok g c =
-    let x : Seen = seen (g.K.Desk.view c.args.desk.now) (g.C.Clock.gave c.args.clock.now) c.args.talk.now.next in
-    let m : Seen = seen (g.K.Desk.view c.ask.new.desk) (g.C.Clock.gave c.ask.new.clock) c.ask.new.self.next in
+    let x : Seen = sight (g.K.Desk.view c.args.desk.now) (g.C.Clock.gave c.args.clock.now) c.args.talk.now.next in
+    let m : Seen = sight (g.K.Desk.view c.ask.new.desk) (g.C.Clock.gave c.ask.new.clock) c.ask.new.self.next in
     room_plain c.args.session c.args.number c.in_ok-ask.field-0 c.in-Some.conference x m c.args.names.now
     c.note_conference.new.self c.in_ok-ask.ensures.ok (sym c.conference_in.ensures ∙ c.in-Some.is)
     (ap (λ (conference : Conference). is_letterbox conference.kind) (sym c.get-2.ensures) ∙ sym c.is_letterbox.ensures

@@ -2,7 +2,7 @@ use Rattle.std.proofs.Common.{◌≡◌, ℕ, suc, ◌+◌, ◌-◌, ◌≤◌, 
 use Rattle.std.proofs.Common.{subst, ◌∙◌, arith}
 use Rattle.std.proofs.lemmas.Grind.{common_steps}
 use Rattle.map_chain.specs.Pairs.{Pair}
-use Rattle.map_chain.specs.Blocks.{Placed}
+use Rattle.map_chain.specs.Blocks.{PlacedBlocks}
 use Rattle.map_chain.specs.declared.index.Index.{Index}
 use Rattle.map_chain.specs.declared.nodes.Place.{Place}
 use Rattle.map_chain.proofs.Linking.{room-some, length-remove_at}
@@ -27,7 +27,7 @@ unwrap-requires-2 c =
     grind (arith, common_steps, same, long)
 
 -- the index has room for one block more, and for the spare ones that are left
-record IsReady (x now : Index) (used spare' : Placed) : Type 0 where
+record IsReady (x now : Index) (used spare' : PlacedBlocks) : Type 0 where
   places : now.places.items ≡ x.places.items
   keys : now.keys.items ≡ x.keys.items
   room : suc (length used) + length spare' ≤ vec_capacity now.places
@@ -42,12 +42,12 @@ ready c =
     let key_long = x.keys.ok.0 in let long = x.places.ok.0 in let room = v.room in let key_room = v.key_room in
     elim c.match-pop.branch [
       | in-Some w ↦
-          let e = w.in-Some.ensures in let some = e.0 in let less = ap (λ (bs : Placed). length bs) e.1 in
+          let e = w.in-Some.ensures in let some = e.0 in let less = ap (λ (bs : PlacedBlocks). length bs) e.1 in
           let gone = length-remove_at spare (length spare - 1) (omega arith) in
           subst (λ (y : Index). IsReady x y used c.pop.new.self) (sym w.index-is)
           (record { places = refl; keys = refl; room = omega arith; key_room = omega arith })
       | in-None+in_ok-reserve-in-None+in_ok-reserve-in-None-2+in_ok-node-in-None w ↦
-          let e = w.in-None.ensures in let none = ap (λ (bs : Placed). length bs) e.1 in
+          let e = w.in-None.ensures in let none = ap (λ (bs : PlacedBlocks). length bs) e.1 in
           let got = w.in_ok-reserve-in-None.ensures in let key_got = w.in_ok-reserve-in-None-2.ensures in
           let ok = got.ok in let key_ok = key_got.ok in let len = got.len in let key_len = key_got.len in
           subst (λ (y : Index). IsReady x y used c.pop.new.self) (sym w.index-is)

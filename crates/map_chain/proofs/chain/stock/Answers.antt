@@ -1,6 +1,6 @@
 use Rattle.std.proofs.Common.{[], ◌∷◌, length, ap, ◌∙◌, arith}
 use Rattle.std.proofs.lemmas.List.{length-append}
-use Rattle.map_chain.specs.Blocks.{Placed}
+use Rattle.map_chain.specs.Blocks.{PlacedBlocks}
 use Rattle.map_chain.proofs.Growing.{stocked-link}
 use Rattle.map_chain.proofs.chain.stock.Goals as goal
 
@@ -15,7 +15,7 @@ returns-in_err-node-clause-few c = c.loop-alloc.invariant.few
 
 pub loop-alloc-smaller : goal.loop-alloc-smaller
 loop-alloc-smaller c =
-    let more = ap (λ (l : Placed). length l) c.link.ensures
+    let more = ap (λ (l : PlacedBlocks). length l) c.link.ensures
     ∙ length-append c.loop-alloc.spare ((c.link.result.ptr, []) ∷ []) in
     let len = c.len.ensures.len in let less = c.loop-alloc-test.true in omega arith
 

@@ -5,7 +5,7 @@ use denote.RawPtr.{Ptr}
 use Rattle.map_chain.specs.Edit.{edit}
 use Rattle.map_chain.specs.Pairs.{Pair}
 use Rattle.map_chain.specs.Nodes.{places}
-use Rattle.map_chain.specs.Blocks.{Placed, FitTogether, IsBlockAt}
+use Rattle.map_chain.specs.Blocks.{PlacedBlocks, FitTogether, IsBlockAt}
 use Rattle.map_chain.specs.Keys.{AreKeysOf}
 use Rattle.map_chain.specs.declared.node.Node.{Node}
 use Rattle.map_chain.proofs.Linking.{one_block, get-within, places-edit, length-edit, length-remove_at}
@@ -14,7 +14,7 @@ use Rattle.map_chain.proofs.Keys.{keys-join}
 use Rattle.map_chain.proofs.Thin.{get-remove_before, kept_join}
 use Rattle.map_chain.proofs.joining.join.Goals as goal
 
-module _ (used taken : Placed) (i : ℕ) (t : FitTogether used i) (node value : Node)
+module _ (used taken : PlacedBlocks) (i : ℕ) (t : FitTogether used i) (node value : Node)
     (e : IsBlockAt used (i + 1) value.block) (is : node ≡ value) (gone : taken ≡ remove used (i + 1)) where
   next : i + 1 ≡ suc i
   next = omega arith
@@ -36,7 +36,7 @@ module _ (used taken : Placed) (i : ℕ) (t : FitTogether used i) (node value : 
 
   has_room : (p : Ptr) (ps : List Pair) → slice_get taken i ≡ Some (p, ps) → length ps + length node.block ≤ 64
   has_room p ps f =
-      let here = sym (ap (λ (bs : Placed). slice_get bs i) others ∙ get-remove_before used i) ∙ f in
+      let here = sym (ap (λ (bs : PlacedBlocks). slice_get bs i) others ∙ get-remove_before used i) ∙ f in
       let same = ap (λ (l : List Pair). length l) (one_block used i t.here p t.pairs ps t.first here).1 in
       let most = fits in omega arith
 
@@ -58,7 +58,7 @@ returns-clause-kept c =
     let within = get-within used (suc i) (e.0, qs) more in
     kept_join used c.args.spare.now c.put_by.new.spare i t.here e.0 t.pairs qs t.first more
     (fits used taken i t node value e c.deref.ensures gone) c.requires.blocks.0 c.add_pairs.new.self _
-    (c.add_pairs.ensures ∙ ap (λ (bs : Placed). edit i (λ l. l ++ qs) bs)
+    (c.add_pairs.ensures ∙ ap (λ (bs : PlacedBlocks). edit i (λ l. l ++ qs) bs)
     (others used taken i t node value e c.deref.ensures gone)) c.put_by.ensures
     (λ yes. grind (arith, nat_tests, yes, same, long, len))
     (λ no. grind (arith, nat_tests, no, same, long, len, within))
@@ -74,7 +74,7 @@ returns-clause-index c =
     let same = c.take_block-node.ensures.room in let key_same = c.take_block-node.ensures.key_room in
     let ks = c.args.index.now.keys.items in let more = second used taken i t node value e c.deref.ensures gone in
     let is = c.add_pairs.ensures
-    ∙ ap (λ (bs : Placed). edit i (λ l. l ++ qs) bs) (others used taken i t node value e c.deref.ensures gone) in
+    ∙ ap (λ (bs : PlacedBlocks). edit i (λ l. l ++ qs) bs) (others used taken i t node value e c.deref.ensures gone) in
     let fewer : c.take_block-node.new.index.keys.items ≡ remove ks (suc i) =
     c.take_block-node.ensures.keys
     ∙ ap (λ (j : ℕ). remove ks j) (next used taken i t node value e c.deref.ensures gone) in
@@ -82,7 +82,7 @@ returns-clause-index c =
       blocks = record {
         places = c.take_block-node.ensures.index.places
             ∙ sym (ap places c.add_pairs.ensures ∙ places-edit taken i (λ (l : List Pair). l ++ qs));
-        keys = subst (λ (w : List ℕ × Placed). AreKeysOf w.0 w.1) (λ j. (sym fewer j, sym is j))
+        keys = subst (λ (w : List ℕ × PlacedBlocks). AreKeysOf w.0 w.1) (λ j. (sym fewer j, sym is j))
             (keys-join ks used i e.0 qs more c.requires.blocks.0 x.blocks.keys);
       };
       room = omega arith;
@@ -94,7 +94,7 @@ returns-clause-fewer c =
     let t = c.requires.together in let taken = c.take_block-node.new.used in
     let qs : List Pair = c.deref.result.now.block in
     let within = get-within c.args.used.now (suc c.args.i) (t.next, t.more) t.second in
-    let less = ap (λ (bs : Placed). length bs) c.take_block-node.ensures.others in
+    let less = ap (λ (bs : PlacedBlocks). length bs) c.take_block-node.ensures.others in
     let gone = length-remove_at c.args.used.now (c.args.i + 1) (omega arith) in
-    let same = ap (λ (bs : Placed). length bs) c.add_pairs.ensures
+    let same = ap (λ (bs : PlacedBlocks). length bs) c.add_pairs.ensures
     ∙ length-edit taken c.args.i (λ (l : List Pair). l ++ qs) in omega arith

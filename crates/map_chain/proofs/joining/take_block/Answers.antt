@@ -1,6 +1,6 @@
 use Rattle.std.proofs.Common.{ℕ, List, sym, subst, arith}
 use Rattle.map_chain.specs.Nodes.{IsAt}
-use Rattle.map_chain.specs.Blocks.{Placed}
+use Rattle.map_chain.specs.Blocks.{PlacedBlocks}
 use Rattle.map_chain.specs.Index.{ArePlacesOf}
 use Rattle.map_chain.specs.Keys.{AreKeysOf}
 use Rattle.map_chain.specs.declared.nodes.Place.{Place}
@@ -23,10 +23,10 @@ pub returns-clause-index : goal.returns-clause-index
 returns-clause-index c =
     let x = c.args.index.now in let used = c.args.used.now in let blocks = c.requires.index in
     record {
-      places = subst (λ (w : List Place × Placed). ArePlacesOf w.0 w.1)
+      places = subst (λ (w : List Place × PlacedBlocks). ArePlacesOf w.0 w.1)
           (λ j. (sym c.remove-at.ensures.items j, sym c.unlink.ensures.others j))
           (places-remove x.places.items used c.args.i blocks.places);
-      keys = subst (λ (w : List ℕ × Placed). AreKeysOf w.0 w.1)
+      keys = subst (λ (w : List ℕ × PlacedBlocks). AreKeysOf w.0 w.1)
           (λ j. (sym c.remove-index.ensures.items j, sym c.unlink.ensures.others j))
           (keys-remove x.keys.items used c.args.i blocks.keys);
     }

@@ -2,7 +2,7 @@
 use Rattle.std.proofs.Common.{◌≡◌, true, false, Some, refl, sym, ap, ◌∙◌, inl, inr, true≢false}
 use Rattle.std.specs.Fmt.{digits}
 use Rattle.kom_types.specs.declared.texts.NewText.{NewText}
-use Rattle.kom_types.specs.AuxItems.{refused_change, inherited}
+use Rattle.kom_types.specs.AuxItems.{refused_change, inherit}
 use Rattle.kom_types.specs.Names.{is_name}
 use Rattle.kom_types.specs.Printing.{print_of}
 use Rattle.kom_model.specs.After.{after}
@@ -14,7 +14,7 @@ use Rattle.kom_model.specs.Db.{recipients_of, link_of, links_from, links_into, l
 use Rattle.kom_model.specs.Db.{first_local_of, created_by, first_created_of, mark_of, marks_of}
 use Rattle.kom_model.specs.Db.{marks_on, items_of, next_item_of}
 use Rattle.kom_model.specs.Decide.{decision_of}
-use Rattle.kom_model.specs.Effects.{fits, made}
+use Rattle.kom_model.specs.Effects.{fits, after_effect}
 use Rattle.kom_model.specs.Rights.{supervises, sees, reads_conference, reads, may_submit}
 use Rattle.kom_model.specs.Shown.{shows_membership}
 use Rattle.kom_model.specs.State.{State}
@@ -41,11 +41,11 @@ abbrev after_flush : NewText → State
 after_flush given = after (after_stat given) flush
 
 pub returns : goal.returns
-unfolding digits refused_change inherited is_name print_of conference_of person_of membership_of memberships_of
+unfolding digits refused_change inherit is_name print_of conference_of person_of membership_of memberships_of
     memberships_at members_of conferences_of next_conference_of conference_head_of membership_kind_of
     person_flags_of read_of text_of text_author_of texts_of next_text_of next_local_of next_created_of
     recipient_of recipients_of link_of links_from links_into links_of locals_of first_local_of created_by
-    first_created_of mark_of marks_of marks_on items_of next_item_of decision_of fits made supervises sees
+    first_created_of mark_of marks_of marks_on items_of next_item_of decision_of fits after_effect supervises sees
     reads_conference reads may_submit shows_membership messages_of
 returns c =
     let mailed : IsQuiet di before (mail yes) = quiet-by di before (mail yes)

@@ -1,7 +1,7 @@
 -- Each row is computed.
 use Rattle.std.proofs.Common.{◌≡◌, true, false, refl, sym, inl, inr, true≢false}
 use Rattle.std.specs.Fmt.{digits}
-use Rattle.kom_types.specs.AuxItems.{refused_change, inherited}
+use Rattle.kom_types.specs.AuxItems.{refused_change, inherit}
 use Rattle.kom_types.specs.Names.{is_name}
 use Rattle.kom_types.specs.Printing.{print_of}
 use Rattle.kom_model.specs.Db.{items_of, next_item_of, conference_of, person_of, membership_of, memberships_of}
@@ -9,14 +9,14 @@ use Rattle.kom_model.specs.Db.{conferences_of, next_conference_of, conference_he
 use Rattle.kom_model.specs.Db.{text_author_of, next_text_of, next_local_of, next_created_of, recipient_of}
 use Rattle.kom_model.specs.Db.{recipients_of}
 use Rattle.kom_model.specs.Decide.{decision_of}
-use Rattle.kom_model.specs.Effects.{fits, made}
+use Rattle.kom_model.specs.Effects.{fits, after_effect}
 use Rattle.kom_model.specs.Rights.{supervises, sees, reads_conference, reads, may_submit}
 use Rattle.noninterference.proofs.laws.worked_worlds.Goals as goal
 
 pub returns : goal.returns
-unfolding digits refused_change inherited is_name print_of items_of next_item_of conference_of person_of membership_of
+unfolding digits refused_change inherit is_name print_of items_of next_item_of conference_of person_of membership_of
     memberships_of conferences_of next_conference_of conference_head_of membership_kind_of text_of text_author_of
-    next_text_of next_local_of next_created_of recipient_of recipients_of decision_of fits made supervises sees
+    next_text_of next_local_of next_created_of recipient_of recipients_of decision_of fits after_effect supervises sees
     reads_conference reads may_submit
 returns c = record {
   text_to_cy = refl;

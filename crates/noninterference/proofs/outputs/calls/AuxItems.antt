@@ -9,7 +9,7 @@ use Rattle.kom_model.specs.declared.viewers.Viewer.{Viewer}
 use Rattle.kom_model.specs.Db.{Db, text_author_of}
 use Rattle.kom_model.specs.Rights.{supervises, is_author}
 use Rattle.kom_model.specs.Shown.{text_adder, conference_adder}
-use Rattle.kom_model.specs.calls.AuxItems.{modify_text_info, modify_conf_info, changed, object_of}
+use Rattle.kom_model.specs.calls.AuxItems.{modify_text_info, modify_conf_info, change_items, object_of}
 use Rattle.kom_model.specs.calls.Call.{Asked}
 use Rattle.kom_model.specs.calls.Guards.{caller, login_guard, text_guard, conference_guard}
 use Rattle.kom_laws.proofs.masking.Rows.{told}
@@ -57,12 +57,12 @@ module _ (asked : Asked) (one : Db) (alike : IsAlikeTo (caller asked) one asked.
 
   -- what a change of items comes to
   text_changed-same : (adder : Adder) (change : AuxChange) → HasSameText change.object one asked.db →
-      changed part true object.Text adder change ≡ changed asked true object.Text adder change
+      change_items part true object.Text adder change ≡ change_items asked true object.Text adder change
   text_changed-same adder change whole = rw (whole.items, whole.next_item) refl
 
   conference_changed-same : (on : Object) (adder : Adder) (change : AuxChange) →
       HasSameConference change.object one asked.db →
-      changed part false on adder change ≡ changed asked false on adder change
+      change_items part false on adder change ≡ change_items asked false on adder change
   conference_changed-same on adder change all = rw (all.items, all.next_item) refl
 
   pub modify_text_info-same : (change : AuxChange) →
@@ -70,7 +70,7 @@ module _ (asked : Asked) (one : Db) (alike : IsAlikeTo (caller asked) one asked.
   modify_text_info-same change = two-guards (login_guard (caller part)) (login_guard (caller asked))
       (text_guard one (caller part) change.object) (text_guard asked.db (caller asked) change.object) _ _
       (ap login_guard same) (text_guard-same change.object) (λ login read.
-      ap (λ adder. changed part true object.Text adder change) (text_adder-same change.object)
+      ap (λ adder. change_items part true object.Text adder change) (text_adder-same change.object)
       ∙ text_changed-same (text_adder asked.db (caller asked) change.object) change
       (alike.text change.object login (read-passed asked.db (caller asked) change.object read)))
 
@@ -83,9 +83,9 @@ module _ (asked : Asked) (one : Db) (alike : IsAlikeTo (caller asked) one asked.
   modify_conf_info-same change = two-guards (login_guard (caller part)) (login_guard (caller asked))
       (conference_guard one (caller part) change.object) (conference_guard asked.db (caller asked) change.object) _ _
       (ap login_guard same) (conference_guard-same change.object) (λ login seen.
-      ap (λ on. changed part false on (conference_adder one (caller part) change.object) change)
+      ap (λ on. change_items part false on (conference_adder one (caller part) change.object) change)
       (object-same change.object)
-      ∙ ap (λ adder. changed part false (object_of asked.db change.object) adder change)
+      ∙ ap (λ adder. change_items part false (object_of asked.db change.object) adder change)
       (conference_adder-same change.object)
       ∙ conference_changed-same (object_of asked.db change.object)
       (conference_adder asked.db (caller asked) change.object) change

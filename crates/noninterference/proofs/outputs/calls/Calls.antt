@@ -11,11 +11,11 @@ use Rattle.kom_types.specs.declared.messages.Message.TheVariants as message
 use Rattle.kom_types.specs.declared.seats.Seat.{Seat}
 use Rattle.kom_model.specs.Db.{Db, conference_of, person_of, membership_of, text_of, recipient_of}
 use Rattle.kom_model.specs.Db.{recipients_of, links_of, marks_on, items_of}
-use Rattle.kom_model.specs.Decide.{decision_of, definition_of, limited}
+use Rattle.kom_model.specs.Decide.{decision_of, definition_of, limit_reply}
 use Rattle.kom_model.specs.Messages as Messages
 use Rattle.kom_model.specs.Rights.{sees}
-use Rattle.kom_model.specs.ToWhom.{sent_by, left, of_made, only_added, text_added, is_refused}
-use Rattle.kom_model.specs.calls.Call.{Asked, decided}
+use Rattle.kom_model.specs.ToWhom.{sent_by, left_conference, of_made, only_added, text_added, is_refused}
+use Rattle.kom_model.specs.calls.Call.{Asked, outcome_of}
 use Rattle.kom_model.specs.calls.Guards.{caller}
 use Rattle.kom_laws.specs.Groups.{Group}
 use Rattle.noninterference.specs.outputs.Answers.{ComesToSame, erased_asked}
@@ -140,8 +140,9 @@ pub sent-numbered : (asked : Asked) (decision : Decision) (call : Call) →
 sent-numbered asked decision (call.ChangeName conference name) = row-numbered _ (λ row. record {
   tells = λ viewer what. numbered-if (sees asked.db viewer conference) _ what;
 }) (conference_of asked.db conference)
-sent-numbered asked decision (call.DeleteConf conference) = pick-numbered left left-numbered decision.effects
-sent-numbered asked decision (call.SubMember conference person) = pick-numbered left left-numbered decision.effects
+sent-numbered asked decision (call.DeleteConf conference) = pick-numbered left_conference left-numbered decision.effects
+sent-numbered asked decision (call.SubMember conference person) =
+    pick-numbered left_conference left-numbered decision.effects
 sent-numbered asked decision (call.SetPresentation conference text) = row-numbered _ (λ row. record {
   tells = λ viewer what. numbered-if (sees asked.db viewer conference) _ what;
 }) (conference_of asked.db conference)
@@ -224,9 +225,9 @@ module _ (asked : Asked) (seat : Seat) where
       ++ map (λ item. effect.AuxGone true text item.number) (items_of asked.db true text))
       (effect.TextGone text) [] idle)
   sent-silent (call.DeleteConf conference) decision other none accepted idle =
-      ap (λ effects. brought_to asked.db seat (filter_map left effects)) none
+      ap (λ effects. brought_to asked.db seat (filter_map left_conference effects)) none
   sent-silent (call.SubMember conference person) decision other none accepted idle =
-      ap (λ effects. brought_to asked.db seat (filter_map left effects)) none
+      ap (λ effects. brought_to asked.db seat (filter_map left_conference effects)) none
   sent-silent (call.CreateText given) decision other none accepted idle =
       ap (λ effects. brought_to asked.db seat (of_made effects asked.db)) none
   sent-silent (call.CreateAnonymousText given) decision other none accepted idle =
@@ -246,6 +247,6 @@ module _ (group : Group) (asked : Asked) where
   public-decided (call.AcceptAsync numbers) public = refl
   public-decided call.SyncKom public = rw (Sessions.caller-erased group asked) refl
   public-decided (call.SendMessage recipient text) public =
-      ap (λ definition. limited asked.reference (decided definition))
+      ap (λ definition. limit_reply asked.reference (outcome_of definition))
       (Sessions.message-erased group asked recipient text)
   public-decided what public = absurd (true≢false (sym public))

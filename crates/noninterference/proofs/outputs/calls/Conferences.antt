@@ -20,7 +20,7 @@ use Rattle.kom_types.specs.Names.{finds}
 use Rattle.kom_model.specs.Db.{Db, conference_of, conferences_of, memberships_at}
 use Rattle.kom_model.specs.Rights.{sees, supervises}
 use Rattle.kom_model.specs.Shown.{conference_told}
-use Rattle.kom_model.specs.calls.Call.{Asked, answer, done}
+use Rattle.kom_model.specs.calls.Call.{Asked, answer, done_with}
 use Rattle.kom_model.specs.calls.Conferences.{change_name, set_presentation, set_etc_motd, set_supervisor}
 use Rattle.kom_model.specs.calls.Conferences.{set_permitted_submitters, set_super_conf, set_conf_type, may_become}
 use Rattle.kom_model.specs.calls.Conferences.{set_garb_nice, set_expire, set_keep_commented, delete_conf}
@@ -122,7 +122,7 @@ module _ (asked : Asked) (one : Db) (alike_to : IsAlikeTo (caller asked) one ask
   pub delete_conf-same : (number : ℕ) → ComesToSame (delete_conf part number) (delete_conf asked number)
   delete_conf-same number = simp (same, by-guard, alike_to.rights.sees, alike_to.rights.supervises)
       (passing refl (λ login. passing refl (λ seen. passing refl (λ supervised.
-      ended (ap (λ effects. done effects (filter_map (left_by_deletion number) asked.seats))
+      ended (ap (λ effects. done_with effects (filter_map (left_by_deletion number) asked.seats))
       (gone-same number (alike_to.conference number (seen-passed asked.db (caller asked) number seen))))))))
 
   may_make-same : (person : ℕ) → may_make_conferences one person ≡ may_make_conferences asked.db person

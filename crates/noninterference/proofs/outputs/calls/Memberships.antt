@@ -18,13 +18,13 @@ use Rattle.kom_types.specs.tables.Memberships.{is_membership, is_passive}
 use Rattle.kom_model.specs.Db.{Db, person_of, membership_of, memberships_of}
 use Rattle.kom_model.specs.Rights.{sees}
 use Rattle.kom_model.specs.Shown.{shows_membership, memberships_shown}
-use Rattle.kom_model.specs.calls.Call.{Asked, answer, done}
+use Rattle.kom_model.specs.calls.Call.{Asked, answer, done_with}
 use Rattle.kom_model.specs.calls.Guards.{caller, conference_guard}
 use Rattle.kom_model.specs.calls.Memberships.{shows_row, mark_as_read, mark_as_unread, set_unread}
 use Rattle.kom_model.specs.calls.Memberships.{set_last_read, set_read_ranges, change_conference, sub_member}
 use Rattle.kom_model.specs.calls.Memberships.{refuses_secret, is_near, is_open, set_member, member_effects, add_member}
 use Rattle.kom_model.specs.calls.Memberships.{type_effects, set_membership_type, is_shown, is_unread, get_unread_confs}
-use Rattle.kom_model.specs.calls.Memberships.{get_members, membership_told, told, place_of, told_reply}
+use Rattle.kom_model.specs.calls.Memberships.{get_members, membership_told, place_of, told_reply}
 use Rattle.kom_model.specs.calls.Memberships.{query_read_texts, all_told, part, get_membership}
 use Rattle.kom_laws.specs.masking.Masks.{blank_membership}
 use Rattle.kom_laws.proofs.masking.Rows.{told as told_of}
@@ -143,7 +143,7 @@ module _ (asked : Asked) (one : Db) (alike : IsAlikeTo (caller asked) one asked.
         alike.rights.supervises,
         alike.public.kind,
       )
-      (passing refl (λ login. passing refl (λ seen. resting (ap (λ effects. done effects [])
+      (passing refl (λ login. passing refl (λ seen. resting (ap (λ effects. done_with effects [])
       (member_effects-same person conference priority place kind (all conference seen))))))
 
   type_effects-same : (person conference kind : ℕ) → HasSameConference conference one asked.db →
@@ -155,7 +155,7 @@ module _ (asked : Asked) (one : Db) (alike : IsAlikeTo (caller asked) one asked.
       (set_membership_type rest person conference kind) (set_membership_type asked person conference kind)
   set_membership_type-same person conference kind =
       simp (same, by-guard, there, refuses-same, row-same, alike.rights.sees, alike.rights.supervises)
-      (passing refl (λ login. passing refl (λ is. passing refl (λ seen. resting (ap (λ effects. done effects [])
+      (passing refl (λ login. passing refl (λ is. passing refl (λ seen. resting (ap (λ effects. done_with effects [])
       (type_effects-same person conference kind (all conference seen)))))))
 
   -- ---- what is told of memberships

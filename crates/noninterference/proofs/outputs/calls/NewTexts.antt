@@ -5,7 +5,7 @@ use Rattle.std.specs.Prelude.{map, min}
 use Rattle.std.specs.List.{filter, list_all, AllByRecursion}
 use Rattle.std.proofs.lemmas.Bool.{cases_Bool, cond-true, cond-false}
 use Rattle.kom_types.specs.declared.errors.TheConstants as error
-use Rattle.kom_types.specs.AuxItems.{inherited, items_from}
+use Rattle.kom_types.specs.AuxItems.{inherit, items_from}
 use Rattle.kom_types.specs.declared.aux_items.AuxRow.{AuxRow}
 use Rattle.kom_types.specs.declared.effects.Effect.{Effect}
 use Rattle.kom_types.specs.declared.texts.MiscInput.{MiscInput}
@@ -153,8 +153,8 @@ module _ (asked : Asked) (one : Db) (alike : IsAlikeTo (caller asked) one asked.
   inherited-same login rows (item ∷ items) named = elim (cases_Bool (names_comment item)) [
     | inl is ↦
         let whole : HasSameText item.value one asked.db = alike.text item.value login (named.0.comment is) in
-        rw is (ap (λ found. inherited_from one (inherited rows found) (filter names_comment items)) whole.items
-        ∙ inherited-same login (inherited rows (items_of asked.db true item.value)) items named.1)
+        rw is (ap (λ found. inherited_from one (inherit rows found) (filter names_comment items)) whole.items
+        ∙ inherited-same login (inherit rows (items_of asked.db true item.value)) items named.1)
     | inr other ↦ rw other (inherited-same login rows items named.1)
   ]
 

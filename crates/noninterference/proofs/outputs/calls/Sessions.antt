@@ -9,7 +9,7 @@ use Rattle.kom_model.specs.declared.viewers.Viewer.{Viewer}
 use Rattle.kom_model.specs.Db.{Db}
 use Rattle.kom_model.specs.Messages.{send_message, is_member_with}
 use Rattle.kom_model.specs.Rights.{supervises}
-use Rattle.kom_model.specs.Sending.{delivered, delivered_to}
+use Rattle.kom_model.specs.Sending.{delivery_to, delivered_to}
 use Rattle.kom_model.specs.calls.Call.{Asked, answer, seat_of}
 use Rattle.kom_model.specs.calls.Guards.{caller, seat_at, unless}
 use Rattle.kom_model.specs.calls.Sessions.{logout, enable, login, send_message_to, disconnect, who_is_on_dynamic}
@@ -46,16 +46,16 @@ module _ (asked : Asked) (one : Db) (alike : IsAlikeTo (caller asked) one asked.
 
   -- a message comes to the same sessions
   delivered-same : (recipient : ℕ) (text : List ℕ) (seat : Seat) →
-      delivered one (send_message one recipient (caller asked).person text) seat
-      ≡ delivered asked.db (send_message asked.db recipient (caller asked).person text) seat
+      delivery_to one (send_message one recipient (caller asked).person text) seat
+      ≡ delivery_to asked.db (send_message asked.db recipient (caller asked).person text) seat
   delivered-same recipient text seat = rw (alike.public.kind seat.person recipient, is_member_with) refl
 
   sent-same : (recipient : ℕ) (text : List ℕ) →
       delivered_to one asked.seats (send_message one recipient (caller asked).person text)
       ≡ delivered_to asked.db asked.seats (send_message asked.db recipient (caller asked).person text)
   sent-same recipient text = filter_map-tells
-      (delivered one (send_message one recipient (caller asked).person text))
-      (delivered asked.db (send_message asked.db recipient (caller asked).person text))
+      (delivery_to one (send_message one recipient (caller asked).person text))
+      (delivery_to asked.db (send_message asked.db recipient (caller asked).person text))
       (delivered-same recipient text) asked.seats
 
   pub send_message-same : (recipient : ℕ) (text : List ℕ) →
@@ -105,8 +105,8 @@ module _ (group : Group) (asked : Asked) where
       (seat_of asked)
 
   delivered-erased : (recipient : ℕ) (text : List ℕ) (seat : Seat) →
-      delivered without.db (send_message without.db recipient (caller asked).person text) seat
-      ≡ delivered asked.db (send_message asked.db recipient (caller asked).person text) seat
+      delivery_to without.db (send_message without.db recipient (caller asked).person text) seat
+      ≡ delivery_to asked.db (send_message asked.db recipient (caller asked).person text) seat
   delivered-erased recipient text seat =
       rw ((public-masked (mask_of group asked.db) asked.db).kind seat.person recipient, is_member_with) refl
 
@@ -114,8 +114,8 @@ module _ (group : Group) (asked : Asked) where
       delivered_to without.db asked.seats (send_message without.db recipient (caller asked).person text)
       ≡ delivered_to asked.db asked.seats (send_message asked.db recipient (caller asked).person text)
   sent-erased recipient text = filter_map-tells
-      (delivered without.db (send_message without.db recipient (caller asked).person text))
-      (delivered asked.db (send_message asked.db recipient (caller asked).person text))
+      (delivery_to without.db (send_message without.db recipient (caller asked).person text))
+      (delivery_to asked.db (send_message asked.db recipient (caller asked).person text))
       (delivered-erased recipient text) asked.seats
 
   pub message-erased : (recipient : ℕ) (text : List ℕ) →

@@ -11,7 +11,7 @@ use Rattle.kom_types.specs.declared.texts.TextStat.{TextStat}
 use Rattle.kom_model.specs.Db.{Db, text_of, texts_of, recipient_of, person_of}
 use Rattle.kom_model.specs.Rights.{reads}
 use Rattle.kom_model.specs.Shown.{shown_stat, shows_recipient}
-use Rattle.kom_model.specs.calls.Call.{Asked, answer, done}
+use Rattle.kom_model.specs.calls.Call.{Asked, answer, done_with}
 use Rattle.kom_model.specs.calls.Guards.{caller, login_guard, text_guard, conference_guard}
 use Rattle.kom_model.specs.calls.Texts.{author_of, body_of, get_text, text_reply, get_text_stat, gone_text, delete_text}
 use Rattle.kom_model.specs.calls.Texts.{add_recipient, shows_to, sender_of, linker_of, sub_recipient, add_comment}
@@ -72,7 +72,7 @@ module _ (asked : Asked) (one : Db) (alike : IsAlikeTo (caller asked) one asked.
   pub delete_text-same : (text : ℕ) → ComesToSame (delete_text part text) (delete_text asked text)
   delete_text-same text = simp (same, by-guard, alike.rights.reads, author-same, alike.rights.supervises)
       (passing refl (λ login. passing refl (λ read. passing refl (λ owned.
-      ended (ap (λ effects. done effects []) (gone-same text (whole login text read)))))))
+      ended (ap (λ effects. done_with effects []) (gone-same text (whole login text read)))))))
 
   pub add_recipient-same : (text conference tag : ℕ) →
       ComesToSame (add_recipient part text conference tag) (add_recipient asked text conference tag)

@@ -9,7 +9,7 @@ use Rattle.kom_model.specs.Db.{items_of, next_item_of, conference_of, person_of,
 use Rattle.kom_model.specs.Db.{conferences_of, next_conference_of, conference_head_of, membership_kind_of, text_of}
 use Rattle.kom_model.specs.Db.{text_author_of, next_text_of, next_local_of, first_local_of, locals_of, read_of}
 use Rattle.kom_model.specs.Db.{recipient_of, recipients_of, mark_of, marks_of}
-use Rattle.kom_model.specs.Effects.{fits, made}
+use Rattle.kom_model.specs.Effects.{fits, after_effect}
 use Rattle.kom_model.specs.Rights.{supervises, sees, reads_conference, reads}
 use Rattle.kom_laws.proofs.masking.Rows.{told}
 use Rattle.noninterference.proofs.unwinding.leaks_are_refused.Goals as goal
@@ -28,7 +28,7 @@ pub returns : goal.returns
 unfolding numbers_from items_of next_item_of conference_of person_of membership_of memberships_of conferences_of
     next_conference_of
     conference_head_of membership_kind_of text_of text_author_of next_text_of next_local_of first_local_of locals_of
-    read_of recipient_of recipients_of mark_of marks_of fits made supervises sees reads_conference reads
+    read_of recipient_of recipients_of mark_of marks_of fits after_effect supervises sees reads_conference reads
 returns c = record {
   protected = (refl, (refl, (refl, tt)));
   of_group = (refl, refl);

@@ -1,6 +1,6 @@
 use Rattle.std.proofs.Common.{ap, arith}
 use Rattle.read_ranges.specs.Numbers.{ReadSet}
-use Rattle.read_ranges.specs.Merged.{merged}
+use Rattle.read_ranges.specs.Merged.{merge_all}
 use Rattle.read_ranges.proofs.Sets.{ranges_of-union_of}
 use Rattle.read_ranges.proofs.Lists.{touch_from_faultless, rise_merged, union_of-merged, length-merged}
 use Rattle.read_ranges.proofs.Ranges.set.Goals as goal
@@ -11,7 +11,7 @@ returns-in_err-reserve-clause-full c _ =
     let view = ap (λ (s : ReadSet). s.spare) c.self.view_is in
     rw (
       ← union_of-merged c.args.list.now touch,
-      ranges_of-union_of (merged c.args.list.now)
+      ranges_of-union_of (merge_all c.args.list.now)
           (rise_merged 1 c.args.list.now touch),
     )
     (omega (arith, c.in_err-reserve.ensures.full, c.merged_count.ensures, view))

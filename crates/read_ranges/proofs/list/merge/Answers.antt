@@ -1,7 +1,7 @@
 use Rattle.std.proofs.Common.{◌≡◌, ◌≢◌, ◌+◌, ◌<◌, length, sym, ap, rules, arith}
 use Rattle.std.proofs.lemmas.List.{drop_more}
 use Rattle.read_ranges.specs.Numbers.{range}
-use Rattle.read_ranges.specs.Merged.{merged}
+use Rattle.read_ranges.specs.Merged.{merge_all}
 use Rattle.read_ranges.specs.ListFault.{range_at, EndWithinBelow}
 use Rattle.read_ranges.proofs.Merging.{merge_touching, merge_apart, others_after, others_after_set, ends_first}
 use Rattle.read_ranges.proofs.Merging.{ends_more}
@@ -12,7 +12,7 @@ pub loop-at-init : goal.loop-at-init
 loop-at-init c =
     let some : 0 < length c.args.list.now = grind arith in
     rw c.within_bounds-last.ensures.same (record {
-      whole = ap merged (sym (drop_more c.args.list.now 0 (range 0 0) some));
+      whole = ap merge_all (sym (drop_more c.args.list.now 0 (range 0 0) some));
       others = search rules;
       few = omega arith;
       bounds = ends_first _ c.within_bounds-last.ensures.bound;

@@ -1,13 +1,13 @@
 use Rattle.std.proofs.Common.{◌≡◌, ◌+◌, ◌<◌, length, true, false, is_ok, insert, ap, ◌∙◌, arith}
 use Rattle.std.proofs.lemmas.List.Edits.{length-insert}
-use Rattle.conferences.specs.Secret.{listed}
+use Rattle.conferences.specs.Secret.{with_if}
 use Rattle.conferences.proofs.Chosen.{IsRising-listed}
 use Rattle.conferences.proofs.Places.{found_at, place_for, IsPlace, removed_at, there_at}
 use Rattle.conferences.proofs.Places.{inserted_at, absent_at}
 use Rattle.conferences.proofs.secret.SecretNumbers.set.Goals as goal
 use Rattle.conferences.proofs.secret.SecretNumbers.set.Goals.{After-remove, After-insert}
 
-removed : (c : After-remove) → c.remove.new.self.items ≡ listed false c.args.number c.self.inside.numbers.items
+removed : (c : After-remove) → c.remove.new.self.items ≡ with_if false c.args.number c.self.inside.numbers.items
 removed c =
     let found = found_at c.self.inside.numbers.items c.args.number c.in-Ok.place c.self.invariant
     (rw c.deref.ensures.value at c.in-Ok.ensures.position) in
@@ -40,7 +40,7 @@ fits c =
     let room = rw (c.if-is_in.true, ← c.self.view_is) at c.requires in
     let longer : length (insert numbers c.in-Err.place c.args.number) ≡ length numbers + 1 =
     length-insert numbers c.in-Err.place c.args.number (place c).within in
-    let listed_is : length (insert numbers c.in-Err.place c.args.number) ≡ length (listed true c.args.number numbers) =
+    let listed_is : length (insert numbers c.in-Err.place c.args.number) ≡ length (with_if true c.args.number numbers) =
     ap length (inserted_at numbers c.args.number c.in-Err.place (place c)) in
     omega (arith, c.self.inside.numbers.ok.0)
 
@@ -48,7 +48,7 @@ pub unwrap-requires : goal.unwrap-requires
 unwrap-requires c = c.insert.ensures.succeeds (fits c)
 
 inserted : (c : After-insert) → is_ok c.insert.result ≡ true →
-    c.insert.new.self.items ≡ listed true c.args.number c.self.inside.numbers.items
+    c.insert.new.self.items ≡ with_if true c.args.number c.self.inside.numbers.items
 inserted c ok =
     rw ok at c.insert.ensures.items
     ∙ inserted_at c.self.inside.numbers.items c.args.number c.in-Err.place (place c)

@@ -1,7 +1,7 @@
 use Rattle.std.proofs.Common.{◌≡◌, ℕ, ◌-◌, min, false, length, sym, ap, ◌∙◌, arith}
 use Rattle.row_table.specs.Tables.{without_row}
 use Rattle.kom_types.specs.tables.Conferences.{number_of_conference}
-use Rattle.conferences.specs.Secret.{listed, secret_numbers}
+use Rattle.conferences.specs.Secret.{with_if, secret_numbers}
 use Rattle.conferences.proofs.Rows.{length-without_row}
 use Rattle.conferences.proofs.Listing.{length-secret, secret-without_row}
 use Rattle.conferences.proofs.table.Conferences.remove.Goals as goal
@@ -21,7 +21,7 @@ pub invariant_of-self : goal.invariant_of-self
 invariant_of-self c =
     let rows = c.self.inside.rows.rows in
     rw c.remove.ensures.rows (record {
-      numbers = c.set.ensures.numbers ∙ ap (listed false c.args.number) c.self.invariant.numbers
+      numbers = c.set.ensures.numbers ∙ ap (with_if false c.args.number) c.self.invariant.numbers
           ∙ sym (secret-without_row c.args.number rows);
       room = omega (
         arith,

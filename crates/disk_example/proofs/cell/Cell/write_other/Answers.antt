@@ -1,6 +1,6 @@
 use Rattle.std.proofs.Common.{◌≡◌, ◌≤◌, ℕ, Bool, true, false, List, length, take, drop, if◌then◌else◌, ◌∙◌, arith, ap}
 use Rattle.std.proofs.Common.{subst}
-use Rattle.kom_disk.specs.Disk.{overwritten, Torn}
+use Rattle.kom_disk.specs.Disk.{overwritten, IsTorn}
 use Rattle.disk_example.specs.Cell.{content_of}
 use Rattle.disk_example.proofs.Slots.{left_of_other, written_other}
 use Rattle.disk_example.proofs.cell.Cell.write_other.Goals as goal
@@ -54,8 +54,8 @@ returns-clause-written g c told =
     let within : at ≤ length file =
     within_slots c.args.self.now.is_second at (length file) c.other_slot.ensures
     (subst (λ (n : ℕ). 17 ≤ n) (g.met.D.Disk.counts_bytes start told) c.args.self.now.is_long) in
-    let torn : Torn at 8 file (overwritten file at content) =
-    subst (λ (n : ℕ). Torn at n file (overwritten file at content)) c.told-content
+    let torn : IsTorn at 8 file (overwritten file at content) =
+    subst (λ (n : ℕ). IsTorn at n file (overwritten file at content)) c.told-content
     (c.whole_calls.ensures.write file content at within) in
     let given : take 8 (drop at (overwritten file at content)) ≡ content =
     subst (λ (n : ℕ). take n (drop at (overwritten file at content)) ≡ content) c.told-content

@@ -1,8 +1,8 @@
-use Rattle.std.proofs.Common.{◌≡◌, ◌≢◌, ℕ, [], length, Some, None, Err, refl, sym, ap, ◌∙◌, subst}
+use Rattle.std.proofs.Common.{◌≡◌, ◌≢◌, ℕ, Err, refl, sym, ap, ◌∙◌, subst}
 use Rattle.std.specs.Prelude.{IsSome, IfSome}
 use Rattle.kom_model.specs.Db.{Db}
 use Rattle.kom_model.specs.Initial.{initial}
-use Rattle.kom_model.specs.State.{opening}
+use Rattle.kom_model.specs.State.{opening_state}
 use Rattle.kom_disk.specs.Faults.{Rose}
 use Rattle.kom_journal.specs.Images.{AreFor, IsKept, images, images_at, moment}
 use Rattle.kom_journal.specs.Opening.{IsMakeFault}
@@ -17,7 +17,7 @@ with_store-requires-clause-unmarked g c = ap (λ core. core.state.store_refused)
 
 pub returns-in-Ok-store_initial-clause-state : goal.returns-in-Ok-store_initial-clause-state
 returns-in-Ok-store_initial-clause-state g c =
-    ok_of c.with_store.result _ (λ book. book.core.state ≡ opening (initial c.args.password.now c.args.moment))
+    ok_of c.with_store.result _ (λ book. book.core.state ≡ opening_state (initial c.args.password.now c.args.moment))
     c.with_store.ensures.made (ap (λ core. core.state) c.in-Ok-store_initial.ensures.core)
 
 pub returns-in-Ok-store_initial-clause-store : goal.returns-in-Ok-store_initial-clause-store

@@ -1,6 +1,5 @@
-use Rattle.std.proofs.Common.{◌≡◌, ℕ, Some, None, refl, sym, ap, ◌∙◌, subst}
-use Rattle.std.specs.Prelude.{IsSome, IfSome, IsTrue}
-use Rattle.kom_types.specs.declared.acts.Act.{Act}
+use Rattle.std.proofs.Common.{◌≡◌, refl, sym, ap, subst}
+use Rattle.std.specs.Prelude.{IsSome, IfSome}
 use Rattle.kom_model.specs.Db.{Db}
 use Rattle.kom_disk.specs.Faults.{Rose}
 use Rattle.kom_journal.specs.Images.{StandsFor, AreFor, IsKept, IsCause, IsLeftOf, HasCount}
@@ -8,7 +7,7 @@ use Rattle.kom_journal.specs.Images.{as_read, images, images_at, moment}
 use Rattle.kom_journal.specs.Opened.{Opens}
 use Rattle.kom_journal.specs.declared.errors.OpenFault.TheVariants as fault
 use Rattle.kom_journal.proofs.Images.{now_on}
-use Rattle.kom_book.specs.Books.{BookView, IsPlain, StandsNow, disk_in, batches_in}
+use Rattle.kom_book.specs.Books.{IsPlain, StandsNow, disk_in, batches_in}
 use Rattle.kom_book.proofs.Openings.{ok_of, err_of, match_of, stands_now}
 use Rattle.kom_book.proofs.book.Book.open.Goals as goal
 

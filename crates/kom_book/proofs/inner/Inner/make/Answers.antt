@@ -1,4 +1,4 @@
-use Rattle.std.proofs.Common.{◌≡◌, false, Some, None, Option, sym, ap, subst, ◌∙◌, refl}
+use Rattle.std.proofs.Common.{◌≡◌, false, None, Option, sym, subst}
 use Rattle.std.specs.Prelude.{IfSome}
 use Rattle.batch_log.specs.declared.errors.FlushFault.{FlushFault}
 use Rattle.kom_journal.specs.Images.{images_at, moment}

@@ -2,7 +2,7 @@ use Rattle.std.proofs.Common.{ℕ, List, ap, ◌∙◌}
 use Rattle.std.proofs.lemmas.Result.{err_from_is_err_and}
 use Rattle.kom_client.specs.Keys.{request_line}
 use Rattle.kom_client.specs.Seen.{request_seen}
-use Rattle.kom_client.specs.Talking.{Rest, asking}
+use Rattle.kom_client.specs.Talking.{Rest, ask_then}
 use Rattle.kom_client.specs.Talkers.{turn_of, world}
 use Rattle.kom_client.proofs.Steps.{passes_trans, passes_stops, memory_stops}
 use Rattle.kom_client.proofs.Turns.{request_sent, request_unsent}
@@ -11,7 +11,7 @@ use Rattle.kom_client.proofs.talker.Talker.ask.Goals as goal
 pub returns-in_err-put_request-clause-asks : goal.returns-in_err-put_request-clause-asks
 returns-in_err-put_request-clause-asks g c =
     let p = err_from_is_err_and c.from_residual.result c.from_residual.ensures.1 in
-    rw (p.1, p.2) (memory_stops (asking (turn_of c.args.self.now) (request_seen c.args.request.now))
+    rw (p.1, p.2) (memory_stops (ask_then (turn_of c.args.self.now) (request_seen c.args.request.now))
     (world c.args.self.now (g.L.Link.view c.args.link.now) (g.S.Sink.view c.args.out.now)))
 
 pub returns-in_err-send-clause-asks : goal.returns-in_err-send-clause-asks

@@ -1,7 +1,7 @@
 use Rattle.std.proofs.Common.{rules, refl, ap, ◌∙◌}
 use Rattle.std.proofs.lemmas.Result.{err_from_is_err_and}
 use Rattle.kom_client.specs.Client.{Turn}
-use Rattle.kom_client.specs.Talking.{awaiting}
+use Rattle.kom_client.specs.Talking.{await_reply}
 use Rattle.kom_client.specs.Talkers.{world}
 use Rattle.kom_client.proofs.Steps.{passes_none, line_unheard, reply_stops, reply_comes, message_comes}
 use Rattle.kom_client.proofs.talker.Talker.await_reply.Goals as goal
@@ -12,7 +12,7 @@ loop-init g c = record {
   finite = search rules;
   turn = refl;
   passes =
-      passes_none (awaiting c.args.self.now.reference)
+      passes_none (await_reply c.args.self.now.reference)
       (world c.args.self.now (g.L.Link.view c.args.link.now) (g.S.Sink.view c.args.out.now));
 }
 

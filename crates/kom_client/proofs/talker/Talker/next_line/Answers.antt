@@ -1,7 +1,7 @@
 use Rattle.std.proofs.Common.{refl}
 use Rattle.std.proofs.lemmas.Result.{err_from_is_err_and}
 use Rattle.kom_client.specs.declared.talk_end.TalkEnd.TheVariants as end
-use Rattle.kom_client.specs.Talking.{awaiting}
+use Rattle.kom_client.specs.Talking.{await_reply}
 use Rattle.kom_client.specs.Talkers.{world}
 use Rattle.kom_client.proofs.Steps.{line_passes, line_stops, hello_stops}
 use Rattle.kom_client.proofs.talker.Talker.next_line.Goals as goal
@@ -24,4 +24,4 @@ pub returns-clause-hears : goal.returns-clause-hears
 returns-clause-hears g c = λ sink reference.
     hello_stops (world c.args.self.now (g.L.Link.view c.args.link.now) sink)
     (world (record c.args.self.now { hearing = c.hear.new.self }) (g.L.Link.view c.hear.new.link) sink)
-    (awaiting reference) (end.Broken 0) c.in-Hello.field-0 (rw c.in-Hello.is at c.in_ok-line.ensures)
+    (await_reply reference) (end.Broken 0) c.in-Hello.field-0 (rw c.in-Hello.is at c.in_ok-line.ensures)

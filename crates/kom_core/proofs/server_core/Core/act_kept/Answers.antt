@@ -1,10 +1,10 @@
-use Rattle.std.proofs.Common.{◌≡◌, List, Option, Some, None, Result, Ok, Err, refl, sym, ap, ◌∙◌, subst}
+use Rattle.std.proofs.Common.{◌≡◌, Some, Result, Ok, Err, refl, sym, ap, ◌∙◌, subst}
 use Rattle.kom_types.specs.declared.acts.Record.{Record}
 use Rattle.kom_types.specs.declared.answers.Answer.{Answer}
 use Rattle.kom_types.specs.declared.answers.NotMade.{NotMade}
 use Rattle.kom_model.specs.Out.{taken_by}
 use Rattle.kom_model.specs.State.{State}
-use Rattle.kom_state.specs.Keepers.{appended}
+use Rattle.kom_state.specs.Keepers.{append_pending}
 use Rattle.kom_core.specs.Acts.{Held, IsAnswered, answer_to}
 use Rattle.kom_core.specs.Keeping.{kept_by}
 use Rattle.kom_core.specs.Worlds.{IsConsistent, RespectsGroups}
@@ -20,7 +20,7 @@ returns-in-Ok-clause-answered g c =
     subst (λ (new : Held). (came : Result Record NotMade)
     × IsAnswered old c.args.entry new (Ok c.answer_to-answer.result) came
     × IsConsistent old c.args.entry new.state came × RespectsGroups old c.args.entry new.state came
-    × (pending c.make_kept.new.keeper ≡ appended (kept_by old came) (pending c.args.keeper.now)))
+    × (pending c.make_kept.new.keeper ≡ append_pending (kept_by old came) (pending c.args.keeper.now)))
     (sym c.put_last.ensures) (
       Ok c.in-Ok.made,
       record {
@@ -45,7 +45,7 @@ returns-in-Err-clause-answered g c =
     subst (λ (new : Held). (came : Result Record NotMade)
     × IsAnswered old c.args.entry new c.answer_why.result came
     × IsConsistent old c.args.entry new.state came × RespectsGroups old c.args.entry new.state came
-    × (pending c.make_kept.new.keeper ≡ appended (kept_by old came) (pending c.args.keeper.now)))
+    × (pending c.make_kept.new.keeper ≡ append_pending (kept_by old came) (pending c.args.keeper.now)))
     (sym c.put_last-in-Err.ensures) (
       Err c.in-Err.why,
       record {

@@ -2,7 +2,7 @@ use Rattle.std.proofs.Common.{List, sym, ap, ◌∙◌}
 use Rattle.kom_types.specs.declared.acts.Act.TheVariants as act
 use Rattle.kom_model.specs.After.{session_in}
 use Rattle.kom_types.specs.declared.effects.Effect.{Effect}
-use Rattle.kom_state.specs.Keepers.{appended}
+use Rattle.kom_state.specs.Keepers.{append_pending}
 use Rattle.kom_core.proofs.Keeping.{call_kept}
 use Rattle.kom_core.proofs.Making.{Changes-by}
 use Rattle.kom_core.proofs.server_state.ServerState.change.Goals as goal
@@ -34,6 +34,6 @@ returns-in-Close-clause-step g c = (
 pub returns-in-Call-clause-kept : goal.returns-in-Call-clause-kept
 returns-in-Call-clause-kept g c =
     c.call-short.ensures.kept
-    ∙ ap (λ (effects : List Effect). appended effects (g.K.Keeper.pending c.args.keeper.now))
+    ∙ ap (λ (effects : List Effect). append_pending effects (g.K.Keeper.pending c.args.keeper.now))
     (sym (call_kept c.args.self.now c.args.entry.now c.call-short.result c.in-Call.session c.in-Call.reference
     c.in-Call.call c.requires.sound c.in-Call.is))

@@ -1,5 +1,5 @@
 use Rattle.std.proofs.Common.{Some, ℕ, List, length, sym, ◌∙◌, ap, subst, arith}
-use Rattle.kom_disk.specs.Disk.{overwritten, Torn}
+use Rattle.kom_disk.specs.Disk.{overwritten, IsTorn}
 use Rattle.kom_disk.specs.declared.step.Step.TheVariants.{Write}
 use Rattle.kom_disk.proofs.Torn.{torn_whole}
 use Rattle.kom_disk.proofs.Replay.{wrote, write_by, write_read, passes_more}
@@ -19,7 +19,7 @@ invariant_of-self c =
 
 pub returns-then-keep-clause-left : goal.returns-then-keep-clause-left
 returns-then-keep-clause-left c =
-    subst (λ (l : List ℕ). Torn c.args.at (length c.args.left.now) c.args.self.now.bytes.items l)
+    subst (λ (l : List ℕ). IsTorn c.args.at (length c.args.left.now) c.args.self.now.bytes.items l)
     (sym c.overwrite.ensures.items) (torn_whole c.args.at c.args.left.now c.args.self.now.bytes.items c.requires)
 
 pub returns-then-keep-clause-stop : goal.returns-then-keep-clause-stop

@@ -1,6 +1,6 @@
 use Rattle.std.proofs.Common.{◌≡◌, rules, true, ℕ, List, Vec, length, take, sym, ◌∙◌, ap, subst, arith}
 use Rattle.std.specs.declared.alloc.Global.{Global}
-use Rattle.kom_disk.specs.Disk.{overwritten, Torn, Passes}
+use Rattle.kom_disk.specs.Disk.{overwritten, IsTorn, Passes}
 use Rattle.kom_disk.specs.MemoryDisk.{images_of, images_after, moment_of}
 use Rattle.kom_disk.specs.Steps.{IsImage}
 use Rattle.kom_disk.specs.declared.memory_disk.MemoryDisk.{MemoryDisk}
@@ -20,7 +20,7 @@ invariant_of-self-in-Err-1 c =
 
 pub returns-in-Err-clause-stop : goal.returns-in-Err-clause-stop
 returns-in-Err-clause-stop c =
-    comes_on c.args.self.now.start.items (Torn c.args.at (length c.args.from.now)) c.args.self.now.calls.steps.items
+    comes_on c.args.self.now.start.items (IsTorn c.args.at (length c.args.from.now)) c.args.self.now.calls.steps.items
     c.begin.new.self.steps.items _ c.in-Err.ensures.failed c.leave_part.ensures.stop
 
 pub returns-in-Err-clause-time : goal.returns-in-Err-clause-time

@@ -2,7 +2,7 @@ use Rattle.std.proofs.Common.{◌<◌, ◌+◌, ◌^◌, ℕ, List, length, ap, 
 use Rattle.kom_disk.specs.Moments.{LeavesOnly}
 use Rattle.kom_model.specs.Effects.{apply_all}
 use Rattle.batch_log.specs.Batches.{batches}
-use Rattle.batch_log.specs.Log.{flushed}
+use Rattle.batch_log.specs.Log.{flush_of}
 use Rattle.kom_journal.specs.Images.{images_at, moment, IsForEither}
 use Rattle.kom_journal.specs.Pending.{effects_in}
 use Rattle.kom_journal.proofs.Images.{stays_for}
@@ -30,7 +30,7 @@ returns-in-Ok-clause-place g c =
     let log = c.self.inside.log in
     rw (← c.self.view_is)
     (c.in-Ok.ensures.place
-    ∙ ap (λ (b : List ℕ). log.place + length (batches (flushed b))) c.self.invariant.spelled.whole)
+    ∙ ap (λ (b : List ℕ). log.place + length (batches (flush_of b))) c.self.invariant.spelled.whole)
 
 pub returns-in-Ok-clause-rows : goal.returns-in-Ok-clause-rows
 returns-in-Ok-clause-rows g c =

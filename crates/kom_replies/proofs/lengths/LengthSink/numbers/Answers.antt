@@ -3,7 +3,7 @@ use Rattle.std.specs.List.{flat_map}
 use Rattle.std.specs.Fmt.{decimal}
 use Rattle.std.proofs.lemmas.List.{drop_all, drop_more}
 use Rattle.kom_types.specs.spellings.Words.{number}
-use Rattle.kom_replies.specs.Lengths.{put_length, capped}
+use Rattle.kom_replies.specs.Lengths.{put_length, cap_at_u64}
 use Rattle.kom_replies.specs.Sinks.{with_words}
 use Rattle.kom_replies.proofs.lengths.LengthSink.numbers.Goals as goal
 
@@ -15,7 +15,7 @@ loop-value-preserved c =
     let sum : ℕ = c.loop-value.length in
     let grown : c.saturating_add-length.result ≡ put_length (decimal value) sum =
     c.saturating_add-length.ensures
-    ∙ ap (λ (digits : ℕ). capped (sum + (digits + 1)))
+    ∙ ap (λ (digits : ℕ). cap_at_u64 (sum + (digits + 1)))
     (c.digit_count.ensures.digits ∙ ap (λ (n : ℕ). length (decimal n)) c.from.ensures) in
     ap (with_words put_length (flat_map number (drop (place + 1) values))) grown
     ∙ sym (ap (λ (left : List ℕ). with_words put_length (flat_map number left) sum)

@@ -4,7 +4,7 @@ use Rattle.kom_framing.specs.declared.units.Unit.{Unit as StreamUnit}
 use Rattle.kom_framing.specs.declared.units.Unit.TheVariants as unit
 use Rattle.kom_framing.specs.Splitting.{Splitting, IsAt}
 use Rattle.kom_session.specs.Kept.{Goes}
-use Rattle.kom_session.specs.Known.{known, state, seen}
+use Rattle.kom_session.specs.Known.{known_by, state, sight}
 use Rattle.kom_session.proofs.Acted.{taking, name_short, greeting_none, line_session}
 use Rattle.kom_session.proofs.Leading.{goes_from}
 use Rattle.kom_session.proofs.Served.{served_open}
@@ -17,7 +17,7 @@ greet-requires-clause-short g c =
     → IsAt c.next_unit.new.self fed (units ++ unit.Hello c.in-Some-Hello.user ∷ []) =
     λ fed units at. rw c.in-Some-Hello.field-0-is at (c.in-Some-Hello.ensures.at side.Client fed units at) in
     name_short c.in-Some-Hello.user
-    (taking {known = known c.args.self.now} (unit.Hello c.in-Some-Hello.user) c.next_unit.new.self
+    (taking {known = known_by c.args.self.now} (unit.Hello c.in-Some-Hello.user) c.next_unit.new.self
     c.requires.may.serving c.requires.may.room taken r.2)
 
 pub greet-requires-clause-none : goal.greet-requires-clause-none
@@ -27,7 +27,7 @@ greet-requires-clause-none g c =
     → IsAt c.next_unit.new.self fed (units ++ unit.Hello c.in-Some-Hello.user ∷ []) =
     λ fed units at. rw c.in-Some-Hello.field-0-is at (c.in-Some-Hello.ensures.at side.Client fed units at) in
     greeting_none c.in-Some-Hello.user
-    (taking {known = known c.args.self.now} (unit.Hello c.in-Some-Hello.user) c.next_unit.new.self
+    (taking {known = known_by c.args.self.now} (unit.Hello c.in-Some-Hello.user) c.next_unit.new.self
     c.requires.may.serving c.requires.may.room taken r.2)
 
 pub call_line-requires-clause-session : goal.call_line-requires-clause-session
@@ -37,7 +37,7 @@ call_line-requires-clause-session g c =
     → IsAt c.next_unit.new.self fed (units ++ unit.Line c.in-Some-Line.line ∷ []) =
     λ fed units at. rw c.in-Some-Line.field-0-is at (c.in-Some-Line.ensures.at side.Client fed units at) in
     let t =
-    taking {known = known c.args.self.now} (unit.Line c.in-Some-Line.line) c.next_unit.new.self
+    taking {known = known_by c.args.self.now} (unit.Line c.in-Some-Line.line) c.next_unit.new.self
     c.requires.may.serving c.requires.may.room taken r.2 in
     served_open t.served (line_session c.in-Some-Line.line t)
 
@@ -46,7 +46,7 @@ returns-in-Some-Hello-clause-made g c = λ link here.
     let taken : (fed : List ℕ) (units : List StreamUnit) → IsAt c.args.self.now.splitter fed units
     → IsAt c.next_unit.new.self fed (units ++ unit.Hello c.in-Some-Hello.user ∷ []) =
     λ fed units at. rw c.in-Some-Hello.field-0-is at (c.in-Some-Hello.ensures.at side.Client fed units at) in
-    goes_from (known c.args.self.now) refl
+    goes_from (known_by c.args.self.now) refl
     (λ start kept. (
       here,
       taking (unit.Hello c.in-Some-Hello.user) c.next_unit.new.self
@@ -59,7 +59,7 @@ returns-in-Some-Line-clause-made g c = λ link here.
     let taken : (fed : List ℕ) (units : List StreamUnit) → IsAt c.args.self.now.splitter fed units
     → IsAt c.next_unit.new.self fed (units ++ unit.Line c.in-Some-Line.line ∷ []) =
     λ fed units at. rw c.in-Some-Line.field-0-is at (c.in-Some-Line.ensures.at side.Client fed units at) in
-    goes_from (known c.args.self.now) refl
+    goes_from (known_by c.args.self.now) refl
     (λ start kept. taking (unit.Line c.in-Some-Line.line) c.next_unit.new.self
     c.requires.may.serving c.requires.may.room taken kept)
     (c.call_line.ensures.taken link)
@@ -69,7 +69,7 @@ returns-in-None-clause-made g c = λ link here.
     let desk = g.K.Desk.view c.args.desk.now in
     let gave = g.C.Clock.gave c.args.clock.now in
     subst (λ (splitting : Splitting). Goes
-    (state (record (known c.args.self.now) { splitting = splitting }) (seen desk link gave))
-    (state (known c.tell_bad.new.self)
-    (seen (g.K.Desk.view c.tell_bad.new.desk) link (g.C.Clock.gave c.tell_bad.new.clock))))
+    (state (record (known_by c.args.self.now) { splitting = splitting }) (sight desk link gave))
+    (state (known_by c.tell_bad.new.self)
+    (sight (g.K.Desk.view c.tell_bad.new.desk) link (g.C.Clock.gave c.tell_bad.new.clock))))
     c.in-None.ensures.unchanged (c.tell_bad.ensures.made c.args.host.now link here)

@@ -1,6 +1,6 @@
 use Rattle.std.proofs.Common.{refl, arith}
 use Rattle.kom_types.specs.declared.effects.Effect.TheVariants as effect
-use Rattle.kom_model.specs.Effects.{made}
+use Rattle.kom_model.specs.Effects.{after_effect}
 use Rattle.kom_state.proofs.Making.{IsMade-added}
 use Rattle.kom_state.proofs.Kept.{IsKept-made, added-parts, taken-kept}
 use Rattle.kom_state.proofs.stored_rows.StoredRows.add_conference.Goals as goal
@@ -16,7 +16,7 @@ overflow_add-self c =
     let parts = added-parts _ _ _ _ _ _ _ c.requires.fits in omega (arith, parts.1)
 
 pub invariant_of-self : goal.invariant_of-self
-unfolding made
+unfolding after_effect
 invariant_of-self c =
     let rows = rw (c.unwrap-2.ensures, c.fresh_conference-row.ensures) at c.put-2.ensures.ok in
     IsKept-made (effect.ConfAdded c.args.number c.args.name c.args.kind c.args.at c.args.creator c.args.supervisor)
@@ -24,7 +24,7 @@ invariant_of-self c =
     (rw (c.unwrap.ensures, c.as_slice.ensures, c.fresh_conference-row.ensures) at c.put.ensures.ok)
 
 pub returns : goal.returns
-unfolding made
+unfolding after_effect
 returns c = rw (← c.self.view_is)
     (IsMade-added c.args.number c.args.name c.args.kind c.args.at c.args.creator c.args.supervisor _ _ _ _
     c.self.inside.names c.put.new.self _ _ _

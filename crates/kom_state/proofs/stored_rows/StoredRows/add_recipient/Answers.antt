@@ -1,6 +1,6 @@
 use Rattle.std.proofs.Common.{refl, arith}
 use Rattle.kom_types.specs.declared.effects.Effect.TheVariants as effect
-use Rattle.kom_model.specs.Effects.{made}
+use Rattle.kom_model.specs.Effects.{after_effect}
 use Rattle.kom_state.proofs.Fitted.{recipient-fits}
 use Rattle.kom_state.proofs.Drawn.{above_locals}
 use Rattle.kom_state.proofs.Making.{IsMade-texts}
@@ -19,13 +19,13 @@ add_recipient-requires-clause-above c =
     (recipient-fits _ _ (rw (← c.self.view_is) at c.requires.fits)).from
 
 pub invariant_of-self : goal.invariant_of-self
-unfolding made
+unfolding after_effect
 invariant_of-self c =
     IsKept-made (effect.RecipientAdded c.args.given) _ _ _ _ c.self.invariant
     (rw (← c.self.view_is) at c.requires.fits) (rw (c.draw_local.ensures.rows, c.add_recipient.ensures.rows) refl) refl
 
 pub returns : goal.returns
-unfolding made
+unfolding after_effect
 returns c = rw (← c.self.view_is)
     (IsMade-texts (effect.RecipientAdded c.args.given) _ _ _ _ _ c.self.inside.names
     c.self.inside.texts c.add_recipient.new.self _ _ _ _ _ _ refl (record {

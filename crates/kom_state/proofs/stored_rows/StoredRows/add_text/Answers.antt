@@ -1,6 +1,6 @@
 use Rattle.std.proofs.Common.{refl, arith}
 use Rattle.kom_types.specs.declared.effects.Effect.TheVariants as effect
-use Rattle.kom_model.specs.Effects.{made}
+use Rattle.kom_model.specs.Effects.{after_effect}
 use Rattle.kom_state.proofs.Fitted.{text-fits}
 use Rattle.kom_state.proofs.Making.{IsMade-texts}
 use Rattle.kom_state.proofs.Kept.{IsKept-made}
@@ -16,13 +16,13 @@ pub overflow_add-self : goal.overflow_add-self
 overflow_add-self c = omega (arith, (text-fits _ _ _ _ _ c.requires.fits).last)
 
 pub invariant_of-self : goal.invariant_of-self
-unfolding made
+unfolding after_effect
 invariant_of-self c =
     IsKept-made (effect.TextAdded c.args.number c.args.author c.args.at c.args.body) _ _ _ _ c.self.invariant
     (rw (← c.self.view_is) at c.requires.fits) (rw c.add.ensures.rows refl) refl
 
 pub returns : goal.returns
-unfolding made
+unfolding after_effect
 returns c = rw (← c.self.view_is)
     (IsMade-texts (effect.TextAdded c.args.number c.args.author c.args.at c.args.body) _ _ _ _ _ c.self.inside.names
     c.self.inside.texts c.add.new.self _ _ _ _ _ _ refl (record {

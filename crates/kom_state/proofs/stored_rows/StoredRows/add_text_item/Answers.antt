@@ -1,6 +1,6 @@
 use Rattle.std.proofs.Common.{refl, arith, true}
 use Rattle.kom_types.specs.declared.effects.Effect.TheVariants as effect
-use Rattle.kom_model.specs.Effects.{made}
+use Rattle.kom_model.specs.Effects.{after_effect}
 use Rattle.kom_state.proofs.FittedItems.{item-fits}
 use Rattle.kom_state.proofs.ItemRooms.{room_to_add, added_uses_spare, added_uses_objects}
 use Rattle.kom_state.proofs.Making.{IsMade-items}
@@ -21,13 +21,13 @@ add-requires-clause-room c =
     room_to_add _ true c.args.object c.args.item (rw (← c.self.view_is) at c.requires.room).items
 
 pub invariant_of-self : goal.invariant_of-self
-unfolding made
+unfolding after_effect
 invariant_of-self c =
     IsKept-made (effect.AuxAdded true c.args.object c.args.item) _ _ _ _ c.self.invariant
     (rw (← c.self.view_is) at c.requires.fits) (rw (c.draw_item.ensures.rows, c.add.ensures.rows) refl) refl
 
 pub returns : goal.returns
-unfolding made
+unfolding after_effect
 returns c = rw (← c.self.view_is)
     (IsMade-items (effect.AuxAdded true c.args.object c.args.item) _ _ _ _ c.self.inside.names c.self.inside.texts
     c.draw_item.new.self

@@ -1,9 +1,9 @@
-use Rattle.std.proofs.Common.{◌≡◌, true, ◌∷◌, [], List, Option, refl, ap, ◌∙◌, sym, rules}
+use Rattle.std.proofs.Common.{◌≡◌, ◌∷◌, [], List, Option, refl, ap, ◌∙◌, sym, rules}
 use Rattle.std.specs.Vec.Iter.{into_iter_items}
 use Rattle.kom_types.specs.declared.effects.Effect.{Effect}
 use Rattle.kom_model.specs.Db.{Db}
-use Rattle.kom_model.specs.Effects.{fits, made, apply}
-use Rattle.kom_state.specs.Keepers.{appended}
+use Rattle.kom_model.specs.Effects.{fits, after_effect, apply}
+use Rattle.kom_state.specs.Keepers.{append_pending}
 use Rattle.kom_state.proofs.EffectLists.{apply_all-push}
 use Rattle.kom_state.proofs.Fittings.{apply_fit, first_fits, others_fit, appended-none, appended-append}
 use Rattle.kom_state.proofs.Using.{HasRoom-first}
@@ -50,7 +50,7 @@ loop-effect-preserved g c =
     let db : Db = c.loop-effect.self.db in
     let waited : Option (List Effect) = g.K.Keeper.pending c.args.keeper.now in
     let all = rw c.in-Some.ensures.steps.0 at c.loop-effect.invariant.fit in
-    let makes : c.apply_effect.new.self.db ≡ made what db = c.apply_effect.ensures.db in
+    let makes : c.apply_effect.new.self.db ≡ after_effect what db = c.apply_effect.ensures.db in
     record {
       db =
           makes ∙ sym (apply_fit what db (first_fits what others db all)) ∙ ap (apply what) c.loop-effect.invariant.db
@@ -60,7 +60,7 @@ loop-effect-preserved g c =
           c.apply_effect.ensures.room others
           (rw c.in-Some.ensures.steps.0 at c.loop-effect.invariant.room);
       kept =
-          c.keep.ensures.kept ∙ ap (appended (what ∷ [])) c.loop-effect.invariant.kept
+          c.keep.ensures.kept ∙ ap (append_pending (what ∷ [])) c.loop-effect.invariant.kept
           ∙ sym (appended-append yielded (what ∷ []) waited);
       kept_room =
           c.keep.ensures.room others

@@ -3,7 +3,7 @@ use Rattle.std.proofs.lemmas.Bool.{eq-eqb, not-true}
 use Rattle.kom_types.specs.declared.errors.TheConstants as error
 use Rattle.kom_model.specs.Effects.{has_letterbox}
 use Rattle.kom_model.specs.calls.Guards.{Guard, Guards, refusal, free_guard}
-use Rattle.name_lookup.specs.NamedRows.{taken}
+use Rattle.name_lookup.specs.NamedRows.{clash_of}
 use Rattle.kom_state.proofs.Names.{free-taken, free-not_taken}
 use Rattle.kom_state.proofs.Taken.{free_guard-free, free_guard-taken}
 use Rattle.kom_state.proofs.stored_rows.StoredRows.free_guard.Goals as goal
@@ -17,7 +17,7 @@ refused c apart =
     let name = c.args.name.now in
     rw (← c.self.view_is)
     (free_guard-taken _ c.args.number c.in-Some.other name c.self.invariant.whole.conferences.rising
-    (sym (ap (taken name) c.self.invariant.same_names) ∙ sym c.taken.ensures.number ∙ c.in-Some.is) apart)
+    (sym (ap (clash_of name) c.self.invariant.same_names) ∙ sym c.taken.ensures.number ∙ c.in-Some.is) apart)
 
 pub returns-then-has_letterbox : goal.returns-then-has_letterbox
 returns-then-has_letterbox c =
@@ -37,7 +37,7 @@ returns-else-has_letterbox c =
 pub returns-then-other-number : goal.returns-then-other-number
 returns-then-other-number c =
     let rows = c.self.inside.conferences.rows in let name = c.args.name.now in
-    let found = sym (ap (taken name) c.self.invariant.same_names) ∙ sym c.taken.ensures.number ∙ c.in-Some.is in
+    let found = sym (ap (clash_of name) c.self.invariant.same_names) ∙ sym c.taken.ensures.number ∙ c.in-Some.is in
     let apart = rw c.self.invariant.same_names at c.taken.ensures.none_clash in
     rw (← c.self.view_is)
     (free_guard-free _ c.args.number name (not-true _
@@ -47,5 +47,5 @@ returns-then-other-number c =
 pub returns-in-None : goal.returns-in-None
 returns-in-None c =
     let rows = c.self.inside.conferences.rows in let name = c.args.name.now in
-    let none = sym (ap (taken name) c.self.invariant.same_names) ∙ sym c.taken.ensures.number ∙ c.in-None.is in
+    let none = sym (ap (clash_of name) c.self.invariant.same_names) ∙ sym c.taken.ensures.number ∙ c.in-None.is in
     rw (← c.self.view_is) (free_guard-free _ c.args.number name (free-not_taken c.args.number name rows none))

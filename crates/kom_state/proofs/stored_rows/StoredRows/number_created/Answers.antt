@@ -1,6 +1,6 @@
 use Rattle.std.proofs.Common.{refl, arith}
 use Rattle.kom_types.specs.declared.effects.Effect.TheVariants as effect
-use Rattle.kom_model.specs.Effects.{made}
+use Rattle.kom_model.specs.Effects.{after_effect}
 use Rattle.kom_state.proofs.Fitted.{created-fits}
 use Rattle.kom_state.proofs.Drawn.{above_created, positive_created}
 use Rattle.kom_state.proofs.Making.{IsMade-texts}
@@ -26,14 +26,14 @@ number_created-requires-clause-above c =
     above_created _ c.self.invariant.whole c.args.person c.args.local parts.from
 
 pub invariant_of-self : goal.invariant_of-self
-unfolding made
+unfolding after_effect
 invariant_of-self c =
     IsKept-made (effect.Created c.args.person c.args.local c.args.text) _ _ _ _ c.self.invariant
     (rw (← c.self.view_is) at c.requires.fits) (rw (c.draw_created.ensures.rows, c.number_created.ensures.rows) refl)
     refl
 
 pub returns : goal.returns
-unfolding made
+unfolding after_effect
 returns c = rw (← c.self.view_is)
     (IsMade-texts (effect.Created c.args.person c.args.local c.args.text) _ _ _ _ _ c.self.inside.names
     c.self.inside.texts c.number_created.new.self _ _ _ _ _ _ refl (record {

@@ -3,7 +3,7 @@ use Rattle.std.proofs.lemmas.Option.{none-some}
 use Rattle.std.proofs.lemmas.Bool.{and_parts}
 use Rattle.kom_types.specs.declared.effects.Effect.TheVariants as effect
 use Rattle.kom_types.specs.tables.Conferences.{with_name}
-use Rattle.kom_model.specs.Effects.{fits, made}
+use Rattle.kom_model.specs.Effects.{fits, after_effect}
 use Rattle.kom_state.proofs.Making.{IsMade-conference}
 use Rattle.kom_state.proofs.Kept.{IsKept-made, taken-kept}
 use Rattle.kom_state.proofs.stored_rows.StoredRows.rename_conference.Goals as goal
@@ -15,14 +15,14 @@ put-requires c =
     (and_parts _ _ (rw (← c.self.view_is) at c.requires.fits)).1)
 
 pub invariant_of-self : goal.invariant_of-self
-unfolding made
+unfolding after_effect
 invariant_of-self c =
     IsKept-made (effect.ConfNamed c.args.number c.args.name) _ _ _ _ c.self.invariant
     (rw (← c.self.view_is) at c.requires.fits) (rw c.rename.ensures.rows refl)
     (rw (c.unwrap.ensures, c.as_slice.ensures) at c.put.ensures.ok)
 
 pub returns : goal.returns
-unfolding made
+unfolding after_effect
 returns c = rw (← c.self.view_is)
     (IsMade-conference _ c.args.number (with_name c.args.name) _ _ _ _ c.self.inside.names c.put.new.self _ _ _
     (λ db. refl) c.rename.ensures.rows c.rename.ensures.spare (λ none. absurd (none-some _ (sym none))))

@@ -1,18 +1,18 @@
 use Rattle.std.proofs.Common.{refl, arith}
 use Rattle.kom_types.specs.declared.effects.Effect.TheVariants as effect
-use Rattle.kom_model.specs.Effects.{made}
+use Rattle.kom_model.specs.Effects.{after_effect}
 use Rattle.kom_state.proofs.Making.{IsMade-texts}
 use Rattle.kom_state.proofs.Kept.{IsKept-made}
 use Rattle.kom_state.proofs.stored_rows.StoredRows.set_mark.Goals as goal
 
 pub invariant_of-self : goal.invariant_of-self
-unfolding made
+unfolding after_effect
 invariant_of-self c =
     IsKept-made (effect.MarkSet c.args.given.person c.args.given.text c.args.given.kind) _ _ _ _ c.self.invariant
     (rw (← c.self.view_is) at c.requires.fits) (rw c.set_mark.ensures.rows refl) refl
 
 pub returns : goal.returns
-unfolding made
+unfolding after_effect
 returns c = rw (← c.self.view_is)
     (IsMade-texts (effect.MarkSet c.args.given.person c.args.given.text c.args.given.kind) _ _ _ _ _ c.self.inside.names
     c.self.inside.texts c.set_mark.new.self _ _ _ _ _ _ refl (record {

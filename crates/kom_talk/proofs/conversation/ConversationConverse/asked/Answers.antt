@@ -1,5 +1,5 @@
 use Rattle.std.proofs.Common.{None}
-use Rattle.kom_session.specs.Known.{seen}
+use Rattle.kom_session.specs.Known.{sight}
 use Rattle.kom_talk.proofs.conversation.ConversationConverse.asked.Goals as goal
 
 pub returns : goal.returns
@@ -7,5 +7,5 @@ returns c = λ old new link asks kept. record {
   start = kept.start;
   blank = kept.blank;
   fresh = kept.fresh;
-  kept = (c.asked.ensures (seen old link None) new asks).kept kept.start kept.kept;
+  kept = (c.asked.ensures (sight old link None) new asks).kept kept.start kept.kept;
 }

@@ -1,4 +1,4 @@
-use Rattle.kom_session.specs.Known.{known}
+use Rattle.kom_session.specs.Known.{known_by}
 use Rattle.kom_talk.proofs.Served.{closed_talk}
 use Rattle.kom_talk.proofs.Turning.{can_go}
 use Rattle.kom_talk.proofs.conversation.ConversationConverse.close.Goals as goal
@@ -10,7 +10,7 @@ close-served-requires-clause-can g c =
 
 pub returns-clause-talks : goal.returns-clause-talks
 returns-clause-talks g c = λ session seat.
-    closed_talk (known c.args.self.machine) c.requires.kept.start (g.K.Desk.view c.args.desk.now)
+    closed_talk (known_by c.args.self.machine) c.requires.kept.start (g.K.Desk.view c.args.desk.now)
     (g.K.Desk.view c.close-served.new.desk) (g.L.Link.view c.args.link.now) (g.C.Clock.gave c.args.clock.now)
     (g.C.Clock.gave c.close-served.new.clock) c.has_risen.result c.close-served.result c.requires.kept.blank
     c.requires.kept.fresh c.requires.kept.kept (rw c.faults.ensures at c.has_risen.ensures)

@@ -3,7 +3,7 @@ use Rattle.std.proofs.lemmas.List.{take_all}
 use denote.RawPtr.{Ptr}
 use Rattle.map_chain.specs.Nodes.{IsAt}
 use Rattle.map_chain.specs.Pairs.{AllBelow}
-use Rattle.map_chain.specs.Blocks.{Placed, pairs_of}
+use Rattle.map_chain.specs.Blocks.{PlacedBlocks, pairs_of}
 use Rattle.map_chain.specs.Index.{IsIndexOf}
 use Rattle.map_chain.specs.Keys.{IsNearest}
 use Rattle.map_chain.specs.declared.index.Index.{Index}
@@ -14,7 +14,7 @@ use Rattle.map_chain.proofs.Indexing.{places_length, place_at}
 use Rattle.map_chain.proofs.Keys.{keys_length, before_nearest, passed_reaches}
 use Rattle.map_chain.proofs.blocks.Blocks.seek.Goals as goal
 
-module _ (n : ℕ) (bs : Placed) (x : Index) (v : IsIndexOf x bs) where
+module _ (n : ℕ) (bs : PlacedBlocks) (x : Index) (v : IsIndexOf x bs) where
   inside : (i : ℕ) → IsNearest n x.keys.items i → i < length bs
   inside i near = let keys = keys_length x.keys.items bs v.keys in let within = near.within in omega arith
 
@@ -56,7 +56,7 @@ returns-then-i-len c =
     let last = c.if-i-len.true in
     let below = below_all n bs i c.index-at.result.now.ptr c.block.result.now c.block.ensures c.requires.order.0
     c.requires.order.1 (omega arith) in
-    subst (λ (cs : Placed). AllBelow n (pairs_of cs)) (take_all (suc i) bs (omega arith)) below
+    subst (λ (cs : PlacedBlocks). AllBelow n (pairs_of cs)) (take_all (suc i) bs (omega arith)) below
 
 pub index-requires : goal.index-requires
 index-requires c =

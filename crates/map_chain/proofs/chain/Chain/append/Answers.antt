@@ -1,6 +1,6 @@
 use Rattle.std.proofs.Common.{[], ◌∷◌, ◌++◌, sym, ap, subst, ◌∙◌, arith}
 use Rattle.map_chain.specs.Pairs.{Pair, AllBelow}
-use Rattle.map_chain.specs.Blocks.{Placed}
+use Rattle.map_chain.specs.Blocks.{PlacedBlocks}
 use Rattle.map_chain.specs.Index.{IsIndexed}
 use Rattle.map_chain.proofs.Growing.{has_room, blocks_under, pairs_under, grown, chain_grown}
 use Rattle.map_chain.proofs.chain.Chain.append.Goals as goal
@@ -32,7 +32,7 @@ invariant_of-self-2 c =
           (grown used spare c.make_room.new.used c.make_room.new.spare c.push_last.new.self q
           c.in_ok-make_room.ensures.ok c.push_last.ensures v.filled (blocks_under used spare c.self.inside.len v) v.few)
           (subst (AllBelow c.args.local) (sym (ap (λ w. w.pairs) c.self.view_is)) c.requires.above) c.ranges.local.fits,
-      subst (λ (bs : Placed). IsIndexed c.make_room.new.index bs c.make_room.new.spare) (sym c.push_last.ensures)
+      subst (λ (bs : PlacedBlocks). IsIndexed c.make_room.new.index bs c.make_room.new.spare) (sym c.push_last.ensures)
           (c.in_ok-make_room.ensures.index c.args.text),
     )
 

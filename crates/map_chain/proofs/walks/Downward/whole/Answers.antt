@@ -1,6 +1,6 @@
 use Rattle.std.proofs.Common.{◌-◌, reverse, ap, ◌∙◌, arith}
 use denote.RawPtr.{Ptr}
-use Rattle.map_chain.specs.Blocks.{Placed, pairs_of}
+use Rattle.map_chain.specs.Blocks.{PlacedBlocks, pairs_of}
 use Rattle.std.proofs.lemmas.List.{take_all}
 use Rattle.map_chain.proofs.Seeking.{filled_at}
 use Rattle.map_chain.proofs.Walking.{up_to-all}
@@ -22,4 +22,4 @@ returns c =
     let bs = c.args.blocks.now in let n = c.requires.1 in
     ap reverse (up_to-all bs c.args.i c.last-at.result.ptr c.len-k.result
     (λ some. record { pairs = c.block.result.now; is = c.block.ensures; count = c.len-k.ensures.len })
-    ∙ ap (λ (cs : Placed). pairs_of cs) (take_all c.args.i bs (omega arith)))
+    ∙ ap (λ (cs : PlacedBlocks). pairs_of cs) (take_all c.args.i bs (omega arith)))

@@ -1,7 +1,7 @@
 use Rattle.std.proofs.Common.{◌≡◌, Some, option_copied, sym, ap, ◌∙◌}
 use Rattle.std.proofs.lemmas.Option.{none-some, same_Some}
 use Rattle.row_slots.specs.Lists.{list_of}
-use Rattle.memberships.specs.Entries.{shown, place_of}
+use Rattle.memberships.specs.Entries.{kept_row, place_of}
 use Rattle.memberships.proofs.Finding.{found, not_found, place_found}
 use Rattle.memberships.proofs.table.Memberships.get.Goals as goal
 
@@ -27,5 +27,5 @@ returns c =
     same_Some _ _ (sym c.in_ok-place.was ∙ c.position_of.ensures ∙ at) in
     rw (← c.self.view_is)
     (ap Some c.show.ensures
-    ∙ ap (λ n. Some (shown c.args.person c.args.conference n c.in_ok-kept.kept.now)) (c.short_place.ensures ∙ place)
+    ∙ ap (λ n. Some (kept_row c.args.person c.args.conference n c.in_ok-kept.kept.now)) (c.short_place.ensures ∙ place)
     ∙ sym (found _ _ _ _ c.self.invariant.0 c.args.person c.args.conference c.in_ok-kept.kept.now there))

@@ -1,6 +1,6 @@
 use Rattle.std.proofs.Common.{Some, is_some, option_copied, sym, ap, ◌∙◌}
 use Rattle.std.proofs.lemmas.Bool.{false≢true}
-use Rattle.memberships.specs.Entries.{shown}
+use Rattle.memberships.specs.Entries.{kept_row}
 use Rattle.memberships.proofs.Finding.{none_of, element_of, person_none, person_kept, person_found}
 use Rattle.memberships.proofs.table.Memberships.nth_of_person.Goals as goal
 
@@ -25,6 +25,7 @@ returns c =
     let there = sym c.get-2.ensures.value ∙ ap option_copied c.in_ok-kept.was in
     rw (← c.self.view_is)
     (ap Some c.show.ensures
-    ∙ ap (λ n. Some (shown c.args.person c.in_ok-conference.field-0.now n c.in_ok-kept.kept.now)) c.short_place.ensures
+    ∙ ap (λ n. Some (kept_row c.args.person c.in_ok-conference.field-0.now n c.in_ok-kept.kept.now))
+    c.short_place.ensures
     ∙ sym (person_found _ _ _ _ c.self.invariant.0 c.args.person c.args.place c.in_ok-conference.field-0.now
     c.in_ok-kept.kept.now at there))

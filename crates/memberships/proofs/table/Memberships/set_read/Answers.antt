@@ -1,6 +1,6 @@
 use Rattle.std.proofs.Common.{◌≡◌, Some, None, is_some, cond, refl, sym, ap, ◌∙◌}
 use Rattle.std.specs.Option.{option_copied_mut}
-use Rattle.read_ranges.specs.Merged.{merged}
+use Rattle.read_ranges.specs.Merged.{merge_all}
 use Rattle.read_ranges.specs.Reads.{with_read, read_at}
 use Rattle.memberships.specs.Entries.{Key, same_key, kept_with_read, reads_of, kept_at}
 use Rattle.memberships.specs.Table.{Table}
@@ -21,7 +21,7 @@ returns-in_default-clause-rows c =
 pub returns-in_default-clause-reads : goal.returns-in_default-clause-reads
 returns-in_default-clause-reads c =
     rw (c.get_mut.follows.holds-at-none, ← c.self.view_is)
-    (unread_none _ _ _ _ c.self.invariant.0 c.args.person c.args.conference (merged c.args.ranges.items) (absent c))
+    (unread_none _ _ _ _ c.self.invariant.0 c.args.person c.args.conference (merge_all c.args.ranges.items) (absent c))
 
 renews : (c : goal.After-self-2-1) →
     Renews c.self.inside.entries.entries (c.get_mut.follows.lender c.set_read.new.self).entries c.args.person
@@ -57,4 +57,5 @@ returns-clause-reads c =
     reads_set _ _ _ _ c.self.invariant.0 c.args.person c.args.conference _ _ _ (renews c)
     ∙ ap (λ ranges. with_read c.args.person c.args.conference ranges (reads_of c.self.inside.entries.entries))
     c.from_list.ensures.ranges
-    ∙ ap (λ (t : Table). with_read c.args.person c.args.conference (merged c.args.ranges.items) t.reads) c.self.view_is
+    ∙ ap (λ (t : Table). with_read c.args.person c.args.conference (merge_all c.args.ranges.items) t.reads)
+    c.self.view_is

@@ -3,7 +3,7 @@ use Rattle.std.proofs.lemmas.List.Filters.{dedup_is}
 use Rattle.row_slots.specs.Slots.{places_of}
 use Rattle.misc_links.specs.Keeping.{link_at}
 use Rattle.misc_links.specs.Kinds.{list_at}
-use Rattle.misc_links.specs.Linked.{Linked, touches, touching}
+use Rattle.misc_links.specs.Linked.{Linked, touches, links_of_text}
 use Rattle.misc_links.proofs.Rising.{sorted_once}
 use Rattle.misc_links.proofs.Touching.{rises-places_of, has_all, links_touching}
 use Rattle.misc_links.proofs.links.Links.of_text.Goals as goal
@@ -20,5 +20,5 @@ returns c =
     (λ k. rw c.in_ok-places.ensures (has_all slots from into c.self.invariant text k))
     c.sort_unstable.ensures.permutation c.sort_unstable.ensures.sorted in
     let rows = ap (filter_map (link_at slots)) places ∙ links_touching text slots
-    ∙ ap (λ (t : Linked). touching text t.links) c.self.view_is in
+    ∙ ap (λ (t : Linked). links_of_text text t.links) c.self.view_is in
     rw rows at c.links_at.ensures

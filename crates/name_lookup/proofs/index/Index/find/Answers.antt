@@ -6,7 +6,7 @@ use Rattle.std.proofs.lemmas.List.Sorted.{IsNonDecreasingBy-from_sort}
 use Rattle.std.proofs.lemmas.Result.{IfOk-at_ok}
 use Rattle.kom_types.specs.Names.{finds}
 use Rattle.name_lookup.specs.Letters.{letters_of, letters_left, matches}
-use Rattle.name_lookup.specs.NamedRows.{found}
+use Rattle.name_lookup.specs.NamedRows.{matches_of}
 use Rattle.name_lookup.specs.Order.{name_in, letters_in}
 use Rattle.name_lookup.proofs.Finding.{found_sorted}
 use Rattle.name_lookup.proofs.Words.{finds-letters}
@@ -34,4 +34,4 @@ returns c =
     c.of-2.ensures
     ∙ found_sorted entries order pattern c.in_ok-numbers.numbers.items c.sort_unstable.new.self.items
     c.self.invariant all c.sort_unstable.ensures.permutation up
-    ∙ ap (λ value. found pattern value.names) c.self.view_is
+    ∙ ap (λ value. matches_of pattern value.names) c.self.view_is

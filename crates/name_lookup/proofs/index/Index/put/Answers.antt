@@ -1,7 +1,7 @@
 use Rattle.std.proofs.Common.{◌≡◌, ◌∙◌, ap, ◌≤◌, arith, Some, None, insert, length}
 use Rattle.std.proofs.lemmas.Result.{IfOk-at_ok}
 use Rattle.name_lookup.specs.declared.order.By.TheVariants.{Name}
-use Rattle.name_lookup.specs.NamedRows.{with_name, taken, without_name}
+use Rattle.name_lookup.specs.NamedRows.{with_name, clash_of, without_name}
 use Rattle.name_lookup.specs.Order.{rows_of}
 use Rattle.name_lookup.proofs.Changes.{others, Updated, IsByName-filtered, IsOrder-put}
 use Rattle.name_lookup.proofs.Orders.{below_first}
@@ -28,8 +28,8 @@ invariant_of-self c =
     let order = c.self.inside.order.numbers in
     let put : c.insert.new.self.numbers ≡ insert (others number order) c.first_at-place.result number =
     rw c.take_out.ensures.rest at c.insert.ensures in
-    let free : taken name (without_name number (rows_of old)) ≡ None =
-    ap (λ value. taken name (without_name number value.names)) c.self.view_is ∙ c.requires.free in
+    let free : clash_of name (without_name number (rows_of old)) ≡ None =
+    ap (λ value. clash_of name (without_name number value.names)) c.self.view_is ∙ c.requires.free in
     let point = rw (c.as_slice.ensures, c.take_out.ensures.rest) at c.first_at-place.ensures.first in
     let within : c.first_at-place.result ≤ length (others number order) =
     omega (arith, c.first_at-place.ensures.bound, ap length c.take_out.ensures.rest) in

@@ -2,7 +2,7 @@ use Rattle.std.proofs.Common.{◌≡◌, ◌<◌, true, false, length, get_or, S
 use Rattle.std.proofs.lemmas.List.Elements.{Contains-get_or}
 use Rattle.kom_types.specs.Names.{clash}
 use Rattle.name_lookup.specs.declared.order.By.TheVariants.{Name}
-use Rattle.name_lookup.specs.NamedRows.{taken}
+use Rattle.name_lookup.specs.NamedRows.{clash_of}
 use Rattle.name_lookup.specs.Order.{name_in}
 use Rattle.name_lookup.proofs.Finding.{taken_there, taken_nowhere}
 use Rattle.name_lookup.proofs.Orders.{below_first}
@@ -16,7 +16,7 @@ pub returns-then-place-len-clause-number : goal.returns-then-place-len-clause-nu
 returns-then-place-len-clause-number c =
     sym (taken_nowhere c.self.inside.kept.entries c.self.inside.order.numbers c.args.name.now c.first_at-place.result
     c.self.invariant c.first_at-place.ensures.first (λ lt. absurd (omega (arith, c.len.ensures))))
-    ∙ ap (λ value. taken c.args.name.now value.names) c.self.view_is
+    ∙ ap (λ value. clash_of c.args.name.now value.names) c.self.view_is
 
 pub returns-then-clashes-clause-number : goal.returns-then-clashes-clause-number
 returns-then-clashes-clause-number c =
@@ -31,7 +31,7 @@ returns-then-clashes-clause-number c =
     ap Some c.get-number.ensures
     ∙ sym (taken_there entries order name (get_or order place 0) c.self.invariant
     (Contains-get_or order place 0 there) alike)
-    ∙ ap (λ value. taken name value.names) c.self.view_is
+    ∙ ap (λ value. clash_of name value.names) c.self.view_is
 
 pub returns-clause-number : goal.returns-clause-number
 returns-clause-number c =
@@ -43,4 +43,4 @@ returns-clause-number c =
     ap (clash name) (ap (name_in entries) (sym c.get-number.ensures) ∙ sym c.name_of.ensures)
     ∙ sym c.clashes.ensures ∙ c.if-clashes.false in
     sym (taken_nowhere entries order name place c.self.invariant c.first_at-place.ensures.first (λ lt. apart))
-    ∙ ap (λ value. taken name value.names) c.self.view_is
+    ∙ ap (λ value. clash_of name value.names) c.self.view_is

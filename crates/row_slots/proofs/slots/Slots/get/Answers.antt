@@ -2,7 +2,7 @@ use Rattle.std.proofs.Common.{◌≡◌, ◌<◌, ◌+◌, ◌*◌, ◌-◌, ◌
 use Rattle.std.specs.Option.{option_flatten}
 use Rattle.std.proofs.lemmas.Bool.{false≢true}
 use Rattle.std.proofs.lemmas.Option.{slice_get_read}
-use Rattle.row_slots.specs.Slots.{laid}
+use Rattle.row_slots.specs.Slots.{slots_of}
 use Rattle.row_slots.proofs.Laid.{get-laid, get-last}
 use Rattle.row_slots.proofs.slots.Slots.get.Goals as goal
 
@@ -17,7 +17,7 @@ returns-in-Some g c =
     rw (← c.self.view_is)
     (c.get-in-Some.ensures
     ∙ ap option_flatten (sym
-    (ap (slice_get (laid all last)) (omega arith)
+    (ap (slice_get (slots_of all last)) (omega arith)
     ∙ get-laid all last (c.args.place / 64) (c.args.place % 64) c.in-Some.block.now c.self.invariant.0 there
     (omega arith))))
 
@@ -33,4 +33,5 @@ returns-in-None g c =
     rw (← c.self.view_is)
     (c.row_at.ensures
     ∙ ap option_flatten (sym
-    (ap (slice_get (laid all last)) place ∙ get-last all last (c.args.place - 64 * c.len.result) c.self.invariant.0)))
+    (ap (slice_get (slots_of all last)) place
+    ∙ get-last all last (c.args.place - 64 * c.len.result) c.self.invariant.0)))

@@ -1,5 +1,5 @@
 use Rattle.std.proofs.Common.{[], ◌∷◌, ◌++◌, Some, ap, ◌∙◌, arith}
-use Rattle.row_slots.specs.Slots.{laid}
+use Rattle.row_slots.specs.Slots.{slots_of}
 use Rattle.row_slots.proofs.Laid.{laid-push, length-laid}
 use Rattle.row_slots.proofs.slots.Slots.push.Goals as goal
 
@@ -22,6 +22,6 @@ invariant_of-self-2 g c =
 pub returns-clause-ok : goal.returns-clause-ok
 returns-clause-ok g c =
     rw (← c.self.view_is)
-    (ap (laid c.self.inside.settled.items)
+    (ap (slots_of c.self.inside.settled.items)
     (c.in_ok-push.ensures.items ∙ ap (λ rows. rows ++ Some c.args.row ∷ []) c.reserve.ensures.items)
     ∙ laid-push c.self.inside.settled.items c.self.inside.last.items (Some c.args.row))

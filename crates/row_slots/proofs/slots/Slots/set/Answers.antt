@@ -2,7 +2,7 @@ use Rattle.std.proofs.Common.{◌≡◌, ◌<◌, ◌+◌, ◌*◌, ◌-◌, ◌
 use Rattle.std.proofs.Math.ListN.{set}
 use Rattle.std.proofs.lemmas.Bool.{false≢true}
 use Rattle.std.proofs.lemmas.Option.{slice_get_read}
-use Rattle.row_slots.specs.Slots.{laid, replaced, IsBlock}
+use Rattle.row_slots.specs.Slots.{slots_of, replace_row, IsBlock}
 use Rattle.row_slots.proofs.Blocks.{length-replaced}
 use Rattle.row_slots.proofs.Laid.{replaced-laid, replaced-last, all-set, all-at}
 use Rattle.row_slots.proofs.slots.Slots.set.Goals as goal
@@ -26,11 +26,11 @@ returns-in-Some-clause-slots g c =
     slice_get_read all _ (c.args.place / 64) c.in-Some.block.now c.self.inside.settled.ok.0
     (c.in-Some.ensures.variant.0 refl) c.in-Some.ensures.value in
     rw (← c.self.view_is)
-    (ap (λ block. laid (set all (c.args.place / 64) block) last) c.set.ensures
+    (ap (λ block. slots_of (set all (c.args.place / 64) block) last) c.set.ensures
     ∙ replaced-laid c.args.row all last (c.args.place / 64) (c.args.place % 64) c.in-Some.block.now c.self.invariant.0
     there
     (omega arith)
-    ∙ ap (λ place. replaced place c.args.row (laid all last)) (omega arith))
+    ∙ ap (λ place. replace_row place c.args.row (slots_of all last)) (omega arith))
 
 pub returns-in-None-clause-slots : goal.returns-in-None-clause-slots
 returns-in-None-clause-slots g c =
@@ -41,6 +41,6 @@ returns-in-None-clause-slots g c =
     let place : 64 * length all + (c.args.place - 64 * c.len.result) ≡ c.args.place =
     omega (arith, past, c.len.ensures, c.self.inside.settled.ok.0) in
     rw (← c.self.view_is)
-    (ap (laid all) c.set_at.ensures.slots
+    (ap (slots_of all) c.set_at.ensures.slots
     ∙ replaced-last c.args.row all last (c.args.place - 64 * c.len.result) c.self.invariant.0
-    ∙ ap (λ at. replaced at c.args.row (laid all last)) place)
+    ∙ ap (λ at. replace_row at c.args.row (slots_of all last)) place)

@@ -1,6 +1,6 @@
 use Rattle.std.proofs.Common.{◌≡◌, [], ◌∷◌, ◌++◌, take, drop, is_ok, if◌then◌else◌, ap, ◌∙◌}
 use Rattle.std.proofs.lemmas.List.{take-append-drop}
-use Rattle.row_slots.specs.Slots.{laid}
+use Rattle.row_slots.specs.Slots.{slots_of}
 use Rattle.row_slots.proofs.Laid.{laid-settled}
 use Rattle.row_slots.proofs.slots.Slots.settle.Goals as goal
 
@@ -21,7 +21,7 @@ returns g c =
     ap (λ them. them ++ c.replace-slots.new.dest.items) first ∙ ap (λ them. take 64 last ++ them) rest
     ∙ take-append-drop 64 last in
     rw (← c.self.view_is)
-    (ap (λ them. laid them c.replace-slots.new.dest.items)
+    (ap (λ them. slots_of them c.replace-slots.new.dest.items)
     (pushed ∙ ap (λ them. them ++ c.of.result ∷ []) c.reserve.ensures.items)
     ∙ laid-settled all c.of.result c.replace-slots.new.dest.items
-    ∙ ap (laid all) joined)
+    ∙ ap (slots_of all) joined)

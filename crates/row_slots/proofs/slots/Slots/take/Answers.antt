@@ -3,7 +3,7 @@ use Rattle.std.specs.Option.{option_flatten}
 use Rattle.std.proofs.Math.ListN.{set}
 use Rattle.std.proofs.lemmas.Bool.{false≢true}
 use Rattle.std.proofs.lemmas.Option.{slice_get_read}
-use Rattle.row_slots.specs.Slots.{laid, emptied, IsBlock}
+use Rattle.row_slots.specs.Slots.{slots_of, empty_slot, IsBlock}
 use Rattle.row_slots.proofs.Blocks.{length-emptied}
 use Rattle.row_slots.proofs.Laid.{get-laid, get-last, emptied-laid, emptied-last, all-set, all-at}
 use Rattle.row_slots.proofs.slots.Slots.take.Goals as goal
@@ -29,7 +29,7 @@ returns-in-Some-clause-row g c =
     rw (← c.self.view_is)
     (c.take.ensures.row
     ∙ ap option_flatten (sym
-    (ap (slice_get (laid all last)) (omega arith)
+    (ap (slice_get (slots_of all last)) (omega arith)
     ∙ get-laid all last (c.args.place / 64) (c.args.place % 64) c.in-Some.block.now c.self.invariant.0 there
     (omega arith))))
 
@@ -41,10 +41,10 @@ returns-in-Some-clause-slots g c =
     slice_get_read all _ (c.args.place / 64) c.in-Some.block.now c.self.inside.settled.ok.0
     (c.in-Some.ensures.variant.0 refl) c.in-Some.ensures.value in
     rw (← c.self.view_is)
-    (ap (λ block. laid (set all (c.args.place / 64) block) last) c.take.ensures.slots
+    (ap (λ block. slots_of (set all (c.args.place / 64) block) last) c.take.ensures.slots
     ∙ emptied-laid all last (c.args.place / 64) (c.args.place % 64) c.in-Some.block.now c.self.invariant.0 there
     (omega arith)
-    ∙ ap (λ place. emptied place (laid all last)) (omega arith))
+    ∙ ap (λ place. empty_slot place (slots_of all last)) (omega arith))
 
 pub returns-in-None-clause-row : goal.returns-in-None-clause-row
 returns-in-None-clause-row g c =
@@ -57,7 +57,8 @@ returns-in-None-clause-row g c =
     rw (← c.self.view_is)
     (c.take_at.ensures.row
     ∙ ap option_flatten (sym
-    (ap (slice_get (laid all last)) place ∙ get-last all last (c.args.place - 64 * c.len.result) c.self.invariant.0)))
+    (ap (slice_get (slots_of all last)) place
+    ∙ get-last all last (c.args.place - 64 * c.len.result) c.self.invariant.0)))
 
 pub returns-in-None-clause-slots : goal.returns-in-None-clause-slots
 returns-in-None-clause-slots g c =
@@ -68,6 +69,6 @@ returns-in-None-clause-slots g c =
     let place : 64 * length all + (c.args.place - 64 * c.len.result) ≡ c.args.place =
     omega (arith, past, c.len.ensures, c.self.inside.settled.ok.0) in
     rw (← c.self.view_is)
-    (ap (laid all) c.take_at.ensures.slots
+    (ap (slots_of all) c.take_at.ensures.slots
     ∙ emptied-last all last (c.args.place - 64 * c.len.result) c.self.invariant.0
-    ∙ ap (λ at. emptied at (laid all last)) place)
+    ∙ ap (λ at. empty_slot at (slots_of all last)) place)

@@ -1,7 +1,7 @@
 use Rattle.std.proofs.Common.{◌≡◌, ◌∙◌, nat_eq, Some, refl, sym, ap}
 use Rattle.std.specs.Option.{option_copied_mut}
 use Rattle.indexmap.specs.IndexMap.{values, get}
-use Rattle.kom_types.specs.Sessions.{Session, changed, changed_session}
+use Rattle.kom_types.specs.Sessions.{Session, after_change, changed_session}
 use Rattle.sessions.specs.Accepting.{accepts}
 use Rattle.sessions.proofs.Accepted.{may-move}
 use Rattle.sessions.proofs.Kept.{changed-lists}
@@ -11,7 +11,7 @@ use Rattle.sessions.proofs.table.Sessions.change.Goals as goal
 use Rattle.sessions.proofs.table.Sessions.change.Goals.{After-change-2}
 
 abbrev change : After-change-2 → Session → Session
-change c = changed c.args.change c.args.at
+change c = after_change c.args.change c.args.at
 
 pub unwrap-row-requires : goal.unwrap-row-requires
 unwrap-row-requires c =

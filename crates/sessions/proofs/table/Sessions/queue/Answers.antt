@@ -1,14 +1,14 @@
 use Rattle.std.proofs.Common.{◌≡◌, ◌∙◌, Some, sym, ap, nat_eq}
 use Rattle.std.specs.Option.{option_copied_mut}
 use Rattle.indexmap.specs.IndexMap.{get}
-use Rattle.kom_types.specs.Sessions.{Session, queued, waiting_limits}
+use Rattle.kom_types.specs.Sessions.{Session, queue, waiting_limits}
 use Rattle.sessions.proofs.Accepted.{still-accepting}
 use Rattle.sessions.proofs.Keeping.{queued_keeps, queued_silent}
 use Rattle.sessions.proofs.Numbered.{lent, Written, written}
 use Rattle.sessions.proofs.table.Sessions.queue.Goals as goal
 
 abbrev change : goal.After-self-1 → Session → Session
-change c = queued waiting_limits c.args.entry c.args.item
+change c = queue waiting_limits c.args.entry c.args.item
 
 wrote : (c : goal.After-self-1) → Written c.self.inside.rows (c.get_mut.follows.lender c.queue.new.self)
     c.self.invariant.0 c.self.invariant.2 c.args.session (change c) c.unwrap-row.result.now
