@@ -1,0 +1,4 @@
+pub mod Choosing
+pub mod Keeping
+pub mod Reading
+pub mod Steps

@@ -1,0 +1,2 @@
+pub mod Coders
+pub mod Snapshots
