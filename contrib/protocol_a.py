@@ -48,7 +48,10 @@ def spell(argument):
 @functools.lru_cache(1 << 14)
 def midnight(day, month, year):
     """The moment at which a day began, by three words of a Time. (A server that has no moment tells that of the year 0 or 70.)"""
-    return calendar.timegm((int(year) + 1900, int(month) + 1, int(day), 0, 0, 0)) if int(year) else float("-inf")
+    try:
+        return calendar.timegm((int(year) + 1900, int(month) + 1, int(day), 0, 0, 0)) if int(year) else float("-inf")
+    except OverflowError:
+        raise ValueError("a year that no calendar has") from None
 
 
 def moment_of(words):
