@@ -4,14 +4,14 @@ use Rattle.std.proofs.Common.{append_assoc, length-append, ap, sym, subst, ◌�
 use Rattle.std.proofs.lemmas.Grind.{flat_map-append}
 use Rattle.std.specs.List.{AllByRecursion}
 use Rattle.kom_types.specs.declared.effects.Effect.{Effect}
-use Rattle.kom_model.specs.Db.{Db, empty_db}
+use Rattle.kom_model.specs.Db.{Db}
 use Rattle.kom_model.specs.Effects.{fits, apply, apply_all, all_fit}
 use Rattle.batch_log.specs.Batches.{with_length, batch, batches, AreShort, IsEnd, IsBroken}
 use Rattle.batch_log.proofs.Ends.{batches_more, short_more}
 use Rattle.batch_log.proofs.Parts.{no_end, after_gate, same_sized, same_tails, same_rest, not_broken, has_no_break}
 use Rattle.effect_codec.specs.Coding.{coded_effect, IsInRange}
 use Rattle.effect_codec.proofs.Effects.{begins_no_other}
-use Rattle.kom_journal.specs.Files.{IsStoreOf, header, body_of, all_of}
+use Rattle.kom_journal.specs.Files.{IsStoreFrom, body_of, all_of}
 use Rattle.kom_journal.specs.Opening.{IsUnfit, HasUnfit, IsDamagedAt}
 use Rattle.kom_journal.proofs.Sound.{and_parts, apply_all-append}
 use Rattle.kom_journal.proofs.Spelled.{never_empty}
@@ -120,54 +120,6 @@ splits (one ∷ lists) (first ∷ bodies) body more same =
 all_of-both : (ones others : List (List Effect)) → all_of (ones ++ others) ≡ all_of ones ++ all_of others
 all_of-both ones others = flat_map-append (λ (l : List Effect). l) ones others
 
--- the unfit batch would be one of those that all fit
-unfit_stands : (db : Db) (file : List ℕ) (place : ℕ) (stands : IsStoreOf db file) (damaged : IsDamagedAt place file)
-    → HasUnfit (apply_all (all_of damaged.batches) empty_db) damaged.rest → ⊥
-unfit_stands db file place stands damaged unfit =
-    let lists = damaged.batches in
-    let bodies = map body_of lists in
-    let body = unfit.body in
-    let whole : file ≡ header ++ batches (bodies ++ body ∷ []) ++ unfit.after =
-    damaged.whole
-    ∙ ap (λ (l : List ℕ). header ++ batches bodies ++ 1 ∷ l) unfit.whole
-    ∙ sym (append_assoc (header ++ batches bodies) (batch body) unfit.after)
-    ∙ ap (λ (l : List ℕ). l ++ unfit.after)
-    (append_assoc header (batches bodies) (batch body)
-    ∙ ap (λ (l : List ℕ). header ++ l) (sym (batches_more bodies body))) in
-    let rest = same_rest header (map body_of stands.batches) (bodies ++ body ∷ []) stands.file.end unfit.after file
-    stands.file.whole whole in
-    let (more, prefix) = prefix_of (map body_of stands.batches) (bodies ++ body ∷ []) stands.file.end unfit.after
-    stands.file.short (short_more bodies body damaged.short unfit.short) stands.file.ended rest in
-    let split = splits stands.batches bodies body more prefix in
-    let coded_all = subst (AllByRecursion (AllByRecursion IsInRange)) split.is stands.coded in
-    let coded_before = earlier_all (AllByRecursion IsInRange) split.before (split.here ∷ split.after) coded_all in
-    let coded_here = (later_all (AllByRecursion IsInRange) split.before (split.here ∷ split.after) coded_all).0 in
-    let same : split.before ≡ lists =
-    same_lists split.before lists coded_before damaged.coded split.bodies_before in
-    let fit_all : all_fit (all_of split.before ++ all_of (split.here ∷ split.after)) empty_db ≡ true =
-    ap (λ (l : List Effect). all_fit l empty_db)
-    (sym (ap all_of split.is ∙ all_of-both split.before (split.here ∷ split.after))) ∙ stands.fit in
-    let fit_here : all_fit split.here (apply_all (all_of split.before) empty_db) ≡ true =
-    earlier_fit split.here (all_of split.after) (apply_all (all_of split.before) empty_db)
-    (later_fit (all_of split.before) (all_of (split.here ∷ split.after)) empty_db fit_all) in
-    not_unfit (apply_all (all_of lists) empty_db) body split.here unfit.unfit coded_here (sym split.body_here)
-    (subst (λ (l : List (List Effect)). all_fit split.here (apply_all (all_of l) empty_db) ≡ true) same fit_here)
-
--- a file that stands for rows is not damaged
-pub stands_whole : (db : Db) (file : List ℕ) (place : ℕ) → IsStoreOf db file → IsDamagedAt place file → ⊥
-stands_whole db file place stands damaged =
-    elim damaged.damaged [
-      | inl broken ↦ has_no_break header file (map body_of stands.batches) place stands.file (record {
-        bodies = map body_of damaged.batches;
-        rest = damaged.rest;
-        whole = damaged.whole;
-        at = damaged.at;
-        broken = broken;
-        short = damaged.short;
-      })
-      | inr unfit ↦ unfit_stands db file place stands damaged unfit
-    ]
-
 tail_of : List ℕ → List ℕ
 tail_of [] = []
 tail_of (byte ∷ bytes) = bytes
@@ -223,13 +175,64 @@ same_before (a ∷ ones) (b ∷ twos) db x y short_a short_b in_a in_b fit_a fit
     fit_later at_x_later at_y_later first.1 in
     ap (λ (e : List Effect). e ∷ ones) is ∙ ap (λ (l : List (List Effect)). b ∷ l) later
 
--- a file is damaged at one place
-pub damaged_once : (file : List ℕ) (place other : ℕ) → IsDamagedAt place file → IsDamagedAt other file → place ≡ other
-damaged_once file place other one two =
-    one.at
-    ∙ ap (λ (l : List (List Effect)). length (header ++ batches (map body_of l)))
-    (same_before one.batches two.batches empty_db one.rest two.rest one.short two.short one.coded two.coded one.fit
-    two.fit one.damaged two.damaged
-    (same_rest header (map body_of one.batches) (map body_of two.batches) (1 ∷ one.rest) (1 ∷ two.rest) file
-    one.whole two.whole))
-    ∙ sym two.at
+module _ (start : List ℕ) (from : Db) where
+  -- the unfit batch would be one of those that all fit
+  unfit_stands : (db : Db) (file : List ℕ) (place : ℕ) (stands : IsStoreFrom start from db file)
+      (damaged : IsDamagedAt start from place file) → HasUnfit (apply_all (all_of damaged.batches) from) damaged.rest → ⊥
+  unfit_stands db file place stands damaged unfit =
+      let lists = damaged.batches in
+      let bodies = map body_of lists in
+      let body = unfit.body in
+      let whole : file ≡ start ++ batches (bodies ++ body ∷ []) ++ unfit.after =
+      damaged.whole
+      ∙ ap (λ (l : List ℕ). start ++ batches bodies ++ 1 ∷ l) unfit.whole
+      ∙ sym (append_assoc (start ++ batches bodies) (batch body) unfit.after)
+      ∙ ap (λ (l : List ℕ). l ++ unfit.after)
+      (append_assoc start (batches bodies) (batch body)
+      ∙ ap (λ (l : List ℕ). start ++ l) (sym (batches_more bodies body))) in
+      let rest = same_rest start (map body_of stands.batches) (bodies ++ body ∷ []) stands.file.end unfit.after file
+      stands.file.whole whole in
+      let (more, prefix) = prefix_of (map body_of stands.batches) (bodies ++ body ∷ []) stands.file.end unfit.after
+      stands.file.short (short_more bodies body damaged.short unfit.short) stands.file.ended rest in
+      let split = splits stands.batches bodies body more prefix in
+      let coded_all = subst (AllByRecursion (AllByRecursion IsInRange)) split.is stands.coded in
+      let coded_before = earlier_all (AllByRecursion IsInRange) split.before (split.here ∷ split.after) coded_all in
+      let coded_here = (later_all (AllByRecursion IsInRange) split.before (split.here ∷ split.after) coded_all).0 in
+      let same : split.before ≡ lists =
+      same_lists split.before lists coded_before damaged.coded split.bodies_before in
+      let fit_all : all_fit (all_of split.before ++ all_of (split.here ∷ split.after)) from ≡ true =
+      ap (λ (l : List Effect). all_fit l from)
+      (sym (ap all_of split.is ∙ all_of-both split.before (split.here ∷ split.after))) ∙ stands.fit in
+      let fit_here : all_fit split.here (apply_all (all_of split.before) from) ≡ true =
+      earlier_fit split.here (all_of split.after) (apply_all (all_of split.before) from)
+      (later_fit (all_of split.before) (all_of (split.here ∷ split.after)) from fit_all) in
+      not_unfit (apply_all (all_of lists) from) body split.here unfit.unfit coded_here (sym split.body_here)
+      (subst (λ (l : List (List Effect)). all_fit split.here (apply_all (all_of l) from) ≡ true) same fit_here)
+
+  -- a file that stands for rows is not damaged
+  pub stands_whole : (db : Db) (file : List ℕ) (place : ℕ) → IsStoreFrom start from db file
+      → IsDamagedAt start from place file → ⊥
+  stands_whole db file place stands damaged =
+      elim damaged.damaged [
+        | inl broken ↦ has_no_break start file (map body_of stands.batches) place stands.file (record {
+          bodies = map body_of damaged.batches;
+          rest = damaged.rest;
+          whole = damaged.whole;
+          at = damaged.at;
+          broken = broken;
+          short = damaged.short;
+        })
+        | inr unfit ↦ unfit_stands db file place stands damaged unfit
+      ]
+
+  -- a file is damaged at one place
+  pub damaged_once : (file : List ℕ) (place other : ℕ) → IsDamagedAt start from place file
+      → IsDamagedAt start from other file → place ≡ other
+  damaged_once file place other one two =
+      one.at
+      ∙ ap (λ (l : List (List Effect)). length (start ++ batches (map body_of l)))
+      (same_before one.batches two.batches from one.rest two.rest one.short two.short one.coded two.coded one.fit
+      two.fit one.damaged two.damaged
+      (same_rest start (map body_of one.batches) (map body_of two.batches) (1 ∷ one.rest) (1 ∷ two.rest) file
+      one.whole two.whole))
+      ∙ sym two.at

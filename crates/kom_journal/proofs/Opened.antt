@@ -11,7 +11,7 @@ use Rattle.batch_log.specs.Repair.{HasGate, Mends}
 use Rattle.batch_log.specs.Walk.{Stays}
 use Rattle.batch_log.proofs.Ends.{reads_end}
 use Rattle.batch_log.proofs.Looking.{looks}
-use Rattle.kom_journal.specs.Files.{IsStoreOf, IsSoundFile, AreSoundFiles, header, body_of}
+use Rattle.kom_journal.specs.Files.{IsStoreFrom, IsSoundFile, AreSoundFiles, body_of}
 use Rattle.kom_journal.specs.Opened.{IsMadeOf, IsLeftOfFile, Opens, CountsBatches}
 use Rattle.kom_journal.proofs.Opens.{opened_stands, mends_leave}
 use Rattle.kom_journal.proofs.Stopping.{never_synced, synced_then}
@@ -20,7 +20,8 @@ use Rattle.kom_journal.proofs.Unique.{stands_for_one}
 drop_one : (rest more : List ℕ) (gate : ℕ) → rest ≡ gate ∷ more → drop 1 rest ≡ more
 drop_one rest more gate is = ap (drop 1) is
 
-module _ (place gate count : ℕ) (db : Db) (file : List ℕ) (of : IsMadeOf place gate count db file) where
+module _ (start : List ℕ) (from : Db) (place gate count : ℕ) (db : Db) (file : List ℕ)
+    (of : IsMadeOf start from place gate count db file) where
   -- what stands after the gate
   pub rest_is : drop (place + 1) file ≡ of.more
   rest_is = sym (drop-drop 1 place file) ∙ drop_one (drop place file) of.more gate of.ends
@@ -31,10 +32,10 @@ module _ (place gate count : ℕ) (db : Db) (file : List ℕ) (of : IsMadeOf pla
       ∙ ap (λ (l : List ℕ). take place file ++ l) (of.ends ∙ ap (λ (l : List ℕ). gate ∷ l) (sym rest_is))
 
   -- how many batches there are
-  pub counts_all : CountsBatches count file
+  pub counts_all : CountsBatches start count file
   counts_all = record {
     bodies = map body_of of.made.lists;
-    has = reads_end header (map body_of of.made.lists) place file of.made.read gate of.more of.shut of.ends;
+    has = reads_end start (map body_of of.made.lists) place file of.made.read gate of.more of.shut of.ends;
     counts = length-map of.made.lists body_of ∙ of.made.counts;
   }
 
@@ -55,57 +56,62 @@ module _ {D : Type 0} (moment : D → ℕ) (images_at : D → ℕ → List ℕ �
   read_leaves old new stays image left =
       stays.each (moment new) image stays.forward (omega arith) ((now new image).1 left)
 
-  module _ (old mid read : D) (db : Db)
+  module _ (start : List ℕ) (from : Db) (old mid read : D) (db : Db)
       (passes : Passes tells (moment old) (moment mid) (images_at old) (images_at mid))
       (adds_none : AddsNone (images old) (images mid)) (same_mid : bytes mid ≡ bytes old)
       (stable : Only (bytes mid) (images mid))
-      (stays : LeavesOnly moment images_at mid read (Stays (images mid))) (stands : IsStoreOf db (bytes old)) where
-    after_sync : (image : List ℕ) → images mid image → IsLeftOfFile (bytes old) db image
+      (stays : LeavesOnly moment images_at mid read (Stays (images mid)))
+      (stands : IsStoreFrom start from db (bytes old)) where
+    after_sync : (image : List ℕ) → images mid image → IsLeftOfFile start from (bytes old) db image
     after_sync image left =
-        inl (subst (IsStoreOf db) (sym (stable image left ∙ same_mid)) stands)
+        inl (subst (IsStoreFrom start from db) (sym (stable image left ∙ same_mid)) stands)
 
-    reads : LeavesOnly moment images_at mid read (λ at image. IsLeftOfFile (bytes old) db image)
+    reads : LeavesOnly moment images_at mid read (λ at image. IsLeftOfFile start from (bytes old) db image)
     reads =
-        wider moment images_at mid read (Stays (images mid)) (λ at image. IsLeftOfFile (bytes old) db image) stays
+        wider moment images_at mid read (Stays (images mid))
+        (λ at image. IsLeftOfFile start from (bytes old) db image) stays
         (λ at image from to left. after_sync image left)
 
     first : LeavesOnly moment images_at old mid (Stays (images old))
     first = looks moment images images_at tells told now old mid passes adds_none
 
     -- an opening that ends as it has read
-    pub read_opens : Opens moment images_at old read (images old) (IsLeftOfFile (bytes old) db)
+    pub read_opens : Opens moment images_at old read (images old) (IsLeftOfFile start from (bytes old) db)
     read_opens =
-        synced_then moment images_at images now old mid read (images old) (IsLeftOfFile (bytes old) db) first reads
+        synced_then moment images_at images now old mid read (images old) (IsLeftOfFile start from (bytes old) db)
+        first reads
 
     -- and one that goes on to the repair
     module _ (new : D) (place gate count : ℕ) (rows : Db) (same_read : bytes read ≡ bytes old)
-        (of : IsMadeOf place gate count rows (bytes old)) (sound : IsSoundFile (bytes old))
+        (of : IsMadeOf start from place gate count rows (bytes old)) (sound : IsSoundFile start from (bytes old))
         (mends : LeavesOnly moment images_at read new
         (Mends (take place (bytes read)) gate (drop (place + 1) (bytes read)))) where
       mended : (at : ℕ) (image : List ℕ)
           → Mends (take place (bytes read)) gate (drop (place + 1) (bytes read)) at image
-          → IsSoundFile image × IsLeftOfFile (bytes old) db image
+          → IsSoundFile start from image × IsLeftOfFile start from (bytes old) db image
       mended at image is =
           let moved : Mends (take place (bytes old)) gate (drop (place + 1) (bytes old)) at image =
           subst (λ (b : List ℕ). Mends (take place b) gate (drop (place + 1) b) at image) same_read is in
           let there : Mends (take place (bytes old)) gate of.more at image =
           subst (λ (l : List ℕ). Mends (take place (bytes old)) gate l at image)
-          (rest_is place gate count rows (bytes old) of) moved in
-          let found = mends_leave place gate count rows (bytes old) of sound at image there in
+          (rest_is start from place gate count rows (bytes old) of) moved in
+          let found = mends_leave start from place gate count rows (bytes old) of sound at image there in
           let same : rows ≡ db =
-          stands_for_one (bytes old) rows db (opened_stands place gate count rows (bytes old) of) stands in
-          (found.0, subst (λ (d : Db). IsLeftOfFile (bytes old) d image) same found.1)
+          stands_for_one start from (bytes old) rows db
+          (opened_stands start from place gate count rows (bytes old) of) stands in
+          (found.0, subst (λ (d : Db). IsLeftOfFile start from (bytes old) d image) same found.1)
 
-      pub repair_opens : Opens moment images_at old new (images old) (IsLeftOfFile (bytes old) db)
+      pub repair_opens : Opens moment images_at old new (images old) (IsLeftOfFile start from (bytes old) db)
       repair_opens =
-          synced_then moment images_at images now old mid new (images old) (IsLeftOfFile (bytes old) db) first
-          (in_turn moment images_at mid read new (λ at image. IsLeftOfFile (bytes old) db image) reads
+          synced_then moment images_at images now old mid new (images old) (IsLeftOfFile start from (bytes old) db)
+          first
+          (in_turn moment images_at mid read new (λ at image. IsLeftOfFile start from (bytes old) db image) reads
           (wider moment images_at read new
           (Mends (take place (bytes read)) gate (drop (place + 1) (bytes read)))
-          (λ at image. IsLeftOfFile (bytes old) db image) mends
+          (λ at image. IsLeftOfFile start from (bytes old) db image) mends
           (λ at image from to is. (mended at image is).1)))
 
-      pub repair_keeps : AreSoundFiles (images new)
+      pub repair_keeps : AreSoundFiles start from (images new)
       repair_keeps image left =
           (mended (moment new) image
           (mends.each (moment new) image mends.forward (omega arith) ((now new image).1 left))).0

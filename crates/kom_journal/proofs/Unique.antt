@@ -2,12 +2,12 @@
 use Rattle.std.proofs.Common.{◌≡◌, ℕ, List, [], ◌∷◌, ap, sym, ◌∙◌, refl, map}
 use Rattle.std.specs.List.{AllByRecursion}
 use Rattle.kom_types.specs.declared.effects.Effect.{Effect}
-use Rattle.kom_model.specs.Db.{Db, empty_db}
+use Rattle.kom_model.specs.Db.{Db}
 use Rattle.kom_model.specs.Effects.{apply_all}
 use Rattle.batch_log.proofs.Parts.{unique_bodies}
 use Rattle.effect_codec.specs.Coding.{IsInRange}
 use Rattle.effect_codec.proofs.Effects.{begins_no_other}
-use Rattle.kom_journal.specs.Files.{IsStoreOf, body_of, all_of, header}
+use Rattle.kom_journal.specs.Files.{IsStoreFrom, body_of, all_of}
 use Rattle.kom_journal.proofs.Spelled.{never_empty}
 
 -- a body has one list of effects
@@ -37,16 +37,18 @@ same_lists (one ∷ ones) (other ∷ others) in_one in_other same =
     let rest : ones ≡ others = same_lists ones others in_one.1 in_other.1 tail in
     cc
 
--- two readings of an image find the same effects
-pub same_stands : (image : List ℕ) (db other : Db) (one : IsStoreOf db image) (two : IsStoreOf other image)
-    → one.batches ≡ two.batches
-same_stands image db other one two =
-    same_lists one.batches two.batches one.coded two.coded
-    (unique_bodies header image (map body_of one.batches) (map body_of two.batches) one.file two.file)
+module _ (start : List ℕ) (from : Db) where
+  -- two readings of an image find the same effects
+  pub same_stands : (image : List ℕ) (db other : Db) (one : IsStoreFrom start from db image)
+      (two : IsStoreFrom start from other image) → one.batches ≡ two.batches
+  same_stands image db other one two =
+      same_lists one.batches two.batches one.coded two.coded
+      (unique_bodies start image (map body_of one.batches) (map body_of two.batches) one.file two.file)
 
--- an image stands for one state of the rows
-pub stands_for_one : (image : List ℕ) (db other : Db) → IsStoreOf db image → IsStoreOf other image → db ≡ other
-stands_for_one image db other one two =
-    one.rows
-    ∙ ap (λ (lists : List (List Effect)). apply_all (all_of lists) empty_db) (same_stands image db other one two)
-    ∙ sym two.rows
+  -- an image stands for one state of the rows
+  pub stands_for_one : (image : List ℕ) (db other : Db) → IsStoreFrom start from db image
+      → IsStoreFrom start from other image → db ≡ other
+  stands_for_one image db other one two =
+      one.rows
+      ∙ ap (λ (lists : List (List Effect)). apply_all (all_of lists) from) (same_stands image db other one two)
+      ∙ sym two.rows

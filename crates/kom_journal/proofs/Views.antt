@@ -13,7 +13,7 @@ use Rattle.batch_log.specs.Batches.{batches}
 use Rattle.batch_log.specs.Gates.{IsAtRest, IsStable, IsShutOrWhole, chunk_of}
 use Rattle.batch_log.specs.Log.{LogView, flush_of, size_after}
 use Rattle.effect_codec.specs.Coding.{coded_effect, IsInRange}
-use Rattle.kom_journal.specs.Files.{IsStoreOf, IsStoreOfEither, header, body_of}
+use Rattle.kom_journal.specs.Files.{IsStoreFrom, IsStoreOfEither, header, body_of}
 use Rattle.kom_journal.specs.Images as store
 use Rattle.kom_journal.specs.Images.{AreFor, IsKept, IsForEither}
 use Rattle.kom_journal.specs.Journals.{IsStored, IsKeptWhole}
@@ -25,17 +25,17 @@ use Rattle.kom_journal.proofs.Spelled.{effects_of_none, spelled_none, spells_mor
 
 -- a store that was made: a header and a closed gate
 made_stored : (bytes : List ℕ) (images : List ℕ → Type 0) → bytes ≡ header ++ 0 ∷ [] → Only bytes images
-    → IsStored 16 bytes images
+    → IsStored header 16 bytes images
 made_stored bytes images is stable =
-    let P : List ℕ → Type 0 = λ b. Only b images → IsStored 16 b images in
+    let P : List ℕ → Type 0 = λ b. Only b images → IsStored header 16 b images in
     subst P (sym is) (λ only. record {
       at_rest = record { closed = refl; stable = only };
       bodies = [];
       read = record { whole = refl; at = refl; short = tt };
     }) stable
 
-made_sound : (bytes : List ℕ) → bytes ≡ header ++ 0 ∷ [] → SoundFor empty_db empty_db bytes
-made_sound bytes is = shut_sound [] empty_db makes_none bytes [] is
+made_sound : (bytes : List ℕ) → bytes ≡ header ++ 0 ∷ [] → SoundFor header empty_db empty_db empty_db bytes
+made_sound bytes is = shut_sound header empty_db [] empty_db (makes_none empty_db) bytes [] is
 
 -- bytes that end with a gate at a place are one more than stand before it
 pub rest_size : (place : ℕ) (bytes : List ℕ) → bytes ≡ take place bytes ++ 0 ∷ [] → length bytes ≡ place + 1
@@ -91,24 +91,24 @@ module _ {D : Type 0} (moment : D → ℕ) (images_at : D → ℕ → List ℕ �
     stored = λ not told.
         let w = written told in
         let there = made_stored (bytes disk) (images disk) w.is w.stable in
-        let moved : IsStored 16 (bytes log.disk) (images log.disk) =
-        subst (λ (d : D). IsStored 16 (bytes d) (images d)) (sym same) there in
-        subst (λ (n : ℕ). IsStored n (bytes log.disk) (images log.disk)) (sym at) moved;
+        let moved : IsStored header 16 (bytes log.disk) (images log.disk) =
+        subst (λ (d : D). IsStored header 16 (bytes d) (images d)) (sym same) there in
+        subst (λ (n : ℕ). IsStored header n (bytes log.disk) (images log.disk)) (sym at) moved;
   }
 
   -- of a store that was opened
   pub opened_whole : (disk : D) (log : LogView D) (place : ℕ) → log.disk ≡ disk → log.place ≡ place → log.body ≡ []
-      → (IsTrue tells → IsStored place (bytes disk) (images disk)) → Whole false log
+      → (IsTrue tells → IsStored header place (bytes disk) (images disk)) → Whole false log
   opened_whole disk log place same at empty stored = record {
     spelled = subst IsSpelled (sym empty) spelled_none;
     stored = λ not told.
-        let moved : IsStored place (bytes log.disk) (images log.disk) =
-        subst (λ (d : D). IsStored place (bytes d) (images d)) (sym same) (stored told) in
-        subst (λ (n : ℕ). IsStored n (bytes log.disk) (images log.disk)) (sym at) moved;
+        let moved : IsStored header place (bytes log.disk) (images log.disk) =
+        subst (λ (d : D). IsStored header place (bytes d) (images d)) (sym same) (stored told) in
+        subst (λ (n : ℕ). IsStored header n (bytes log.disk) (images log.disk)) (sym at) moved;
   }
 
   pub made_for : (disk other : D) → other ≡ disk → IsStable (header ++ 0 ∷ []) (bytes disk) (images disk)
-      → (image : List ℕ) → images other image → SoundFor empty_db empty_db image
+      → (image : List ℕ) → images other image → SoundFor header empty_db empty_db empty_db image
   made_for disk other same w image left =
       let moved : images disk image = subst (λ (d : D). images d image) same left in
       made_sound image (w.stable image moved ∙ w.is)
@@ -120,7 +120,7 @@ module _ {D : Type 0} (moment : D → ℕ) (images_at : D → ℕ → List ℕ �
   adds_whole refused old new one same more coded whole = record {
     spelled = subst IsSpelled (sym more) (spells_more old.body one whole.spelled coded).spelled;
     stored = λ not told.
-        let P : LogView D → Type 0 = λ l. IsStored l.place (bytes l.disk) (images l.disk) in
+        let P : LogView D → Type 0 = λ l. IsStored header l.place (bytes l.disk) (images l.disk) in
         subst P (sym same) (whole.stored not told);
   }
 
@@ -133,24 +133,24 @@ module _ {D : Type 0} (moment : D → ℕ) (images_at : D → ℕ → List ℕ �
     spelled = subst IsSpelled (sym empty) spelled_none;
     stored = λ not told.
         let rest = subst (λ (n : ℕ). IsAtRest n (bytes new.disk) (images new.disk)) at (rests told) in
-        subst (λ (n : ℕ). IsStored n (bytes new.disk) (images new.disk)) (sym at)
-        (stored_after old.place (bytes old.disk) (images old.disk) (whole.stored not told) old.body
+        subst (λ (n : ℕ). IsStored header n (bytes new.disk) (images new.disk)) (sym at)
+        (stored_after header empty_db old.place (bytes old.disk) (images old.disk) (whole.stored not told) old.body
         (bytes new.disk) (images new.disk) short (appended told) rest);
   }
 
   module _ (told : IsTrue tells) (refused : Bool) (not : refused ≡ false) (old new : LogView D)
       (whole : Whole refused old) (short : length old.body < 2 ^ 64) (reads : images old.disk (bytes old.disk))
       (db : Db) (base : AreFor (store.images images old.disk) db) (fit : all_fit (effects_in old.body) db ≡ true) where
-    stands : StandsBefore db old.place (bytes old.disk)
+    stands : StandsBefore header empty_db db old.place (bytes old.disk)
     stands =
-        stands_before db old.place (bytes old.disk) (images old.disk) (whole.stored not told)
+        stands_before header empty_db db old.place (bytes old.disk) (images old.disk) (whole.stored not told)
         (files_for old.disk images db base (bytes old.disk) reads)
 
     leaves : (at : ℕ) (image : List ℕ) → IsShutOrWhole (take old.place (bytes old.disk)) (chunk_of old.body) at image
-        → SoundFor db (apply_all (effects_in old.body) db) image
+        → SoundFor header empty_db db (apply_all (effects_in old.body) db) image
     leaves =
-        flush_leaves db old.place (bytes old.disk) stands (effects_in old.body) old.body whole.spelled.whole
-        whole.spelled.coded fit short
+        flush_leaves header empty_db db old.place (bytes old.disk) stands (effects_in old.body) old.body
+        whole.spelled.whole whole.spelled.coded fit short
 
     -- at any moment
     pub flush_moments :
@@ -162,8 +162,9 @@ module _ {D : Type 0} (moment : D → ℕ) (images_at : D → ℕ → List ℕ �
         either_on moment images_at old.disk new.disk db (apply_all (effects_in old.body) db)
         (wider moment images_at old.disk new.disk
         (IsShutOrWhole (take old.place (bytes old.disk)) (chunk_of old.body))
-        (IsStoreOfEither db (apply_all (effects_in old.body) db)) any
-        (λ at image from to is. either_of db (apply_all (effects_in old.body) db) image (leaves at image is)))
+        (IsStoreOfEither header empty_db db (apply_all (effects_in old.body) db)) any
+        (λ at image from to is. either_of header empty_db db (apply_all (effects_in old.body) db) image
+        (leaves at image is)))
 
     -- each image is sound
     pub flush_kept : LeavesOnly moment images_at old.disk new.disk
@@ -179,10 +180,10 @@ module _ {D : Type 0} (moment : D → ℕ) (images_at : D → ℕ → List ℕ �
         → bytes new.disk ≡ take old.place (bytes old.disk) ++ batches (flush_of old.body) ++ 0 ∷ []
         → AreFor (store.images images new.disk) (apply_all (effects_in old.body) db)
     flush_rows stable is =
-        let found : SoundFor (apply_all (effects_in old.body) db) (apply_all (effects_in old.body) db) (bytes new.disk)
-        =
-        flush_leaves_all db old.place (bytes old.disk) stands (effects_in old.body) old.body whole.spelled.whole
-        whole.spelled.coded fit short (bytes new.disk) is in
-        for_on new.disk images (apply_all (effects_in old.body) db)
-        (λ image left. subst (IsStoreOf (apply_all (effects_in old.body) db)) (sym (stable image left))
-        (one_of (apply_all (effects_in old.body) db) (bytes new.disk) found))
+        let after : Db = apply_all (effects_in old.body) db in
+        let found : SoundFor header empty_db after after (bytes new.disk) =
+        flush_leaves_all header empty_db db old.place (bytes old.disk) stands (effects_in old.body) old.body
+        whole.spelled.whole whole.spelled.coded fit short (bytes new.disk) is in
+        for_on new.disk images after
+        (λ image left. subst (IsStoreFrom header empty_db after) (sym (stable image left))
+        (one_of header empty_db after (bytes new.disk) found))

@@ -2,9 +2,9 @@
 -- seen: these definitions stay closed there.
 use Rattle.std.specs.Prelude.{◌⊎◌, ℕ, List}
 use Rattle.kom_types.specs.declared.effects.Effect.{Effect}
-use Rattle.kom_model.specs.Db.{Db}
+use Rattle.kom_model.specs.Db.{Db, empty_db}
 use Rattle.kom_model.specs.Effects.{apply_all}
-use Rattle.kom_journal.specs.Files.{IsStoreOf, IsSoundFile}
+use Rattle.kom_journal.specs.Files.{IsStoreFrom, IsSoundFile, header}
 use Rattle.kom_journal.specs.Opened.{HasFurther, CountsBatches}
 use Rattle.kom_journal.specs.Opening.{IsDamagedAt, IsForeignAt, IsTooShort}
 use Rattle.kom_journal.specs.declared.errors.OpenFault.{OpenFault}
@@ -34,12 +34,12 @@ module _ {D : Type 0} where
 -- The image stands for these rows: it is a store whose batches have effects that all fit, one after
 -- the other from the empty rows on, and make these.
 unfoldable pub StandsFor : Db → Image → Type 0
-StandsFor db image = IsStoreOf db image.file
+StandsFor db image = IsStoreFrom header empty_db db image.file
 
 -- The image stands for some rows; and if the gate after its last batch is not closed either, one
 -- whole batch that fits stands after that.
 unfoldable pub IsSoundImage : Image → Type 0
-IsSoundImage image = IsSoundFile image.file
+IsSoundImage image = IsSoundFile header empty_db image.file
 
 -- each image is sound
 abbrev pub IsKept : (Image → Type 0) → Type 0
@@ -55,7 +55,7 @@ IsForEither one other moment image = StandsFor one image ⊎ StandsFor other ima
 
 -- one further batch, of these effects, stood whole after a gate that was neither closed nor open
 unfoldable pub HasFurtherBatch : Db → List Effect → Image → Type 0
-HasFurtherBatch db effects image = HasFurther db effects image.file
+HasFurtherBatch db effects image = HasFurther header empty_db db effects image.file
 
 -- what a stop leaves of an opening once its first sync has ended: what stands for the rows that the
 -- store had as it was read, or for those with one further batch
@@ -66,7 +66,7 @@ IsLeftOf read db image = StandsFor db image
 
 -- the store has so many batches
 unfoldable pub HasCount : ℕ → Image → Type 0
-HasCount count image = CountsBatches count image.file
+HasCount count image = CountsBatches header count image.file
 
 -- the first place of the header that holds another byte holds this one
 unfoldable pub IsForeign : ℕ → ℕ → Image → Type 0
@@ -79,7 +79,7 @@ IsCutShort len image = IsTooShort len image.file
 -- after batches that all fit an open gate, at this place, stands before bytes that are no batch, or
 -- before an effect that does not fit
 unfoldable pub IsDamaged : ℕ → Image → Type 0
-IsDamaged place image = IsDamagedAt place image.file
+IsDamaged place image = IsDamagedAt header empty_db place image.file
 
 -- why a store is not opened, where the disk does not fail and memory does not run out
 abbrev pub IsCause : Image → OpenFault → Type 0

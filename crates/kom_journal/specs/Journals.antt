@@ -26,17 +26,19 @@ size_with journal = size_after journal.place (body_of journal.pending)
 abbrev pub EndsAtGate : {D : Type 0} → (D → ℕ) → JournalView D → Type 0
 EndsAtGate size journal = journal.refused ≡ false → size journal.disk ≡ journal.place + 1
 
--- the bytes are a store whose closed gate at this place ends them, and all of it is stable
-pub record IsStored (place : ℕ) (bytes : List ℕ) (images : List ℕ → Type 0) : Type 0 where
+-- the bytes are a store with this start whose closed gate at this place ends them, and all of it is
+-- stable
+pub record IsStored (start : List ℕ) (place : ℕ) (bytes : List ℕ) (images : List ℕ → Type 0)
+    : Type 0 where
   pub at_rest : IsAtRest place bytes images
   pub bodies : List (List ℕ)
-  pub read : IsReadTo header bodies place bytes
+  pub read : IsReadTo start bodies place bytes
 
 -- What waits is spelled by its bytes; and the store is at rest, unless a flush has failed.
 pub record IsKeptWhole (tells refused : Bool) (place : ℕ) (body bytes : List ℕ)
     (images : List ℕ → Type 0) : Type 0 where
   pub spelled : IsSpelled body
-  pub stored : refused ≡ false → IsTrue tells → IsStored place bytes images
+  pub stored : refused ≡ false → IsTrue tells → IsStored header place bytes images
 
 -- all of a journal stays but what waits and its room: its disk, and how far its store goes
 pub record StaysAs {D : Type 0} (old new : JournalView D) : Type 0 where

@@ -40,17 +40,17 @@ pub record HasUnfit (db : Db) (rest : List ℕ) : Type 0 where
   pub short : length body < 2 ^ 64
   pub unfit : IsUnfit db body
 
--- After batches that all fit an open gate, at this place, stands before bytes that are no batch, or
--- before an effect that does not fit.
-pub record IsDamagedAt (place : ℕ) (file : List ℕ) : Type 0 where
+-- After a start, and batches that all fit from some rows on, an open gate, at this place, stands
+-- before bytes that are no batch, or before an effect that does not fit.
+pub record IsDamagedAt (start : List ℕ) (from : Db) (place : ℕ) (file : List ℕ) : Type 0 where
   pub batches : List (List Effect)
   pub rest : List ℕ
-  pub whole : file ≡ header ++ flat_map batch (map body_of batches) ++ 1 ∷ rest
-  pub at : place ≡ length (header ++ flat_map batch (map body_of batches))
+  pub whole : file ≡ start ++ flat_map batch (map body_of batches) ++ 1 ∷ rest
+  pub at : place ≡ length (start ++ flat_map batch (map body_of batches))
   pub short : AreShort (map body_of batches)
   pub coded : AllByRecursion (AllByRecursion IsInRange) batches
-  pub fit : all_fit (all_of batches) empty_db ≡ true
-  pub damaged : IsBroken rest ⊎ HasUnfit (apply_all (all_of batches) empty_db) rest
+  pub fit : all_fit (all_of batches) from ≡ true
+  pub damaged : IsBroken rest ⊎ HasUnfit (apply_all (all_of batches) from) rest
 
 -- the first place of the header that holds another byte holds this one
 pub record IsForeignAt (place byte : ℕ) (file : List ℕ) : Type 0 where
@@ -71,7 +71,7 @@ abbrev pub IsCauseInFile : List ℕ → OpenFault → Type 0
 IsCauseInFile file fault.Fault = Unit {0}
 IsCauseInFile file (fault.Foreign place byte) = IsForeignAt place byte file
 IsCauseInFile file (fault.Short len) = IsTooShort len file
-IsCauseInFile file (fault.Damaged place) = IsDamagedAt place file
+IsCauseInFile file (fault.Damaged place) = IsDamagedAt header empty_db place file
 IsCauseInFile file (fault.Used len) = ⊥
 IsCauseInFile file fault.Memory = Unit {0}
 

@@ -5,8 +5,8 @@ ghost use Rattle.std.specs.Prelude.{IsTrue, IfOk, IfErr, OnOk, Ok, Err, MatchOpt
 ghost use Rattle.kom_disk.specs.Faults.{Rose};
 ghost use Rattle.kom_disk.specs.Moments.{LeavesOnly};
 ghost use Rattle.batch_log.specs.Walk.{Stays};
-ghost use Rattle.kom_model.specs.Db.{Db};
-ghost use Rattle.kom_journal.specs.Files.{header, IsStoreOf, AreStoresOf, AreSoundFiles};
+ghost use Rattle.kom_model.specs.Db.{Db, empty_db};
+ghost use Rattle.kom_journal.specs.Files.{header, IsStoreFrom, AreStoresOf, AreSoundFiles};
 ghost use Rattle.kom_journal.specs.Journals.{IsStored};
 ghost use Rattle.kom_journal.specs.Opening.{IsCauseInFile, IsForeignAt};
 ghost use Rattle.kom_journal.specs.Opened.{IsMadeOf, IsLeftOfFile, Opens, CountsBatches};
@@ -83,8 +83,8 @@ pub(crate) fn make_rows<D: Disk>(
 ) -> Result<(MadeRows, End), OpenFault>
     requires header { IsTrue D.tells → take 16 (D.bytes disk.old) ≡ header }
     requires long { (17 ≤ len) × (len ≡ D.size disk.old) }
-    ensures made { IsTrue D.tells → IfOk result (λ made. IsMadeOf made.1.place made.1.gate
-        made.1.batches made.0.db (D.bytes disk.old)) }
+    ensures made { IsTrue D.tells → IfOk result (λ made. IsMadeOf header empty_db made.1.place
+        made.1.gate made.1.batches made.0.db (D.bytes disk.old)) }
     ensures within { IfOk result (λ made. IsWithin len made.1) }
     ensures cause { IsTrue D.tells → IfErr result (IsCauseInFile (D.bytes disk.old)) }
     ensures size { D.size disk.new ≡ D.size disk.old }
@@ -179,8 +179,8 @@ fn new_buffer(alloc: Global) -> Result<Vec<u8>, OpenFault>
 
 // The rows of a stable store, and where it ends.
 fn read_store<D: Disk>(alloc: Global, disk: &mut D) -> Result<(MadeRows, End), OpenFault>
-    ensures made { IsTrue D.tells → IfOk result (λ made. IsMadeOf made.1.place made.1.gate
-        made.1.batches made.0.db (D.bytes disk.old)) }
+    ensures made { IsTrue D.tells → IfOk result (λ made. IsMadeOf header empty_db made.1.place
+        made.1.gate made.1.batches made.0.db (D.bytes disk.old)) }
     ensures within { IfOk result (λ made. IsWithin (D.size disk.new) made.1) }
     ensures cause { IsTrue D.tells → IfErr result (IsCauseInFile (D.bytes disk.old)) }
     ensures bytes { IsTrue D.tells → D.bytes disk.new ≡ D.bytes disk.old }
@@ -200,21 +200,24 @@ fn read_store<D: Disk>(alloc: Global, disk: &mut D) -> Result<(MadeRows, End), O
 /// Opens the store on a disk: makes it stable, makes its rows, and repairs its end.
 pub(crate) fn open_rows<D: Disk>(alloc: Global, disk: &mut D) -> Result<(MadeRows, End), OpenFault>
     ensures stands { IsTrue D.tells
-        → IfOk result (λ opened. IsStoreOf opened.0.db (D.bytes disk.old)) }
+        → IfOk result (λ opened. IsStoreFrom header empty_db opened.0.db (D.bytes disk.old)) }
     ensures rows { IsTrue D.tells
-        → IfOk result (λ opened. AreStoresOf (D.images disk.new) opened.0.db) }
+        → IfOk result (λ opened. AreStoresOf header empty_db (D.images disk.new) opened.0.db) }
     ensures stored { IsTrue D.tells
-        → IfOk result (λ opened. IsStored opened.1.place (D.bytes disk.new) (D.images disk.new)) }
+        → IfOk result (λ opened. IsStored header opened.1.place (D.bytes disk.new)
+        (D.images disk.new)) }
     ensures counts { IsTrue D.tells
-        → IfOk result (λ opened. CountsBatches opened.1.batches (D.bytes disk.old)) }
+        → IfOk result (λ opened. CountsBatches header opened.1.batches (D.bytes disk.old)) }
     ensures within { IfOk result (λ opened.
         (opened.1.place < D.size disk.new) × (opened.1.batches ≤ opened.1.place)) }
     ensures cause { IsTrue D.tells → IfErr result (IsCauseInFile (D.bytes disk.old)) }
-    ensures any_moment { IsTrue D.tells → (db : Db) → IsStoreOf db (D.bytes disk.old)
-        → AreSoundFiles (D.images disk.old) → Opens D.moment D.images_at disk.old disk.new
-        (D.images disk.old) (IsLeftOfFile (D.bytes disk.old) db) }
-    ensures kept { IsTrue D.tells → AreSoundFiles (D.images disk.old) →
-        AreSoundFiles (D.images disk.new) }
+    ensures any_moment { IsTrue D.tells → (db : Db)
+        → IsStoreFrom header empty_db db (D.bytes disk.old)
+        → AreSoundFiles header empty_db (D.images disk.old)
+        → Opens D.moment D.images_at disk.old disk.new (D.images disk.old)
+        (IsLeftOfFile header empty_db (D.bytes disk.old) db) }
+    ensures kept { IsTrue D.tells → AreSoundFiles header empty_db (D.images disk.old)
+        → AreSoundFiles header empty_db (D.images disk.new) }
     ensures fault { result ≡ Err OpenFault.Fault → Rose (D.faults disk.old) (D.faults disk.new) }
     ensures no_fault { IfOk result (λ opened. D.faults disk.new ≡ D.faults disk.old) }
 {

@@ -3,8 +3,8 @@ use Rattle.std.proofs.Common.{◌≡◌, ◌<◌, ◌+◌, ℕ, List, [], ◌∷
 use Rattle.std.proofs.lemmas.List.{get_or_append_left, length-append}
 use Rattle.std.specs.List.{slice_index}
 use Rattle.batch_log.specs.Batches.{batches, IsEnd}
-use Rattle.kom_model.specs.Db.{Db}
-use Rattle.kom_journal.specs.Files.{IsStoreOf, header, body_of}
+use Rattle.kom_model.specs.Db.{Db, empty_db}
+use Rattle.kom_journal.specs.Files.{IsStoreFrom, header, body_of}
 use Rattle.kom_journal.specs.Images.{Image, StandsFor, IsForeign, IsCutShort, IsDamaged}
 use Rattle.kom_journal.specs.Opening.{IsForeignAt, IsTooShort}
 use Rattle.kom_journal.proofs.Damage.{stands_whole}
@@ -14,14 +14,14 @@ some_end : (end : List ℕ) → IsEnd end → 0 < length end
 some_end [] ended = absurd ended
 some_end (gate ∷ rest) ended = omega arith
 
-not_foreign : (db : Db) (file : List ℕ) (place byte : ℕ) → IsStoreOf db file → IsForeignAt place byte file → ⊥
+not_foreign : (db : Db) (file : List ℕ) (place byte : ℕ) → IsStoreFrom header empty_db db file → IsForeignAt place byte file → ⊥
 not_foreign db file place byte stands foreign =
     let rest : List ℕ = batches (map body_of stands.batches) ++ stands.file.end in
     foreign.other
     (sym (get_or_append_left header rest 0 place foreign.within)
     ∙ ap (λ (l : List ℕ). slice_index l place) (sym stands.file.whole) ∙ foreign.here)
 
-not_short : (db : Db) (file : List ℕ) (len : ℕ) → IsStoreOf db file → IsTooShort len file → ⊥
+not_short : (db : Db) (file : List ℕ) (len : ℕ) → IsStoreFrom header empty_db db file → IsTooShort len file → ⊥
 not_short db file len stands short =
     let all : List ℕ = batches (map body_of stands.batches) in
     let end : List ℕ = stands.file.end in
@@ -35,4 +35,4 @@ pub is_store : (db : Db) (image : Image) → StandsFor db image → IsNoStore im
 unfolding StandsFor IsForeign IsCutShort IsDamaged
 is_store db image stands (inl (place, byte, foreign)) = not_foreign db image.file place byte stands foreign
 is_store db image stands (inr (inl (len, short))) = not_short db image.file len stands short
-is_store db image stands (inr (inr (place, damaged))) = stands_whole db image.file place stands damaged
+is_store db image stands (inr (inr (place, damaged))) = stands_whole header empty_db db image.file place stands damaged

@@ -1,9 +1,10 @@
 use Rattle.std.proofs.Common.{◌<◌, ◌+◌, List, ℕ, drop, refl, sym, ap, subst, ◌∙◌, arith}
 use Rattle.std.specs.Prelude.{Result, Ok, Err, IfErr}
 use Rattle.std.specs.Result.{IsErrAnd}
-use Rattle.kom_model.specs.Db.{Db}
+use Rattle.kom_model.specs.Db.{Db, empty_db}
 use Rattle.batch_log.proofs.Looking.{unread, looks_on}
 use Rattle.kom_journal.specs.Batch.{IsNext, EndsBefore, MakesBatch}
+use Rattle.kom_journal.specs.Files.{header}
 use Rattle.kom_journal.specs.Opened.{IsMadeTo}
 use Rattle.kom_journal.specs.Opening.{IsCauseInFile}
 use Rattle.kom_journal.proofs.Opens.{made_none, made_more, cause_there}
@@ -23,8 +24,8 @@ gates-init g c =
       within = omega (arith, c.requires.long.0);
       counted = omega arith;
       room = c.in_ok-buffer.ensures.long;
-      made = λ told. subst (λ (d : Db). IsMadeTo 16 0 d file) (sym c.empty-rows.ensures)
-          (made_none file (c.requires.header told)
+      made = λ told. subst (λ (d : Db). IsMadeTo header empty_db 16 0 d file) (sym c.empty-rows.ensures)
+          (made_none header empty_db 16 file (c.requires.header told)
           (omega (arith, c.requires.long.0, c.requires.long.1, g.met.D.Disk.counts_bytes c.args.disk.now told)));
     }
 
@@ -53,7 +54,8 @@ gates-preserved g c =
           let there : MakesBatch size (drop c.gates.at (g.D.Disk.bytes mid)) c.gates.rows.db c.make_batch.new.rows.db =
           subst (IsNext (drop c.gates.at (g.D.Disk.bytes mid)) c.gates.rows.db c.make_batch.new.rows.db) c.in-Batch.is
           (e.next told) in
-          made_more c.gates.at c.gates.batches size c.gates.rows.db c.make_batch.new.rows.db file (kept.made told)
+          made_more header empty_db c.gates.at c.gates.batches size c.gates.rows.db c.make_batch.new.rows.db file
+          (kept.made told)
           (subst (λ (b : List ℕ). MakesBatch size (drop c.gates.at b) c.gates.rows.db c.make_batch.new.rows.db)
           (kept.looks.same_bytes told) there);
     }

@@ -1,4 +1,6 @@
 use Rattle.std.proofs.Common.{◌<◌, ◌≤◌, ◌-◌, IsTrue, vec_len}
+use Rattle.kom_model.specs.Db.{empty_db}
+use Rattle.kom_journal.specs.Files.{header}
 use Rattle.kom_journal.specs.Opened.{IsMadeTo}
 use Rattle.kom_journal.proofs.Blocks.{Looks}
 use Rattle.kom_journal.proofs.opening.make_rows.Given as goal
@@ -10,7 +12,7 @@ invariant-gates g l = record {
   within : l.at < l.len;
   counted : l.batches ≤ l.at;
   room : 0 < vec_len l.buffer;
-  made : IsTrue g.D.Disk.tells → IsMadeTo l.at l.batches l.rows.db (g.D.Disk.bytes l.initial.disk);
+  made : IsTrue g.D.Disk.tells → IsMadeTo header empty_db l.at l.batches l.rows.db (g.D.Disk.bytes l.initial.disk);
 }
 
 abbrev pub decreases-gates : goal.decreases-gates

@@ -1,5 +1,6 @@
 use Rattle.std.proofs.Common.{ap, ◌∙◌}
 use Rattle.kom_model.specs.Db.{empty_db}
+use Rattle.kom_journal.specs.Files.{header}
 use Rattle.kom_journal.specs.Pending.{effects_in}
 use Rattle.kom_journal.proofs.Images.{for_on, kept_on}
 use Rattle.kom_journal.proofs.Sound.{one_of}
@@ -22,7 +23,7 @@ pub returns-in-Ok-write_header-clause-rows : goal.returns-in-Ok-write_header-cla
 returns-in-Ok-write_header-clause-rows g c told =
     let made = c.new-in-Ok-write_header in
     for_on made.result.disk g.D.Disk.images empty_db
-    (λ bytes left. one_of empty_db bytes
+    (λ bytes left. one_of header empty_db empty_db bytes
     (made_for g.D.Disk.moment g.D.Disk.images_at g.D.Disk.bytes g.D.Disk.images g.D.Disk.tells
     c.write_header.new.disk made.result.disk made.ensures.disk (c.in-Ok-write_header.ensures.written told) bytes left))
 

@@ -1,5 +1,6 @@
 use Rattle.std.proofs.Common.{ap, sym, subst, ◌∙◌}
-use Rattle.kom_model.specs.Db.{Db}
+use Rattle.kom_model.specs.Db.{Db, empty_db}
+use Rattle.kom_journal.specs.Files.{header}
 use Rattle.kom_journal.specs.Images.{StandsFor, AreFor, as_read, images, images_at, moment, IsLeftOf}
 use Rattle.kom_journal.specs.Opened.{Opens}
 use Rattle.kom_journal.specs.Opening.{IsCauseInFile}
@@ -20,7 +21,8 @@ returns-in-Err-clause-undamaged g c told kept place same =
     let file = g.D.Disk.bytes c.args.disk in
     let sound =
     files_kept c.args.disk g.D.Disk.images kept file (g.met.D.Disk.reads_as_image c.args.disk told) in
-    stands_whole sound.db file place sound.stands (subst (IsCauseInFile file) same (c.in-Err.ensures.cause told))
+    stands_whole header empty_db sound.db file place sound.stands
+    (subst (IsCauseInFile file) same (c.in-Err.ensures.cause told))
 
 pub returns-in-Err-clause-any_moment : goal.returns-in-Err-clause-any_moment
 returns-in-Err-clause-any_moment g c told db stands kept =
