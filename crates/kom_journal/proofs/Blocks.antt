@@ -1,9 +1,8 @@
 -- What is kept while a body is read a block at a time.
 use Rattle.std.proofs.Common.{◌≡◌, ◌<◌, ◌≤◌, ℕ, Bool, IsTrue, List}
-use Rattle.kom_model.specs.Db.{Db}
 use Rattle.kom_disk.specs.Moments.{LeavesOnly}
 use Rattle.batch_log.specs.Walk.{Stays}
-use Rattle.kom_journal.specs.Reading.{MakesPart, part}
+use Rattle.kom_journal.specs.Reading.{part}
 
 -- the disk is only read
 pub record Looks {D : Type 0} (tells : Bool) (bytes : D → List ℕ) (size faults moment : D → ℕ)
@@ -14,7 +13,8 @@ pub record Looks {D : Type 0} (tells : Bool) (bytes : D → List ℕ) (size faul
   pub stop : IsTrue tells → LeavesOnly moment images_at old now (Stays (images old))
 
 -- the body up to a place was made
-pub record MakesTo (tells : Bool) (file : List ℕ) (from end at room : ℕ) (old new : Db) : Type 0 where
+pub record MakesTo {M : Type 0} (tells : Bool) (makes : M → M → List ℕ → List ℕ → Type 0) (file : List ℕ)
+    (from end at room : ℕ) (old new : M) : Type 0 where
   pub within : at ≤ end
   pub roomy : 0 < room
-  pub made : IsTrue tells → MakesPart (part from end file) (part at end file) old new
+  pub made : IsTrue tells → makes old new (part from end file) (part at end file)

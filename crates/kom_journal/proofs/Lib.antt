@@ -4,8 +4,11 @@ pub mod Flushing
 pub mod Images
 pub mod Opened
 pub mod Opens
+pub mod Parts
 pub mod Reading
+pub mod Restored
 pub mod Short
+pub mod SnapshotsAt
 pub mod Sound
 pub mod Spelled
 pub mod Stopping

@@ -1,16 +1,17 @@
 -- What the reading of bytes comes to, over one effect, a block, and a body.
 use Rattle.std.proofs.Common.{◌≡◌, ◌<◌, ◌≤◌, ◌+◌, ◌-◌, ℕ, true, false, List, [], ◌∷◌, ◌++◌, length, take, drop}
 use Rattle.std.proofs.Common.{append_assoc, ap, sym, subst, ◌∙◌, refl, arith, length-append, length-drop}
-use Rattle.std.proofs.Common.{◌&&◌, is_some}
+use Rattle.std.proofs.Common.{◌&&◌, is_some, Option, Some, None, Result, Ok, Err, IfOk}
 use Rattle.std.proofs.Math.Seq.{take-add}
-use Rattle.std.proofs.lemmas.List.{append-nil, drop-drop, drop-take, drop-append-le, take_at, take_all, take-take}
+use Rattle.std.proofs.lemmas.List.{append-nil, drop-drop, drop-take, take_at, take_all, take-take}
 use Rattle.std.proofs.lemmas.List.{take-append-le, length-take-le}
 use Rattle.batch_log.specs.Walk.{HasFirst}
 use Rattle.batch_log.proofs.Parts.{rest_of}
 use Rattle.kom_types.specs.declared.effects.Effect.{Effect}
 use Rattle.read_ranges.specs.Changed.{rise_after}
 use Rattle.kom_model.specs.Db.{Db, membership_of}
-use Rattle.kom_model.specs.Effects.{fits, apply, apply_all}
+use Rattle.kom_state.specs.Room.{Stored}
+use Rattle.kom_model.specs.Effects.{fits, apply_all}
 use Rattle.effect_codec.specs.Coding.{coded_effect, effect_at, IsInRange}
 use Rattle.effect_codec.specs.Fields.{Whole, Short, Wrong}
 use Rattle.effect_codec.specs.Faulty.{has_faulty_range, BeginsFaulty}
@@ -18,7 +19,7 @@ use Rattle.effect_codec.proofs.Effects.{effect_again, begins_no_other}
 use Rattle.effect_codec.proofs.Stays.{stays_wrong}
 use Rattle.kom_journal.specs.Files.{body_of}
 use Rattle.kom_journal.specs.Opening.{BeginsWith, BeginsUnfit, IsUnfit}
-use Rattle.kom_journal.specs.Reading.{MakesOne, MakesSome, ComesUnfit, MakesPart, part}
+use Rattle.kom_journal.specs.Reading.{MakesNext, ComesNext, MakesPart, MakesRows, part}
 use Rattle.kom_journal.proofs.Spelled.{all_more, body_both, never_empty}
 use Rattle.kom_journal.proofs.Sound.{apply_all-append, all_fit-append, and_both, and_parts}
 
@@ -101,25 +102,6 @@ pub coded_some : (one : Effect) (bytes after : List ℕ) → bytes ≡ coded_eff
     → 0 < length bytes
 coded_some one bytes after is coded = no_bytes bytes (λ none. never_empty one after coded (sym none ∙ is))
 
--- one effect more is made
-pub makes_on : (bytes : List ℕ) (old mid new : Db) (used len : ℕ) (effects : List Effect)
-    → BeginsWith effects old bytes (drop used bytes) → mid ≡ apply_all effects old → used ≤ length bytes
-    → (next : MakesOne (drop used bytes) mid new len)
-    → (more : List Effect) × BeginsWith more old bytes (drop (used + len) bytes) × (new ≡ apply_all more old)
-    × (used + len ≤ length bytes)
-makes_on bytes old mid new used len effects begins rows within next =
-    let one = next.effect in
-    let after : drop len (drop used bytes) ≡ drop (used + len) bytes = drop-drop len used bytes in
-    let first : BeginsWith (one ∷ []) (apply_all effects old) (drop used bytes) (drop (used + len) bytes) =
-    begins_one one (apply_all effects old) (drop used bytes) (drop (used + len) bytes)
-    (next.whole ∙ ap (λ (l : List ℕ). coded_effect one ++ l) after) next.coded
-    (subst (λ (d : Db). fits one d ≡ true) rows next.fit) in (
-      effects ++ one ∷ [],
-      begins_on effects (one ∷ []) old bytes (drop used bytes) (drop (used + len) bytes) begins first,
-      next.rows ∙ ap (apply one) rows ∙ sym (apply_all-append effects (one ∷ []) old),
-      omega (arith, within, next.within, length-drop used bytes),
-    )
-
 -- parts of a file
 pub part_drop : (at used end : ℕ) (bytes : List ℕ) → at + used ≤ end
     → drop used (part at end bytes) ≡ part (at + used) end bytes
@@ -141,64 +123,8 @@ pub part_none : (end : ℕ) (bytes : List ℕ) → part end end bytes ≡ []
 part_none end bytes =
     let none : end - end ≡ 0 = omega arith in ap (λ (n : ℕ). take n (drop end bytes)) none
 
-module _ (at held end : ℕ) (bytes block : List ℕ) (within : at + held ≤ end) (is : block ≡ take held (drop at bytes))
-    (long : length block ≡ held) (old : Db) where
-  whole : part at end bytes ≡ block ++ part (at + held) end bytes
-  whole = part_block at held end bytes within ∙ ap (λ (l : List ℕ). l ++ part (at + held) end bytes) (sym is)
-
-  -- the whole effects of a block
-  pub block_made : (new : Db) (used : ℕ) → MakesSome block old new used
-      → MakesPart (part at end bytes) (part (at + used) end bytes) old new
-  block_made new used made =
-      let after : drop used block ++ part (at + held) end bytes ≡ part (at + used) end bytes =
-      sym (drop-append-le used block (part (at + held) end bytes) made.within)
-      ∙ ap (drop used) (sym whole) ∙ part_drop at used end bytes (omega (arith, within, made.within, long)) in
-      let longer = begins_longer made.effects old block (drop used block) (part (at + held) end bytes) made.begins in
-      record {
-        effects = made.effects;
-        begins = record {
-          whole = whole ∙ longer.whole ∙ ap (λ (l : List ℕ). body_of made.effects ++ l) after;
-          coded = longer.coded;
-          fit = longer.fit;
-        };
-        rows = made.rows;
-      }
-
-  -- bytes in it with which no effect that fits begins
-  pub block_unfit : ComesUnfit block old → IsUnfit old (part at end bytes)
-  block_unfit comes =
-      let longer =
-      begins_longer comes.effects old block comes.rest (part (at + held) end bytes) comes.begins in
-      record {
-        effects = comes.effects;
-        rest = comes.rest ++ part (at + held) end bytes;
-        begins = record { whole = whole ∙ longer.whole; coded = longer.coded; fit = longer.fit };
-        more = λ none.
-            let lacks : length (comes.rest ++ part (at + held) end bytes) ≡ 0 = ap length none in
-            omega (arith, comes.some, lacks, length-append comes.rest (part (at + held) end bytes));
-        unfit = comes.unfit (part (at + held) end bytes);
-      }
-
-  -- the last block ends inside an effect
-  pub last_unfit : (new : Db) (used : ℕ) → MakesSome block old new used → used < held → at + held ≡ end
-      → IsUnfit old (part at end bytes)
-  last_unfit new used made less last =
-      let none : part (at + held) end bytes ≡ [] =
-      ap (λ (n : ℕ). part n end bytes) last ∙ part_none end bytes in
-      let all : part at end bytes ≡ block =
-      whole ∙ ap (λ (l : List ℕ). block ++ l) none ∙ append-nil block in
-      record {
-        effects = made.effects;
-        rest = drop used block;
-        begins = record { whole = all ∙ made.begins.whole; coded = made.begins.coded; fit = made.begins.fit };
-        more = λ nothing.
-            let lacks : length (drop used block) ≡ 0 = ap length nothing in
-            omega (arith, less, long, lacks, length-drop used block);
-        unfit = short_unfit (apply_all made.effects old) (drop used block) made.short;
-      }
-
 -- a part after a part
-pub parts_made : (a b c : List ℕ) (old mid new : Db) → MakesPart a b old mid → MakesPart b c mid new
+parts_made : (a b c : List ℕ) (old mid new : Db) → MakesPart a b old mid → MakesPart b c mid new
     → MakesPart a c old new
 parts_made a b c old mid new first second =
     let next = subst (λ (d : Db). BeginsWith second.effects d b c) first.rows second.begins in
@@ -209,7 +135,7 @@ parts_made a b c old mid new first second =
           ∙ sym (apply_all-append first.effects second.effects old);
     }
 
-pub part_unfit : (a b : List ℕ) (old mid : Db) → MakesPart a b old mid → IsUnfit mid b → IsUnfit old a
+part_unfit : (a b : List ℕ) (old mid : Db) → MakesPart a b old mid → IsUnfit mid b → IsUnfit old a
 part_unfit a b old mid first unfit =
     let next = subst (λ (d : Db). BeginsWith unfit.effects d b unfit.rest) first.rows unfit.begins in
     record {
@@ -221,6 +147,62 @@ part_unfit a b old mid first unfit =
           (ap (apply_all unfit.effects) first.rows ∙ sym (apply_all-append first.effects unfit.effects old))
           unfit.unfit;
     }
+
+-- more bytes, and none is there
+unfit_rest : (db : Db) (bytes : List ℕ) → 0 < length bytes → BeginsUnfit db bytes → IsUnfit db bytes
+unfit_rest db bytes some unfit = record {
+  effects = [];
+  rest = bytes;
+  begins = begins_none db bytes;
+  more = λ none. omega (arith, some, ap length none);
+  unfit = unfit;
+}
+
+-- the next effect of a body
+abbrev pub RowsMake : Stored → Stored → List ℕ → List ℕ → Type 0
+RowsMake old new bytes rest = MakesRows old.db new.db bytes rest
+
+abbrev pub RowsRefuse : Stored → List ℕ → Type 0
+RowsRefuse rows bytes = IsUnfit rows.db bytes
+
+makes_rows : (old new : Db) (bytes rest : List ℕ) → MakesPart bytes rest old new → MakesRows old new bytes rest
+makes_rows old new bytes rest made =
+    (λ last more. parts_made bytes rest [] old new last made more, λ unfit. part_unfit bytes rest old new made unfit)
+
+pub effect_comes : (bytes : List ℕ) (old new : Stored) (found : Option ℕ) → MakesNext bytes old.db new.db found
+    → ComesNext RowsMake RowsRefuse bytes old new found
+effect_comes bytes old new None next = (
+  λ more. makes_rows old.db new.db (bytes ++ more) (bytes ++ more)
+      (record { effects = []; begins = begins_none old.db (bytes ++ more); rows = next.1 }),
+  λ some. unfit_rest new.db bytes some (short_unfit new.db bytes next.0),
+)
+effect_comes bytes old new (Some len) next = (
+  next.some,
+  (
+    next.within,
+    λ more. makes_rows old.db new.db (bytes ++ more) (drop len bytes ++ more) (record {
+      effects = next.effect ∷ [];
+      begins = begins_longer (next.effect ∷ []) old.db bytes (drop len bytes) more
+          (begins_one next.effect old.db bytes (drop len bytes) next.whole next.coded next.fit);
+      rows = next.rows;
+    }),
+  ),
+)
+
+-- a body that was made
+pub rows_made : (body : List ℕ) (old new : Db) → MakesRows old new body [] → MakesPart body [] old new
+rows_made body old new made =
+    made.0 new (record { effects = []; begins = begins_none new []; rows = refl })
+
+pub found_comes : {E : Type 0} (result : Result (Option ℕ) E) (bytes : List ℕ) (old new : Stored)
+    → IfOk result (MakesNext bytes old.db new.db) → IfOk result (ComesNext RowsMake RowsRefuse bytes old new)
+found_comes (Ok found) bytes old new next = effect_comes bytes old new found next
+found_comes (Err why) bytes old new next = tt
+
+pub effect_refused : (bytes : List ℕ) (db : Db) → 0 < length bytes
+    → ((more : List ℕ) → BeginsUnfit db (bytes ++ more)) → (more : List ℕ) → IsUnfit db (bytes ++ more)
+effect_refused bytes db some unfit more =
+    unfit_rest db (bytes ++ more) (omega (arith, some, length-append bytes more)) (unfit more)
 
 -- what was read into a buffer
 pub block_of : (n at : ℕ) (bytes into left : List ℕ) → into ≡ take n (drop at bytes) ++ left

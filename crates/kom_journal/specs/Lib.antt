@@ -7,4 +7,5 @@ pub mod Opened
 pub mod Opening
 pub mod Pending
 pub mod Reading
+pub mod Snapshots
 pub mod Staying

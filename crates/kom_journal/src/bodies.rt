@@ -1,24 +1,36 @@
-// The body of a batch, read and made a block at a time.
-ghost use Rattle.std.specs.Prelude.{◌≡◌, ◌<◌, ◌≤◌, ◌+◌, ◌-◌, ◌⊎◌, [], IsTrue, IfOk, OnOk, Ok, Err};
-ghost use Rattle.std.specs.Prelude.{vec_len};
+// A body, read and made a block at a time.
+ghost use Rattle.std.specs.Prelude.{◌≡◌, ◌<◌, ◌≤◌, ◌+◌, ◌-◌, ◌⊎◌, [], IsTrue, IfOk, IfErr, OnOk};
+ghost use Rattle.std.specs.Prelude.{Ok, Err, vec_len};
 ghost use Rattle.kom_disk.specs.Faults.{Rose};
 ghost use Rattle.kom_disk.specs.Moments.{LeavesOnly};
 ghost use Rattle.batch_log.specs.Walk.{Stays};
-ghost use Rattle.kom_journal.specs.Opening.{IsUnfit};
-ghost use Rattle.kom_journal.specs.Reading.{MakesPart, part, FallsTo};
+ghost use Rattle.kom_journal.specs.Reading.{part, FallsTo};
 
-use crate::making::{Stop, make_effects};
-use crate::rows::MadeRows;
+use crate::errors::OpenFault;
+use crate::making::{BodyMaker, Stop, make_parts};
 use batch_log::read_block;
 use kom_disk::Disk;
 use std::alloc::Global;
 
-/// Makes the effects of the body that stands between two places. The buffer grows where an effect
-/// is longer.
-pub(crate) fn make_body<D: Disk>(
+// How many bytes are read at a time, unless a part has more.
+const BLOCK: usize = 1 << 16;
+
+/// A buffer for blocks of a body.
+pub(crate) fn new_buffer(alloc: Global) -> Result<Vec<u8>, OpenFault>
+    ensures long { IfOk result (λ buffer. 0 < vec_len buffer) }
+    ensures memory { IfErr result (λ fault. fault ≡ OpenFault.Memory) }
+{
+    match vec![in alloc; 0; BLOCK] {
+        Ok(buffer) => Ok(buffer),
+        Err(_) => Err(OpenFault::Memory),
+    }
+}
+
+/// Makes the body that stands between two places. The buffer grows where a part is longer.
+pub(crate) fn make_body<D: Disk, M: BodyMaker>(
     alloc: Global,
     disk: &mut D,
-    rows: &mut MadeRows,
+    maker: &mut M,
     buffer: &mut Vec<u8>,
     from: u64,
     end: u64,
@@ -26,9 +38,9 @@ pub(crate) fn make_body<D: Disk>(
     requires within { (from ≤ end) × (end ≤ D.size disk.old) }
     requires room { 0 < vec_len buffer.old }
     ensures made { IsTrue D.tells → OnOk result
-        (MakesPart (part from end (D.bytes disk.old)) [] rows.old.db rows.new.db) }
+        (M.makes maker.old maker.new (part from end (D.bytes disk.old)) []) }
     ensures unfit { IsTrue D.tells → result ≡ Err Stop.Unfit
-        → IsUnfit rows.old.db (part from end (D.bytes disk.old)) }
+        → M.refuses maker.old (part from end (D.bytes disk.old)) }
     ensures room { 0 < vec_len buffer.new }
     ensures size { D.size disk.new ≡ D.size disk.old }
     ensures bytes { IsTrue D.tells → D.bytes disk.new ≡ D.bytes disk.old }
@@ -39,31 +51,31 @@ pub(crate) fn make_body<D: Disk>(
 {
     let mut at = from;
     while at < end {
-        let used = make_block(alloc, disk, rows, buffer, at, end)?;
+        let used = make_block(alloc, disk, maker, buffer, at, end)?;
         at += used;
     }
     Ok(())
 }
 
-// Makes the effects of the next block, and tells how many bytes are theirs; or makes the buffer
-// longer, where it holds no whole effect.
-fn make_block<D: Disk>(
+// Makes the parts of the next block, and tells how many bytes are theirs; or makes the buffer
+// longer, where it holds no whole part.
+fn make_block<D: Disk, M: BodyMaker>(
     alloc: Global,
     disk: &mut D,
-    rows: &mut MadeRows,
+    maker: &mut M,
     buffer: &mut Vec<u8>,
     at: u64,
     end: u64,
 ) -> Result<u64, Stop>
     requires within { (at < end) × (end ≤ D.size disk.old) }
     requires room { 0 < vec_len buffer.old }
-    ensures made { IsTrue D.tells → IfOk result (λ used. MakesPart (part at end (D.bytes disk.old))
-        (part (at + used) end (D.bytes disk.old)) rows.old.db rows.new.db) }
+    ensures made { IsTrue D.tells → IfOk result (λ used. M.makes maker.old maker.new
+        (part at end (D.bytes disk.old)) (part (at + used) end (D.bytes disk.old))) }
     ensures within { IfOk result (λ used. at + used ≤ end) }
     ensures falls { IfOk result (λ used. FallsTo (end - at) (end - vec_len buffer.old)
         (end - (at + used)) (end - vec_len buffer.new)) }
     ensures unfit { IsTrue D.tells → result ≡ Err Stop.Unfit
-        → IsUnfit rows.old.db (part at end (D.bytes disk.old)) }
+        → M.refuses maker.old (part at end (D.bytes disk.old)) }
     ensures room { 0 < vec_len buffer.new }
     ensures size { D.size disk.new ≡ D.size disk.old }
     ensures bytes { IsTrue D.tells → D.bytes disk.new ≡ D.bytes disk.old }
@@ -77,7 +89,7 @@ fn make_block<D: Disk>(
         Ok(held) => held,
         Err(_) => return Err(Stop::Fault),
     };
-    let used = make_effects(alloc, rows, &buffer[..held])?;
+    let used = make_parts(alloc, maker, &buffer[..held])?;
     if used < held && held as u64 == left {
         return Err(Stop::Unfit);
     }

@@ -1,4 +1,4 @@
-// Why a store is not opened, or not made.
+// Why a store is not opened, or not made, and why a snapshot is not read.
 
 #[derive(Clone, Copy, Debug, PartialEq, Eq)]
 pub enum OpenFault {
@@ -14,5 +14,13 @@ pub enum OpenFault {
     Damaged(u64),
     /// The file has this length already, and is not empty.
     Used(u64),
+    Memory,
+}
+
+/// Why bytes are not read as a snapshot.
+#[derive(Clone, Copy, Debug, PartialEq, Eq)]
+pub enum NotSnapshot {
+    /// They are none.
+    Wrong,
     Memory,
 }

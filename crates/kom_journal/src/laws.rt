@@ -1,4 +1,5 @@
 // What follows from what an image stands for.
+ghost use Rattle.kom_journal.specs.Snapshots.{IsSnapshotOfOne};
 ghost use Rattle.kom_journal.specs.Laws.{StandsForOne, StandsUndamaged, IsDamagedOnce};
 ghost use Rattle.kom_journal.specs.Laws.{SpellsAgain, FitsShort};
 
@@ -15,4 +16,9 @@ pub fn images_stand_for_one()
 pub fn effects_are_kept()
     ensures again { SpellsAgain }
     ensures short { FitsShort }
+{}
+
+/// A law alone: bytes are a snapshot of one state of the rows.
+pub fn snapshots_stand_for_one()
+    ensures { IsSnapshotOfOne }
 {}

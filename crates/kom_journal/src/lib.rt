@@ -10,8 +10,11 @@ mod keeping;
 mod laws;
 mod making;
 mod opening;
+mod restoring;
 mod rows;
+mod snapshots;
 
-pub use errors::OpenFault;
+pub use errors::{NotSnapshot, OpenFault};
 pub use journal::Journal;
-pub use laws::{effects_are_kept, images_stand_for_one};
+pub use laws::{effects_are_kept, images_stand_for_one, snapshots_stand_for_one};
+pub use snapshots::read_snapshot;

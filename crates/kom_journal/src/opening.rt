@@ -1,5 +1,5 @@
 // Opening a store again.
-ghost use Rattle.std.specs.Prelude.{◌≡◌, ◌<◌, ◌≤◌, ◌+◌, ◌-◌, ◌++◌, [], ◌∷◌, take, drop, length};
+ghost use Rattle.std.specs.Prelude.{◌≡◌, ◌<◌, ◌≤◌, ◌+◌, ◌-◌, take, drop, length};
 ghost use Rattle.std.specs.Prelude.{vec_len};
 ghost use Rattle.std.specs.Prelude.{IsTrue, IfOk, IfErr, OnOk, Ok, Err, MatchOption};
 ghost use Rattle.kom_disk.specs.Faults.{Rose};
@@ -12,7 +12,7 @@ ghost use Rattle.kom_journal.specs.Opening.{IsCauseInFile, IsForeignAt};
 ghost use Rattle.kom_journal.specs.Opened.{IsMadeOf, IsLeftOfFile, Opens, CountsBatches};
 ghost use Rattle.kom_journal.specs.Batch.{IsNext, IsNoNext, EndsBefore, IsWithin};
 
-use crate::bodies::make_body;
+use crate::bodies::{make_body, new_buffer};
 use crate::errors::OpenFault;
 use crate::making::Stop;
 use crate::rows::MadeRows;
@@ -21,9 +21,6 @@ use kom_disk::Disk;
 use std::alloc::Global;
 
 const HEADER: [u8; 16] = *b"KOMSTORE\x01\0\0\0\0\0\0\0";
-
-// How many bytes are read at a time, unless an effect has more.
-const BLOCK: usize = 1 << 16;
 
 /// Where the batches of a store end.
 #[derive(Clone, Copy, Debug)]
@@ -164,16 +161,6 @@ fn make_batch<D: Disk>(
         Err(Stop::Fault) => Err(OpenFault::Fault),
         Err(Stop::Unfit) => Err(OpenFault::Damaged(at)),
         Err(Stop::Memory) => Err(OpenFault::Memory),
-    }
-}
-
-fn new_buffer(alloc: Global) -> Result<Vec<u8>, OpenFault>
-    ensures long { IfOk result (λ buffer. 0 < vec_len buffer) }
-    ensures memory { IfErr result (λ fault. fault ≡ OpenFault.Memory) }
-{
-    match vec![in alloc; 0; BLOCK] {
-        Ok(buffer) => Ok(buffer),
-        Err(_) => Err(OpenFault::Memory),
     }
 }
 

@@ -1,19 +1,20 @@
-// The rows that a store's effects make.
+// The rows that a store's effects make, and the counters of a snapshot.
 ghost use Rattle.std.specs.Prelude.{◌≡◌, true, ◌∷◌, [], OnOk};
 ghost use Rattle.kom_state.specs.Room.{HasRoom};
 ghost use Rattle.kom_model.specs.Db.{empty_db};
 ghost use Rattle.kom_model.specs.Effects.{fits, after_effect, IsProtected};
+ghost use Rattle.kom_model.specs.Raising.{may_raise, raised_in};
 ghost use Rattle.kom_model.specs.Whole.{IsWhole};
 ghost use Rattle.kom_snapshot.specs.Listed.{IsListed};
 
 use kom_state::StoredRows;
-use kom_types::{Effect, Memory};
+use kom_types::{Effect, Memory, Raised};
 use std::alloc::Global;
 use std::marker::Model;
 use std::slice;
 
-/// Rows that effects made, from no row on: so they are whole, and as a snapshot needs them, whatever
-/// the disk gave.
+/// Rows that effects and raised counters made, from no row on: so they are whole, and as a snapshot
+/// needs them, whatever the disk gave.
 #[derive(Drop)]
 pub(crate) struct MadeRows {
     rows: StoredRows,
@@ -61,6 +62,20 @@ impl MadeRows {
         ensures { self.new.db ≡ after_effect effect self.old.db }
     {
         self.rows.apply_effect(effect);
+    }
+
+    pub(crate) fn may_raise(&self, given: Raised) -> bool
+        ensures { result ≡ may_raise given self.now.db }
+    {
+        self.rows.may_raise(given)
+    }
+
+    /// Raises a counter that may be raised so. It takes no memory.
+    pub(crate) fn raise(&mut self, given: Raised)
+        requires { may_raise given self.old.db ≡ true }
+        ensures { self.new.db ≡ raised_in given self.old.db }
+    {
+        self.rows.raise(given);
     }
 
     pub(crate) fn into_stored(self) -> StoredRows

@@ -7,13 +7,10 @@ ghost use Rattle.kom_model.specs.Whole.{IsWhole};
 ghost use Rattle.kom_snapshot.specs.Listed.{IsListed};
 
 mod coder;
-mod reading;
-mod restored;
 
 use crate::coder::Coder;
-use crate::reading::read_snapshot;
 use kom_disk::Opener;
-use kom_journal::Journal;
+use kom_journal::{Journal, read_snapshot};
 use kom_state::StoredRows;
 use kom_telling::tell;
 use std::alloc::Global;
@@ -66,7 +63,7 @@ fn told_again(rt: &HostRuntime, alloc: Global, rows: &StoredRows) -> io::Result<
     if tell(alloc, rows, &mut first).is_err() {
         return Ok(false);
     }
-    let Some(read) = read_snapshot(alloc, first.bytes()) else {
+    let Ok(read) = read_snapshot(alloc, first.bytes()) else {
         println!(rt; "not read")?;
         return Ok(false);
     };

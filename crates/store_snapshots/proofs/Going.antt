@@ -1,6 +1,7 @@
 -- How a file goes on from one call to the next.
 use Rattle.std.proofs.Common.{◌≡◌, ◌⊎◌, inl, inr, ℕ, Bool, List, Option, None, Some, Result, Ok, Err, refl, sym}
 use Rattle.std.proofs.Common.{◌<◌, ◌^◌, ◌∙◌, ap, subst, arith}
+use Rattle.kom_model.specs.Db.{Db}
 use Rattle.kom_disk.specs.Faults.{Rose}
 use Rattle.kom_disk.specs.Moments.{LeavesOnly}
 use Rattle.kom_disk.proofs.Moments.{in_turn, wider}
@@ -9,7 +10,7 @@ use Rattle.store_files.specs.declared.choices.Choice.{Choice}
 use Rattle.store_snapshots.specs.Coders.{FileGoesOn, FileComes, FileBecomes}
 use Rattle.store_snapshots.specs.declared.errors.Unwritten.{Unwritten}
 use Rattle.store_snapshots.specs.declared.errors.Unwritten.TheVariants as unwritten
-use Rattle.store_snapshots.specs.Snapshots.{IsBesideOrNew}
+use Rattle.store_snapshots.specs.Snapshots.{AreCoded, IsBesideOrNew, snapshot_bytes}
 
 abbrev kind : Option Unwritten → ℕ
 kind None = 0
@@ -75,7 +76,7 @@ module _ {D : Type 0} (tells : Bool) (moment : D → ℕ) (images_at : D → ℕ
       → FileBecomes tells moment images_at faults first new was None
   becomes_ok first old new was value so_far comes = record {
     goes_on = goes_in_turn first old new so_far.goes_on comes.goes_on;
-    calm = λ none. comes.ok ∙ so_far.calm none;
+    calm = λ not. comes.calm ok_err ∙ so_far.calm none_some;
     fault = λ unrefused is. absurd (none_some is);
     full = λ n unrefused is. absurd (none_some is);
   }
@@ -86,9 +87,9 @@ module _ {D : Type 0} (tells : Bool) (moment : D → ℕ) (images_at : D → ℕ
       → FileBecomes tells moment images_at faults first new was (Some why)
   becomes_err first old new was why so_far comes = record {
     goes_on = goes_in_turn first old new so_far.goes_on comes.goes_on;
-    calm = λ none. absurd (none_some (sym none));
+    calm = λ not. comes.calm (λ is. not (ap Some (err_same is))) ∙ so_far.calm none_some;
     fault = λ unrefused is.
-        subst (λ (n : ℕ). Rose n (faults new.disk)) (so_far.calm refl) (comes.fault (ap Err (some_same is)));
+        subst (λ (n : ℕ). Rose n (faults new.disk)) (so_far.calm none_some) (comes.fault (ap Err (some_same is)));
     full = λ n unrefused is. comes.full n (ap Err (some_same is));
   }
 
@@ -97,7 +98,7 @@ module _ {D : Type 0} (tells : Bool) (moment : D → ℕ) (images_at : D → ℕ
       → FileBecomes tells moment images_at faults file file refused refused
   becomes_self file refused unrefused = record {
     goes_on = itself file;
-    calm = λ none. refl;
+    calm = λ not. refl;
     fault = λ none is. absurd (none_some (sym none ∙ is));
     full = λ n none is. absurd (none_some (sym none ∙ is));
   }
@@ -108,7 +109,7 @@ module _ {D : Type 0} (tells : Bool) (moment : D → ℕ) (images_at : D → ℕ
       → FileComes tells moment images_at faults first new (Ok value)
   comes_ok first new was refused value none becomes = record {
     goes_on = becomes.goes_on;
-    ok = becomes.calm none;
+    calm = λ not. becomes.calm (λ is. none_some (sym none ∙ is));
     fault = λ is. absurd (ok_err is);
     full = λ n is. absurd (ok_err is);
   }
@@ -119,26 +120,27 @@ module _ {D : Type 0} (tells : Bool) (moment : D → ℕ) (images_at : D → ℕ
       → FileComes tells moment images_at faults {T = T} first new (Err why)
   comes_err first new was refused why none is becomes = record {
     goes_on = becomes.goes_on;
-    ok = tt;
+    calm = λ not. becomes.calm (λ fault. not (ap Err (some_same (sym is ∙ fault))));
     fault = λ fault. becomes.fault none (is ∙ ap Some (err_same fault));
     full = λ n full. becomes.full n none (is ∙ ap Some (err_same full));
   }
 
   pub comes_memory : {T : Type 0} (first new : SnapshotView D) → FileGoesOn tells moment images_at faults first new
+      → faults new.disk ≡ faults first.disk
       → FileComes tells moment images_at faults {T = T} first new (Err unwritten.Memory)
-  comes_memory first new goes_on = record {
+  comes_memory first new goes_on same = record {
     goes_on = goes_on;
-    ok = tt;
+    calm = λ not. same;
     fault = λ is. absurd (omega (arith, ap sort (err_same is)));
     full = λ n is. absurd (omega (arith, ap sort (err_same is)));
   }
 
   pub comes_full : {T : Type 0} (first new : SnapshotView D) (len : ℕ)
-      → FileGoesOn tells moment images_at faults first new
+      → FileGoesOn tells moment images_at faults first new → faults new.disk ≡ faults first.disk
       → 2 ^ 40 < len → FileComes tells moment images_at faults {T = T} first new (Err (unwritten.Full len))
-  comes_full first new len goes_on long = record {
+  comes_full first new len goes_on same long = record {
     goes_on = goes_on;
-    ok = tt;
+    calm = λ not. same;
     fault = λ is. absurd (omega (arith, ap sort (err_same is)));
     full = λ n is. subst (λ (m : ℕ). 2 ^ 40 < m) (ap len_in (err_same is)) long;
   }
@@ -149,14 +151,14 @@ module _ {D : Type 0} (tells : Bool) (moment : D → ℕ) (images_at : D → ℕ
       → FileComes tells moment images_at faults a c result
   comes_in_turn a b c value (Ok other) first then = record {
     goes_on = goes_in_turn a b c first.goes_on then.goes_on;
-    ok = then.ok ∙ first.ok;
+    calm = λ not. then.calm not ∙ first.calm ok_err;
     fault = λ is. absurd (ok_err is);
     full = λ n is. absurd (ok_err is);
   }
   comes_in_turn a b c value (Err why) first then = record {
     goes_on = goes_in_turn a b c first.goes_on then.goes_on;
-    ok = tt;
-    fault = λ is. subst (λ (n : ℕ). Rose n (faults c.disk)) first.ok (then.fault is);
+    calm = λ not. then.calm not ∙ first.calm ok_err;
+    fault = λ is. subst (λ (n : ℕ). Rose n (faults c.disk)) (first.calm ok_err) (then.fault is);
     full = then.full;
   }
 
@@ -172,37 +174,37 @@ stays_so moment images_at which a b c first (inr then) =
 
 -- while a snapshot is written, from its beginning on
 module _ {D : Type 0} (moment : D → ℕ) (images_at : D → ℕ → List ℕ → Type 0) (which : Choice) (generation : ℕ)
-    (snapshot : List ℕ) where
+    (db : Db) where
   pub begins_so : (a b : D) → LeavesOnly moment images_at a b (StaysBeside which)
-      → LeavesOnly moment images_at a b (IsBesideOrNew which generation snapshot)
-  begins_so a b begins = wider moment images_at a b (StaysBeside which) (IsBesideOrNew which generation snapshot) begins
+      → LeavesOnly moment images_at a b (IsBesideOrNew which generation db)
+  begins_so a b begins = wider moment images_at a b (StaysBeside which) (IsBesideOrNew which generation db) begins
       (λ at image from to is. inl is)
 
-  goes_on_so : (a b c : D) → LeavesOnly moment images_at a b (IsBesideOrNew which generation snapshot)
+  goes_on_so : (a b c : D) → LeavesOnly moment images_at a b (IsBesideOrNew which generation db)
       → (c ≡ b) ⊎ LeavesOnly moment images_at b c IsNoStore
-      → LeavesOnly moment images_at a c (IsBesideOrNew which generation snapshot)
+      → LeavesOnly moment images_at a c (IsBesideOrNew which generation db)
   goes_on_so a b c first (inl same) =
-      subst (λ (d : D). LeavesOnly moment images_at a d (IsBesideOrNew which generation snapshot)) (sym same) first
+      subst (λ (d : D). LeavesOnly moment images_at a d (IsBesideOrNew which generation db)) (sym same) first
   goes_on_so a b c first (inr then) =
-      in_turn moment images_at a b c (IsBesideOrNew which generation snapshot) first
-      (wider moment images_at b c IsNoStore (IsBesideOrNew which generation snapshot) then
+      in_turn moment images_at a b c (IsBesideOrNew which generation db) first
+      (wider moment images_at b c IsNoStore (IsBesideOrNew which generation db) then
       (λ at image from to none. inl (none which)))
 
   pub told_so : (a b c : D) → LeavesOnly moment images_at a b (StaysBeside which)
       → (c ≡ b) ⊎ LeavesOnly moment images_at b c IsNoStore
-      → LeavesOnly moment images_at a c (IsBesideOrNew which generation snapshot)
+      → LeavesOnly moment images_at a c (IsBesideOrNew which generation db)
   told_so a b c begins then = goes_on_so a b c (begins_so a b begins) then
 
-  none_or_new : (at : ℕ) (image : List ℕ) → IsNoStoreOrNew generation snapshot at image
-      → IsBesideOrNew which generation snapshot at image
-  none_or_new at image (inl none) = inl (none which)
-  none_or_new at image (inr new) = inr new
+  none_or_new : AreCoded db → (at : ℕ) (image : List ℕ) → IsNoStoreOrNew generation (snapshot_bytes db) at image
+      → IsBesideOrNew which generation db at image
+  none_or_new coded at image (inl none) = inl (none which)
+  none_or_new coded at image (inr new) = inr (new, coded)
 
-  pub ends_so : (a b c d : D) → LeavesOnly moment images_at a b (StaysBeside which)
+  pub ends_so : AreCoded db → (a b c d : D) → LeavesOnly moment images_at a b (StaysBeside which)
       → (c ≡ b) ⊎ LeavesOnly moment images_at b c IsNoStore
-      → LeavesOnly moment images_at c d (IsNoStoreOrNew generation snapshot)
-      → LeavesOnly moment images_at a d (IsBesideOrNew which generation snapshot)
-  ends_so a b c d begins then ends =
-      in_turn moment images_at a c d (IsBesideOrNew which generation snapshot) (told_so a b c begins then)
-      (wider moment images_at c d (IsNoStoreOrNew generation snapshot) (IsBesideOrNew which generation snapshot) ends
-      (λ at image from to is. none_or_new at image is))
+      → LeavesOnly moment images_at c d (IsNoStoreOrNew generation (snapshot_bytes db))
+      → LeavesOnly moment images_at a d (IsBesideOrNew which generation db)
+  ends_so coded a b c d begins then ends =
+      in_turn moment images_at a c d (IsBesideOrNew which generation db) (told_so a b c begins then)
+      (wider moment images_at c d (IsNoStoreOrNew generation (snapshot_bytes db)) (IsBesideOrNew which generation db)
+      ends (λ at image from to is. none_or_new coded at image is))

@@ -1,7 +1,7 @@
 // A sink that puts the bytes of parts into a file, block by block.
 ghost use Rattle.std.specs.Prelude.{◌≡◌, ◌++◌, [], ◌∷◌, List, None, IfErr, OnOk};
 ghost use Rattle.kom_types.specs.Parts.{Part, part_of};
-ghost use Rattle.effect_codec.specs.Parts.{IsPartShort, coded_part};
+ghost use Rattle.effect_codec.specs.Parts.{IsPartShort, IsPartInRange, coded_part};
 ghost use Rattle.store_snapshots.specs.Coders.{HasParts, FileComes};
 
 use crate::errors::Unwritten;
@@ -133,6 +133,7 @@ fn append_to(block: &mut Vec<u8>, part: &PartRef<'_>) -> Result<(), Unwritten>
     requires { IsPartShort (part_of part.now) }
     ensures items { OnOk result
         (block.new.items ≡ block.old.items ++ coded_part (part_of part.now)) }
+    ensures range { OnOk result (IsPartInRange (part_of part.now)) }
     ensures memory { IfErr result (λ why. why ≡ Unwritten.Memory) }
 {
     match block.reserve(part_len(part) as usize) {

@@ -13,7 +13,7 @@ ghost use Rattle.store_files.specs.Choices.{IsBeside};
 ghost use Rattle.store_files.specs.Writing.{HasSnapshot, StaysBeside, new_file};
 ghost use Rattle.store_files.specs.declared.choices.Choice.{Choice};
 ghost use Rattle.store_snapshots.specs.Coders.{FileComes, FileGoesOn, HasParts};
-ghost use Rattle.store_snapshots.specs.Snapshots.{IsBesideOrNew, snapshot_bytes};
+ghost use Rattle.store_snapshots.specs.Snapshots.{AreCoded, IsBesideOrNew, snapshot_bytes};
 
 use crate::coder::{Coder, put_block};
 use crate::errors::Unwritten;
@@ -40,13 +40,14 @@ pub fn write_snapshot<D: Disk>(
     requires listed { IsListed rows.now.db }
     ensures new { IsTrue D.tells → IfOk result (λ new. IsStable
         (new_file generation (snapshot_bytes rows.now.db)) (D.bytes new.0) (D.images new.0)) }
+    ensures coded { OnOk result (AreCoded rows.now.db) }
     ensures place { IfOk result (λ new. D.size new.0 ≡ new.1 + 1) }
     ensures any_moment { IsTrue D.tells → (choice : Choice) → IsBeside choice (D.bytes disk)
         → MatchResult result
         (λ new. LeavesOnly D.moment D.images_at disk new.0
-        (IsBesideOrNew choice generation (snapshot_bytes rows.now.db)))
+        (IsBesideOrNew choice generation rows.now.db))
         (λ refused. LeavesOnly D.moment D.images_at disk refused.0
-        (IsBesideOrNew choice generation (snapshot_bytes rows.now.db))) }
+        (IsBesideOrNew choice generation rows.now.db)) }
     ensures given_up { IsTrue D.tells → (choice : Choice) → IsBeside choice (D.bytes disk)
         → IfErr result (λ refused. refused.1 ≢ Unwritten.Fault
         → LeavesOnly D.moment D.images_at disk refused.0 (StaysBeside choice)) }
@@ -54,6 +55,8 @@ pub fn write_snapshot<D: Disk>(
     ensures fault { IfErr result (λ refused. refused.1 ≡ Unwritten.Fault
         → Rose (D.faults disk) (D.faults refused.0)) }
     ensures no_fault { IfOk result (λ new. D.faults new.0 ≡ D.faults disk) }
+    ensures calm { IfErr result (λ refused. refused.1 ≢ Unwritten.Fault
+        → D.faults refused.0 ≡ D.faults disk) }
 {
     let file = match SnapshotFile::begin(disk, len, generation) {
         Ok(file) => file,
@@ -78,10 +81,13 @@ fn tell_into<D: Disk>(
     requires listed { IsListed rows.now.db }
     requires empty { HasSnapshot D.tells D.bytes D.size [] file }
     ensures told { IfOk result (HasSnapshot D.tells D.bytes D.size (snapshot_bytes rows.now.db)) }
+    ensures coded { OnOk result (AreCoded rows.now.db) }
     ensures goes_on { MatchResult result
         (λ new. FileGoesOn D.tells D.moment D.images_at D.faults file new)
         (λ refused. FileGoesOn D.tells D.moment D.images_at D.faults file refused.0) }
     ensures no_fault { IfOk result (λ new. D.faults new.disk ≡ D.faults file.disk) }
+    ensures calm { IfErr result (λ refused. refused.1 ≢ Unwritten.Fault
+        → D.faults refused.0.disk ≡ D.faults file.disk) }
     ensures fault { IfErr result (λ refused. refused.1 ≡ Unwritten.Fault
         → Rose (D.faults file.disk) (D.faults refused.0.disk)) }
     ensures full { (n : ℕ) → IfErr result (λ refused. refused.1 ≡ Unwritten.Full n → 2 ^ 40 < n) }
@@ -108,6 +114,7 @@ fn tell_whole<D: Disk>(
     requires unrefused { coder.old.refused ≡ None }
     ensures told { OnOk result
         (HasSnapshot D.tells D.bytes D.size (snapshot_bytes rows.now.db) coder.new.file) }
+    ensures coded { OnOk result (AreCoded rows.now.db) }
     ensures comes { FileComes D.tells D.moment D.images_at D.faults coder.old.file
         coder.new.file result }
 {

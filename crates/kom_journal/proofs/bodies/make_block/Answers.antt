@@ -1,7 +1,8 @@
 use Rattle.std.proofs.Common.{◌≡◌, ◌≤◌, ◌+◌, length, take, drop, arith, length-drop}
 use Rattle.std.proofs.lemmas.List.{length-take-le}
 use Rattle.std.proofs.lemmas.Result.{err_from_is_err_and}
-use Rattle.kom_journal.proofs.Reading.{block_read, block_made, block_unfit, last_unfit}
+use Rattle.kom_journal.proofs.Parts.{block_made, block_refused, last_refused}
+use Rattle.kom_journal.proofs.Reading.{block_read}
 use Rattle.kom_journal.proofs.bodies.make_block.Goals as goal
 
 pub returns-in_err-used-clause-unfit : goal.returns-in_err-used-clause-unfit
@@ -24,7 +25,8 @@ returns-in_err-used-clause-unfit g c told =
     length-take-le held given (omega (arith, fits, c.deref.ensures.len)) in
     let p = err_from_is_err_and c.from_residual.result c.from_residual.ensures.1 in
     rw (p.1, p.2) (λ same.
-    block_unfit c.args.at held c.args.end bytes (take held given) within is long c.args.rows.now.db
+    block_refused g.M.BodyMaker.makes g.M.BodyMaker.refuses g.met.M.BodyMaker.in_turn g.met.M.BodyMaker.later
+    c.args.at held c.args.end bytes (take held given) within is long c.args.maker.now
     (c.in_err-used.ensures.unfit same))
 
 pub returns-then-held-left-clause-unfit : goal.returns-then-held-left-clause-unfit
@@ -45,8 +47,9 @@ returns-then-held-left-clause-unfit g c told same =
     (omega (arith, within, counts, length-drop c.args.at bytes)) in
     let long : length (take held given) ≡ held =
     length-take-le held given (omega (arith, fits, c.deref.ensures.len)) in
-    last_unfit c.args.at held c.args.end bytes (take held given) within is long c.args.rows.now.db
-    c.make_effects.new.rows.db c.in_ok-used.used c.in_ok-used.ensures.made c.if-used-held.true
+    last_refused g.M.BodyMaker.makes g.M.BodyMaker.refuses g.met.M.BodyMaker.in_turn g.met.M.BodyMaker.later
+    c.args.at held c.args.end bytes (take held given) within is long c.args.maker.now c.make_parts.new.maker
+    c.in_ok-used.used c.in_ok-used.ensures.made c.if-used-held.true
     (omega (arith, c.if-held-left.true, c.requires.within.0))
 
 pub returns-in_ok-grow-clause-made : goal.returns-in_ok-grow-clause-made
@@ -67,8 +70,9 @@ returns-in_ok-grow-clause-made g c told =
     (omega (arith, within, counts, length-drop c.args.at bytes)) in
     let long : length (take held given) ≡ held =
     length-take-le held given (omega (arith, fits, c.deref.ensures.len)) in
-    block_made c.args.at held c.args.end bytes (take held given) within is long c.args.rows.now.db
-    c.make_effects.new.rows.db c.in_ok-used.used c.in_ok-used.ensures.made
+    block_made g.M.BodyMaker.makes g.M.BodyMaker.refuses g.met.M.BodyMaker.in_turn g.met.M.BodyMaker.later
+    c.args.at held c.args.end bytes (take held given) within is long c.args.maker.now c.make_parts.new.maker
+    c.in_ok-used.used c.in_ok-used.ensures.made
 
 pub returns-else-used-eq0-clause-made : goal.returns-else-used-eq0-clause-made
 returns-else-used-eq0-clause-made g c told =
@@ -88,5 +92,6 @@ returns-else-used-eq0-clause-made g c told =
     (omega (arith, within, counts, length-drop c.args.at bytes)) in
     let long : length (take held given) ≡ held =
     length-take-le held given (omega (arith, fits, c.deref.ensures.len)) in
-    block_made c.args.at held c.args.end bytes (take held given) within is long c.args.rows.now.db
-    c.make_effects.new.rows.db c.in_ok-used.used c.in_ok-used.ensures.made
+    block_made g.M.BodyMaker.makes g.M.BodyMaker.refuses g.met.M.BodyMaker.in_turn g.met.M.BodyMaker.later
+    c.args.at held c.args.end bytes (take held given) within is long c.args.maker.now c.make_parts.new.maker
+    c.in_ok-used.used c.in_ok-used.ensures.made

@@ -1,10 +1,9 @@
-use Rattle.std.proofs.Common.{◌≡◌, refl, ◌∙◌, ap, subst, arith, ◌+◌, List, [], ℕ, Result, Ok, Err}
+use Rattle.std.proofs.Common.{◌≡◌, refl, ◌∙◌, ap, subst, arith, ◌+◌, List, ℕ, Result, Ok, Err}
 use Rattle.std.proofs.lemmas.Result.{err_from_is_err_and}
 use Rattle.kom_disk.specs.Faults.{Rose}
-use Rattle.kom_journal.specs.Opening.{IsUnfit}
 use Rattle.batch_log.proofs.Looking.{unread, looks_on}
-use Rattle.kom_journal.specs.Reading.{MakesPart, part}
-use Rattle.kom_journal.proofs.Reading.{begins_none, parts_made, part_unfit, part_none}
+use Rattle.kom_journal.specs.Reading.{part}
+use Rattle.kom_journal.proofs.Reading.{part_none}
 use Rattle.kom_journal.proofs.bodies.make_body.Goals as goal
 
 -- an error is the same beside whatever value there might have been
@@ -28,11 +27,8 @@ loop-at-init g c = record {
   makes = record {
     within = c.requires.within.0;
     roomy = c.requires.room;
-    made = λ told. record {
-      effects = [];
-      begins = begins_none c.args.rows.now.db (part c.args.from c.args.end (g.D.Disk.bytes c.args.disk.now));
-      rows = refl;
-    };
+    made = λ told. g.met.M.BodyMaker.none c.args.maker.now
+        (part c.args.from c.args.end (g.D.Disk.bytes c.args.disk.now));
   };
 }
 
@@ -55,11 +51,11 @@ loop-at-preserved g c =
       makes = record {
         within = e.within;
         roomy = e.room;
-        made = λ told. parts_made (part c.args.from c.args.end file) (part c.loop-at.at c.args.end file)
-            (part (c.loop-at.at + c.in_ok-used.used) c.args.end file) c.args.rows.now.db c.loop-at.rows.db
-            c.make_block.new.rows.db (kept.makes.made told)
-            (subst (λ (b : List ℕ). MakesPart (part c.loop-at.at c.args.end b)
-            (part (c.loop-at.at + c.in_ok-used.used) c.args.end b) c.loop-at.rows.db c.make_block.new.rows.db)
+        made = λ told. g.met.M.BodyMaker.in_turn c.args.maker.now c.loop-at.maker c.make_block.new.maker
+            (part c.args.from c.args.end file) (part c.loop-at.at c.args.end file)
+            (part (c.loop-at.at + c.in_ok-used.used) c.args.end file) (kept.makes.made told)
+            (subst (λ (b : List ℕ). g.M.BodyMaker.makes c.loop-at.maker c.make_block.new.maker
+            (part c.loop-at.at c.args.end b) (part (c.loop-at.at + c.in_ok-used.used) c.args.end b))
             (kept.looks.same_bytes told) (e.made told));
       };
     }
@@ -70,10 +66,10 @@ returns-in_err-used-clause-unfit g c told =
     let file = g.D.Disk.bytes c.args.disk.now in
     let p = err_from_is_err_and c.from_residual.result c.from_residual.ensures.1 in
     rw (p.1, p.2) (λ same.
-    part_unfit (part c.args.from c.args.end file) (part c.loop-at.at c.args.end file) c.args.rows.now.db
-    c.loop-at.rows.db (kept.makes.made told)
-    (subst (λ (b : List ℕ). IsUnfit c.loop-at.rows.db (part c.loop-at.at c.args.end b)) (kept.looks.same_bytes told)
-    (c.in_err-used.ensures.unfit told (same_error _ _ same))))
+    g.met.M.BodyMaker.later c.args.maker.now c.loop-at.maker (part c.args.from c.args.end file)
+    (part c.loop-at.at c.args.end file) (kept.makes.made told)
+    (subst (λ (b : List ℕ). g.M.BodyMaker.refuses c.loop-at.maker (part c.loop-at.at c.args.end b))
+    (kept.looks.same_bytes told) (c.in_err-used.ensures.unfit told (same_error _ _ same))))
 
 pub returns-in_err-used-clause-fault : goal.returns-in_err-used-clause-fault
 returns-in_err-used-clause-fault g c =
@@ -93,5 +89,5 @@ returns-clause-made g c told =
     let kept = c.loop-at.invariant in
     let file = g.D.Disk.bytes c.args.disk.now in
     let last : c.loop-at.at ≡ c.args.end = omega (arith, kept.makes.within) in
-    subst (λ (l : List ℕ). MakesPart (part c.args.from c.args.end file) l c.args.rows.now.db c.loop-at.rows.db)
+    subst (λ (l : List ℕ). g.M.BodyMaker.makes c.args.maker.now c.loop-at.maker (part c.args.from c.args.end file) l)
     (ap (λ (n : ℕ). part n c.args.end file) last ∙ part_none c.args.end file) (kept.makes.made told)

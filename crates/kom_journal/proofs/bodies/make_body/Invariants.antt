@@ -6,8 +6,8 @@ abbrev pub invariant-loop-at : goal.invariant-loop-at
 invariant-loop-at g l = record {
   looks : Looks g.D.Disk.tells g.D.Disk.bytes g.D.Disk.size g.D.Disk.faults g.D.Disk.moment g.D.Disk.images
       g.D.Disk.images_at l.initial.disk l.disk;
-  makes : MakesTo g.D.Disk.tells (g.D.Disk.bytes l.initial.disk) l.from l.end l.at (vec_len l.buffer)
-      l.initial.rows.db l.rows.db;
+  makes : MakesTo g.D.Disk.tells g.M.BodyMaker.makes (g.D.Disk.bytes l.initial.disk) l.from l.end l.at
+      (vec_len l.buffer) l.initial.maker l.maker;
 }
 
 abbrev pub decreases-loop-at : goal.decreases-loop-at

@@ -2,8 +2,8 @@ use Rattle.std.proofs.Common.{◌≡◌, ◌+◌, List, ℕ, [], ◌∷◌, ◌+
 use Rattle.batch_log.specs.Batches.{with_length}
 use Rattle.batch_log.specs.Walk.{HasFirst, Stands}
 use Rattle.kom_journal.specs.Opening.{IsUnfit}
-use Rattle.kom_journal.specs.Reading.{MakesPart, part}
-use Rattle.kom_journal.proofs.Reading.{first_body}
+use Rattle.kom_journal.specs.Reading.{MakesRows, part}
+use Rattle.kom_journal.proofs.Reading.{first_body, rows_made}
 use Rattle.kom_journal.proofs.opening.make_batch.Goals as goal
 
 pub returns-in-Ok-make_body-clause-next : goal.returns-in-Ok-make_body-clause-next
@@ -18,8 +18,9 @@ returns-in-Ok-make_body-clause-next g c told =
     ∙ first_body c.args.at c.in-Batch.size file first in
     record {
       first = first;
-      made = subst (λ (l : List ℕ). MakesPart l [] c.args.rows.now.db c.make_body.new.rows.db) body
-          (c.in-Ok-make_body.ensures.made told);
+      made = rows_made first.body c.args.rows.now.db c.make_body.new.maker.db
+          (subst (λ (l : List ℕ). MakesRows c.args.rows.now.db c.make_body.new.maker.db l []) body
+          (c.in-Ok-make_body.ensures.made told));
     }
 
 pub returns-in-Err-Unfit-clause-none : goal.returns-in-Err-Unfit-clause-none

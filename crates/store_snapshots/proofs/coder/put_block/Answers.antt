@@ -20,4 +20,6 @@ returns-in-Err-Full-clause-comes g c =
       generation = c.in-Err-Full.ensures.generation;
       moments = λ told. inr (c.in-Err-Full.ensures.any_moment told);
     })
+    (ap (λ file. g.D.Disk.faults file.disk)
+    (c.in-Err-Full.ensures.left c.in-Err-Full.len (ap Err c.in-Err-Full.field-0-is)))
     ((c.in-Err-Full.ensures.full c.in-Err-Full.len).0 (ap Err c.in-Err-Full.field-0-is)).0

@@ -6,4 +6,5 @@ pub returns-clause-put : goal.returns-clause-put
 returns-clause-put g c parts was =
     added_ok g.D.Disk.tells g.D.Disk.bytes g.D.Disk.size c.append_to.result parts (part_of c.args.part.now)
     c.make_room.new.file c.make_room.new.block.items c.append_to.new.block.items c.append_to.ensures.items
+    c.append_to.ensures.range
     (c.in_ok-make_room.ensures.put parts was)

@@ -19,7 +19,8 @@ returns-in-Ok-finish-clause-any_moment g c told which beside =
     let snapshot = snapshot_bytes c.args.rows.now.db in
     let full = c.in-Ok-tell_into.file.disk in
     let end = c.in-Ok-finish.new.0 in
-    ends_so g.D.Disk.moment g.D.Disk.images_at which c.args.generation snapshot c.args.disk c.in-Ok.file.disk full end
+    ends_so g.D.Disk.moment g.D.Disk.images_at which c.args.generation c.args.rows.now.db
+    c.in-Ok-tell_into.ensures.coded c.args.disk c.in-Ok.file.disk full end
     (c.in-Ok.ensures.any_moment told which beside)
     (c.in-Ok-tell_into.ensures.goes_on.moments told)
     (subst
@@ -32,7 +33,8 @@ returns-in-Err-finish-clause-any_moment g c told which beside =
     let snapshot = snapshot_bytes c.args.rows.now.db in
     let full = c.in-Ok-tell_into.file.disk in
     let end = c.in-Err-finish.disk in
-    ends_so g.D.Disk.moment g.D.Disk.images_at which c.args.generation snapshot c.args.disk c.in-Ok.file.disk full end
+    ends_so g.D.Disk.moment g.D.Disk.images_at which c.args.generation c.args.rows.now.db
+    c.in-Ok-tell_into.ensures.coded c.args.disk c.in-Ok.file.disk full end
     (c.in-Ok.ensures.any_moment told which beside)
     (c.in-Ok-tell_into.ensures.goes_on.moments told)
     (subst
@@ -42,12 +44,12 @@ returns-in-Err-finish-clause-any_moment g c told which beside =
 
 pub returns-in-Err-tell_into-clause-any_moment : goal.returns-in-Err-tell_into-clause-any_moment
 returns-in-Err-tell_into-clause-any_moment g c told which beside =
-    let snapshot = snapshot_bytes c.args.rows.now.db in
+    let db = c.args.rows.now.db in
     let left = c.in-Err-tell_into.file.disk in
     subst
     (λ (d : g.row.D.Denot). LeavesOnly g.D.Disk.moment g.D.Disk.images_at c.args.disk d
-    (IsBesideOrNew which c.args.generation snapshot)) (sym c.into_disk.ensures)
-    (told_so g.D.Disk.moment g.D.Disk.images_at which c.args.generation snapshot c.args.disk c.in-Ok.file.disk left
+    (IsBesideOrNew which c.args.generation db)) (sym c.into_disk.ensures)
+    (told_so g.D.Disk.moment g.D.Disk.images_at which c.args.generation db c.args.disk c.in-Ok.file.disk left
     (c.in-Ok.ensures.any_moment told which beside) (c.in-Err-tell_into.ensures.goes_on.moments told))
 
 pub returns-in-Err-tell_into-clause-given_up : goal.returns-in-Err-tell_into-clause-given_up

@@ -1,6 +1,6 @@
 use Rattle.std.proofs.Common.{drop, sym, ◌∙◌}
 use Rattle.kom_journal.proofs.Reading.{wrong_unfit, found_unfit, faulty_unfit, faulty_some}
-use Rattle.kom_journal.proofs.making.make_next.Goals as goal
+use Rattle.kom_journal.proofs.making.make_effect.Goals as goal
 
 pub returns-then-has_faulty_range-clause-unfit : goal.returns-then-has_faulty_range-clause-unfit
 returns-then-has_faulty_range-clause-unfit c same more =
