@@ -1,0 +1,4 @@
+pub mod Without
+pub mod Left
+pub mod Leaving
+pub mod WithoutRows

@@ -1,0 +1,19 @@
+ghost use Rattle.sweep_laws.specs.Leaving.{DeletionLeaves, OtherLeaves, HistoryLeaves};
+ghost use Rattle.sweep_laws.specs.Left.{LeavesRest};
+ghost use Rattle.sweep_laws.specs.WithoutRows.{WithoutRows};
+
+/// A law alone: rows without some texts are those in which these are not found, and in which every
+/// other text has the same author, body, recipients, marks and aux-items, and the same links to
+/// those that are left; it is seen in rows that were worked out by hand.
+pub fn deletions_leave_the_rest()
+    ensures left { LeavesRest }
+    ensures worked { WithoutRows }
+{}
+
+/// A law alone: delete-text takes its text out of whole rows and nothing else, the other calls of a
+/// sweep take out none; and so along a history of such calls the texts go that its calls delete.
+pub fn sweeps_delete_alone()
+    ensures deletion { DeletionLeaves }
+    ensures other { OtherLeaves }
+    ensures history { HistoryLeaves }
+{}
