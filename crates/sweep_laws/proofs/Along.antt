@@ -1,8 +1,7 @@
 -- Along a history of acts of a sweep the texts go that its records delete.
 use Rattle.std.proofs.Common.{◌≡◌, ℕ, ◌||◌, ◌&&◌, Bool, true, false, not, List, [], ◌∷◌, ◌++◌, refl, sym, ap, ◌∙◌}
-use Rattle.std.proofs.Common.{subst, true≢false, inl, inr}
+use Rattle.std.proofs.Common.{subst, inl, inr}
 use Rattle.std.specs.Prelude.{map}
-use Rattle.std.specs.List.{AllByRecursion, filter}
 use Rattle.std.proofs.lemmas.Bool.{cases_Bool}
 use Rattle.kom_types.specs.declared.acts.Act.{Act}
 use Rattle.kom_types.specs.declared.acts.Act.TheVariants as act
@@ -13,12 +12,12 @@ use Rattle.kom_types.specs.declared.aux_items.ItemRow.{ItemRow}
 use Rattle.kom_types.specs.declared.texts.TextLink.{TextLink}
 use Rattle.kom_model.specs.After.{after, reply_in}
 use Rattle.kom_model.specs.Db.{Db}
-use Rattle.kom_model.specs.Legal.{IsLegal, state_after}
+use Rattle.kom_model.specs.Legal.{state_after}
 use Rattle.kom_model.specs.State.{State, IsSound}
 use Rattle.kom_model.proofs.Soundness.{IsSound-after}
 use Rattle.kom_laws.proofs.masking.Effects.{same-db}
 use Rattle.kom_sweep.specs.Replies.{is_refused}
-use Rattle.sweep_laws.specs.Leaving.{HistoryLeaves, deleted_along, deleted_by, named_in, deleted_in}
+use Rattle.sweep_laws.specs.Leaving.{HistoryLeaves, deleted_along, deleted_by, named_in}
 use Rattle.sweep_laws.specs.Leaving.{is_swept_call, is_other_call, passes}
 use Rattle.sweep_laws.specs.Without.{without_texts, without_logins, stays, stays_link, stays_item, IsWithout}
 use Rattle.sweep_laws.proofs.Deleting.{none-without, deletion-leaves}

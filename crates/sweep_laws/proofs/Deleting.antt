@@ -1,5 +1,5 @@
 -- What delete-text makes of whole rows, refused or not.
-use Rattle.std.proofs.Common.{◌≡◌, ℕ, Bool, true, false, cond, List, [], ◌∷◌, Option, Some, None, refl, sym, ap, ◌∙◌}
+use Rattle.std.proofs.Common.{◌≡◌, ℕ, Bool, true, false, List, [], ◌∷◌, Option, Some, refl, sym, ap, ◌∙◌}
 use Rattle.std.proofs.Common.{true≢false, inl, inr, subst, not, ◌||◌}
 use Rattle.std.specs.Prelude.{is_some}
 use Rattle.std.proofs.lemmas.Bool.{cases_Bool}
@@ -23,13 +23,13 @@ use Rattle.kom_model.specs.ToWhom as ToWhom
 use Rattle.kom_model.specs.Whole.{IsWhole}
 use Rattle.kom_model.specs.calls.Call.{Asked}
 use Rattle.kom_model.specs.calls.Guards.{caller, login_guard, text_guard, unless}
-use Rattle.kom_model.specs.calls.Texts.{delete_text, gone_text, owns_text}
+use Rattle.kom_model.specs.calls.Texts.{gone_text, owns_text}
 use Rattle.kom_model.proofs.Deciding.{decision-meets}
 use Rattle.kom_model.proofs.Kept.{kept_makes, apply_all-fitting}
 use Rattle.kom_laws.proofs.Refusing.{refused-keeps}
 use Rattle.kom_laws.proofs.fitting.Guards.{all-pass, text-there}
 use Rattle.kom_sweep.specs.Replies.{is_refused}
-use Rattle.sweep_laws.specs.Leaving.{DeletionLeaves, deleted_by, deleted_in, named_in}
+use Rattle.sweep_laws.specs.Leaving.{DeletionLeaves, deleted_in, named_in}
 use Rattle.sweep_laws.specs.Without.{without_texts, stays, stays_link, stays_item}
 use Rattle.kom_laws.proofs.masking.Effects.{same-db}
 use Rattle.sweep_laws.proofs.Gone.{text-taken}

@@ -1,6 +1,6 @@
 -- What the effects of delete-text make of whole rows.
 use Rattle.std.proofs.Common.{◌≡◌, ℕ, ◌==◌, ◌||◌, ◌&&◌, Bool, true, false, not, List, [], ◌∷◌, ◌++◌, refl, sym, ap, ◌∙◌}
-use Rattle.std.proofs.Common.{inl, inr, subst, eqb-true, eq-eqb, append_assoc, true≢false, cond}
+use Rattle.std.proofs.Common.{inl, inr, subst, eqb-true, eq-eqb, append_assoc, true≢false}
 use Rattle.std.specs.Prelude.{map, is_some}
 use Rattle.std.specs.List.{AllByRecursion, filter, list_any}
 use Rattle.std.proofs.lemmas.Bool.{cases_Bool, and_parts, and_from, false_from_ne_true}

@@ -1,5 +1,5 @@
 -- What is found in rows without some texts.
-use Rattle.std.proofs.Common.{◌≡◌, ℕ, ◌==◌, ◌||◌, ◌&&◌, Bool, true, false, not, List, [], ◌∷◌, None, refl, sym, ap, ◌∙◌}
+use Rattle.std.proofs.Common.{◌≡◌, ℕ, ◌==◌, ◌||◌, ◌&&◌, Bool, true, false, not, List, None, refl, ap, ◌∙◌}
 use Rattle.std.proofs.Common.{eqb-true}
 use Rattle.std.specs.Prelude.{map}
 use Rattle.std.specs.List.{filter}

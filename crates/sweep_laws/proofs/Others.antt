@@ -11,7 +11,6 @@ use Rattle.kom_types.specs.declared.acts.Record.{Record}
 use Rattle.kom_types.specs.declared.calls.Call.{Call}
 use Rattle.kom_types.specs.declared.calls.Call.TheVariants as call
 use Rattle.kom_types.specs.declared.conferences.ConferenceRow.{ConferenceRow}
-use Rattle.kom_types.specs.declared.decisions.Decision.{Decision}
 use Rattle.kom_types.specs.declared.effects.Counter.TheVariants as counter
 use Rattle.kom_types.specs.declared.effects.Effect.{Effect}
 use Rattle.kom_types.specs.declared.effects.Effect.TheVariants as effect
@@ -23,7 +22,7 @@ use Rattle.kom_model.specs.After.{after, moment_of}
 use Rattle.kom_model.specs.Db.{Db, conferences_of, texts_of}
 use Rattle.kom_model.specs.Decide.{asked_in, decision_of, definition_of}
 use Rattle.kom_model.specs.Effects.{fits, after_effect, apply, apply_all}
-use Rattle.kom_model.specs.Kept.{kept_of, effects_of}
+use Rattle.kom_model.specs.Kept.{kept_of}
 use Rattle.kom_model.specs.State.{State}
 use Rattle.kom_model.specs.calls.Call.{Asked, seat_of}
 use Rattle.kom_model.specs.calls.Conferences.{nearest, first_seen}
@@ -32,7 +31,7 @@ use Rattle.kom_model.specs.calls.Texts.{nearest_text, first_read}
 use Rattle.kom_model.proofs.Deciding.{decision-holds}
 use Rattle.kom_model.proofs.Kept.{kept_makes, apply_all-fitting}
 use Rattle.sweep_laws.specs.Leaving.{is_other_call, passes, OtherLeaves}
-use Rattle.sweep_laws.specs.Without.{without_logins, without_texts, IsWithout}
+use Rattle.sweep_laws.specs.Without.{without_logins, IsWithout}
 use Rattle.sweep_laws.proofs.Deleting.{none-without}
 
 -- ---- what a login and a logout make of rows

@@ -1,5 +1,5 @@
 -- What is left of texts where some of them are gone.
-use Rattle.std.specs.Prelude.{◌≡◌, ℕ, Bool, true, false, List, filter, Option, None}
+use Rattle.std.specs.Prelude.{◌≡◌, ℕ, Bool, true, false, List, filter, None}
 use Rattle.kom_model.specs.Db.{Db, text_of, recipients_of, marks_on, items_of}
 use Rattle.kom_model.specs.Db.{links_from, links_into, conferences_of}
 use Rattle.sweep_laws.specs.Without.{stays, IsWithout}
