@@ -2,3 +2,5 @@ pub mod Without
 pub mod Left
 pub mod Leaving
 pub mod WithoutRows
+pub mod Due
+pub mod DueRows

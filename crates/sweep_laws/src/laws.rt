@@ -1,3 +1,4 @@
+ghost use Rattle.sweep_laws.specs.DueRows.{DueRows};
 ghost use Rattle.sweep_laws.specs.Leaving.{DeletionLeaves, OtherLeaves, HistoryLeaves};
 ghost use Rattle.sweep_laws.specs.Left.{LeavesRest};
 ghost use Rattle.sweep_laws.specs.WithoutRows.{WithoutRows};
@@ -16,4 +17,9 @@ pub fn sweeps_delete_alone()
     ensures deletion { DeletionLeaves }
     ensures other { OtherLeaves }
     ensures history { HistoryLeaves }
+{}
+
+/// A law alone: which texts are due by stored rows is what was worked out by hand.
+pub fn worked_due_texts()
+    ensures { DueRows }
 {}

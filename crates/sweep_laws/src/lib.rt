@@ -3,4 +3,4 @@
 
 mod laws;
 
-pub use laws::{deletions_leave_the_rest, sweeps_delete_alone};
+pub use laws::{deletions_leave_the_rest, sweeps_delete_alone, worked_due_texts};
