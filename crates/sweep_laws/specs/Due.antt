@@ -93,8 +93,8 @@ has_owners db =
     list_all (λ row. not (is_letterbox row.kind) || is_some (person_of db row.number))
     (conferences_of db)
 
--- The texts that are due at a moment, by rising number; none, where a letterbox has no person, since
--- then it is not known what that would name.
+-- The texts that are due at a moment, by rising number. Where a letterbox has no person there are
+-- none, since then it is not known what that would name.
 abbrev pub due_texts : Db → ℕ → List ℕ
 due_texts db moment = if has_owners db
     then map (λ row. row.number) (filter (is_due_row db moment) (texts_of db)) else []

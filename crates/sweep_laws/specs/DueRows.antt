@@ -75,7 +75,8 @@ pub record DueRows : Type 0 where
   pub not_kept : due_on 78 (where_six (record six { keep_commented = 0 })) ≡ 1 ∷ 2 ∷ []
   -- every recipient has to release it
   pub to_another : due_on 155 (record three {
-    conferences = box ∷ six ∷ record (fresh_conference 7 (codes "Long") 0 0 5 5) { nice = 200 } ∷ [];
+    conferences =
+        box ∷ six ∷ record (fresh_conference 7 (codes "Long") 0 0 5 5) { nice = 200 } ∷ [];
     recipients = sent 1 6 1 ∷ sent 2 6 2 ∷ sent 2 7 1 ∷ [];
   }) ≡ 1 ∷ 3 ∷ []
   -- a mark keeps its text, and so does an item that has the flag

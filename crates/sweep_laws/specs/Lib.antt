@@ -4,3 +4,5 @@ pub mod Leaving
 pub mod WithoutRows
 pub mod Due
 pub mod DueRows
+pub mod Told
+pub mod Swept
