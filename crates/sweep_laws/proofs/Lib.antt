@@ -4,3 +4,10 @@ pub mod Gone
 pub mod Deleting
 pub mod Others
 pub mod Along
+pub mod Found
+pub mod Strong
+pub mod Replies
+pub mod Walked
+pub mod Rooms
+pub mod Linked
+pub mod Judged

@@ -4,6 +4,7 @@ use Rattle.std.specs.List.{AllByRecursion}
 use Rattle.kom_types.specs.declared.acts.Act.TheVariants as act
 use Rattle.kom_types.specs.declared.acts.Record.{Record}
 use Rattle.kom_types.specs.declared.effects.Effect.{Effect}
+use Rattle.kom_types.specs.declared.errors.TheConstants as error
 use Rattle.kom_links.specs.DeskCalls.{DeskView}
 use Rattle.kom_model.specs.After.{after, reply_in}
 use Rattle.kom_model.specs.Db.{Db, empty_db}
@@ -13,10 +14,10 @@ use Rattle.kom_model.specs.Out.{given_by_pass}
 use Rattle.kom_model.specs.State.{State, IsSound, opening_state}
 use Rattle.kom_sweep.specs.declared.ends.SweepEnd.TheVariants as end
 use Rattle.kom_sweep.specs.Acting.{Seen}
+use Rattle.kom_sweep.specs.Replies.{has_code, refusal_in}
 use Rattle.kom_sweep.specs.Sweeps.{IsSession, IsSwept}
 use Rattle.kom_sweep.specs.Told.{Told, tell}
 use Rattle.sweep_laws.specs.Due.{AreNumbered, due_texts}
-use Rattle.sweep_laws.specs.Told.{is_curbed}
 use Rattle.sweep_laws.specs.Without.{IsWithout}
 
 -- the call of a record, with its reply, if its act is one
@@ -39,9 +40,10 @@ told_along state (made ∷ history) = told_by state made ++ told_along (after st
 abbrev pub IsOf : ℕ → Record → Type 0
 IsOf session made = (made.session ≡ session) ⊎ (made.entry.act ≡ act.Flush)
 
--- no call was curbed
-abbrev pub AreUncurbed : List Told → Type 0
-AreUncurbed calls = AllByRecursion (λ one. is_curbed one.reply ≡ false) calls
+-- no reply was refused since its line would be longer than such a line may be
+abbrev pub NoneIsTooLong : List Told → Type 0
+NoneIsTooLong calls =
+    AllByRecursion (λ one. has_code error.LONG_ARRAY (refusal_in one.reply) ≡ false) calls
 
 -- Of these rows the texts went that were due at a moment, and nothing else did; so many, and so
 -- many are left.
@@ -50,14 +52,14 @@ pub record LeavesUndue (moment : ℕ) (old new : Db) (swept kept : ℕ) : Type 0
   pub gone : swept ≡ length (due_texts old moment)
   pub left : kept ≡ length new.texts
 
--- Where the calls along a legal history of one session are those of a whole sweep, and none was
--- curbed, exactly the texts went that were due by the rows before it.
+-- Where the calls along a legal history of one session are those of a whole sweep, and no reply was
+-- too long, exactly the texts went that were due by the rows before it.
 abbrev pub SweptLeaves : Type 0
 SweptLeaves = (state : State) (history : List Record) (session moment person : ℕ)
     (password : List ℕ) (swept kept : ℕ) → IsSound state → AreNumbered state.db →
     IsLegal state history → AllByRecursion (IsOf session) history →
     IsSwept moment person password (told_along state history) swept kept →
-    AreUncurbed (told_along state history) →
+    NoneIsTooLong (told_along state history) →
     LeavesUndue moment state.db (state_after state history).db swept kept
 
 -- all of a history was made at one desk, and what a session was given there is what its drains gave
@@ -77,13 +79,13 @@ SessionTells = (db : Db) (history : List Record) (moment session person : ℕ) (
     IsSession moment session person password old desk gave (end.Done swept kept) →
     IsSwept moment person password (told_along (opening_state db) history) swept kept
 
--- So after such a session that was not curbed exactly the texts are gone that were due.
+-- So after such a session, where no reply was too long, exactly the texts are gone that were due.
 abbrev pub SessionLeaves : Type 0
 SessionLeaves = (db : Db) (history : List Record) (moment session person : ℕ)
     (password : List ℕ) (old : Seen) (desk : DeskView) (gave : Option (List ℕ))
     (swept kept : ℕ) → AreNumbered db → IsAllOf (opening_state db) history session old desk →
     IsSession moment session person password old desk gave (end.Done swept kept) →
-    AreUncurbed (told_along (opening_state db) history) →
+    NoneIsTooLong (told_along (opening_state db) history) →
     LeavesUndue moment db (state_after (opening_state db) history).db swept kept
 
 -- Rows that effects lead to from none on have no text of number 0.

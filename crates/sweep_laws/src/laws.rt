@@ -1,6 +1,7 @@
 ghost use Rattle.sweep_laws.specs.DueRows.{DueRows};
 ghost use Rattle.sweep_laws.specs.Leaving.{DeletionLeaves, OtherLeaves, HistoryLeaves};
 ghost use Rattle.sweep_laws.specs.Left.{LeavesRest};
+ghost use Rattle.sweep_laws.specs.Told.{TellsAll, DueIsTold};
 ghost use Rattle.sweep_laws.specs.WithoutRows.{WithoutRows};
 
 /// A law alone: rows without some texts are those in which these are not found, and in which every
@@ -22,4 +23,16 @@ pub fn sweeps_delete_alone()
 /// A law alone: which texts are due by stored rows is what was worked out by hand.
 pub fn worked_due_texts()
     ensures { DueRows }
+{}
+
+/// A law alone: a strong session that asks over whole rows is told all of each text, conference and
+/// person, and by the calls for the next one of each which is there.
+pub fn strong_sessions_are_told_all()
+    ensures { TellsAll }
+{}
+
+/// A law alone: which texts are due by the replies to both walks of a sweep is which are due by the
+/// stored rows, where all of these were asked by a strong session and none of them was curbed.
+pub fn due_is_told()
+    ensures { DueIsTold }
 {}

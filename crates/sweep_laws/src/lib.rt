@@ -3,4 +3,7 @@
 
 mod laws;
 
-pub use laws::{deletions_leave_the_rest, sweeps_delete_alone, worked_due_texts};
+pub use laws::{
+    deletions_leave_the_rest, due_is_told, strong_sessions_are_told_all, sweeps_delete_alone,
+    worked_due_texts,
+};
