@@ -74,7 +74,7 @@ deleted-without gone old new is = record {
   persons = ap (λ (db : Db). map without_logins db.persons) is;
 }
 
-nothing-named : (state : State) (made : Record) → named_in made.entry.act ≡ [] → deleted_by state made ≡ []
+pub nothing-named : (state : State) (made : Record) → named_in made.entry.act ≡ [] → deleted_by state made ≡ []
 nothing-named state made none = elim (cases_Bool (is_refused (reply_in state made))) [
   | inl refused ↦ rw refused refl
   | inr accepted ↦ rw accepted none
@@ -98,7 +98,7 @@ kind-of (act.Drain session) is = Other refl refl
 kind-of act.Flush is = Other refl refl
 kind-of (act.Close session) is = Other refl refl
 
-record-leaves : (state : State) (made : Record) → IsSound state → passes is_swept_call made.entry.act ≡ true →
+pub record-leaves : (state : State) (made : Record) → IsSound state → passes is_swept_call made.entry.act ≡ true →
     IsWithout (deleted_by state made) state.db (after state made).db
 record-leaves state made sound is = elim (kind-of made.entry.act is) [
   | Deleting text named ↦ deleted-without (deleted_by state made) state.db (after state made).db

@@ -1,13 +1,12 @@
 -- Which texts are due by the replies of both walks: those that are by the rows.
 use Rattle.std.proofs.Common.{◌≡◌, ℕ, ◌==◌, ◌<◌, ◌≤◌, Bool, true, false, cond, not, ◌||◌, ◌&&◌, List, [], ◌∷◌, ◌++◌}
 use Rattle.std.proofs.Common.{Option, Some, None, is_some, refl, sym, ap, ap₂, ◌∙◌, subst, inl, inr, eq-eqb, eqb-true, ne_eqb}
-use Rattle.std.proofs.Common.{nat_lt, length, min, arith, true≢false}
-use Rattle.std.specs.Prelude.{map, option_map, flat_map, filter_map, IfSome, IsTrue, if◌then◌else◌}
-use Rattle.std.specs.List.{AllByRecursion, find, filter, list_all, list_any}
+use Rattle.std.proofs.Common.{nat_lt, length, arith, true≢false}
+use Rattle.std.specs.Prelude.{map, option_map, flat_map, filter_map, IfSome, if◌then◌else◌}
+use Rattle.std.specs.List.{AllByRecursion, filter, list_all, list_any}
 use Rattle.std.proofs.lemmas.Bool.{cases_Bool}
 use Rattle.std.proofs.lemmas.List.{length-map}
 use Rattle.std.proofs.lemmas.List.Folds.{list_all-map}
-use Rattle.row_table.specs.Tables.{row_of, AllAbove}
 use Rattle.kom_types.specs.declared.calls.Call.TheVariants as call
 use Rattle.kom_types.specs.declared.conferences.ConferenceRow.{ConferenceRow}
 use Rattle.kom_types.specs.declared.replies.Reply.{Reply}
@@ -17,11 +16,10 @@ use Rattle.kom_types.specs.declared.texts.TextLink.{TextLink}
 use Rattle.kom_types.specs.declared.texts.TextRow.{TextRow}
 use Rattle.kom_types.specs.declared.texts.TextStat.{TextStat}
 use Rattle.kom_types.specs.Bits.{alike}
-use Rattle.kom_types.specs.tables.Persons.{last_count}
 use Rattle.kom_types.specs.tables.Texts.{number_of_text}
 use Rattle.kom_model.specs.Db.{Db, conference_of, text_of, texts_of, marks_on, items_of, links_into, recipients_of}
 use Rattle.kom_model.specs.Shown.{told_count}
-use Rattle.kom_model.specs.Whole.{IsWhole, has_text}
+use Rattle.kom_model.specs.Whole.{IsWhole}
 use Rattle.kom_laws.proofs.masking.Rows.{told}
 use Rattle.kom_sweep.specs.Due.{Step, Walk, Room, Look, is_due, is_due_by, is_whole, is_named, is_held, is_told, lets_go}
 use Rattle.kom_sweep.specs.Due.{all_let_go, are_older, is_older, children_of, recipient_in, child_in, days_in}
@@ -29,12 +27,11 @@ use Rattle.kom_sweep.specs.Due.{conference_lets_go}
 use Rattle.kom_sweep.specs.Due as Due
 use Rattle.kom_sweep.specs.Replies.{stat_in}
 use Rattle.kom_sweep.specs.Told.{tell}
-use Rattle.kom_sweep.specs.Walks.{IsRoomWalk, IsTextWalk, IsLook, told_rooms, told_texts, told_at_text, told_child, due_in}
+use Rattle.kom_sweep.specs.Walks.{IsRoomWalk, IsTextWalk, IsLook, told_rooms, told_texts, told_at_text, told_child}
 use Rattle.sweep_laws.specs.Due.{has_owners, is_named_text, is_due_row, due_texts, AreNumbered, releases, all_release}
-use Rattle.sweep_laws.specs.Due.{conference_releases, comments_to, is_older_text, days_kept, DaysKept, age_of}
-use Rattle.sweep_laws.specs.Due.{without_recipients}
+use Rattle.sweep_laws.specs.Due.{conference_releases, comments_to, is_older_text, days_kept, age_of}
 use Rattle.sweep_laws.specs.Told.{IsToldOf, stat_in_full, infos_of, DueIsTold}
-use Rattle.sweep_laws.proofs.Found.{all-both, all-weaker, found-holds, found-says, cases_Option, told-map, told-alike}
+use Rattle.sweep_laws.proofs.Found.{all-both, all-weaker, found-holds, cases_Option, told-map, told-alike}
 use Rattle.sweep_laws.proofs.Found.{some-map}
 use Rattle.sweep_laws.proofs.Linked.{children-told, recipients-told, any-kept}
 use Rattle.sweep_laws.proofs.Replies.{stat-told, next-text-told}
@@ -42,7 +39,7 @@ use Rattle.sweep_laws.proofs.Replies.{core_at}
 use Rattle.sweep_laws.proofs.Rooms.{whole-told, named-told, all-days-told, taken_by, conference_of_core}
 use Rattle.sweep_laws.proofs.Strong.{all-kept}
 use Rattle.sweep_laws.proofs.Walked.{all-apart, all-flat, all-named, all-rows, filter-named, steps-positive, walked-all}
-use Rattle.sweep_laws.proofs.Walked.{next_in}
+use Rattle.sweep_laws.proofs.Walked.{next_in, all-joined}
 
 -- ---- what a step tells
 abbrev stat_by : Db → ℕ → Option TextStat
@@ -54,10 +51,10 @@ record LookTold (db : Db) (step : Step Look) : Type 0 where
   are : IsLook step.told
 
 -- a text of these rows is there, and so its number is positive
-abbrev IsThere : Db → ℕ → Type 0
+abbrev pub IsThere : Db → ℕ → Type 0
 IsThere db text = is_some (text_of db text) ≡ true
 
-there-positive : (db : Db) → AreNumbered db → (text : ℕ) → IsThere db text → 0 < text
+pub there-positive : (db : Db) → AreNumbered db → (text : ℕ) → IsThere db text → 0 < text
 unfolding text_of
 there-positive db numbered text there = elim (cases_Option (text_of db text)) [
   | inl none ↦ absurd (true≢false (sym there ∙ ap (λ (found : Option TextRow). is_some found) none))
@@ -76,20 +73,15 @@ unfolding links_into text_of
 linked-there db whole text footnote = all-kept (λ (row : TextLink). IsThere db row.child)
     (λ row. row.parent == text && alike row.footnote footnote) db.links whole.links.child_there
 
-all-mapped : {X Y : Type 0} (P : Y → Type 0) (f : X → Y) (xs : List X) → AllByRecursion (λ x. P (f x)) xs →
+pub all-mapped : {X Y : Type 0} (P : Y → Type 0) (f : X → Y) (xs : List X) → AllByRecursion (λ x. P (f x)) xs →
     AllByRecursion P (map f xs)
 all-mapped P f [] all = tt
 all-mapped P f (x ∷ xs) all = (all.0, all-mapped P f xs all.1)
 
-all-unmapped : {X Y : Type 0} (P : Y → Type 0) (f : X → Y) (xs : List X) → AllByRecursion P (map f xs) →
+pub all-unmapped : {X Y : Type 0} (P : Y → Type 0) (f : X → Y) (xs : List X) → AllByRecursion P (map f xs) →
     AllByRecursion (λ x. P (f x)) xs
 all-unmapped P f [] all = tt
 all-unmapped P f (x ∷ xs) all = (all.0, all-unmapped P f xs all.1)
-
-all-joined : {X : Type 0} (P : X → Type 0) (xs ys : List X) → AllByRecursion P xs → AllByRecursion P ys →
-    AllByRecursion P (xs ++ ys)
-all-joined P [] ys one other = other
-all-joined P (x ∷ xs) ys one other = (one.0, all-joined P xs ys one.1 other)
 
 comments-there : (db : Db) → IsWhole db → (text : ℕ) → AllByRecursion (IsThere db) (comments_to db text)
 comments-there db whole text = all-mapped (IsThere db) (λ (row : TextLink). row.child)
@@ -267,7 +259,7 @@ module _ (db : Db) (moment : ℕ) (children : List (ℕ × Option Reply))
           all-same one other same (x ∷ xs) = rw (same x) (rw (all-same one other same xs) refl)
 
 -- whether the text of a number is due
-abbrev due_by : Db → ℕ → ℕ → Bool
+abbrev pub due_by : Db → ℕ → ℕ → Bool
 due_by db moment text = has_owners db && told false (is_due_row db moment) (text_of db text)
 
 module _ (db : Db) (moment : ℕ) (rooms : Walk Room) (whole : IsWhole db) (numbered : AreNumbered db)
@@ -325,7 +317,7 @@ all-texts : (db : Db) → texts_of db ≡ db.texts
 unfolding texts_of
 all-texts db = refl
 
-due-rows : (db : Db) (moment : ℕ) → IsWhole db →
+pub due-rows : (db : Db) (moment : ℕ) → IsWhole db →
     filter (due_by db moment) (map (λ row. row.number) db.texts) ≡ due_texts db moment
 due-rows db moment whole = elim (cases_Bool (has_owners db)) [
   | inl owners ↦

@@ -11,3 +11,7 @@ pub mod Walked
 pub mod Rooms
 pub mod Linked
 pub mod Judged
+pub mod Reached
+pub mod Staying
+pub mod Phases
+pub mod Sweeping

@@ -5,7 +5,6 @@ use Rattle.std.specs.Prelude.{map, flat_map, filter_map, not, is_some}
 use Rattle.std.specs.List.{list_any, cons_option}
 use Rattle.std.proofs.lemmas.List.{map-append}
 use Rattle.std.proofs.lemmas.List.Elements.{filter_map-append}
-use Rattle.kom_types.specs.declared.texts.MiscInfo.{MiscInfo}
 use Rattle.kom_types.specs.declared.texts.MiscInfo.TheVariants as misc
 use Rattle.kom_types.specs.declared.texts.Recipient.{Recipient}
 use Rattle.kom_types.specs.declared.texts.TextLink.{TextLink}

@@ -1,7 +1,7 @@
 -- What replies tell of rows in which persons may have logged in and out since.
-use Rattle.std.proofs.Common.{◌≡◌, ℕ, ◌==◌, ◌<◌, Bool, true, false, List, Option, Some, None, refl, sym, ap, ◌∙◌, subst}
+use Rattle.std.proofs.Common.{◌≡◌, ℕ, ◌==◌, ◌<◌, true, false, List, Option, Some, None, refl, sym, ap, ◌∙◌, subst}
 use Rattle.std.proofs.Common.{nat_lt, []}
-use Rattle.std.specs.Prelude.{is_some, map, option_map}
+use Rattle.std.specs.Prelude.{map, option_map}
 use Rattle.std.specs.List.{find}
 use Rattle.kom_types.specs.declared.aux_items.AuxRow.{AuxRow}
 use Rattle.kom_types.specs.declared.calls.Call.{Call}
@@ -14,7 +14,6 @@ use Rattle.kom_types.specs.declared.persons.PersonRow.{PersonRow}
 use Rattle.kom_types.specs.declared.replies.Reply.{Reply}
 use Rattle.kom_types.specs.declared.replies.Reply.TheVariants as reply
 use Rattle.kom_types.specs.declared.texts.TextRow.{TextRow}
-use Rattle.kom_types.specs.tables.Persons.{number_of_person}
 use Rattle.kom_model.specs.Db.{Db, conference_of, conferences_of, person_of, text_of, texts_of}
 use Rattle.kom_model.specs.Db.{recipients_of, links_from, links_into, marks_on, items_of}
 use Rattle.kom_model.specs.calls.Call.{Asked}
@@ -24,8 +23,8 @@ use Rattle.kom_model.proofs.whole.Found.{find-mapped}
 use Rattle.kom_laws.proofs.masking.Rows.{told}
 use Rattle.kom_sweep.specs.Replies.{number_in, stat_in, conference_in, person_in, is_last_conference}
 use Rattle.kom_sweep.specs.Told.{tell}
-use Rattle.sweep_laws.specs.Told.{is_curbed, answer_to, told_text, told_conference, told_person, told_next_text}
-use Rattle.sweep_laws.specs.Told.{told_next_conference, IsToldOf, stat_in_full, conference_in_full}
+use Rattle.sweep_laws.specs.Told.{is_curbed, answer_to}
+use Rattle.sweep_laws.specs.Told.{IsToldOf, stat_in_full, conference_in_full}
 use Rattle.sweep_laws.specs.Without.{without_logins, IsWithout}
 use Rattle.sweep_laws.proofs.Deleting.{none-without}
 use Rattle.sweep_laws.proofs.Strong.{tells-all}

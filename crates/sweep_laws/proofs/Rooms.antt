@@ -1,12 +1,11 @@
 -- What a walk over the conferences tells: whom letterboxes belong to, the days, and what is named.
-use Rattle.std.proofs.Common.{◌≡◌, ℕ, ◌==◌, ◌<◌, ◌≤◌, Bool, true, false, cond, not, ◌||◌, ◌&&◌, List, [], ◌∷◌, ◌++◌}
-use Rattle.std.proofs.Common.{Option, Some, None, is_some, refl, sym, ap, ◌∙◌, subst, inl, inr, eq-eqb, eqb-true}
+use Rattle.std.proofs.Common.{◌≡◌, ℕ, ◌==◌, ◌<◌, ◌≤◌, Bool, true, false, cond, not, ◌||◌, ◌&&◌, List, [], ◌∷◌}
+use Rattle.std.proofs.Common.{Option, Some, None, is_some, refl, sym, ap, ◌∙◌, subst, inl, inr, eqb-true}
 use Rattle.std.specs.Prelude.{map, option_map, flat_map, IfSome, IsTrue, if◌then◌else◌}
 use Rattle.std.specs.List.{AllByRecursion, find, list_all, list_any}
 use Rattle.std.specs.Option.{option_or}
 use Rattle.std.specs.Cmp.{both_ways}
 use Rattle.std.proofs.lemmas.Bool.{cases_Bool}
-use Rattle.row_table.specs.Tables.{row_of}
 use Rattle.kom_types.specs.declared.calls.Call.TheVariants as call
 use Rattle.kom_types.specs.declared.conferences.Conference.{Conference}
 use Rattle.kom_types.specs.declared.conferences.ConferenceRow.{ConferenceRow}
@@ -21,13 +20,12 @@ use Rattle.kom_model.specs.Whole.{IsWhole, has_letterbox}
 use Rattle.kom_laws.proofs.masking.Rows.{told}
 use Rattle.kom_sweep.specs.Due.{Step, Walk, Room, has_owner, conference_names, person_names, names, is_named}
 use Rattle.kom_sweep.specs.Due.{is_told_room, is_whole, days_of, days_at, days_in, is_faq}
-use Rattle.kom_sweep.specs.Replies.{conference_in, person_in, number_in, is_last_conference}
+use Rattle.kom_sweep.specs.Replies.{conference_in, person_in, is_last_conference}
 use Rattle.kom_sweep.specs.Told.{tell}
 use Rattle.kom_sweep.specs.Walks.{IsRoomWalk, told_rooms, told_at_room, told_owner}
 use Rattle.sweep_laws.specs.Due.{has_owners, is_named_by, is_named_text}
 use Rattle.sweep_laws.specs.Told.{IsToldOf}
 use Rattle.sweep_laws.proofs.Found.{all-both, all-weaker, any-passes, found-any, found-holds, found-says, map-map, some-map}
-use Rattle.sweep_laws.proofs.Found.{told-map, cases_Option}
 use Rattle.sweep_laws.proofs.Replies.{Core, core_of, core_at, area_of, conference-told, next-conference-told}
 use Rattle.sweep_laws.proofs.Replies.{last-conference-told, person-told}
 use Rattle.sweep_laws.proofs.Walked.{all-apart, all-flat, all-named, any-named, all-rows, among-rows, none-next}

@@ -1,6 +1,6 @@
 -- A strong session is told all.
 use Rattle.std.proofs.Common.{◌≡◌, ℕ, ◌==◌, ◌<◌, ◌||◌, ◌&&◌, Bool, true, false, cond, not, List, [], ◌∷◌, ◌++◌, length}
-use Rattle.std.proofs.Common.{Option, Some, None, refl, sym, ap, ap₂, ◌∙◌, inl, inr, subst, true≢false, nat_lt, nat_le, ne_eqb}
+use Rattle.std.proofs.Common.{Option, Some, None, refl, sym, ap, ap₂, ◌∙◌, inl, inr, true≢false, nat_lt, nat_le, ne_eqb}
 use Rattle.std.proofs.Common.{arith, eqb-true}
 use Rattle.std.specs.Prelude.{is_some, map, option_map, flat_map, IsTrue, if◌then◌else◌}
 use Rattle.std.specs.List.{AllByRecursion, find, filter}
@@ -12,7 +12,6 @@ use Rattle.kom_types.specs.declared.aux_items.Adder.{Adder}
 use Rattle.kom_types.specs.declared.aux_items.AuxRow.{AuxRow}
 use Rattle.kom_types.specs.declared.calls.Call.{Call}
 use Rattle.kom_types.specs.declared.calls.Call.TheVariants as call
-use Rattle.kom_types.specs.declared.conferences.ConferenceHead.{ConferenceHead}
 use Rattle.kom_types.specs.declared.conferences.ConferenceRow.{ConferenceRow}
 use Rattle.kom_types.specs.declared.decisions.Decision.{Decision}
 use Rattle.kom_types.specs.declared.errors.TheConstants as error
@@ -21,7 +20,6 @@ use Rattle.kom_types.specs.declared.persons.PersonRow.{PersonRow}
 use Rattle.kom_types.specs.declared.replies.Reply.{Reply}
 use Rattle.kom_types.specs.declared.replies.Reply.TheVariants as reply
 use Rattle.kom_types.specs.declared.seats.Seat.{Seat}
-use Rattle.kom_types.specs.declared.texts.MiscInfo.{MiscInfo}
 use Rattle.kom_types.specs.declared.texts.Recipient.{Recipient}
 use Rattle.kom_types.specs.declared.texts.TextRow.{TextRow}
 use Rattle.kom_types.specs.declared.texts.TextStat.{TextStat}
@@ -39,19 +37,18 @@ use Rattle.kom_model.specs.Shown.{shows_recipient, recipients_shown, items_shown
 use Rattle.kom_model.specs.Shown.{conference_adder, recipient_infos, from_infos, into_info, shown_stat, conference_told}
 use Rattle.kom_model.specs.Shown.{person_told}
 use Rattle.kom_model.specs.Viewers.{has_might}
-use Rattle.kom_model.specs.Whole.{IsWhole, has_conference, has_letterbox, has_drawn_local}
-use Rattle.kom_model.specs.calls.Call.{Asked, Definition, outcome_of, refuse, seat_of, answer}
-use Rattle.kom_model.specs.calls.Conferences.{nearest, first_seen, conference_reply}
+use Rattle.kom_model.specs.Whole.{IsWhole, has_letterbox, has_drawn_local}
+use Rattle.kom_model.specs.calls.Call.{Asked, outcome_of, refuse, seat_of, answer}
+use Rattle.kom_model.specs.calls.Conferences.{nearest, conference_reply}
 use Rattle.kom_model.specs.calls.Persons.{person_reply}
-use Rattle.kom_model.specs.calls.Guards.{caller, viewer_at, Guard, first_refusal, login_guard, text_guard}
-use Rattle.kom_model.specs.calls.Guards.{conference_guard, person_guard, with_guards, refusal, unless}
-use Rattle.kom_model.specs.calls.Texts.{nearest_text, first_read, text_reply}
+use Rattle.kom_model.specs.calls.Guards.{caller, viewer_at, Guard, login_guard}
+use Rattle.kom_model.specs.calls.Guards.{with_guards, refusal, unless}
+use Rattle.kom_model.specs.calls.Texts.{nearest_text, text_reply}
 use Rattle.kom_laws.proofs.masking.Rows.{told}
 use Rattle.sweep_laws.specs.Told.{is_curbed, answer_to, told_text, told_conference, told_person, told_next_text}
 use Rattle.sweep_laws.specs.Told.{told_next_conference, AsksStrongly, IsUncurbed, TellsAll, stat_in_full}
 use Rattle.sweep_laws.specs.Told.{conference_in_full}
 use Rattle.sweep_laws.proofs.Found.{cases_Option, all-weaker, found-holds, found-says, find-alike, all-found, told-alike}
-use Rattle.sweep_laws.proofs.Kept.{filter-alike}
 
 -- ---- a reply that is not cut short
 uncut-limited : (reference : ℕ) (decision : Decision) →
@@ -63,7 +60,7 @@ uncut-limited reference decision =
     (λ (made : Decision). is_curbed (Some made.reply) ≡ false → made.reply ≡ decision.reply)
     (λ _ uncurbed. refl) (λ _ uncurbed. absurd (true≢false uncurbed))
 
-uncut : (asked : Asked) (what : Call) → IsUncurbed asked what →
+pub uncut : (asked : Asked) (what : Call) → IsUncurbed asked what →
     answer_to asked what ≡ (outcome_of (definition_of asked what)).reply
 unfolding decision_of
 uncut asked what = uncut-limited asked.reference (outcome_of (definition_of asked what))
@@ -93,7 +90,7 @@ module _ (db : Db) (viewer : Viewer) (strong : viewer.strong ≡ true) where
       (λ head. or_right (not (is_read_protected head.kind)) (is_let_in db viewer conference head.supervisor)
       (let-in conference head.supervisor)) (conference_of db conference)
 
-  reads-all : (text : ℕ) → reads db viewer text ≡ is_some (text_of db text)
+  pub reads-all : (text : ℕ) → reads db viewer text ≡ is_some (text_of db text)
   unfolding reads text_author_of
   reads-all text = told-all (λ (row : TextRow). row.author)
       (λ author. viewer.strong || is_author viewer.person author || reads_by_recipient db viewer text)
@@ -128,7 +125,7 @@ letterbox-there : (rows : List ConferenceRow) (number : ℕ) → IsTrue (has_let
 letterbox-there rows number is = let found = found-says (λ (row : ConferenceRow). is_letterbox row.kind)
     (find (λ one. number_of_conference one == number) rows) is in (found.0, found.1)
 
-unzero : (number : ℕ) → 0 < number → (number == 0) ≡ false
+pub unzero : (number : ℕ) → 0 < number → (number == 0) ≡ false
 unzero number positive = ne_eqb number 0 (λ none. omega arith)
 
 pub person-positive : (db : Db) → IsWhole db → (person : ℕ) → is_some (person_of db person) ≡ true → 0 < person
@@ -160,12 +157,12 @@ seat-logged db whole None strong = absurd (true≢false (sym strong))
 seat-logged db whole (Some seat) strong = unzero seat.person (person-positive db whole seat.person
     (might-there db seat.person (and_parts (seat.level == 255) (has_might db seat.person) strong).1))
 
-logged : (asked : Asked) → AsksStrongly asked → login_guard (caller asked) ≡ None
+pub logged : (asked : Asked) → AsksStrongly asked → login_guard (caller asked) ≡ None
 logged asked strongly = rw (seat-logged asked.db strongly.whole (seat_of asked) strongly.strong) refl
 
 -- ---- the calls
 -- a guard that wants a number, and then that it is there
-found-guard : (zero holds there : Bool) (code code' status : ℕ) → zero ≡ false → holds ≡ there →
+pub found-guard : (zero holds there : Bool) (code code' status : ℕ) → zero ≡ false → holds ≡ there →
     cond zero (refusal code 0) (unless holds code' status) ≡ unless there code' status
 found-guard zero holds there code code' status is same = rw is (rw same refl)
 
@@ -191,7 +188,7 @@ all-kept P test (row ∷ rows) all = elim (cases_Bool (test row)) [
   | inr drops ↦ rw drops (all-kept P test rows all.1)
 ]
 
-filter-true : {X : Type 0} (test : X → Bool) (rows : List X) → AllByRecursion (λ row. test row ≡ true) rows →
+pub filter-true : {X : Type 0} (test : X → Bool) (rows : List X) → AllByRecursion (λ row. test row ≡ true) rows →
     filter test rows ≡ rows
 filter-true test [] all = refl
 filter-true test (row ∷ rows) all = rw (all.0) (ap (λ kept. row ∷ kept) (filter-true test rows all.1))

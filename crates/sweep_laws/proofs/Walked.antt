@@ -1,7 +1,7 @@
 -- What walks over rows come to: the numbers of all rows.
-use Rattle.std.proofs.Common.{◌≡◌, ℕ, ◌==◌, ◌<◌, ◌≤◌, Bool, true, false, cond, List, [], ◌∷◌, ◌++◌, Option, Some, None}
-use Rattle.std.proofs.Common.{refl, sym, ap, ◌∙◌, subst, inl, inr, nat_lt, lt-ltb, le-ltb, ltb-true, eq-eqb, ne_eqb, arith}
-use Rattle.std.proofs.Common.{true≢false, ◌&&◌, ◌||◌, is_some}
+use Rattle.std.proofs.Common.{◌≡◌, ℕ, ◌==◌, ◌<◌, ◌≤◌, Bool, true, false, List, [], ◌∷◌, ◌++◌, Option, Some, None}
+use Rattle.std.proofs.Common.{refl, ap, ◌∙◌, subst, inl, inr, nat_lt, lt-ltb, le-ltb, ltb-true, eq-eqb, ne_eqb, arith}
+use Rattle.std.proofs.Common.{is_some}
 use Rattle.std.specs.Prelude.{map, option_map, flat_map, IfSome}
 use Rattle.std.specs.List.{AllByRecursion, find, filter, list_all, list_any}
 use Rattle.std.proofs.lemmas.Bool.{cases_Bool}
@@ -9,13 +9,18 @@ use Rattle.row_table.specs.Tables.{row_of, AllAbove, IsByNumber}
 use Rattle.kom_model.specs.Kinds.{is_among}
 use Rattle.kom_sweep.specs.Due.{Step}
 use Rattle.kom_sweep.specs.Walks.{Leads}
-use Rattle.sweep_laws.proofs.Found.{all-both, all-weaker}
+use Rattle.sweep_laws.proofs.Found.{all-both}
 
 -- ---- what holds of parts
 pub all-apart : {X : Type 0} (P : X → Type 0) (xs ys : List X) → AllByRecursion P (xs ++ ys) →
     AllByRecursion P xs × AllByRecursion P ys
 all-apart P [] ys all = (tt, all)
 all-apart P (x ∷ xs) ys all = let rest = all-apart P xs ys all.1 in ((all.0, rest.0), rest.1)
+
+pub all-joined : {X : Type 0} (P : X → Type 0) (xs ys : List X) → AllByRecursion P xs → AllByRecursion P ys →
+    AllByRecursion P (xs ++ ys)
+all-joined P [] ys one other = other
+all-joined P (x ∷ xs) ys one other = (one.0, all-joined P xs ys one.1 other)
 
 pub all-flat : {X Y : Type 0} (P : Y → Type 0) (f : X → List Y) (xs : List X) → AllByRecursion P (flat_map f xs) →
     AllByRecursion (λ x. AllByRecursion P (f x)) xs
