@@ -122,8 +122,7 @@ pub work_done : (session moment person : ℕ) (password : List ℕ) (count swept
     ((calls : List Told) × Goes session x y calls × IsSwept moment person password calls swept kept)
 work_done session moment person password count swept kept next texts_due gone logout x m n y
     (found, is_found, goes, counted, are) names swept_is goes_gone goes_out kept_is =
-    let all = goes_on x n y (goes_on x m n goes goes_gone) goes_out in
-    (
+    let all = goes_on x n y (goes_on x m n goes goes_gone) goes_out in (
       told_findings person password found ++ told_deletions gone ++ tell call.Logout logout ∷ [],
       all,
       record {

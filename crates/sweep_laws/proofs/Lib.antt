@@ -15,3 +15,5 @@ pub mod Reached
 pub mod Staying
 pub mod Phases
 pub mod Sweeping
+pub mod Talking
+pub mod Talked

@@ -121,7 +121,7 @@ children-told db text =
       flat-none child_in from_infos from-children (links_from db text false),
       flat-none child_in from_infos from-children (links_from db text true),
       map-one child_in into_info (λ row. row.child) into-child (links_into db text false),
-      map-one child_in into_info (λ row. row.child) into-child (links_into db text true)
+      map-one child_in into_info (λ row. row.child) into-child (links_into db text true),
     ) (ap (λ kept. kept ++ map (λ (row : TextLink). row.child) (links_into db text true))
     (append-nil (map (λ (row : TextLink). row.child) (links_into db text false)))
     ∙ sym (map-append (λ (row : TextLink). row.child) (links_into db text false) (links_into db text true)))
@@ -137,7 +137,7 @@ recipients-told db text =
       flat-none recipient_in from_infos from-recipients (links_from db text false),
       flat-none recipient_in from_infos from-recipients (links_from db text true),
       map-none recipient_in into_info into-recipient (links_into db text false),
-      map-none recipient_in into_info into-recipient (links_into db text true)
+      map-none recipient_in into_info into-recipient (links_into db text true),
     ) (nils (map (λ (row : Recipient). row.conference) (recipients_of db text))) where
       nils : (kept : List ℕ) → kept ++ [] ++ [] ++ [] ++ [] ≡ kept
       nils kept = rw (append-nil kept) (rw (append-nil kept) (rw (append-nil kept) (append-nil kept)))

@@ -152,9 +152,11 @@ query-told : (session : ℕ) (db : Db) (state : State) (pass moment : ℕ) (what
     let made : Record = made_so pass moment what by short in
     Stands session db state → MayFollow state made → IsOf session made →
     AllByRecursion IsGood (told_by state made) → AllByRecursion (IsToldOf db) (told_by state made)
-query-told session db state pass moment (act.Call number reference what) by short stands may of good =
-    (strong-told session db state pass moment number reference what by short stands.sound stands.rows stands.holds may of
-    good.0.1, tt)
+query-told session db state pass moment (act.Call number reference what) by short stands may of good = (
+  strong-told session db state pass moment number reference what by short stands.sound stands.rows stands.holds may of
+      good.0.1,
+  tt,
+)
 query-told session db state pass moment (act.Connect user host) by short stands may of good = tt
 query-told session db state pass moment (act.Broken number) by short stands may of good = tt
 query-told session db state pass moment (act.Drain number) by short stands may of good = tt
@@ -177,8 +179,7 @@ walks-told session db state (made ∷ history) stands legal of good =
     (λ one is. (and_parts (is_quiet one.call) (is_other_call one.call) is).1) (told_by state made) query in
     let next = stands-after session db state made stands legal.0 of.0 (act-passes is_quiet state made quiet)
     (act-passes is_other_call state made other) in
-    let rest = walks-told session db (after state made) history next legal.1 of.1 parts.1 in
-    (
+    let rest = walks-told session db (after state made) history next legal.1 of.1 parts.1 in (
       all-joined (IsToldOf db) (told_by state made) (told_along (after state made) history)
           (query-told session db state made.entry.pass made.entry.moment made.entry.act made.session made.short stands
           legal.0 of.0 parts.0)
@@ -225,8 +226,7 @@ sync-holds session state pass moment (act.Call number reference what) by short a
     ≡ false =
     ap (λ (what : Call). is_refused (reply_in state (made_so pass moment (act.Call number reference what) by short)))
     (sym called) ∙ ap is_refused replied ∙ accepted in
-    let same : number ≡ session = sym may.session ∙ own of in
-    (
+    let same : number ≡ session = sym may.session ∙ own of in (
       inl (subst (λ (n : ℕ). IsStrong n state) same (sync-strong state pass moment number reference by short answered)),
       ap is_quiet called,
       ap is_other_call called,
@@ -383,9 +383,9 @@ deletions-accepted session state (made ∷ history) ((text, answer) ∷ gone) so
           (holds-after session state made sound legal.0 of.0 quiet holds) legal.1 of.1
           (sym (ap (λ (told : List Told). told ++ rest) none) ∙ is) uncurbed rising
           (all-weaker (IsDeletable state.db) (IsDeletable (after state made).db) (λ one here. (
-          here.0,
-          ap (λ (found : Option TextRow). is_some found) (leaves-rest.left [] state.db (after state made).db one.0
-              (other-leaves state made other) refl).row ∙ here.1,
+            here.0,
+            ap (λ (found : Option TextRow). is_some found) (leaves-rest.left [] state.db (after state made).db one.0
+                (other-leaves state made other) refl).row ∙ here.1,
           )) ((text, answer) ∷ gone) there)
       | OneCall number reference what kind one ↦
           let all : tell what (reply_in state made) ∷ rest ≡ tell (call.DeleteText text) answer ∷ told_deletions gone =
@@ -394,8 +394,7 @@ deletions-accepted session state (made ∷ history) ((text, answer) ∷ gone) so
           let tail : rest ≡ told_deletions gone = cc all in
           let deleted = deleted-act session state made.entry.pass made.entry.moment made.entry.act made.session made.short
           text answer (one ∙ ap (λ (first : Told). first ∷ []) head) sound holds there.0.0 there.0.1 uncurbed.0 legal.0
-          of.0 in
-          (
+          of.0 in (
             deleted.accepted,
             deletions-accepted session (after state made) history gone (IsSound-after state made legal.0.user sound)
                 (holds-after session state made sound legal.0 of.0 deleted.quiet holds) legal.1 of.1 tail uncurbed.1

@@ -61,8 +61,7 @@ made-numbered : (what : Effect) (db : Db) → fits what db ≡ true → Numbers 
 unfolding fits after_effect Numbers
 made-numbered (effect.TextAdded number author at body) db fit is =
     let positive : 0 < number = text-added number db.next_text (nat_le number LAST_DRAWN)
-    (is_none (text_of db number)) (nat_le (length body) LONGEST_BODY) fit is.1 in
-    (
+    (is_none (text_of db number)) (nat_le (length body) LONGEST_BODY) fit is.1 in (
       all-with number_of_text (λ (row : TextRow). 0 < row.number) (fresh_text number author at body) db.texts positive
           is.0,
       omega arith,

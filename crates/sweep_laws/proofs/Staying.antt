@@ -69,7 +69,7 @@ text-quiet : (asked : Asked) (start : ℕ) (found : Option TextRow) → (nearest
 text-quiet asked start None = refl
 text-quiet asked start (Some row) = refl
 
-rest-quiet : (asked : Asked) (what : Call) → is_quiet what ≡ true → (definition_of asked what).rest.changes ≡ []
+pub rest-quiet : (asked : Asked) (what : Call) → is_quiet what ≡ true → (definition_of asked what).rest.changes ≡ []
 rest-quiet asked call.SyncKom is = refl
 rest-quiet asked (call.FindNextConfNo start) is = conference-quiet asked start
     (first_seen asked (λ row. nat_lt start row.number) (conferences_of asked.db))
@@ -314,8 +314,11 @@ module _ (session : ℕ) (state : State) (pass moment number : ℕ) (short : Boo
       let same : one ≡ session = sym may.session ∙ of-session session number (act.Close one) of (λ flush. cc) in
       let below : one ≤ state.connects = drawn-found one state.connects state.sessions sound.drawn
       (close-there (session_of one state) may.possible) in
-      inr (subst (λ (n : ℕ). find (is_session n) (filter (λ row. not (is_session one row)) state.sessions) ≡ None) same
-      (find-removed_same one state.sessions), subst (λ (n : ℕ). n ≤ state.connects) same below)
+      inr (
+        subst (λ (n : ℕ). find (is_session n) (filter (λ row. not (is_session one row)) state.sessions) ≡ None) same
+            (find-removed_same one state.sessions),
+        subst (λ (n : ℕ). n ≤ state.connects) same below,
+      )
   step-holds (act.Close one) may of is (inr gone) =
       let same : one ≡ session = sym may.session ∙ of-session session number (act.Close one) of (λ flush. cc) in
       absurd (close-absent (session_of one state) (ap (λ (n : ℕ). session_of n state) same ∙ gone.0) may.possible)

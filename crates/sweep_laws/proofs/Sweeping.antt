@@ -228,6 +228,15 @@ part-apart session state history xs ys parts part =
     (subst (AllByRecursion (IsOf session)) parts.whole part.of) in
     (record { legal = legal.0; of = of.0 }, record { legal = legal.1; of = of.1 })
 
+-- what holds of the first calls holds of all that the first part tells, and the other way round
+first-from : (P : Told → Type 0) (state : State) (history : List Record) (xs ys : List Told)
+    (parts : Split state history xs ys) → AllByRecursion P xs → AllByRecursion P (told_along state parts.first)
+first-from P state history xs ys parts all = subst (AllByRecursion P) (sym parts.told_first) all
+
+first-to : (P : Told → Type 0) (state : State) (history : List Record) (xs ys : List Told)
+    (parts : Split state history xs ys) → AllByRecursion P (told_along state parts.first) → AllByRecursion P xs
+first-to P state history xs ys parts all = subst (AllByRecursion P) parts.told_first all
+
 -- what is known once all texts were walked over
 record Known (session : ℕ) (state : State) (found : Findings) (gone : List (ℕ × Option Reply)) (last : List Told)
     : Type 0 where
@@ -258,8 +267,8 @@ known session person password state history found gone last sound part stable un
     let state1 : State = state_after state one.first in
     let entered = others-along state.db state one.first sound
     (as-without state.db state.db (stay state.db)) part1.0.legal
-    (acts-pass is_other_call state one.first (subst (AllByRecursion (λ one. is_other_call one.call ≡ true))
-    (sym one.told_first) (refl, (refl, tt)))) in
+    (acts-pass is_other_call state one.first (first-from (λ (one : Told). is_other_call one.call ≡ true) state history
+    (login ∷ rights ∷ []) (sync ∷ (walks ++ (told_deletions gone ++ last))) one (refl, (refl, tt)))) in
     let two = split state1 one.second (sync ∷ []) (walks ++ (told_deletions gone ++ last)) one.told_second in
     let part2 = part-apart session state1 one.second _ _ two part1.1 in
     let state2 : State = state_after state1 two.first in
@@ -273,9 +282,9 @@ known session person password state history found gone last sound part stable un
     (all-joined IsQuery (told_rooms found.rooms) (told_texts found.texts) (rooms-queries found.rooms)
     (texts-queries found.texts)) uncurbed in
     let walked = walks-told session state.db state2 three.first stands2 part3.0.legal part3.0.of
-    (subst (AllByRecursion IsGood) (sym three.told_first) good) in
+    (first-from IsGood state2 two.second walks (told_deletions gone ++ last) three good) in
     let told = all-apart (IsToldOf state.db) (told_rooms found.rooms) (told_texts found.texts)
-    (subst (AllByRecursion (IsToldOf state.db)) three.told_first walked.0) in
+    (first-to (IsToldOf state.db) state2 two.second walks (told_deletions gone ++ last) three walked.0) in
     record {
       now = state_after state2 three.first;
       rest = three.second;
@@ -302,9 +311,9 @@ accepted session moment state found gone last sound numbered known uncurbed are 
     (rising-unmap (λ (one : ℕ × Option Reply). one.0) gone
     (subst (IsByNumber (λ n. n)) (sym are) (due-rising state.db moment sound.whole)))
     (all-weaker (λ (one : ℕ × Option Reply). IsThere state.db one.0) (IsDeletable known.now.db) (λ one here. (
-    there-positive state.db numbered one.0 here,
-    ap (λ (found : Option TextRow). is_some found)
-        (leaves-rest.left [] state.db known.now.db one.0 known.stands.rows refl).row ∙ here,
+      there-positive state.db numbered one.0 here,
+      ap (λ (found : Option TextRow). is_some found)
+          (leaves-rest.left [] state.db known.now.db one.0 known.stands.rows refl).row ∙ here,
     )) gone there)
 
 -- ---- the whole
@@ -315,7 +324,7 @@ uncurbed-all calls sound lines = all-both (λ (one : Told). is_short one.reply �
     (λ one short long. or_from (is_short one.reply) (has_code error.LONG_ARRAY (refusal_in one.reply)) short long)
     calls sound lines
 
-all-swept : (person : ℕ) (password : List ℕ) (found : Findings) (gone : List (ℕ × Option Reply))
+pub all-swept : (person : ℕ) (password : List ℕ) (found : Findings) (gone : List (ℕ × Option Reply))
     (logout : Option Reply) → AllByRecursion (λ one. is_swept_call one.call ≡ true)
     (told_findings person password found ++ told_deletions gone ++ tell call.Logout logout ∷ [])
 all-swept person password found gone logout =
@@ -400,10 +409,14 @@ swept-leaves state history session moment person password swept kept sound numbe
     ap (λ (db : Db). length db.texts) rows.rows in
     let sum = due-length state.db moment sound.whole in
     let counted : kept ≡ length found.texts.steps - swept = is.kept in
-    record { rows = rows; gone = gone; left = kept-left kept swept (length found.texts.steps) (length state.db.texts)
-        (length (due_texts state.db moment))
-        (length (filter (λ (row : TextRow). stays (due_texts state.db moment) row.number) state.db.texts))
-        (length (state_after state history).db.texts) counted gone steps sum left } where
+    record {
+      rows = rows;
+      gone = gone;
+      left = kept-left kept swept (length found.texts.steps) (length state.db.texts)
+          (length (due_texts state.db moment))
+          (length (filter (λ (row : TextRow). stays (due_texts state.db moment) row.number) state.db.texts))
+          (length (state_after state history).db.texts) counted gone steps sum left;
+    } where
       kept-left : (kept swept steps texts due undue left : ℕ) → kept ≡ steps - swept → swept ≡ due → steps ≡ texts →
           undue + due ≡ texts → left ≡ undue → kept ≡ left
       kept-left kept swept steps texts due undue left one two three four five = omega arith

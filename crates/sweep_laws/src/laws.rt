@@ -1,7 +1,7 @@
 ghost use Rattle.sweep_laws.specs.DueRows.{DueRows};
 ghost use Rattle.sweep_laws.specs.Leaving.{DeletionLeaves, OtherLeaves, HistoryLeaves};
 ghost use Rattle.sweep_laws.specs.Left.{LeavesRest};
-ghost use Rattle.sweep_laws.specs.Swept.{SweptLeaves, ReachedNumbered};
+ghost use Rattle.sweep_laws.specs.Swept.{SweptLeaves, SessionTells, SessionLeaves, ReachedNumbered};
 ghost use Rattle.sweep_laws.specs.Told.{TellsAll, DueIsTold};
 ghost use Rattle.sweep_laws.specs.WithoutRows.{WithoutRows};
 
@@ -38,10 +38,12 @@ pub fn due_is_told()
     ensures { DueIsTold }
 {}
 
-/// A law alone: where the calls of one session are those of a whole sweep, and no reply was too
-/// long, exactly the texts went that were due by the rows before it. No text of rows that effects
-/// lead to has the number 0.
+/// A law alone: after a whole sweep by one session of a strong person, in which no reply was too
+/// long, exactly the texts are gone that were due by the rows before it; and what such a session is
+/// given are the replies of its history. No text of rows that effects lead to has the number 0.
 pub fn whole_sweeps_leave_what_is_not_due()
     ensures swept { SweptLeaves }
+    ensures tells { SessionTells }
+    ensures session { SessionLeaves }
     ensures reached { ReachedNumbered }
 {}
