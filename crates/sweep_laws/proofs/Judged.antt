@@ -1,6 +1,7 @@
 -- Which texts are due by the replies of both walks: those that are by the rows.
 use Rattle.std.proofs.Common.{◌≡◌, ℕ, ◌==◌, ◌<◌, ◌≤◌, Bool, true, false, cond, not, ◌||◌, ◌&&◌, List, [], ◌∷◌, ◌++◌}
-use Rattle.std.proofs.Common.{Option, Some, None, is_some, refl, sym, ap, ap₂, ◌∙◌, subst, inl, inr, eq-eqb, eqb-true, ne_eqb}
+use Rattle.std.proofs.Common.{Option, Some, None, is_some, refl, sym, ap, ap₂, ◌∙◌, subst, inl, inr, eq-eqb, eqb-true}
+use Rattle.std.proofs.Common.{ne_eqb}
 use Rattle.std.proofs.Common.{nat_lt, length, arith, true≢false}
 use Rattle.std.specs.Prelude.{map, option_map, flat_map, filter_map, IfSome, if◌then◌else◌}
 use Rattle.std.specs.List.{AllByRecursion, filter, list_all, list_any}
@@ -21,7 +22,8 @@ use Rattle.kom_model.specs.Db.{Db, conference_of, text_of, texts_of, marks_on, i
 use Rattle.kom_model.specs.Shown.{told_count}
 use Rattle.kom_model.specs.Whole.{IsWhole}
 use Rattle.kom_laws.proofs.masking.Rows.{told}
-use Rattle.kom_sweep.specs.Due.{Step, Walk, Room, Look, is_due, is_due_by, is_whole, is_named, is_held, is_told, lets_go}
+use Rattle.kom_sweep.specs.Due.{Step, Walk, Room, Look, is_due, is_due_by, is_whole, is_named, is_held, is_told}
+use Rattle.kom_sweep.specs.Due.{lets_go}
 use Rattle.kom_sweep.specs.Due.{all_let_go, are_older, is_older, children_of, recipient_in, child_in, days_in}
 use Rattle.kom_sweep.specs.Due.{conference_lets_go}
 use Rattle.kom_sweep.specs.Due as Due

@@ -1,5 +1,6 @@
 -- What a text's links tell: its comments and footnotes, and its recipients.
-use Rattle.std.proofs.Common.{◌≡◌, ℕ, ◌==◌, Bool, true, false, cond, List, [], ◌∷◌, ◌++◌, Option, Some, None, refl, sym, ap}
+use Rattle.std.proofs.Common.{◌≡◌, ℕ, ◌==◌, Bool, true, false, cond, List, [], ◌∷◌, ◌++◌, Option, Some, None, refl}
+use Rattle.std.proofs.Common.{sym, ap}
 use Rattle.std.proofs.Common.{◌∙◌, ◌||◌, append-nil, length, ne_eqb, arith}
 use Rattle.std.specs.Prelude.{map, flat_map, filter_map, not, is_some}
 use Rattle.std.specs.List.{list_any, cons_option}

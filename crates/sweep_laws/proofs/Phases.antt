@@ -40,19 +40,12 @@ use Rattle.sweep_laws.proofs.Found.{all-both, all-weaker}
 use Rattle.sweep_laws.proofs.Judged.{IsThere}
 use Rattle.sweep_laws.proofs.Left.{leaves-rest}
 use Rattle.sweep_laws.proofs.Others.{other-leaves}
-use Rattle.sweep_laws.proofs.Staying.{Holds, IsStrong, holds-after, strong-call, is_quiet}
+use Rattle.sweep_laws.proofs.Staying.{made_so, Holds, IsStrong, holds-after, strong-call, is_quiet}
 use Rattle.sweep_laws.proofs.Strong.{uncut, logged, reads-all, unzero, found-guard}
 use Rattle.sweep_laws.proofs.Walked.{all-apart, all-joined}
 
 -- ---- what is told of one record
 -- a record tells of no call, or of one
-abbrev made_so : ℕ → ℕ → Act → ℕ → Bool → Record
-made_so pass moment what session short = record {
-  entry = record { pass = pass; moment = moment; act = what };
-  session = session;
-  short = short;
-}
-
 data Tells (state : State) (made : Record) : Type 0 where
   Nothing : told_by state made ≡ [] → named_in made.entry.act ≡ [] → passes is_quiet made.entry.act ≡ true →
       passes is_other_call made.entry.act ≡ true → reply_in state made ≡ None → Tells state made
@@ -314,8 +307,8 @@ deleted-so : (session : ℕ) (state : State) (pass moment number reference text 
     let made : Record = made_so pass moment (act.Call number reference (call.DeleteText text)) by short in
     IsSound state → Holds session state → 0 < text → IsThere state.db text → is_curbed answer ≡ false →
     reply_in state made ≡ answer → MayFollow state made → IsOf session made → Deleted state made text answer
-deleted-so session state pass moment number reference text by short answer sound holds positive there uncurbed replied may
-    of =
+deleted-so session state pass moment number reference text by short answer sound holds positive there uncurbed replied
+    may of =
     let made : Record = made_so pass moment (act.Call number reference (call.DeleteText text)) by short in
     let strong = strong-call session state number reference (call.DeleteText text) (sym may.session ∙ own of)
     may.possible holds in
@@ -330,7 +323,8 @@ deleted-so session state pass moment number reference text by short answer sound
           (record-leaves state made sound refl) (stays-other (is_refused (reply_in state made)) text other less)).row
           ∙ here;
     } where
-      own : IsOf session (made_so pass moment (act.Call number reference (call.DeleteText text)) by short) → by ≡ session
+      own : IsOf session (made_so pass moment (act.Call number reference (call.DeleteText text)) by short) →
+          by ≡ session
       own (inl is) = is
       own (inr flush) = cc
 
@@ -339,8 +333,8 @@ deleted-act : (session : ℕ) (state : State) (pass moment : ℕ) (what : Act) (
     told_by state made ≡ tell (call.DeleteText text) answer ∷ [] → IsSound state → Holds session state → 0 < text →
     IsThere state.db text → is_curbed answer ≡ false → MayFollow state made → IsOf session made →
     Deleted state made text answer
-deleted-act session state pass moment (act.Call number reference what) by short text answer is sound holds positive there
-    uncurbed may of =
+deleted-act session state pass moment (act.Call number reference what) by short text answer is sound holds positive
+    there uncurbed may of =
     let one : tell what (reply_in state (made_so pass moment (act.Call number reference what) by short))
     ≡ tell (call.DeleteText text) answer = cc is in
     let called : what ≡ call.DeleteText text = ap (λ (one : Told). one.call) one in
@@ -352,10 +346,10 @@ deleted-act session state pass moment (act.Call number reference what) by short 
     Deleted state (made_so pass moment (act.Call number reference what) by short) text answer) (sym called)
     (deleted-so session state pass moment number reference text by short answer sound holds positive there uncurbed)
     replied may of
-deleted-act session state pass moment (act.Connect user host) by short text answer is sound holds positive there uncurbed
+deleted-act session state pass moment (act.Connect user host) by short text answer is sound holds positive there
+    uncurbed may of = cc
+deleted-act session state pass moment (act.Broken number) by short text answer is sound holds positive there uncurbed
     may of = cc
-deleted-act session state pass moment (act.Broken number) by short text answer is sound holds positive there uncurbed may
-    of = cc
 deleted-act session state pass moment (act.Drain number) by short text answer is sound holds positive there uncurbed may
     of = cc
 deleted-act session state pass moment act.Flush by short text answer is sound holds positive there uncurbed may of = cc
@@ -374,7 +368,8 @@ pub deletions-accepted : (session : ℕ) (state : State) (history : List Record)
     AllByRecursion (λ one. is_refused one.1 ≡ false) gone
 deletions-accepted session state history [] sound holds legal of is uncurbed rising there = tt
 deletions-accepted session state [] ((text, answer) ∷ gone) sound holds legal of is uncurbed rising there = cc
-deletions-accepted session state (made ∷ history) ((text, answer) ∷ gone) sound holds legal of is uncurbed rising there =
+deletions-accepted session state (made ∷ history) ((text, answer) ∷ gone) sound holds legal of is uncurbed rising
+    there =
     let rest : List Told = told_along (after state made) history in
     elim (tells state made) [
       | Nothing none named quiet other reply ↦
@@ -392,8 +387,8 @@ deletions-accepted session state (made ∷ history) ((text, answer) ∷ gone) so
           sym (ap (λ (told : List Told). told ++ rest) one) ∙ is in
           let head : tell what (reply_in state made) ≡ tell (call.DeleteText text) answer = cc all in
           let tail : rest ≡ told_deletions gone = cc all in
-          let deleted = deleted-act session state made.entry.pass made.entry.moment made.entry.act made.session made.short
-          text answer (one ∙ ap (λ (first : Told). first ∷ []) head) sound holds there.0.0 there.0.1 uncurbed.0 legal.0
+          let deleted = deleted-act session state made.entry.pass made.entry.moment made.entry.act made.session
+          made.short text answer (one ∙ ap (λ (first : Told). first ∷ []) head) sound holds there.0.0 there.0.1 uncurbed.0 legal.0
           of.0 in (
             deleted.accepted,
             deletions-accepted session (after state made) history gone (IsSound-after state made legal.0.user sound)

@@ -79,7 +79,8 @@ next-text-told db start answer is =
     ap number_in (is.reply ∙ ap (λ (body : Reply). Some body) (tells-all.next_text is.asked start is.strongly
     (uncurbed-answer db (call.FindNextTextNo start) answer is)))
     ∙ text-number-found start (find (λ row. nat_lt start row.number) (texts_of is.asked.db))
-    ∙ ap (λ (rows : List TextRow). option_map (λ (row : TextRow). row.number) (find (λ row. nat_lt start row.number) rows))
+    ∙ ap (λ (rows : List TextRow). option_map (λ (row : TextRow). row.number)
+    (find (λ row. nat_lt start row.number) rows))
     (ap texts_of (asked-rows db is.asked.db is.rows) ∙ texts-same db is.asked.db.persons)
 
 -- ---- conferences

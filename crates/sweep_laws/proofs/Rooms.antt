@@ -25,7 +25,8 @@ use Rattle.kom_sweep.specs.Told.{tell}
 use Rattle.kom_sweep.specs.Walks.{IsRoomWalk, told_rooms, told_at_room, told_owner}
 use Rattle.sweep_laws.specs.Due.{has_owners, is_named_by, is_named_text}
 use Rattle.sweep_laws.specs.Told.{IsToldOf}
-use Rattle.sweep_laws.proofs.Found.{all-both, all-weaker, any-passes, found-any, found-holds, found-says, map-map, some-map}
+use Rattle.sweep_laws.proofs.Found.{all-both, all-weaker, any-passes, found-any, found-holds, found-says, map-map}
+use Rattle.sweep_laws.proofs.Found.{some-map}
 use Rattle.sweep_laws.proofs.Replies.{Core, core_of, core_at, area_of, conference-told, next-conference-told}
 use Rattle.sweep_laws.proofs.Replies.{last-conference-told, person-told}
 use Rattle.sweep_laws.proofs.Walked.{all-apart, all-flat, all-named, any-named, all-rows, among-rows, none-next}
@@ -92,11 +93,13 @@ owner_names db text number row =
 
 -- it names a text, or its person does
 abbrev named_by : Db → ℕ → ℕ → Bool
-named_by db text number = told false (λ (row : ConferenceRow). is_named_by db text row || owner_names db text number row)
+named_by db text number =
+    told false (λ (row : ConferenceRow). is_named_by db text row || owner_names db text number row)
     (conference_of db number)
 
 person-named : (text : ℕ) (found : Option Person) →
-    person_names text found ≡ told false (λ area. area == text) (option_map (λ (person : Person). person.user_area) found)
+    person_names text found
+    ≡ told false (λ area. area == text) (option_map (λ (person : Person). person.user_area) found)
 person-named text None = refl
 person-named text (Some person) = refl
 
@@ -114,7 +117,8 @@ names-as db text (Some conference) (Some row) owner area same owned =
     let named : conference_names text (Some conference) ≡ is_named_by db text row =
     ap (λ (core : Core). (core.presentation == text) || ((core.motd == text)
     || list_any (is_faq text) core.aux_items)) core in
-    let kind : is_letterbox conference.kind ≡ is_letterbox row.kind = ap (λ (core : Core). is_letterbox core.kind) core in
+    let kind : is_letterbox conference.kind ≡ is_letterbox row.kind =
+    ap (λ (core : Core). is_letterbox core.kind) core in
     elim (cases_Bool (is_letterbox row.kind)) [
       | inl letter ↦
           let is : is_letterbox conference.kind ≡ true = kind ∙ letter in
@@ -140,7 +144,8 @@ owned-as db None (Some row) owner area same owned = cc
 owned-as db (Some conference) None owner area same owned = cc
 owned-as db (Some conference) (Some row) owner area same owned =
     let core : core_of conference ≡ core_at db row = cc same in
-    let kind : is_letterbox conference.kind ≡ is_letterbox row.kind = ap (λ (core : Core). is_letterbox core.kind) core in
+    let kind : is_letterbox conference.kind ≡ is_letterbox row.kind =
+    ap (λ (core : Core). is_letterbox core.kind) core in
     elim (cases_Bool (is_letterbox row.kind)) [
       | inl letter ↦
           let is : is_letterbox conference.kind ≡ true = kind ∙ letter in
@@ -350,7 +355,8 @@ module _ (db : Db) (whole : IsWhole db) where
         rooms-told)
         ∙ ap (list_all (owned_by db)) rooms-numbers
         ∙ sym (all-named number_of_conference
-        (λ row. not (is_letterbox row.kind) || is_some (person_of db row.number)) (owned_by db) db.conferences owned-rows)
+        (λ row. not (is_letterbox row.kind) || is_some (person_of db row.number)) (owned_by db) db.conferences
+        owned-rows)
         ∙ ap (list_all (λ (row : ConferenceRow). not (is_letterbox row.kind) || is_some (person_of db row.number)))
         (sym conferences-all) in
         rw (steps, last) (and-true (has_owners db)) where

@@ -1,6 +1,7 @@
 -- A session stays strong along the calls of a sweep.
 use Rattle.std.proofs.Common.{◌≡◌, ℕ, ◌+◌, ◌≤◌, ◌==◌, Bool, true, false, cond, not, ◌&&◌, List, [], ◌∷◌, ◌++◌}
-use Rattle.std.proofs.Common.{Option, Some, None, refl, sym, ap, ap₂, ◌∙◌, subst, inl, inr, ◌⊎◌, true≢false, nat_lt, arith}
+use Rattle.std.proofs.Common.{Option, Some, None, refl, sym, ap, ap₂, ◌∙◌, subst, inl, inr, ◌⊎◌, true≢false, nat_lt}
+use Rattle.std.proofs.Common.{arith}
 use Rattle.std.specs.Prelude.{map, IsSome}
 use Rattle.std.specs.List.{find, filter}
 use Rattle.std.specs.Option.{option_or}
@@ -20,7 +21,8 @@ use Rattle.kom_types.specs.declared.persons.PersonRow.{PersonRow}
 use Rattle.kom_types.specs.declared.seats.Seat.{Seat}
 use Rattle.kom_types.specs.declared.session_changes.SessionChange.{SessionChange}
 use Rattle.kom_types.specs.declared.texts.TextRow.{TextRow}
-use Rattle.kom_types.specs.Sessions.{Session, Limits, waiting_limits, is_session, queue, fits, with_waiting, after_drain}
+use Rattle.kom_types.specs.Sessions.{Session, Limits, waiting_limits, is_session, queue, fits, with_waiting}
+use Rattle.kom_types.specs.Sessions.{after_drain}
 use Rattle.kom_types.specs.Sessions.{fresh_session}
 use Rattle.kom_types.specs.tables.Persons.{is_mighty}
 use Rattle.kom_model.specs.After.{after, after_act, deliveries, queue_all, with_session, MayFollow}
@@ -95,7 +97,7 @@ same-seats number change keeps (row ∷ rows) =
     (cond_both (is_session number row) (change row) row (λ (one : Session). one.seat ≡ row.seat)
     (λ _. keeps row) (λ _. refl)) (same-seats number change keeps rows)
 
-queued-seat : (limits : Limits) (place : ℕ) (item : Item) (row : Session) →
+pub queued-seat : (limits : Limits) (place : ℕ) (item : Item) (row : Session) →
     (queue limits place item row).seat ≡ row.seat
 queued-seat limits place item row =
     cond_both row.overrun row
@@ -214,7 +216,7 @@ close-there None is = absurd cc
 close-there (Some row) is = refl
 
 -- ---- one act
-abbrev made_so : ℕ → ℕ → Act → ℕ → Bool → Record
+abbrev pub made_so : ℕ → ℕ → Act → ℕ → Bool → Record
 made_so pass moment what session short = record {
   entry = record { pass = pass; moment = moment; act = what };
   session = session;

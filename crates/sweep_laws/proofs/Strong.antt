@@ -48,7 +48,8 @@ use Rattle.kom_laws.proofs.masking.Rows.{told}
 use Rattle.sweep_laws.specs.Told.{is_curbed, answer_to, told_text, told_conference, told_person, told_next_text}
 use Rattle.sweep_laws.specs.Told.{told_next_conference, AsksStrongly, IsUncurbed, TellsAll, stat_in_full}
 use Rattle.sweep_laws.specs.Told.{conference_in_full}
-use Rattle.sweep_laws.proofs.Found.{cases_Option, all-weaker, found-holds, found-says, find-alike, all-found, told-alike}
+use Rattle.sweep_laws.proofs.Found.{cases_Option, all-weaker, found-holds, found-says, find-alike, all-found}
+use Rattle.sweep_laws.proofs.Found.{told-alike}
 
 -- ---- a reply that is not cut short
 uncut-limited : (reference : ℕ) (decision : Decision) →

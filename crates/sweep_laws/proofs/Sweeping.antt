@@ -209,7 +209,8 @@ due-length db moment whole =
     (alls db.texts)))
     ∙ length-map (filter (λ (row : TextRow). due_by db moment row.number) db.texts) number_of_text)
     ∙ both-lengths (λ (row : TextRow). due_by db moment row.number) db.texts where
-      alls : (rows : List TextRow) → AllByRecursion (λ row. due_by db moment row.number ≡ due_by db moment row.number) rows
+      alls : (rows : List TextRow) →
+          AllByRecursion (λ row. due_by db moment row.number ≡ due_by db moment row.number) rows
       alls [] = tt
       alls (row ∷ rows) = (refl, alls rows)
 
@@ -390,8 +391,8 @@ swept-leaves state history session moment person password swept kept sound numbe
     let are : map (λ one. one.0) is.gone ≡ due_texts state.db moment =
     is.are_due ∙ due-is-told.due state.db moment found.rooms found.texts sound.whole numbered is.is_found.rooms
     is.is_found.texts now.rooms now.texts in
-    let accepts = accepted session moment state found is.gone (tell call.Logout is.logout ∷ []) sound numbered now apart2.1
-    are in
+    let accepts = accepted session moment state found is.gone (tell call.Logout is.logout ∷ []) sound numbered now
+    apart2.1 are in
     let rows : IsWithout (due_texts state.db moment) state.db (state_after state history).db =
     subst (λ (gone : List ℕ). IsWithout gone state.db (state_after state history).db)
     (deleted-are person password state history found is.gone is.logout is.are accepts ∙ are)

@@ -1,12 +1,14 @@
 -- What the session of a whole sweep was given is what its history tells.
 use Rattle.std.proofs.Common.{◌≡◌, ℕ, ◌+◌, ◌<◌, ◌≤◌, Bool, true, false, cond, ◌&&◌, List, [], ◌∷◌}
-use Rattle.std.proofs.Common.{◌++◌, Option, Some, None, refl, sym, ap, ap₂, ◌∙◌, subst, inl, inr, ◌⊎◌, true≢false, arith}
+use Rattle.std.proofs.Common.{◌++◌, Option, Some, None, refl, sym, ap, ap₂, ◌∙◌, subst, inl, inr, ◌⊎◌, true≢false}
+use Rattle.std.proofs.Common.{arith}
 use Rattle.std.proofs.Common.{length, take, drop, append-nil, eq-eqb, nat_lt, lt-ltb, find, length-append}
 use mathlib.Core.Path.{subst₃}
 use Rattle.std.specs.Prelude.{map, flat_map, take_while}
 use Rattle.std.specs.List.{AllByRecursion, prefix_len}
 use Rattle.std.proofs.lemmas.List.{map-append, take_all, drop_all}
-use Rattle.kom_types.specs.Sessions.{Session, Waiting, is_session, after_drain, drained_count, most_drained, fresh_session}
+use Rattle.kom_types.specs.Sessions.{Session, Waiting, is_session, after_drain, drained_count, most_drained}
+use Rattle.kom_types.specs.Sessions.{fresh_session}
 use Rattle.kom_types.specs.declared.acts.Act.{Act}
 use Rattle.kom_types.specs.declared.acts.Act.TheVariants as act
 use Rattle.kom_types.specs.declared.acts.Record.{Record}
@@ -34,7 +36,8 @@ use Rattle.sweep_laws.specs.Swept.{SessionTells, SessionLeaves, IsAllOf, IsOf, t
 use Rattle.sweep_laws.proofs.Found.{all-weaker}
 use Rattle.sweep_laws.proofs.Judged.{all-unmapped}
 use Rattle.sweep_laws.proofs.Sweeping.{swept-leaves, all-swept}
-use Rattle.sweep_laws.proofs.Talking.{made_so, IsAlone, called, after_item, changed-alone, queued-alone}
+use Rattle.sweep_laws.proofs.Staying.{made_so}
+use Rattle.sweep_laws.proofs.Talking.{IsAlone, called, after_item, changed-alone, queued-alone}
 
 -- ---- the greeting
 greeted : (session : ℕ) (db : Db) (pass moment : ℕ) (user host : List ℕ) (by : ℕ) (short : Bool) →
@@ -175,8 +178,8 @@ stepped session state waiting reference what p1 t1 b1 p2 t2 b2 p3 t3 b3 h1 false
       accepted = one.alone.accepted;
       waits = one.alone.waits;
     } in
-    let ordered = subst (AllByRecursion (λ (row : Session). IsInOrder (after state m1).entries row.waiting)) one.alone.are
-    sound.ordered in
+    let ordered = subst (AllByRecursion (λ (row : Session). IsInOrder (after state m1).entries row.waiting))
+    one.alone.are sound.ordered in
     let last = drained session (after (after state m1) m2) p3 t3 b3 h3 waits flushed may
     (λ under. subst (Below (after state m1).entries) (one.alone.waits under) ordered.0.1)
     (omega (arith, length-append waiting (record { item = item.Reply reference one.body; entry = state.entries } ∷ [])))
@@ -196,10 +199,12 @@ step-of : (session : ℕ) (state : State) (waiting : List Waiting) (reference : 
     is_swept_call what ≡ true → IsAlone session state waiting → length waiting ≤ 1 → IsSound (after state m1) →
     MayFollow (after (after state m1) m2) m3 → Step session state waiting reference what m1 m2 m3
 step-of session state waiting reference what m1 m2 m3 e1 e2 e3 swept alone few =
-    let made_as : Record → Act → Record = λ made what. made_so made.entry.pass made.entry.moment what made.session made.short in
+    let made_as : Record → Act → Record =
+    λ made what. made_so made.entry.pass made.entry.moment what made.session made.short in
     subst₃ (λ (a1 a2 a3 : Act). IsSound (after state (made_as m1 a1)) →
     MayFollow (after (after state (made_as m1 a1)) (made_as m2 a2)) (made_as m3 a3) →
-    Step session state waiting reference what (made_as m1 a1) (made_as m2 a2) (made_as m3 a3)) (sym e1) (sym e2) (sym e3)
+    Step session state waiting reference what (made_as m1 a1) (made_as m2 a2) (made_as m3 a3))
+    (sym e1) (sym e2) (sym e3)
     (stepped session state waiting reference what m1.entry.pass m1.entry.moment m1.session m2.entry.pass
     m2.entry.moment m2.session m3.entry.pass m3.entry.moment m3.session m1.short m2.short m3.short swept alone few)
 
@@ -254,7 +259,8 @@ exchanged session state history [] closing waiting sound alone few legal is endi
     sym (ended session state history closing is ending)
 exchanged session state [] (one ∷ exchanges) closing waiting sound alone few legal is ending swept given = cc
 exchanged session state (m1 ∷ []) (one ∷ exchanges) closing waiting sound alone few legal is ending swept given = cc
-exchanged session state (m1 ∷ m2 ∷ []) (one ∷ exchanges) closing waiting sound alone few legal is ending swept given = cc
+exchanged session state (m1 ∷ m2 ∷ []) (one ∷ exchanges) closing waiting sound alone few legal is ending swept given =
+    cc
 exchanged session state (m1 ∷ m2 ∷ m3 ∷ history) (one ∷ exchanges) closing waiting sound alone few legal is ending swept
     given =
     let all : m1.entry.act ∷ m2.entry.act ∷ m3.entry.act ∷ acts_in history

@@ -7,10 +7,9 @@ use Rattle.std.specs.List.{AllByRecursion}
 use Rattle.std.proofs.lemmas.Bool.{cases_Bool, cond_both, or_right}
 use Rattle.std.specs.Int.Bits.{and_zero_l}
 use Rattle.kom_types.specs.Bits.{is_on}
-use Rattle.kom_types.specs.Sessions.{Session, Waiting, Limits, waiting_limits, is_session, queue, fits, with_waiting}
+use Rattle.kom_types.specs.Sessions.{Session, Waiting, Limits, waiting_limits, is_session, queue, fits}
 use Rattle.kom_types.specs.Sessions.{after_change, changed_seat, with_invisible}
 use Rattle.kom_types.specs.Sessions.{changed_session}
-use Rattle.kom_types.specs.declared.acts.Act.{Act}
 use Rattle.kom_types.specs.declared.acts.Act.TheVariants as act
 use Rattle.kom_types.specs.declared.acts.Record.{Record}
 use Rattle.kom_types.specs.declared.calls.Call.{Call}
@@ -37,15 +36,8 @@ use Rattle.kom_model.specs.calls.Guards.{caller}
 use Rattle.kom_model.specs.calls.Sessions.{leaving_changes}
 use Rattle.kom_model.proofs.Deciding.{decision-meets}
 use Rattle.sweep_laws.specs.Leaving.{is_swept_call}
-use Rattle.sweep_laws.proofs.Staying.{rest-quiet}
+use Rattle.sweep_laws.proofs.Staying.{made_so, queued-seat, rest-quiet}
 use Rattle.sweep_laws.proofs.Walked.{all-joined}
-
-abbrev pub made_so : ℕ → ℕ → Act → ℕ → Bool → Record
-made_so pass moment what session short = record {
-  entry = record { pass = pass; moment = moment; act = what };
-  session = session;
-  short = short;
-}
 
 -- ---- the session
 -- There is one session, of this number, which accepts no message. Unless it is overrun, this waits.
@@ -129,8 +121,8 @@ decision-keeps asked what is = decision-meets (λ (decision : Decision). AllByRe
     (λ why. tt) asked what (λ pass. rest-keeps asked what is)
 
 -- one row, with a change of some session
-pub changed-alone : (session number : ℕ) (state : State) (waiting waiting' : List Waiting) (change : Session → Session) →
-    IsAlone session state waiting →
+pub changed-alone : (session number : ℕ) (state : State) (waiting waiting' : List Waiting)
+    (change : Session → Session) → IsAlone session state waiting →
     ((row : Session) → row.seat.number ≡ session → row.seat.accepted ≡ 0 →
     ((change row).seat.number ≡ session) × ((change row).seat.accepted ≡ 0)) →
     ((row : Session) → row.seat.number ≡ session → (row.overrun ≡ false → row.waiting ≡ waiting) →
@@ -190,15 +182,6 @@ queued-waits limits entry one waiting row before = elim (cases_Bool row.overrun)
   made-over : row.overrun ≡ false → fits limits row.waiting one ≡ false →
       (queue limits entry one row).overrun ≡ true
   made-over under unfit = rw (under, unfit) refl
-
-queued-seat : (limits : Limits) (place : ℕ) (item : Item) (row : Session) →
-    (queue limits place item row).seat ≡ row.seat
-queued-seat limits place item row =
-    cond_both row.overrun row
-    (cond (fits limits row.waiting item) (with_waiting item place row) (record row { overrun = true }))
-    (λ (one : Session). one.seat ≡ row.seat) (λ _. refl)
-    (λ _. cond_both (fits limits row.waiting item) (with_waiting item place row) (record row { overrun = true })
-    (λ (one : Session). one.seat ≡ row.seat) (λ _. refl) (λ _. refl))
 
 -- an item for it is queued
 pub queued-alone : (session entry : ℕ) (state : State) (waiting : List Waiting) (one : Item) →
