@@ -121,9 +121,10 @@ pub work_done : (session moment person : ℕ) (password : List ℕ) (count swept
     kept ≡ count - swept →
     ((calls : List Told) × Goes session x y calls × IsSwept moment person password calls swept kept)
 work_done session moment person password count swept kept next texts_due gone logout x m n y
-    (found, is_found, goes, counted, are) names swept_is goes_gone goes_out kept_is = (
+    (found, is_found, goes, counted, are) names swept_is goes_gone goes_out kept_is =
+    let all = goes_on x n y (goes_on x m n goes goes_gone) goes_out in (
       told_findings person password found ++ told_deletions gone ++ tell call.Logout logout ∷ [],
-      goes_on x n y (goes_on x m n goes goes_gone) goes_out,
+      all,
       record {
         found = found;
         is_found = is_found;
@@ -133,6 +134,7 @@ work_done session moment person password count swept kept next texts_due gone lo
         are_due = names ∙ are;
         swept = swept_is;
         kept = kept_is ∙ ap (λ count. count - swept) counted;
+        sound = all.sound;
       },
     )
 

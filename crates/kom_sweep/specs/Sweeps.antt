@@ -21,7 +21,7 @@ use Rattle.kom_sweep.specs.declared.ends.SweepEnd.{SweepEnd}
 use Rattle.kom_sweep.specs.declared.ends.SweepEnd.TheVariants as end
 use Rattle.kom_sweep.specs.Told.{Told, tell, Exchange, Last, told_of, acts_of, told_last}
 use Rattle.kom_sweep.specs.Told.{acts_last, AreNumbered, IsNumbered, only_asks, IsAbout}
-use Rattle.kom_sweep.specs.Replies.{is_refused}
+use Rattle.kom_sweep.specs.Replies.{is_refused, is_short}
 use Rattle.kom_sweep.specs.Acting.{Seen, acts_in, faults_in, IsOwn, MayLeave}
 use Rattle.kom_sweep.specs.Due.{Walk, Room, Look}
 use Rattle.kom_sweep.specs.Walks.{IsRoomWalk, IsTextWalk, told_rooms, told_texts, due_in}
@@ -79,7 +79,7 @@ abbrev pub swept_in : List (ℕ × Option Reply) → ℕ
 swept_in gone = length (filter (λ one. not (is_refused one.1)) gone)
 
 -- A whole sweep: after both walks the texts that are due were deleted, in order, and the person was
--- logged out.
+-- logged out; and for none of its calls memory ran out.
 pub record IsSwept (moment person : ℕ) (password : List ℕ) (calls : List Told)
     (gone_count left_count : ℕ) : Type 0 where
   pub found : Findings
@@ -91,6 +91,7 @@ pub record IsSwept (moment person : ℕ) (password : List ℕ) (calls : List Tol
   pub are_due : map (λ one. one.0) gone ≡ due moment found
   pub swept : gone_count ≡ swept_in gone
   pub kept : left_count ≡ length found.texts.steps - gone_count
+  pub sound : AllByRecursion (λ one. is_short one.reply ≡ false) calls
 
 -- a sweep that began to delete: the first of the texts that are due
 pub record IsPartlySwept (moment person : ℕ) (password : List ℕ) (calls : List Told) : Type 0 where
