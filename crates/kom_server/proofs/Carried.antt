@@ -3,29 +3,30 @@ use Rattle.std.proofs.Common.{◌≡◌, ◌≢◌, ◌⊎◌, ◌↔◌, ◌≤
 use Rattle.std.proofs.Common.{None, ◌||◌, refl, sym, ap, subst, ◌∙◌, arith}
 use Rattle.std.proofs.lemmas.Bool.{false≢true, true≢false, ne_eqb}
 use Rattle.std.specs.Option.{IfSome}
-use Rattle.std.specs.Prelude.{IsTrue, is_some, option_map}
-use Rattle.kom_types.specs.declared.acts.Record.{Record}
+use Rattle.std.specs.Prelude.{IsTrue, is_some}
 use Rattle.kom_commands.specs.declared.cases.Cases.{Cases}
-use Rattle.kom_commands.specs.declared.numbers.AtPort.{AtPort}
 use Rattle.kom_commands.specs.declared.words.Command.{Command}
 use Rattle.kom_commands.specs.declared.words.Command.TheVariants as command
-use Rattle.kom_commands.specs.Words.{IsSpelled, serves, names_store}
+use Rattle.kom_commands.specs.Words.{IsSpelled, serves}
 use Rattle.kom_links.specs.declared.world_counts.WorldCounts.{WorldCounts}
 use Rattle.kom_links.specs.Outside.{Rose}
 use Rattle.kom_commands.specs.Statuses.{IsStatus, status_of}
+use Rattle.kom_book.specs.Stops.{records_of}
+use Rattle.kom_book.specs.declared.ticked.Ticked.{Ticked}
 use Rattle.store_check.specs.Stores.{IsWrong, IsUnswept, Fails}
-use Rattle.kom_server.specs.Statuses.{StoreFails, HasRefused, Asks, Sweeps, serve_over}
+use Rattle.kom_serving.specs.Runs.{Service}
+use Rattle.kom_server.specs.Statuses.{StoreFails, HasRefused, Asks, Sweeps, IsWell, IsWellAt}
 use Rattle.kom_server.proofs.StatusCases.{is_status, never_two, three, four, five, six, seven, eight, ten}
-use Rattle.kom_server.proofs.StatusCases.{nothing_wrong, something_wrong, only_four}
+use Rattle.kom_server.proofs.StatusCases.{nothing_wrong, something_wrong}
 
 -- a store that failed for a reason failed for one that follows
-pub fails_too : {D : Type 0} (faults : D → ℕ) (one other : Type 0) (disk : Option D)
-    (history : Option (List Record)) → (one → other) → StoreFails faults one disk history →
-    StoreFails faults other disk history
-fails_too faults one other None history so (inl unopened) = inl (so unopened)
-fails_too faults one other (Some disk) history so (inl failed) = inl failed
-fails_too faults one other None history so (inr refused) = inr refused
-fails_too faults one other (Some disk) history so (inr refused) = inr refused
+pub fails_too : {D L : Type 0} (faults : D → ℕ) (one other : Type 0) (disk : Option D)
+    (end : Option (Service (Ticked D) L)) → (one → other) → StoreFails faults one disk end →
+    StoreFails faults other disk end
+fails_too faults one other None end so (inl unopened) = inl (so unopened)
+fails_too faults one other (Some disk) end so (inl failed) = inl failed
+fails_too faults one other None end so (inr refused) = inr refused
+fails_too faults one other (Some disk) end so (inr refused) = inr refused
 
 -- what rose from a later count rose from an earlier one
 pub rose_from : (before between after : ℕ) → before ≤ between → Rose between after → Rose before after
@@ -33,56 +34,42 @@ rose_from before between after earlier (inl more) = inl (omega arith)
 rose_from before between after earlier (inr most) = inr most
 
 -- where no store is named none fails
-pub never_fails : {D X : Type 0} (faults : D → ℕ) (unopened : Type 0) (failed : Bool) (disk : Option D) (end : Option X)
-    (history_of : X → List Record) → (unopened → ⊥) → failed ≡ false → is_some disk ≡ false →
-    IfSome end (λ x. HasRefused (history_of x) → ⊥) →
-    (IsTrue failed ↔ StoreFails faults unopened disk (option_map history_of end))
-never_fails faults unopened failed (Some disk) end history_of opened well none unrefused = absurd (true≢false none)
-never_fails faults unopened failed None None history_of opened well none unrefused = (
+pub never_fails : {D L : Type 0} (faults : D → ℕ) (unopened : Type 0) (failed : Bool) (disk : Option D)
+    (end : Option (Service (Ticked D) L)) → (unopened → ⊥) → failed ≡ false → is_some disk ≡ false →
+    IfSome end (λ service. HasRefused (records_of service.seen) → ⊥) →
+    (IsTrue failed ↔ StoreFails faults unopened disk end)
+never_fails faults unopened failed (Some disk) end opened well none unrefused = absurd (true≢false none)
+never_fails faults unopened failed None None opened well none unrefused = (
   λ is. absurd (false≢true (sym well ∙ is)),
   λ either. elim either [ inl why ↦ absurd (opened why) | inr has ↦ absurd has ],
 )
-never_fails faults unopened failed None (Some x) history_of opened well none unrefused = (
+never_fails faults unopened failed None (Some service) opened well none unrefused = (
   λ is. absurd (false≢true (sym well ∙ is)),
   λ either. elim either [ inl why ↦ absurd (opened why) | inr has ↦ absurd (unrefused has) ],
 )
 
--- the same of a store where nothing was to be served
-pub fails_alone : {D : Type 0} (faults : D → ℕ) (one other failed : Type 0) (disk : Option D) → (one → other) →
-    (is_some disk ≡ false → failed) → (failed ↔ Fails faults one disk) → (failed ↔ StoreFails faults other disk None)
-fails_alone faults one other failed None then unopened so = (
+-- the same of a store that is not served
+pub fails_unserved : {D L : Type 0} (faults : D → ℕ) (one other failed : Type 0) (disk : Option D)
+    (end : Option (Service (Ticked D) L)) → is_some end ≡ false → (one → other) → (is_some disk ≡ false → failed) →
+    (failed ↔ Fails faults one disk) → (failed ↔ StoreFails faults other disk end)
+fails_unserved faults one other failed disk (Some service) none then unopened so = absurd (true≢false none)
+fails_unserved faults one other failed None None none then unopened so = (
   λ is. inl (then (so.0 is)),
   λ either. elim either [ inl why ↦ unopened refl | inr has ↦ absurd has ],
 )
-fails_alone faults one other failed (Some disk) then unopened so = (
+fails_unserved faults one other failed (Some disk) None none then unopened so = (
   λ is. inl (so.0 is),
   λ either. elim either [ inl why ↦ so.1 why | inr has ↦ absurd has ],
 )
 
--- the same of a store that is not served
-pub fails_unserved : {D X : Type 0} (faults : D → ℕ) (one other failed : Type 0) (disk : Option D) (end : Option X)
-    (history_of : X → List Record) → is_some end ≡ false → (one → other) → (is_some disk ≡ false → failed) →
-    (failed ↔ Fails faults one disk) → (failed ↔ StoreFails faults other disk (option_map history_of end))
-fails_unserved faults one other failed disk (Some x) history_of none then unopened so = absurd (true≢false none)
-fails_unserved faults one other failed disk None history_of none then unopened so =
-    fails_alone faults one other failed disk then unopened so
-
 -- the same of one that is served
-pub fails_served : {D : Type 0} (faults : D → ℕ) (one other failed : Type 0) (disk : Option D)
-    (history : Option (List Record)) → (one ↔ other) → (failed ↔ StoreFails faults one disk history) →
-    (failed ↔ StoreFails faults other disk history)
-fails_served faults one other failed disk history same so = (
-  λ is. fails_too faults one other disk history same.0 (so.0 is),
-  λ fails. so.1 (fails_too faults other one disk history same.1 fails),
+pub fails_served : {D L : Type 0} (faults : D → ℕ) (one other failed : Type 0) (disk : Option D)
+    (end : Option (Service (Ticked D) L)) → (one ↔ other) → (failed ↔ StoreFails faults one disk end) →
+    (failed ↔ StoreFails faults other disk end)
+fails_served faults one other failed disk end same so = (
+  λ is. fails_too faults one other disk end same.0 (so.0 is),
+  λ fails. so.1 (fails_too faults other one disk end same.1 fails),
 )
-
--- the same of one that is swept
-pub fails_more : {D : Type 0} (faults : D → ℕ) (one other failed : Type 0) (disk : Option D)
-    (history : Option (List Record)) → (one → other) → (is_some disk ≡ false → failed) →
-    (failed ↔ StoreFails faults one disk history) → (failed ↔ StoreFails faults other disk history)
-fails_more faults one other failed None history then unopened so =
-    (λ is. fails_too faults one other None history then (so.0 is), λ fails. unopened refl)
-fails_more faults one other failed (Some disk) history then unopened so = so
 
 -- what is there has this, or it is not there
 pub there_and : (P Q : Type 0) (there : Bool) → (there ≡ false → P) → Q → P ⊎ ((there ≡ true) × Q)
@@ -100,11 +87,10 @@ pub neither : {P : Type 0} (failed said : Bool) → failed ≡ false → said �
 neither failed said well idle =
     (λ is. absurd (false≢true (sym well ∙ is)), λ both. absurd (false≢true (sym idle ∙ both.0)))
 
--- what is not there has this
-pub unless_there : (P Q : Type 0) (there : Bool) → there ≡ false → P ⊎ ((there ≡ true) × Q) → P
-unless_there P Q true none either = absurd (true≢false none)
-unless_there P Q false none (inl p) = p
-unless_there P Q false none (inr both) = absurd (false≢true both.0)
+-- what one of two is where the other is not
+pub unless : (W P : Type 0) → W ⊎ P → (W → ⊥) → P
+unless W P (inl wrong) well = absurd (well wrong)
+unless W P (inr p) well = p
 
 -- where a command does not serve no gate failed
 pub not_gate : {P : Type 0} (said : Command) (failed : Bool) → serves said ≡ false →
@@ -135,42 +121,21 @@ swept_end status there (inr (inr (inr (inr (inr (inr (inl eight))))))) well ende
 swept_end status there (inr (inr (inr (inr (inr (inr (inr ten))))))) well ended gate =
     inr (inr (inr (ended (inr ten))))
 
--- ---- which commands serve a store
+-- what makes a store is no sweep
+pub init_sweeps : (person : ℕ) → command.Init ≡ command.Sweep person → ⊥
+init_sweeps person is = cc
 
-over_serves : (port : Option AtPort) → (serves (serve_over port) ≡ true) × (names_store (serve_over port) ≡ true)
-over_serves None = (refl, refl)
-over_serves (Some at) = (refl, refl)
+pub load_sweeps : (count person : ℕ) → command.Load count ≡ command.Sweep person → ⊥
+load_sweeps count person is = cc
 
-pub not_served : (said : Command) (port : Option AtPort) → serves said ≡ false → said ≡ serve_over port → ⊥
-not_served said port idle is = false≢true (sym idle ∙ ap serves is ∙ (over_serves port).0)
-
-pub not_named : (said : Command) (port : Option AtPort) → names_store said ≡ false → said ≡ serve_over port → ⊥
-not_named said port idle is = false≢true (sym idle ∙ ap names_store is ∙ (over_serves port).1)
-
-pub over_none : (port : Option AtPort) → command.OnceOver ≡ serve_over port → port ≡ None
-over_none None is = refl
-over_none (Some at) is = cc
-
-pub over_some : (at : AtPort) (port : Option AtPort) → command.Serve at ≡ serve_over port → port ≡ Some at
-over_some at None is = cc
-over_some at (Some other) is = cc
-
-pub same_sweep : (person other : ℕ) → command.Sweep person ≡ command.Sweep other → other ≡ person
-same_sweep person other is = cc
-
-pub same_load : (count other : ℕ) → command.Load count ≡ command.Load other → other ≡ count
-same_load count other is = cc
+-- a check is no sweep
+pub check_sweeps : (person : ℕ) → command.Check ≡ command.Sweep person → ⊥
+check_sweeps person is = cc
 
 -- of what is not there any fact holds
 pub none_there : {X : Type 0} (P : X → Type 0) (end : Option X) → is_some end ≡ false → IfSome end P
 none_there P None none = tt
 none_there P (Some x) none = absurd (true≢false none)
-
-pub both_or : (P Q R : Type 0) (cases : Cases) → IsWrong cases ⊎ P → IsWrong cases ⊎ (Q × R) →
-    IsWrong cases ⊎ (Q × P × R)
-both_or P Q R cases (inl wrong) other = inl wrong
-both_or P Q R cases (inr p) (inl wrong) = inl wrong
-both_or P Q R cases (inr p) (inr both) = inr (both.0, p, both.1)
 
 -- nothing is there that was served, unless a command serves or sweeps
 pub unserved_end : (words : List (List ℕ)) (said : Command) (has_disk has_end : Bool) (old new : WorldCounts) →
@@ -183,6 +148,11 @@ unserved_end words command.Init has_disk has_end old new spelled asks unserved =
 unserved_end words command.Check has_disk has_end old new spelled asks unserved = inl asks.0
 unserved_end words (command.Load count) has_disk has_end old new spelled asks unserved = inl asks.1
 unserved_end words (command.Sweep person) has_disk has_end old new spelled asks unserved = inr (person, spelled)
+
+-- the status of words that are no command
+pub not_well : IsWellAt 2 → ⊥
+not_well (inl zero) = omega (arith, zero)
+not_well (inr seven) = omega (arith, seven)
 
 -- ---- whether the sink failed, by the count of its faults
 
@@ -279,14 +249,6 @@ module _ (cases : Cases) (s : Bool) (status : ℕ) (is : status ≡ status_of ca
       ∙ ten cases.store_failed cases.is_unfit cases.gate_failed cases.is_refused cases.is_given_up s cases.no_memory
       (sym is ∙ ten'))
 
-  pub unfit_alone : IsUnswept cases → ((status ≡ 0) ⊎ (status ≡ 7) → ⊥) → status ≢ 3 → status ≢ 5 → status ≢ 6 →
-      status ≡ 4
-  unfit_alone unswept ended three five six =
-      is ∙ only_four cases.store_failed cases.is_unfit cases.gate_failed cases.is_refused cases.is_given_up s
-      cases.no_memory
-      unswept.0 unswept.1 (λ zero. ended (inl (is ∙ zero))) (λ three'. three (is ∙ three')) (λ five'. five (is ∙ five'))
-      (λ six'. six (is ∙ six')) (λ seven'. ended (inr (is ∙ seven')))
-
   -- at 0 and 7 all went well, where nothing is put to the sink if something went wrong
   pub all_well : (P : Type 0) → (IsWrong cases → s ≡ false) → IsWrong cases ⊎ P → (status ≡ 0) ⊎ (status ≡ 7) → P
   all_well P silent (inr so) ended = so
@@ -298,6 +260,14 @@ module _ (cases : Cases) (s : Bool) (status : ℕ) (is : status ≡ status_of ca
       absurd (nothing_wrong cases.store_failed cases.is_unfit cases.gate_failed cases.is_refused cases.is_given_up s
       cases.no_memory silent
       (inr (sym is ∙ unwritten)) wrong)
+
+  pub is_well : (IsWrong cases → s ≡ false) → IsWellAt status → IsWell cases
+  is_well silent (inl none) =
+      nothing_wrong cases.store_failed cases.is_unfit cases.gate_failed cases.is_refused cases.is_given_up s
+      cases.no_memory silent (inl (sym is ∙ none))
+  is_well silent (inr unwritten) =
+      nothing_wrong cases.store_failed cases.is_unfit cases.gate_failed cases.is_refused cases.is_given_up s
+      cases.no_memory silent (inr (sym is ∙ unwritten))
 
   pub some_wrong : status ≢ 0 → status ≢ 7 → IsWrong cases
   some_wrong not_zero not_seven =

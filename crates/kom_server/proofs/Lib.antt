@@ -8,3 +8,6 @@ pub mod Carried
 pub mod Sending
 pub mod SweepEnds
 pub mod SweepRuns
+pub mod Comings
+pub mod Fitting
+pub mod Making

@@ -1,5 +1,7 @@
 -- Whether the store refused a flush, along a history.
-use Rattle.std.proofs.Common.{◌≡◌, ℕ, Bool, true, false, ◌||◌, ◌&&◌, List, [], ◌∷◌, refl, sym, ap, ◌∙◌}
+use Rattle.std.proofs.Common.{◌≡◌, ℕ, Bool, true, false, ◌||◌, ◌&&◌, ◌⊎◌, List, [], ◌∷◌, inl, inr, refl, sym}
+use Rattle.std.proofs.Common.{ap, ◌∙◌}
+use Rattle.std.proofs.lemmas.Bool.{false≢true}
 use Rattle.std.specs.List.{list_any}
 use Rattle.kom_types.specs.declared.acts.Act.{Act}
 use Rattle.kom_types.specs.declared.acts.Act.TheVariants as act
@@ -13,7 +15,15 @@ use Rattle.kom_model.specs.Legal.{state_after}
 use Rattle.kom_model.specs.Effects.{apply_all}
 use Rattle.kom_model.specs.Sending.{Delivery}
 use Rattle.kom_model.specs.State.{State, opening_state}
-use Rattle.kom_server.specs.Statuses.{is_flush}
+use Rattle.kom_server.specs.Statuses.{HasRefused}
+
+abbrev pub is_flush : Act → Bool
+is_flush (act.Connect user host) = false
+is_flush (act.Call session reference call) = false
+is_flush (act.Broken session) = false
+is_flush (act.Drain session) = false
+is_flush act.Flush = true
+is_flush (act.Close session) = false
 
 or_none : (b : Bool) → (b || false) ≡ b
 or_none true = refl
@@ -40,6 +50,37 @@ changes_keep moment (change ∷ changes) state = changes_keep moment changes (ma
 
 abbrev pub was_refused : Record → Bool
 was_refused made = is_flush made.entry.act && made.short
+
+flush_refused : (what : Act) (short : Bool) → (is_flush what && short) ≡ true → (what ≡ act.Flush) × (short ≡ true)
+flush_refused (act.Connect user host) short is = absurd (false≢true is)
+flush_refused (act.Call session reference call) short is = absurd (false≢true is)
+flush_refused (act.Broken session) short is = absurd (false≢true is)
+flush_refused (act.Drain session) short is = absurd (false≢true is)
+flush_refused act.Flush short is = (refl, is)
+flush_refused (act.Close session) short is = absurd (false≢true is)
+
+either_is : (a b : Bool) → (a || b) ≡ true → (a ≡ true) ⊎ (b ≡ true)
+either_is true b is = inl refl
+either_is false b is = inr is
+
+later_is : (a b : Bool) → b ≡ true → (a || b) ≡ true
+later_is true b is = refl
+later_is false b is = is
+
+-- that a history has such a record
+pub refused_has : (history : List Record) → list_any was_refused history ≡ true → HasRefused history
+refused_has [] is = absurd (false≢true is)
+refused_has (made ∷ history) is =
+    elim (either_is (was_refused made) (list_any was_refused history) is) [
+      | inl one ↦ inl (flush_refused made.entry.act made.short one)
+      | inr other ↦ inr (refused_has history other)
+    ]
+
+pub has_refused : (history : List Record) → HasRefused history → list_any was_refused history ≡ true
+has_refused [] has = absurd has
+has_refused (made ∷ history) (inl one) = rw (one.0, one.1) refl
+has_refused (made ∷ history) (inr other) =
+    later_is (was_refused made) (list_any was_refused history) (has_refused history other)
 
 acted_refused : (state : State) (pass moment session : ℕ) (what : Act) (short : Bool) →
     let made : Record = record {

@@ -79,17 +79,6 @@ seven false false false false false false true apart =
 seven false false false false false false false apart =
     (λ is. absurd (omega (arith, is)), λ all. absurd (false≢true all.2))
 
-pub only_four : (a u g r b s m : Bool) → r ≡ false → b ≡ false → st a u g r b s m ≢ 0 → st a u g r b s m ≢ 3 →
-    st a u g r b s m ≢ 5 → st a u g r b s m ≢ 6 → st a u g r b s m ≢ 7 → st a u g r b s m ≡ 4
-only_four true u g r b s m heard kept zero three five six seven = absurd (three refl)
-only_four false true g r b s m heard kept zero three five six seven = refl
-only_four false false true r b s m heard kept zero three five six seven = absurd (five refl)
-only_four false false false true b s m heard kept zero three five six seven = absurd (true≢false heard)
-only_four false false false false true s m heard kept zero three five six seven = absurd (true≢false kept)
-only_four false false false false false true m heard kept zero three five six seven = absurd (seven refl)
-only_four false false false false false false true heard kept zero three five six seven = absurd (six refl)
-only_four false false false false false false false heard kept zero three five six seven = absurd (zero refl)
-
 pub six : (a u g r b s m : Bool) → st a u g r b s m ≡ 6 → m ≡ true
 six true u g r b s m is = absurd (omega (arith, is))
 six false true g r b s m is = absurd (omega (arith, is))

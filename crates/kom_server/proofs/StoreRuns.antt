@@ -4,27 +4,30 @@ use Rattle.std.proofs.Common.{map, Option, Some, None, refl, sym, ap, subst, ari
 use Rattle.std.proofs.lemmas.Bool.{false≢true}
 use Rattle.std.specs.Option.{IfSome}
 use Rattle.std.specs.List.{list_any, AllByRecursion}
-use Rattle.std.specs.Prelude.{IsSome, IsSomeAnd, is_some, option_map}
+use Rattle.std.specs.Prelude.{IsTrue, IsSome, IsSomeAnd, is_some, option_map}
 use Rattle.kom_types.specs.declared.acts.Act.{Act}
 use Rattle.kom_types.specs.declared.acts.Act.TheVariants as act
-use Rattle.kom_types.specs.declared.acts.Record.{Record}
 use Rattle.kom_commands.specs.declared.cases.Cases.{Cases}
 use Rattle.kom_commands.specs.declared.numbers.AtPort.{AtPort}
+use Rattle.kom_commands.specs.Words.{serves, names_store}
 use Rattle.kom_links.specs.declared.world_counts.WorldCounts.{WorldCounts}
 use Rattle.kom_links.specs.WorldCounts.{with_disk}
 use Rattle.kom_model.specs.Db.{Db}
 use Rattle.kom_model.specs.Legal.{state_after}
 use Rattle.kom_model.specs.State.{State, opening_state}
 use Rattle.hall_desk.specs.Acts.{IsOpening}
+use Rattle.kom_journal.specs.Images.{as_read}
 use Rattle.kom_journal.specs.Journals.{JournalView}
 use Rattle.kom_book.specs.Books.{BookView, Leads, disk_in, state_in}
 use Rattle.kom_book.specs.Stores.{IfBoth, IsNotRefused}
 use Rattle.kom_book.specs.declared.ticked.Ticked.{Ticked}
 use Rattle.store_check.specs.Stores.{IsNoStore, IfFound, IsWrong}
 use Rattle.store_check.proofs.Causes.{memory_wrong}
-use Rattle.kom_server.specs.Runs.{AsksPlace}
-use Rattle.kom_server.specs.Statuses.{is_flush, HasRefused, StoreFails, HoldsNoStore}
-use Rattle.kom_server.proofs.Refusing.{was_refused, refused_since}
+use Rattle.kom_book.specs.Stops.{records_of}
+use Rattle.kom_serving.specs.Runs.{Service}
+use Rattle.kom_server.specs.Statuses.{Asks, AsksPlace, HasRefused, StoreFails, serve_over}
+use Rattle.kom_server.specs.Stops.{seen_of}
+use Rattle.kom_server.proofs.Refusing.{is_flush, was_refused, refused_has, has_refused, refused_since}
 
 -- a fact of what is there leads to another
 pub some_then : {T : Type 0} (P Q : T → Type 0) (end : Option T) → IfSome end P → ((x : T) → P x → Q x) →
@@ -49,9 +52,10 @@ there_so told P (Some d) there holds = holds
 
 -- what is found to be a store is not told to be none
 pub not_held : (tells : Bool) (files : Option (List ℕ → List ℕ)) (path : List ℕ) →
-    IfFound tells files path (λ image. IsNoStore image → ⊥) → HoldsNoStore tells files path → ⊥
-not_held tells None path so holds = absurd holds.1
-not_held tells (Some found) path so holds = so holds.0 holds.1
+    IfFound tells files path (λ image. IsNoStore image → ⊥) → IsTrue tells →
+    IsSomeAnd files (λ found. IsNoStore (as_read found path)) → ⊥
+not_held tells None path so told holds = absurd holds
+not_held tells (Some found) path so told holds = so told holds
 
 -- what is there has a fact, where it is told
 pub told_so : {D : Type 0} (told : Type 0) (P : D → Type 0) (disk : Option D) → (told → IfSome disk P) →
@@ -81,10 +85,16 @@ not_true false wrong = refl
 
 -- what a store that was opened was asked for
 pub asks_on : (port : Option AtPort) (serves has : Bool) (old between new : WorldCounts) → has ≡ true →
-    between ≡ with_disk true old → AsksPlace port serves between new → AsksPlace port serves (with_disk has old) new
+    between ≡ with_disk true old → AsksPlace port serves between new → Asks (serve_over port) has serves old new
 asks_on port serves has old between new there counts asks =
-    subst (λ (has : Bool). AsksPlace port serves (with_disk has old) new) (sym there)
-    (subst (λ (from : WorldCounts). AsksPlace port serves from new) counts asks)
+    asks_over port serves has old new
+    (subst (λ (has : Bool). AsksPlace port serves (with_disk has old) new) (sym there)
+    (subst (λ (from : WorldCounts). AsksPlace port serves from new) counts asks))
+  where
+    asks_over : (port : Option AtPort) (serves has : Bool) (old new : WorldCounts) →
+        AsksPlace port serves (with_disk has old) new → Asks (serve_over port) has serves old new
+    asks_over None serves has old new asks = asks
+    asks_over (Some at) serves has old new asks = asks
 
 -- out of memory, or it was served
 pub wrong_or_served : {T : Type 0} (end : Option T) (cases : Cases) → (is_some end ≡ false → cases.no_memory ≡ true) →
@@ -93,9 +103,15 @@ wrong_or_served None cases wrong = inl (memory_wrong cases (wrong refl))
 wrong_or_served (Some x) cases wrong = inr refl
 
 -- what is asked for where nothing is served
-pub asks_none : (port : Option AtPort) (counts : WorldCounts) → AsksPlace port false counts counts
-asks_none None counts = inl refl
-asks_none (Some at) counts = inl (0, omega arith, refl)
+pub asks_none : (port : Option AtPort) (has : Bool) (old new : WorldCounts) → new ≡ with_disk has old →
+    Asks (serve_over port) has false old new
+asks_none None has old new same = inl same
+asks_none (Some at) has old new same = inl (0, omega arith, same)
+
+-- what serves a store, and names it
+pub over_serves : (port : Option AtPort) → (serves (serve_over port) ≡ true) × (names_store (serve_over port) ≡ true)
+over_serves None = (refl, refl)
+over_serves (Some at) = (refl, refl)
 
 -- both are there or neither is
 pub both_there : {X : Type 0} (none : Type 0) (P : X → X → Type 0) (one other : Option X) →
@@ -114,19 +130,37 @@ disk_there book = there book.journal
     there (Some store) = refl
 
 -- a store that is there has failed where its disk has, or refused a flush
-pub store_there : {D : Type 0} (faults : D → ℕ) (unopened failed : Type 0) (disk : Option D)
-    (history : Option (List Record)) → is_some disk ≡ true →
-    (failed ↔ (IsSomeAnd disk (λ disk. faults disk ≢ 0) ⊎ IsSomeAnd history HasRefused)) →
-    (failed ↔ StoreFails faults unopened disk history)
-store_there faults unopened failed None history there so = absurd (false≢true there)
-store_there faults unopened failed (Some disk) history there so = so
+pub store_there : {D L : Type 0} (faults : D → ℕ) (unopened failed : Type 0) (disk : Option D)
+    (end : Option (Service (Ticked D) L)) → is_some disk ≡ true →
+    (failed ↔ (IsSomeAnd disk (λ disk. faults disk ≢ 0)
+    ⊎ IsSomeAnd end (λ service. HasRefused (records_of service.seen)))) →
+    (failed ↔ StoreFails faults unopened disk end)
+store_there faults unopened failed None end there so = absurd (false≢true there)
+store_there faults unopened failed (Some disk) end there so = so
 
 -- the mark of a store at the end of what was served says that the history has a refused flush
-pub refused_end : {X : Type 0} (end : Option X) (history_of : X → List Record) (marked : Bool) →
-    IfSome end (λ x. marked ≡ list_any was_refused (history_of x)) →
-    ((IsSome end × (marked ≡ true)) ↔ IsSomeAnd (option_map history_of end) HasRefused)
-refused_end None history_of marked same = (λ both. absurd (false≢true both.0), λ has. absurd has)
-refused_end (Some x) history_of marked same = (λ both. sym same ∙ both.1, λ has. (refl, same ∙ has))
+pub refused_end : {D L : Type 0} (end : Option (Service (Ticked D) L)) (marked : Bool) →
+    IfSome end (λ service. marked ≡ list_any was_refused (records_of service.seen)) →
+    ((IsSome end × (marked ≡ true)) ↔ IsSomeAnd end (λ service. HasRefused (records_of service.seen)))
+refused_end None marked same = (λ both. absurd (false≢true both.0), λ has. absurd has)
+refused_end (Some service) marked same = (
+  λ both. refused_has (records_of service.seen) (sym same ∙ both.1),
+  λ has. (refl, same ∙ has_refused (records_of service.seen) has),
+)
+
+-- a store that was not opened is none over which something was begun
+pub unbegun : {D X : Type 0} (disk : D) (left : Option D) (end : Option X) (old new : WorldCounts) → end ≡ None →
+    left ≡ Some disk → new ≡ with_disk true old → IsSome end ⊎ (IsSome left × (new.clocks ≢ old.clocks)) → ⊥
+unbegun {X = X} disk left end old new none there same (inl begun) =
+    false≢true (sym (ap (λ (end : Option X). is_some end) none) ∙ begun)
+unbegun disk left end old new none there same (inr more) = more.1 (ap (λ (counts : WorldCounts). counts.clocks) same)
+
+-- the entries of what was begun lead to the server that is left, and none do where nothing was
+pub seen_leads : {E L B : Type 0} (led : List E → B → Type 0) (server : B) (end : Option (Service E L)) →
+    IfSome end (λ service. led service.seen server) → (is_some end ≡ false → led [] server) →
+    led (seen_of end) server
+seen_leads led server None leads unserved = unserved refl
+seen_leads led server (Some service) leads unserved = leads
 
 module _ {D : Type 0} (faults : D → ℕ) where
   -- where a history that led from a server before its first entry marks the store

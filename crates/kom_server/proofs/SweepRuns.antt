@@ -1,5 +1,5 @@
 -- A whole sweep: one pass made the acts of a desk, and the hall was closed.
-use Rattle.std.proofs.Common.{◌≡◌, ℕ, ◌+◌, ◌<◌, ◌≤◌, inl, inr, Bool, true, eqb, List, [], ◌∷◌, ◌++◌, map, All}
+use Rattle.std.proofs.Common.{◌≡◌, ℕ, ◌<◌, ◌≤◌, inl, inr, Bool, true, eqb, List, [], ◌∷◌, ◌++◌, map, All}
 use Rattle.std.proofs.Common.{Option, refl, sym, ap, subst, ◌∙◌, arith, append-nil}
 use Rattle.std.specs.List.{AllByRecursion}
 use Rattle.std.proofs.lemmas.Bool.{cases_eq, eq-eqb}
@@ -23,7 +23,7 @@ use Rattle.hall_desk.specs.Passes.{PassView, pass_view, of_pass}
 use Rattle.hall_desk.specs.Desks.{Kept, GoesOn, Stands, desk_view}
 use Rattle.hall_desk.proofs.Starting.{starts}
 use Rattle.hall_desk.proofs.Histories.{of_pass-append}
-use Rattle.kom_server.specs.Runs.{AsksClock}
+use Rattle.kom_server.specs.Statuses.{AsksClock}
 use Rattle.kom_server.specs.Sweeps.{new_desk, IsOnlyDesk, IsSweepRun}
 use Rattle.kom_server.proofs.Hiding.{opened_hides}
 use Rattle.kom_serving.proofs.WholeRuns.{all_zero, entries_made}

@@ -1,5 +1,4 @@
-pub mod Runs
 pub mod Statuses
 pub mod Stops
-pub mod Loads
 pub mod Sweeps
+pub mod Comes

@@ -1,5 +1,5 @@
 -- What a run leaves that sweeps a store.
-use Rattle.std.specs.Prelude.{◌≡◌, ◌≢◌, ◌⊎◌, ◌≤◌, ℕ, false, true, List, [], ◌∷◌, Option}
+use Rattle.std.specs.Prelude.{◌≡◌, ◌⊎◌, ◌≤◌, ℕ, false, true, List, [], ◌∷◌, Option}
 use Rattle.kom_types.specs.declared.acts.Record.{Record}
 use Rattle.kom_commands.specs.declared.cases.Cases.{Cases}
 use Rattle.kom_commands.specs.Reports.{HasText, sweep_lines}

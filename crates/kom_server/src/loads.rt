@@ -2,7 +2,7 @@
 ghost use Rattle.std.specs.Prelude.{◌≡◌, ◌⊎◌, ◌≤◌, IsNone, false};
 ghost use Rattle.kom_links.specs.Doors.{IsNewSink};
 ghost use Rattle.store_check.specs.Stores.{IsWrong, IsUnswept};
-ghost use Rattle.kom_server.specs.Loads.{IsLoaded};
+ghost use Rattle.kom_server.specs.Comes.{IsLoaded};
 
 use crate::ran::Ran;
 use kom_book::Book;

@@ -3,7 +3,7 @@ ghost use Rattle.std.specs.Prelude.{◌≡◌, ◌≢◌, ◌↔◌, ◌⊎◌, 
 ghost use Rattle.std.specs.Prelude.{false, true, IfSome};
 ghost use Rattle.kom_journal.specs.Journals.{EndsAtGate};
 ghost use Rattle.kom_book.specs.Books.{state_in, disk_in};
-ghost use Rattle.store_check.specs.Stores.{IsUnswept, Fails};
+ghost use Rattle.store_check.specs.Stores.{IsUnswept};
 
 use hall_desk::Acts;
 use kom_book::Book;

@@ -1,25 +1,20 @@
 // The words that name a store: a run that serves over one, and one that makes one.
-ghost use Rattle.std.specs.Prelude.{◌≡◌, ◌≢◌, ◌↔◌, ◌⊎◌, ℕ, [], IsTrue, IsNone, IsSome, IsSomeAnd};
-ghost use Rattle.std.specs.Prelude.{IfSome, List, false, true, is_some, map, length, option_map};
-ghost use Rattle.std.specs.Prelude.{None, Some, ◌≤◌};
+ghost use Rattle.std.specs.Prelude.{◌≡◌, ◌≢◌, ◌↔◌, ℕ, IsTrue, IsNone, IsSome, IsSomeAnd, IfSome};
+ghost use Rattle.std.specs.Prelude.{List, [], map, length, false, is_some, None, Some, ◌≤◌};
+ghost use Rattle.kom_commands.specs.declared.words.Command.TheVariants as said;
 ghost use Rattle.kom_links.specs.Doors.{IsNewSink};
 ghost use Rattle.kom_links.specs.Outside.{Rose};
-ghost use Rattle.kom_links.specs.WorldCounts.{with_disk, with_clock};
-ghost use Rattle.kom_model.specs.Db.{Db};
-ghost use Rattle.kom_model.specs.Initial.{initial};
-ghost use Rattle.kom_model.specs.State.{opening_state};
-ghost use Rattle.kom_journal.specs.Images.{AreFor, StandsFor, images, images_at};
+ghost use Rattle.kom_journal.specs.Images.{images_at};
 ghost use Rattle.kom_journal.specs.Images.{moment as moment_on};
-ghost use Rattle.kom_commands.specs.Reports.{HasText, made_line};
 ghost use Rattle.hall_desk.specs.Acts.{IsOpening};
 ghost use Rattle.kom_book.specs.Books.{IsPlain, StandsNow, state_in};
-ghost use Rattle.store_check.specs.Stores.{IsNoStore, IfFound, IsWrong, IsUnswept, Fails};
-ghost use Rattle.store_check.specs.Stores.{is_of_content, is_memory};
-ghost use Rattle.kom_serving.specs.Runs.{IsRun, HasFailed};
-ghost use Rattle.kom_server.specs.Runs.{IsHidingRun, AsksPlace, gates_at};
-ghost use Rattle.kom_server.specs.Runs.{IsOverAt, IsWithin, IsFirstMoment};
-ghost use Rattle.kom_server.specs.Statuses.{StoreFails, HasRefused, HoldsNoStore};
-ghost use Rattle.kom_server.specs.Stops.{HasServed};
+ghost use Rattle.store_check.specs.Stores.{IsWrong, IsUnswept, is_of_content, is_memory};
+ghost use Rattle.kom_serving.specs.Runs.{IsRunOf, HasFailed};
+ghost use Rattle.kom_server.specs.Statuses.{FitsCases, FindsStore, IsWell, Asks, AsksPlace};
+ghost use Rattle.kom_server.specs.Statuses.{serve_over};
+ghost use Rattle.kom_server.specs.Stops.{HasServed, seen_of};
+ghost use Rattle.kom_server.specs.Comes.{IsHidingRun, IsOverAt, IsWithin, gates_at};
+ghost use Rattle.kom_server.specs.Comes.{WasOpened, OverStore, MakesStore};
 
 use crate::ran::{Ran, settle, unopened};
 use hall_desk::Acts;
@@ -47,40 +42,16 @@ pub(crate) fn serve_store<R: Threads + Wait + Sync, W: World<Gate: Gate<Link: Se
 ) -> Ran<W>
     requires within { IsWithin port }
     requires before { before ≤ (W.view world.old).faults }
-    ensures asks { AsksPlace port (is_some result.end)
-        (with_disk (is_some result.disk) (W.view world.old).counts) (W.view world.new).counts }
-
-    // Its cases.
-    ensures store { IsTrue result.cases.store_failed
-        ↔ StoreFails W.Disk.faults (Rose before (W.view world.new).faults) result.disk
-        (option_map (λ closing. map (λ entry. entry.made) closing.pass.seen) result.end) }
-    ensures unfit { IsTrue result.cases.is_unfit
-        → IfFound W.Disk.tells (W.view world.old).files path.now IsNoStore }
-    ensures exact { IsWrong result.cases ⊎ IfFound W.Disk.tells (W.view world.old).files path.now
-        (λ image. IsNoStore image → ⊥) }
-    ensures unopened { HoldsNoStore W.Disk.tells (W.view world.old).files path.now
-        → IsNone result.end × ((W.view world.new).counts
-        ≡ with_disk (is_some result.disk) (W.view world.old).counts) }
-    ensures gate { IsTrue result.cases.gate_failed ↔ (Rose before (W.view world.new).faults
-        ⊎ IsSomeAnd result.end (λ closing.
-        HasFailed (map (λ gate. W.Gate.view gate) closing.gates.items))) }
-    ensures unserved { IsTrue result.cases.no_memory → IsNone result.end }
-    ensures served { IsWrong result.cases ⊎ IsSome result.end }
-    ensures unswept { IsUnswept result.cases }
-
-    // What was served.
-    ensures over { IfSome result.end (λ closing. (db : Db)
-        × IfFound W.Disk.tells (W.view world.old).files path.now (StandsFor db)
-        × IsHidingRun W.Gate.Link.view (opening_state db)
-        (map (λ entry. entry.made) closing.pass.seen) closing.pass.drawn
-        (map (λ gate. W.Gate.view gate) closing.gates.items)
-        (map (λ clock. W.Clock.gave clock) closing.clocks.items)
-        × (IsWrong result.cases ⊎ IsOverAt port (opening_state db)
-        (map (λ entry. entry.made) closing.pass.seen)
-        (map (λ gate. W.Gate.view gate) closing.gates.items))
-        × (length closing.gates.items ≡ gates_at port)
-        × IfSome result.disk (HasServed (moment_on W.Disk.moment) (images_at W.Disk.images_at)
-        W.Disk.tells W.Disk.faults W.Disk.size (opening_state db) closing.pass.seen)) }
+    ensures asks { Asks (serve_over port) (is_some result.disk) (is_some result.end)
+        (W.view world.old).counts (W.view world.new).counts }
+    ensures cases { FitsCases W.Disk.faults (serve_over port)
+        (Rose before (W.view world.new).faults) result.cases result.disk result.end }
+    ensures finds { FindsStore W.Disk.tells (W.view world.old).files path.now
+        (IsTrue result.cases.is_unfit) (IsWell result.cases) (is_some result.disk)
+        (is_some result.end) (W.view world.old).counts (W.view world.new).counts }
+    ensures over { WasOpened (W.view world.old) (W.view world.new) result.disk result.end
+        → OverStore W.Disk.Disk (W.view world.old) path.now (λ start. IsHidingRun
+        W.Gate.Link.view port start (IsWell result.cases)) result.disk result.end }
 {
     let Ok(disk) = world.open_disk(path) else {
         return unopened(has_risen(before, world.faults()));
@@ -101,38 +72,18 @@ fn serve_opened<R: Threads + Wait + Sync, W: World<Gate: Gate<Link: Send>>>(
     world: &mut W,
 ) -> Ran<W>
     requires within { IsWithin port }
-    requires store { IsSome book.journal }
-    requires plain { IsPlain book }
+    requires open { IsSome book.journal × IsPlain book }
     requires stands { IsTrue W.Disk.tells
         → StandsNow (moment_on W.Disk.moment) (images_at W.Disk.images_at) book }
-    ensures disk { IsSome result.disk }
+    ensures opened { IsSome result.disk × (result.cases.is_unfit ≡ false) }
     ensures asks { AsksPlace port (is_some result.end) (W.view world.old).counts
         (W.view world.new).counts }
-
-    // Its cases.
-    ensures store { IsTrue result.cases.store_failed
-        ↔ (IsSomeAnd result.disk (λ disk. W.Disk.faults disk ≢ 0) ⊎ IsSomeAnd
-        (option_map (λ closing. map (λ entry. entry.made) closing.pass.seen) result.end)
-        HasRefused) }
-    ensures unfit { result.cases.is_unfit ≡ false }
-    ensures gate { IsTrue result.cases.gate_failed ↔ (Rose before (W.view world.new).faults
-        ⊎ IsSomeAnd result.end (λ closing.
-        HasFailed (map (λ gate. W.Gate.view gate) closing.gates.items))) }
-    ensures memory { IsTrue result.cases.no_memory ↔ IsNone result.end }
-    ensures unswept { IsUnswept result.cases }
-
-    // What was served.
-    ensures run { IfSome result.end (λ closing. IsHidingRun W.Gate.Link.view (state_in book)
-        (map (λ entry. entry.made) closing.pass.seen) closing.pass.drawn
-        (map (λ gate. W.Gate.view gate) closing.gates.items)
-        (map (λ clock. W.Clock.gave clock) closing.clocks.items)) }
-    ensures over { IfSome result.end (λ closing. IsWrong result.cases
-        ⊎ IsOverAt port (state_in book) (map (λ entry. entry.made) closing.pass.seen)
-        (map (λ gate. W.Gate.view gate) closing.gates.items)) }
-    ensures gates { IfSome result.end (λ closing. length closing.gates.items ≡ gates_at port) }
-    ensures left { IfSome result.end (λ closing. IfSome result.disk
-        (HasServed (moment_on W.Disk.moment) (images_at W.Disk.images_at) W.Disk.tells
-        W.Disk.faults W.Disk.size (state_in book) closing.pass.seen)) }
+    ensures cases { FitsCases W.Disk.faults (serve_over port)
+        (Rose before (W.view world.new).faults) result.cases result.disk result.end }
+    ensures run { IfSome result.end (IsHidingRun W.Gate.Link.view port (state_in book)
+        (IsWell result.cases)) }
+    ensures left { IfSome result.disk
+        (HasServed W.Disk.Disk (state_in book) (seen_of result.end)) }
 {
     let left = serve_at(rt, alloc, book, port, world);
     settle(left, has_risen(before, world.faults()))
@@ -170,19 +121,15 @@ fn serve_at<
     requires within { IsWithin port }
     ensures asks { AsksPlace port (is_some result.end) (W.view world.old).counts
         (W.view world.new).counts }
-    ensures served { IfSome result.end (λ closing. IsRun W.Gate.Link.view (B.server server)
-        (map B.made closing.pass.seen) closing.pass.drawn
-        (map (λ gate. W.Gate.view gate) closing.gates.items)
-        (map (λ clock. W.Clock.gave clock) closing.clocks.items)) }
-    ensures leads { IfSome result.end (λ closing.
-        B.led server closing.pass.seen result.server) }
+    ensures served { IfSome result.end (IsRunOf B.made W.Gate.Link.view (B.server server)) }
+    ensures leads { IfSome result.end (λ service. B.led server service.seen result.server) }
     ensures led { (history : List B.Entry) × B.led server history result.server }
-    ensures gates { IfSome result.end (λ closing. length closing.gates.items ≡ gates_at port) }
-    ensures failed { IsTrue result.failed ↔ IsSomeAnd result.end (λ closing.
-        HasFailed (map (λ gate. W.Gate.view gate) closing.gates.items)) }
-    ensures over { result.failed ≡ false → IfSome result.end (λ closing. IsOverAt port
-        (B.server server) (map B.made closing.pass.seen)
-        (map (λ gate. W.Gate.view gate) closing.gates.items)) }
+    ensures unserved { IsNone result.end → B.led server [] result.server }
+    ensures gates { IfSome result.end (λ service. length service.gates ≡ gates_at port) }
+    ensures failed { IsTrue result.failed
+        ↔ IsSomeAnd result.end (λ service. HasFailed service.gates) }
+    ensures over { result.failed ≡ false → IfSome result.end (λ service.
+        IsOverAt port (B.server server) (map B.made service.seen) service.gates) }
 {
     match port {
         None => match world.clock() {
@@ -203,28 +150,16 @@ pub fn init<W: World>(
     sink: &mut W::Sink,
 ) -> Ran<W>
     requires fresh { IsNewSink (W.Sink.view sink.old) }
-    ensures asks { IsNone result.end × (((W.view world.new).counts
-        ≡ with_disk (is_some result.disk) (W.view world.old).counts)
-        ⊎ ((W.view world.new).counts
-        ≡ with_clock (with_disk (is_some result.disk) (W.view world.old).counts))) }
-
-    // Its cases.
-    ensures store { IsTrue result.cases.store_failed ↔ Fails W.Disk.faults
-        (Rose (W.view world.old).faults (W.view world.new).faults) result.disk }
+    ensures asks { Asks said.Init (is_some result.disk) (is_some result.end)
+        (W.view world.old).counts (W.view world.new).counts }
+    ensures cases { (before : ℕ) → before ≤ (W.view world.old).faults
+        → FitsCases W.Disk.faults said.Init (Rose before (W.view world.new).faults)
+        result.cases result.disk result.end }
     ensures unopened { IsNone result.disk → IsTrue result.cases.store_failed }
-    ensures unfit { IsTrue result.cases.is_unfit
-        → IsTrue W.Disk.tells → IfSome (W.view world.old).files (λ found. found path.now ≢ []) }
-    ensures exact { IsWrong result.cases
-        ⊎ (IsTrue W.Disk.tells → IfSome (W.view world.old).files (λ found. found path.now ≡ [])) }
-    ensures gate { result.cases.gate_failed ≡ false }
-    ensures unswept { IsUnswept result.cases }
-
-    // What is made, and what is put to the sink.
     ensures silent { IsWrong result.cases → W.Sink.view sink.new ≡ W.Sink.view sink.old }
-    ensures made { IsWrong result.cases ⊎ (HasText made_line (W.Sink.view sink.new)
-        × ((now : ℕ) × IsFirstMoment W.Clock.gave (W.view world.old).moment now
-        × IsSomeAnd result.disk (λ disk. IsTrue W.Disk.tells
-        → AreFor (images W.Disk.images disk) (initial password.now now)))) }
+    ensures made { MakesStore W.Disk.Disk W.Clock.gave (W.view world.old) path.now password.now
+        (IsWell result.cases) (IsTrue result.cases.is_unfit) result.disk
+        (W.Sink.view sink.new) }
 {
     let Ok(disk) = world.open_disk(path) else {
         return unopened(false);

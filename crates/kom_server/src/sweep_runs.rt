@@ -1,22 +1,18 @@
 // The word that has a store swept.
-ghost use Rattle.std.specs.Prelude.{◌≡◌, ◌≢◌, ◌↔◌, ◌⊎◌, [], false, map, option_map};
-ghost use Rattle.std.specs.Prelude.{IsTrue, IsNone, IsSome, IsSomeAnd, IfSome, OnOk, OnErr};
-ghost use Rattle.std.specs.Prelude.{is_some};
+ghost use Rattle.std.specs.Prelude.{◌≡◌, ℕ, false, ◌≤◌, is_some, IsTrue, IsSome, IfSome};
+ghost use Rattle.std.specs.Prelude.{OnOk, OnErr};
+ghost use Rattle.kom_commands.specs.declared.words.Command.TheVariants as said;
 ghost use Rattle.kom_commands.specs.Reports.{HasText, sweep_lines};
 ghost use Rattle.kom_links.specs.Doors.{IsNewSink};
 ghost use Rattle.kom_links.specs.Outside.{Rose};
-ghost use Rattle.kom_links.specs.WorldCounts.{with_disk};
-ghost use Rattle.kom_model.specs.Db.{Db};
-ghost use Rattle.kom_model.specs.State.{opening_state};
-ghost use Rattle.kom_journal.specs.Images.{StandsFor, images_at};
+ghost use Rattle.kom_journal.specs.Images.{images_at};
 ghost use Rattle.kom_journal.specs.Images.{moment as moment_on};
 ghost use Rattle.kom_book.specs.Books.{IsPlain, StandsNow, state_in};
-ghost use Rattle.kom_sweep.specs.declared.ends.SweepEnd.{SweepEnd as Ending};
-ghost use Rattle.store_check.specs.Stores.{IsNoStore, IfFound, IsWrong, IsUnswept};
-ghost use Rattle.kom_server.specs.Runs.{AsksClock};
-ghost use Rattle.kom_server.specs.Statuses.{StoreFails, HasRefused, HoldsNoStore};
-ghost use Rattle.kom_server.specs.Stops.{HasServed};
-ghost use Rattle.kom_server.specs.Sweeps.{IsSweepRun, IsMetBy};
+ghost use Rattle.store_check.specs.Stores.{IsWrong};
+ghost use Rattle.kom_server.specs.Statuses.{FitsCases, FindsStore, IsWell, Asks, AsksClock};
+ghost use Rattle.kom_server.specs.Stops.{HasServed, seen_of};
+ghost use Rattle.kom_server.specs.Sweeps.{IsMetBy};
+ghost use Rattle.kom_server.specs.Comes.{WasOpened, OverStore, EndsSweep};
 
 use crate::ran::{Ran, settle, unopened};
 use crate::store_runs::refused;
@@ -41,35 +37,19 @@ pub(crate) fn sweep_store<R: Wait, W: World>(
     sink: &mut W::Sink,
 ) -> Ran<W>
     requires fresh { IsNewSink (W.Sink.view sink.old) }
-    ensures asks { AsksClock (is_some result.end)
-        (with_disk (is_some result.disk) (W.view world.old).counts) (W.view world.new).counts }
-
-    // Its cases.
-    ensures store { IsTrue result.cases.store_failed ↔ StoreFails W.Disk.faults
-        (Rose (W.view world.old).faults (W.view world.new).faults) result.disk
-        (option_map (λ closing. map (λ entry. entry.made) closing.pass.seen) result.end) }
-    ensures no_disk { IsNone result.disk → IsTrue result.cases.store_failed }
-    ensures unfit { IsTrue result.cases.is_unfit
-        → IfFound W.Disk.tells (W.view world.old).files path.now IsNoStore }
-    ensures exact { IsWrong result.cases ⊎ IfFound W.Disk.tells (W.view world.old).files path.now
-        (λ image. IsNoStore image → ⊥) }
-    ensures unopened { HoldsNoStore W.Disk.tells (W.view world.old).files path.now
-        → IsNone result.end × ((W.view world.new).counts
-        ≡ with_disk (is_some result.disk) (W.view world.old).counts) }
-    ensures gate { result.cases.gate_failed ≡ false }
-    ensures opened { IsNone result.end → IsUnswept result.cases × IsWrong result.cases }
+    ensures asks { Asks (said.Sweep person) (is_some result.disk) (is_some result.end)
+        (W.view world.old).counts (W.view world.new).counts }
+    ensures cases { (before : ℕ) → before ≤ (W.view world.old).faults
+        → FitsCases W.Disk.faults (said.Sweep person) (Rose before (W.view world.new).faults)
+        result.cases result.disk result.end }
     ensures silent { IsWrong result.cases → W.Sink.view sink.new ≡ W.Sink.view sink.old }
-
-    // What was swept, and what is put to the sink.
-    ensures swept { IfSome result.end (λ closing. (db : Db) × (ending : Ending)
-        × IfFound W.Disk.tells (W.view world.old).files path.now (StandsFor db)
-        × IsSweepRun (opening_state db) person password.now (W.view world.old).moment
-        (map (λ entry. entry.made) closing.pass.seen) closing.pass.drawn
-        (map (λ clock. W.Clock.gave clock) closing.clocks.items) ending
-        × IsMetBy ending result.cases (W.Sink.view sink.new)
-        × (result.cases.is_unfit ≡ false) × (closing.gates.items ≡ [])
-        × IfSome result.disk (HasServed (moment_on W.Disk.moment) (images_at W.Disk.images_at)
-        W.Disk.tells W.Disk.faults W.Disk.size (opening_state db) closing.pass.seen)) }
+    ensures finds { FindsStore W.Disk.tells (W.view world.old).files path.now
+        (IsTrue result.cases.is_unfit) (IsWell result.cases) (is_some result.disk)
+        (is_some result.end) (W.view world.old).counts (W.view world.new).counts }
+    ensures swept { WasOpened (W.view world.old) (W.view world.new) result.disk result.end
+        → OverStore W.Disk.Disk (W.view world.old) path.now (EndsSweep person password.now
+        (W.view world.old).moment (λ ending. IsMetBy ending result.cases (W.Sink.view sink.new)))
+        result.disk result.end }
 {
     let Ok(disk) = world.open_disk(path) else {
         return unopened(false);
@@ -91,33 +71,19 @@ fn sweep_opened<R: Wait, W: World>(
     sink: &mut W::Sink,
 ) -> Ran<W>
     requires fresh { IsNewSink (W.Sink.view sink.old) }
-    requires store { IsSome book.journal }
-    requires plain { IsPlain book }
+    requires open { IsSome book.journal × IsPlain book }
     requires stands { IsTrue W.Disk.tells
         → StandsNow (moment_on W.Disk.moment) (images_at W.Disk.images_at) book }
-    ensures disk { IsSome result.disk }
+    ensures opened { IsSome result.disk × (result.cases.is_unfit ≡ false) }
     ensures asks { AsksClock (is_some result.end) (W.view world.old).counts
         (W.view world.new).counts }
-
-    // Its cases.
-    ensures store { IsTrue result.cases.store_failed
-        ↔ (IsSomeAnd result.disk (λ disk. W.Disk.faults disk ≢ 0) ⊎ IsSomeAnd
-        (option_map (λ closing. map (λ entry. entry.made) closing.pass.seen) result.end)
-        HasRefused) }
-    ensures well { (result.cases.is_unfit ≡ false) × (result.cases.gate_failed ≡ false) }
-    ensures opened { IsNone result.end → IsUnswept result.cases × IsWrong result.cases }
+    ensures cases { FitsCases W.Disk.faults (said.Sweep person) ⊥ result.cases result.disk
+        result.end }
     ensures silent { IsWrong result.cases → W.Sink.view sink.new ≡ W.Sink.view sink.old }
-
-    // What was swept, and what is put to the sink.
-    ensures swept { IfSome result.end (λ closing. (ending : Ending)
-        × IsSweepRun (state_in book) person password.now (W.view world.old).moment
-        (map (λ entry. entry.made) closing.pass.seen) closing.pass.drawn
-        (map (λ clock. W.Clock.gave clock) closing.clocks.items) ending
-        × IsMetBy ending result.cases (W.Sink.view sink.new)) }
-    ensures no_gate { IfSome result.end (λ closing. closing.gates.items ≡ []) }
-    ensures left { IfSome result.end (λ closing. IfSome result.disk
-        (HasServed (moment_on W.Disk.moment) (images_at W.Disk.images_at) W.Disk.tells
-        W.Disk.faults W.Disk.size (state_in book) closing.pass.seen)) }
+    ensures swept { IfSome result.end (EndsSweep person password.now (W.view world.old).moment
+        (λ ending. IsMetBy ending result.cases (W.Sink.view sink.new)) (state_in book)) }
+    ensures left { IfSome result.disk
+        (HasServed W.Disk.Disk (state_in book) (seen_of result.end)) }
 {
     let (left, ending) = sweep_server(rt, alloc, book, person, password, world);
     let ran = settle(left, false);

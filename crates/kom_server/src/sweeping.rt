@@ -1,5 +1,5 @@
 // Sweeping a server by the first pass of a hall.
-ghost use Rattle.std.specs.Prelude.{◌≡◌, [], ◌∷◌, List, map, false, None, IfSome, IsNone};
+ghost use Rattle.std.specs.Prelude.{◌≡◌, [], ◌∷◌, List, map, false, IfSome, IsNone};
 ghost use Rattle.std.specs.Prelude.{is_some};
 ghost use Rattle.kom_links.specs.Outside.{IsNothing};
 ghost use Rattle.kom_sweep.specs.declared.ends.SweepEnd.TheVariants as end;
@@ -9,7 +9,7 @@ ghost use Rattle.kom_sweep.specs.Acting.{sight};
 ghost use Rattle.kom_sweep.specs.Sweeps.{IsSweep};
 ghost use Rattle.hall_desk.specs.Acts.{IsOpening};
 ghost use Rattle.hall_desk.specs.Desks.{GoesOn, Stands, desk_view};
-ghost use Rattle.kom_server.specs.Runs.{AsksClock};
+ghost use Rattle.kom_server.specs.Statuses.{AsksClock};
 ghost use Rattle.kom_server.specs.Sweeps.{IsSweepRun};
 
 use hall_desk::{Acts, HallDesk};
@@ -33,14 +33,15 @@ pub(crate) fn sweep_server<R: Wait, B: Acts + Drop, W: World>(
     requires opening { IsOpening (B.server server) }
     ensures asks { AsksClock (is_some result.0.end) (W.view world.old).counts
         (W.view world.new).counts }
-    ensures swept { IfSome result.0.end (λ closing. IsSweepRun (B.server server) person
-        password.now (W.view world.old).moment (map B.made closing.pass.seen) closing.pass.drawn
-        (map (λ clock. W.Clock.gave clock) closing.clocks.items) result.1) }
-    ensures no_gate { IfSome result.0.end (λ closing. closing.gates.items ≡ []) }
+    ensures swept { IfSome result.0.end (λ service. IsSweepRun (B.server server) person
+        password.now (W.view world.old).moment (map B.made service.seen) service.drawn
+        service.readings result.1) }
+    ensures no_gate { IfSome result.0.end (λ service. service.gates ≡ []) }
     ensures unswept { IsNone result.0.end → result.1 ≡ end.Memory }
-    ensures leads { IfSome result.0.end (λ closing.
-        B.led server closing.pass.seen result.0.server) }
+    ensures leads { IfSome result.0.end (λ service.
+        B.led server service.seen result.0.server) }
     ensures led { (history : List B.Entry) × B.led server history result.0.server }
+    ensures unserved { IsNone result.0.end → B.led server [] result.0.server }
     ensures failed { result.0.failed ≡ false }
 {
     let Ok(mut clock) = world.clock() else {

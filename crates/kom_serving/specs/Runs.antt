@@ -161,6 +161,18 @@ pub record IsRun {L : Type 0} (view : L → LinkView) (start : State) (history :
   pub workers : AreWorkers view start history drawn 0 gates clocks
   pub distinct : IsDistinct nat_eq (flat_map told_sessions gates)
 
+-- What serving leaves: the entries of the history; how many tickets were drawn; the gates; and what
+-- each clock gave.
+pub record Service (E L : Type 0) : Type 0 where
+  pub seen : List E
+  pub drawn : ℕ
+  pub gates : List (GateView L)
+  pub readings : List (Option (List ℕ))
+
+abbrev pub IsRunOf : {E L : Type 0} → (E → Record) → (L → LinkView) → State → Service E L → Type 0
+IsRunOf made view start service =
+    IsRun view start (map made service.seen) service.drawn service.gates service.readings
+
 -- The moment is the first reading of the first of these clocks, where that tells its readings.
 abbrev pub IsFirstReading : ℕ → List (Option (List ℕ)) → Type 0
 IsFirstReading moment [] = ⊥

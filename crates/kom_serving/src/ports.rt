@@ -1,12 +1,12 @@
 // Serving gates at a port, each by a worker.
 ghost use Rattle.std.specs.Prelude.{◌≡◌, ◌↔◌, ◌≤◌, ◌<◌, List, ℕ, map, length, vec_len};
-ghost use Rattle.std.specs.Prelude.{true, false, IsTrue, IfSome, IfOk, OnErr, IsSomeAnd};
+ghost use Rattle.std.specs.Prelude.{[], false, IsTrue, IfSome, IfOk, OnErr, IsSomeAnd, IsNone};
 ghost use Rattle.std.specs.Prelude.{is_some, is_ok};
 ghost use Rattle.std.specs.List.{AllByRecursion};
 ghost use Rattle.kom_links.specs.Doors.{KeepsTold, IsNewGate};
 ghost use Rattle.kom_links.specs.WorldCounts.{with_port};
 ghost use Rattle.hall_desk.specs.Acts.{IsOpening};
-ghost use Rattle.kom_serving.specs.Runs.{AsksPort, with_clocks, IsRun, IsOver, HasFailed};
+ghost use Rattle.kom_serving.specs.Runs.{AsksPort, with_clocks, IsRunOf, IsOver, HasFailed};
 
 use crate::closing::Closing;
 use crate::spaces::Space;
@@ -35,21 +35,17 @@ pub fn serve_port<
         (W.view world.new).counts }
 
     // What was served, and where its history leads.
-    ensures served { IfSome result.end (λ closing. IsRun W.Gate.Link.view (B.server server)
-        (map B.made closing.pass.seen) closing.pass.drawn
-        (map (λ gate. W.Gate.view gate) closing.gates.items)
-        (map (λ clock. W.Clock.gave clock) closing.clocks.items)) }
-    ensures leads { IfSome result.end (λ closing.
-        B.led server closing.pass.seen result.server) }
+    ensures served { IfSome result.end (IsRunOf B.made W.Gate.Link.view (B.server server)) }
+    ensures leads { IfSome result.end (λ service. B.led server service.seen result.server) }
     ensures led { (history : List B.Entry) × B.led server history result.server }
-    ensures gates { IfSome result.end (λ closing. length closing.gates.items ≡ at.workers) }
+    ensures unserved { IsNone result.end → B.led server [] result.server }
+    ensures gates { IfSome result.end (λ service. length service.gates ≡ at.workers) }
 
     // How it ended.
-    ensures failed { IsTrue result.failed ↔ IsSomeAnd result.end (λ closing.
-        HasFailed (map (λ gate. W.Gate.view gate) closing.gates.items)) }
-    ensures over { result.failed ≡ false → IfSome result.end (λ closing. IsOver
-        (B.server server) (map B.made closing.pass.seen)
-        (map (λ gate. W.Gate.view gate) closing.gates.items)) }
+    ensures failed { IsTrue result.failed
+        ↔ IsSomeAnd result.end (λ service. HasFailed service.gates) }
+    ensures over { result.failed ≡ false → IfSome result.end (λ service.
+        IsOver (B.server server) (map B.made service.seen) service.gates) }
 {
     let Ok(mut clocks) = open_clocks(alloc, at.workers, world) else {
         return unserved(server);

@@ -1,9 +1,9 @@
 // Serving the one gate over standard input and output.
-ghost use Rattle.std.specs.Prelude.{◌≡◌, ◌↔◌, ℕ, [], ◌∷◌, List, map, length, true, false, None};
-ghost use Rattle.std.specs.Prelude.{IsTrue, IfSome, IsSomeAnd, is_some};
+ghost use Rattle.std.specs.Prelude.{◌≡◌, ◌↔◌, ℕ, [], ◌∷◌, List, length, true, false, None};
+ghost use Rattle.std.specs.Prelude.{IsTrue, IfSome, IsSomeAnd, IsNone, is_some};
 ghost use Rattle.std.specs.List.{AllByRecursion};
 ghost use Rattle.hall_desk.specs.Acts.{IsOpening};
-ghost use Rattle.kom_serving.specs.Runs.{AsksGate, IsRun, IsFirstReading, HasFailed};
+ghost use Rattle.kom_serving.specs.Runs.{AsksGate, IsRunOf, IsFirstReading, HasFailed};
 
 use crate::closing::Closing;
 use crate::serving::serve_alone;
@@ -36,23 +36,20 @@ pub fn serve_standard<R: Wait, B: Acts + Drop, W: World>(
         (W.view world.new).counts }
 
     // What was served, and where its history leads.
-    ensures served { IfSome result.end (λ closing. IsRun W.Gate.Link.view (B.server server)
-        (map B.made closing.pass.seen) closing.pass.drawn
-        (map (λ gate. W.Gate.view gate) closing.gates.items)
-        (map (λ clock. W.Clock.gave clock) closing.clocks.items)) }
-    ensures first { IfSome result.end (λ closing. (first : ℕ)
-        → IsFirstReading first (W.Clock.gave clock ∷ []) → IsFirstReading first
-        (map (λ clock. W.Clock.gave clock) closing.clocks.items)) }
-    ensures leads { IfSome result.end (λ closing.
-        B.led server closing.pass.seen result.server) }
+    ensures served { IfSome result.end (IsRunOf B.made W.Gate.Link.view (B.server server)) }
+    ensures first { IfSome result.end (λ service. (first : ℕ)
+        → IsFirstReading first (W.Clock.gave clock ∷ [])
+        → IsFirstReading first service.readings) }
+    ensures leads { IfSome result.end (λ service. B.led server service.seen result.server) }
     ensures led { (history : List B.Entry) × B.led server history result.server }
-    ensures one_gate { IfSome result.end (λ closing. length closing.gates.items ≡ 1) }
+    ensures unserved { IsNone result.end → B.led server [] result.server }
+    ensures one_gate { IfSome result.end (λ service. length service.gates ≡ 1) }
 
     // How it ended.
-    ensures failed { IsTrue result.failed ↔ IsSomeAnd result.end (λ closing.
-        HasFailed (map (λ gate. W.Gate.view gate) closing.gates.items)) }
-    ensures ended { result.failed ≡ false → IfSome result.end (λ closing.
-        AllByRecursion (λ gate. (W.Gate.view gate).ended ≡ true) closing.gates.items) }
+    ensures failed { IsTrue result.failed
+        ↔ IsSomeAnd result.end (λ service. HasFailed service.gates) }
+    ensures ended { result.failed ≡ false → IfSome result.end (λ service.
+        AllByRecursion (λ gate. gate.ended ≡ true) service.gates) }
 {
     let Ok(mut gates) = Vec::with_capacity(alloc, 1) else {
         return unserved(server);

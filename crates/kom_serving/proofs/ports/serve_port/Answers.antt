@@ -1,10 +1,13 @@
-use Rattle.std.proofs.Common.{◌≡◌, ◌↔◌, IsTrue, List, map, sym, ap, subst, ◌∙◌, true, arith}
+use Rattle.std.proofs.Common.{◌≡◌, ◌↔◌, IsTrue, Bool, List, map, sym, ap, subst, ◌∙◌, true, arith}
 use Rattle.std.proofs.lemmas.Bool.{false≢true}
+use Rattle.std.proofs.lemmas.List.{length-map}
 use Rattle.hall_desk.specs.Acts.{IsOpening}
 use Rattle.kom_links.specs.declared.world_counts.WorldCounts.{WorldCounts}
 use Rattle.kom_links.specs.WorldCounts.{with_port}
 use Rattle.kom_state_lock.proofs.Ready.{ready_every, ready_free}
+use Rattle.kom_links.specs.Doors.{GateView}
 use Rattle.kom_serving.specs.Runs.{HasFailed}
+use Rattle.kom_serving.proofs.NewPasses.{closed_unused}
 use Rattle.kom_serving.proofs.WholeRuns.{run_from}
 use Rattle.kom_serving.proofs.Overs.{over_of, all_viewed}
 use Rattle.kom_serving.proofs.ports.serve_port.Goals as goal
@@ -26,6 +29,24 @@ pub close-server-requires-in_default-open_at-clause-free :
     goal.close-server-requires-in_default-open_at-clause-free
 close-server-requires-in_default-open_at-clause-free g c =
     ready_free c.in-Ok-make.made.0 c.in-Ok-make.made.1.items c.in-Ok-make.ensures.ready
+
+-- no act was made on a hall for which memory or the gates were refused
+pub returns-in_default-new-clause-unserved : goal.returns-in_default-new-clause-unserved
+returns-in_default-new-clause-unserved g c none =
+    rw c.unserved-in_default-new.ensures
+    (closed_unused g.B.Booked.pass_of g.B.Booked.led c.in-Ok-make.made.0 c.in-Ok-make.made.1.items _
+    c.close-server.result.1 c.args.server c.close-server.result.0 c.in-Ok-make.ensures.hall.1
+    c.in-Ok-make.ensures.passes c.close-server.ensures.closed c.close-server.ensures.others
+    c.in-Ok-make.ensures.hall.0 c.close-server.ensures.leads)
+
+pub returns-in_default-open_at-clause-unserved : goal.returns-in_default-open_at-clause-unserved
+returns-in_default-open_at-clause-unserved g c none =
+    rw c.unserved-in_default-open_at.ensures
+    (closed_unused g.B.Booked.pass_of g.B.Booked.led c.in-Ok-make.made.0 c.in-Ok-make.made.1.items _
+    c.close-server-in_default-open_at.result.1 c.args.server c.close-server-in_default-open_at.result.0
+    c.in-Ok-make.ensures.hall.1 c.in-Ok-make.ensures.passes c.close-server-in_default-open_at.ensures.closed
+    c.close-server-in_default-open_at.ensures.others c.in-Ok-make.ensures.hall.0
+    c.close-server-in_default-open_at.ensures.leads)
 
 pub serve_all-server-requires-clause-opening : goal.serve_all-server-requires-clause-opening
 serve_all-server-requires-clause-opening g c κs within =
@@ -61,18 +82,20 @@ returns-clause-led g c = (
 
 pub returns-clause-gates : goal.returns-clause-gates
 returns-clause-gates g c =
-    omega (arith, c.serve_all-server.ensures.number, c.in-Ok-open_at.ensures.number)
+    length-map c.serve_all-server.new.gates.items g.W.Gate.Gate.view
+    ∙ omega (arith, c.serve_all-server.ensures.number, c.in-Ok-open_at.ensures.number)
 
 -- it was asked of all gates whether they failed
-failed : (g : _) (c : goal.After-result-1 g) →
-    (IsTrue c.have_failed-failed.result ↔ HasFailed
-    (map (λ gate. g.W.Gate.Gate.view gate) c.serve_all-server.new.gates.items))
-failed g c =
-    subst (λ (gates : List g.row.W-Gate.Denot). IsTrue c.have_failed-failed.result
-    ↔ HasFailed (map (λ gate. g.W.Gate.Gate.view gate) gates)) c.as_slice.ensures.value c.have_failed-failed.ensures
+failed : {X L : Type 0} (view : X → GateView L) (told : Bool) (gates asked : List X) → asked ≡ gates →
+    (IsTrue told ↔ HasFailed (map (λ gate. view gate) asked)) →
+    (IsTrue told ↔ HasFailed (map (λ gate. view gate) gates))
+failed {X} view told gates asked same so =
+    subst (λ (all : List X). IsTrue told ↔ HasFailed (map (λ gate. view gate) all)) same so
 
 pub returns-clause-failed : goal.returns-clause-failed
-returns-clause-failed g c = failed g c
+returns-clause-failed g c =
+    failed g.W.Gate.Gate.view c.have_failed-failed.result c.serve_all-server.new.gates.items _
+    c.as_slice.ensures.value c.have_failed-failed.ensures
 
 pub returns-clause-over : goal.returns-clause-over
 returns-clause-over g c none =
@@ -80,4 +103,5 @@ returns-clause-over g c none =
     ap g.B.Acts.server c.in-Ok-make.ensures.hall.0 in
     rw (sym same)
     (over_of _ _ _ (all_viewed g.W.Gate.Gate.view _ c.serve_all-server.new.gates.items c.serve_all-server.ensures.done)
-    (λ some. false≢true (sym none ∙ (failed g c).1 some)))
+    (λ some. false≢true (sym none ∙ (failed g.W.Gate.Gate.view c.have_failed-failed.result
+    c.serve_all-server.new.gates.items _ c.as_slice.ensures.value c.have_failed-failed.ensures).1 some)))
