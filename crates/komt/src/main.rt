@@ -5,7 +5,7 @@ mod command;
 mod draft_file;
 mod terminal;
 
-use crate::command::{Command, command_of};
+use crate::command::command_of;
 use crate::draft_file::DraftFile;
 use crate::terminal::Terminal;
 use kom_exchange::{Exchange, VisitEnd};
