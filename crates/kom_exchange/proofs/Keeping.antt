@@ -8,7 +8,6 @@ use Rattle.kom_links.specs.Outside.{LinkView}
 use Rattle.kom_reader.specs.declared.recipients.Part.{Part}
 use Rattle.kom_records.specs.declared.replies.ResultKind.TheVariants as kind
 use Rattle.kom_screen.specs.Screens.{Seen, Grows}
-use Rattle.kom_exchange.specs.declared.request.Request.{Request}
 use Rattle.kom_exchange.specs.declared.told.Told.{Told}
 use Rattle.kom_exchange.specs.Asking.{Query, Asking, HasSpelled, login}
 use Rattle.kom_exchange.specs.Fair.{Moment, Passes, moment_of, Proceeds, HasAsked, IsTold, IsShown, HasTyped, HasLogin}

@@ -1,5 +1,5 @@
 -- What a link took of a login.
-use Rattle.std.proofs.Common.{◌≡◌, ℕ, Bool, true, false, List, [], ◌++◌, ◌∷◌, Result, Ok, Err, IfOk, refl, sym}
+use Rattle.std.proofs.Common.{◌≡◌, ℕ, Bool, true, false, List, [], ◌++◌, Result, Ok, Err, IfOk, refl, sym}
 use Rattle.std.proofs.Common.{ap, subst, ◌∙◌}
 use Rattle.std.specs.Str.{chars}
 use Rattle.kom_types.specs.Printing.{line_of}
@@ -16,6 +16,12 @@ pub logs_as : (result : Result Bool VisitEnd) (person : ℕ) (password items typ
     → LogsIn result person (chars line) old new
 logs_as result person password items typed line old new logs first second third =
     subst (λ (xs : List ℕ). LogsIn result person xs old new) (first ∙ second ∙ ap chars third) logs
+
+-- what contracts see, by what it equals
+pub logs_from : (result : Result Bool VisitEnd) (person : ℕ) (password : List ℕ) (inside old new : Asking)
+    → inside ≡ old → LogsIn result person password inside new → LogsIn result person password old new
+logs_from result person password inside old new e logs =
+    subst (λ (x : Asking). LogsIn result person password x new) e logs
 
 -- nothing was sent
 pub none_sent : (bytes : List ℕ) (link : LinkView) → PutsPart link bytes link

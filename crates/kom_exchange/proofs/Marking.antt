@@ -11,7 +11,6 @@ use Rattle.kom_reader.specs.declared.recipients.Part.{Part}
 use Rattle.kom_reader.specs.declared.words.Word.TheVariants as word
 use Rattle.kom_reader.specs.Commands.{command_of}
 use Rattle.kom_reader.specs.Links.{parts_of}
-use Rattle.kom_records.specs.declared.replies.ResultKind.TheVariants as kind
 use Rattle.kom_screen.specs.Screens.{Seen, Grows}
 use Rattle.kom_exchange.specs.declared.told.Told.{Told}
 use Rattle.kom_exchange.specs.Asking.{Query, Asking, HasSpelled, spelling, greeting}

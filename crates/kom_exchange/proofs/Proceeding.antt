@@ -1,10 +1,10 @@
 -- Keys, a server and a screen go on.
-use Rattle.std.proofs.Common.{◌≡◌, false, List, refl, sym, subst, ◌∙◌}
+use Rattle.std.proofs.Common.{◌≡◌, false, refl, sym, subst, ◌∙◌}
 use Rattle.kom_links.specs.Outside.{LinkView}
 use Rattle.kom_screen.specs.Screens.{Seen, Grows}
 use Rattle.kom_exchange.specs.Asking.{Asking}
 use Rattle.kom_exchange.specs.Fair.{Proceeds}
-use Rattle.kom_exchange.specs.Goes.{Goes, Hears}
+use Rattle.kom_exchange.specs.Goes.{Hears}
 use Rattle.kom_exchange.specs.Typing.{Types}
 use Rattle.kom_exchange.proofs.Going.{grows_none, grows_trans, goes_none, goes_trans, goes_hears}
 

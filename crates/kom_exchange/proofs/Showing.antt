@@ -1,5 +1,5 @@
 -- Lines that a screen takes, one after another.
-use Rattle.std.proofs.Common.{◌≡◌, ℕ, ◌<◌, List, [], ◌∷◌, ◌++◌, length, map, refl, sym, ap, subst, ◌∙◌, append_assoc}
+use Rattle.std.proofs.Common.{◌≡◌, ℕ, List, [], ◌∷◌, ◌++◌, length, map, refl, sym, ap, subst, ◌∙◌, append_assoc}
 use Rattle.std.proofs.Common.{Option, Some, None, IfSome, ◌==◌, true, false}
 use Rattle.std.specs.Str.{chars}
 use Rattle.kom_letters.specs.declared.charsets.Charset.{Charset}

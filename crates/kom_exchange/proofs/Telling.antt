@@ -10,7 +10,6 @@ use Rattle.kom_framing.specs.declared.units.Unit.TheVariants as unit
 use Rattle.kom_records.specs.declared.replies.ResultKind.{ResultKind}
 use Rattle.kom_records.specs.declared.replies.ResultKind.TheVariants as kind
 use Rattle.kom_records.specs.Replies.{IsReplyLine}
-use Rattle.kom_exchange.specs.declared.request.Argument.TheVariants as argument
 use Rattle.kom_exchange.specs.declared.request.Request.{Request}
 use Rattle.kom_exchange.specs.Asking.{Query, Asking, with_request}
 use Rattle.kom_exchange.specs.Fair.{HasAsked, stat_request, body_request}

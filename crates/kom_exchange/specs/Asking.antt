@@ -1,5 +1,5 @@
 -- What is asked of a server, and what its link took of that.
-use Rattle.std.specs.Prelude.{◌≡◌, ◌≢◌, ℕ, ◌+◌, ◌==◌, Bool, true, false, if◌then◌else◌, List, []}
+use Rattle.std.specs.Prelude.{◌≡◌, ℕ, ◌+◌, ◌==◌, Bool, true, false, if◌then◌else◌, List, []}
 use Rattle.std.specs.Prelude.{◌∷◌, ◌++◌, Result, Ok, Err, codes, map, IfSome}
 use Rattle.std.specs.Fmt.{decimal}
 use Rattle.kom_types.specs.Printing.{line_of}

@@ -1,7 +1,6 @@
 -- What may change while something is asked and heard.
 use Rattle.std.specs.Prelude.{◌≡◌, ◌≢◌, List, [], ◌∷◌, ◌++◌, Contains}
 use Rattle.kom_reader.specs.declared.recipients.Part.{Part}
-use Rattle.kom_exchange.specs.declared.request.Argument.{Argument}
 use Rattle.kom_exchange.specs.declared.request.Argument.TheVariants as argument
 use Rattle.kom_exchange.specs.declared.request.Request.{Request}
 use Rattle.kom_exchange.specs.Asking.{Query, Asking}

@@ -1,4 +1,4 @@
-ghost use Rattle.std.specs.Prelude.{◌≡◌, ◌≢◌, IfOk};
+ghost use Rattle.std.specs.Prelude.{◌≡◌, ◌≢◌, IfOk, false};
 ghost use Rattle.kom_links.specs.Outside.{IsFresh};
 ghost use Rattle.kom_screen.specs.Screens.{IsScreenOf};
 ghost use Rattle.kom_exchange.specs.Fair.{MarkedWasShown};
@@ -240,9 +240,11 @@ impl<W: Waiting, K: Link, L: Link, S: Sink> Exchange<W, K, L, S> {
         self.contacts.server.has_message()
     }
 
-    /// Logs a person in, with the next line that is typed as the password. No line is no password.
+    /// Logs a person in, with the next line that is typed as the password, and shows nothing. No
+    /// line is no password.
     pub fn log_in<R: Wait>(&mut self, rt: &R, person: u32) -> Result<bool, VisitEnd>
-        ensures { self.new.columns ≡ self.old.columns }
+        ensures columns { self.new.columns ≡ self.old.columns }
+        ensures shows_nothing { self.new.sink ≡ self.old.sink }
     {
         match self.await_line(rt)? {
             Some(line) => self.log_in_with(rt, person, line),
@@ -251,13 +253,13 @@ impl<W: Waiting, K: Link, L: Link, S: Sink> Exchange<W, K, L, S> {
     }
 
     fn await_line<R: Wait>(&mut self, rt: &R) -> Result<Option<Vec<u8>>, VisitEnd>
-        ensures { self.new.columns ≡ self.old.columns }
+        ensures { self.new ≡ self.old }
     {
         self.contacts.await_line(rt)
     }
 
     fn log_in_with<R: Wait>(&mut self, rt: &R, person: u32, line: Vec<u8>) -> Result<bool, VisitEnd>
-        ensures { self.new.columns ≡ self.old.columns }
+        ensures { self.new ≡ record self.old { is_open = false } }
     {
         let alloc = self.contacts.alloc;
         self.contacts.screen.typed();

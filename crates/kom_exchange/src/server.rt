@@ -1,8 +1,9 @@
 ghost use Rattle.std.specs.Prelude.{◌≡◌, ◌≢◌, IfOk, OnOk, IfSome, []};
+ghost use Rattle.std.specs.Str.{chars};
 ghost use Rattle.kom_framing.specs.declared.units.Unit.TheVariants as units;
 ghost use Rattle.kom_links.specs.Outside.{IsFresh};
 ghost use Rattle.kom_reader.specs.Links.{parts_of};
-ghost use Rattle.kom_exchange.specs.Asking.{HasSpelled, with_request};
+ghost use Rattle.kom_exchange.specs.Asking.{HasSpelled, LogsIn, with_request};
 ghost use Rattle.kom_exchange.specs.Fair.{stat_request, body_request};
 ghost use Rattle.kom_exchange.specs.Goes.{Goes, Hears, Marks, MarksOne, mark};
 ghost use Rattle.kom_exchange.specs.Hearing.{Feeds};
@@ -156,7 +157,7 @@ impl<L: Link> Server<L> {
     }
 
     /// Logs a person in, as `log_in` does.
-    #[tactic(auto, using(crate::proofs::Logins::is_in, crate::proofs::Going::goes_from))]
+    #[tactic(auto, using(crate::proofs::Logins::is_in, crate::proofs::Logins::logs_from, crate::proofs::Going::goes_from))]
     pub(crate) fn log_in<R: Wait>(
         &mut self,
         rt: &R,
@@ -164,6 +165,7 @@ impl<L: Link> Server<L> {
         person: u32,
         line: Vec<u8>,
     ) -> Result<bool, VisitEnd>
+        ensures logs_in { LogsIn result person (chars line.items) self.old self.new }
         ensures logged { IfOk result (λ is_in. IsIn is_in person self.new) }
         ensures goes { Goes self.old self.new }
     {
