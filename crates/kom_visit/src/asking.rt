@@ -2,11 +2,13 @@
 ghost use Rattle.std.specs.Prelude.{◌≡◌, ◌≢◌};
 
 use crate::drafts::Drafts;
+use crate::replies::{Refusal, name_in, refusal_in, stat_in};
 use crate::visitor::Visitor;
 use kom_exchange::{VisitEnd, Waiting};
 use kom_links::{Link, Sink};
 use kom_records::ResultKind;
 use kom_types::{Reply, TextStat};
+use std::alloc::{AllocError, Global};
 use std::sync::Wait;
 
 impl<W: Waiting, K: Link, L: Link, S: Sink, D: Drafts> Visitor<W, K, L, S, D> {
@@ -46,32 +48,38 @@ impl<W: Waiting, K: Link, L: Link, S: Sink, D: Drafts> Visitor<W, K, L, S, D> {
     {
         self.send(rt)?;
         for _ in 0..count {
-            self.reply(rt, ResultKind::Done)?;
+            self.refusal(rt)?;
         }
         Ok(())
+    }
+
+    /// Awaits the reply to a call without a result: why it was refused, if it was.
+    fn refusal<R: Wait>(&mut self, rt: &R) -> Result<Option<Refusal>, VisitEnd>
+        ensures { self.new.exchange.columns ≡ self.old.exchange.columns }
+    {
+        let reply = self.reply(rt, ResultKind::Done)?;
+        Ok(refusal_in(reply))
     }
 
     /// Whether a call without a result was done; if not, it says why.
     pub(crate) fn is_done<R: Wait>(&mut self, rt: &R) -> Result<bool, VisitEnd>
         ensures { self.new.exchange.columns ≡ self.old.exchange.columns }
     {
-        match self.reply(rt, ResultKind::Done)? {
-            Reply::Refused(code, status) => {
-                self.say_refused(code, status)?;
+        match self.refusal(rt)? {
+            Some(refusal) => {
+                self.say_refused(refusal)?;
                 Ok(false)
             }
-            _ => Ok(true),
+            None => Ok(true),
         }
     }
 
     /// Says why the server refused something.
-    pub(crate) fn say_refused(&mut self, code: u32, status: u32) -> Result<(), VisitEnd>
+    pub(crate) fn say_refused(&mut self, refusal: Refusal) -> Result<(), VisitEnd>
         ensures { self.new.exchange.columns ≡ self.old.exchange.columns }
     {
-        let alloc = self.alloc;
-        let why = why_of(code);
-        let numbers = format!(in alloc; "{why} (error {code}, {status}).")?;
-        self.say("The server refused: ", numbers.as_str())
+        let why = refusal_line(self.alloc, refusal)?;
+        self.say("The server refused: ", why.as_str())
     }
 
     /// What is told of a text, or nothing where that is refused.
@@ -82,14 +90,27 @@ impl<W: Waiting, K: Link, L: Link, S: Sink, D: Drafts> Visitor<W, K, L, S, D> {
     ) -> Result<Option<TextStat>, VisitEnd>
         ensures { self.new.exchange.columns ≡ self.old.exchange.columns }
     {
-        match self.ask(rt, 90, &[text], ResultKind::TextStat)? {
-            Reply::TextStat(stat) => Ok(Some(stat.into_inner())),
-            _ => Ok(None),
-        }
+        let reply = self.ask(rt, 90, &[text], ResultKind::TextStat)?;
+        Ok(stat_in(reply))
     }
 
     /// Learns the names of conferences and persons that are not known.
     pub(crate) fn learn_names<R: Wait>(&mut self, rt: &R, numbers: &[u32]) -> Result<(), VisitEnd>
+        ensures { self.new.exchange.columns ≡ self.old.exchange.columns }
+    {
+        let asked = self.ask_names(numbers)?;
+        if asked.is_empty() {
+            return Ok(());
+        }
+        self.send(rt)?;
+        for each in &asked {
+            self.take_name(rt, *each)?;
+        }
+        Ok(())
+    }
+
+    /// Asks for the names that are not known, and returns of whom.
+    fn ask_names(&mut self, numbers: &[u32]) -> Result<Vec<u32>, VisitEnd>
         ensures { self.new.exchange.columns ≡ self.old.exchange.columns }
     {
         let mut asked = Vec::new(self.alloc);
@@ -99,15 +120,16 @@ impl<W: Waiting, K: Link, L: Link, S: Sink, D: Drafts> Visitor<W, K, L, S, D> {
                 asked.push(*number)?;
             }
         }
-        if asked.is_empty() {
-            return Ok(());
-        }
-        self.send(rt)?;
-        for each in &asked {
-            if let Reply::UConference(found) = self.reply(rt, ResultKind::UConference)? {
-                self.names
-                    .learn(self.alloc, *each, found.get().name.as_slice())?;
-            }
+        Ok(asked)
+    }
+
+    /// Awaits the name of a conference or person.
+    fn take_name<R: Wait>(&mut self, rt: &R, number: u32) -> Result<(), VisitEnd>
+        ensures { self.new.exchange.columns ≡ self.old.exchange.columns }
+    {
+        let reply = self.reply(rt, ResultKind::UConference)?;
+        if let Some(name) = name_in(reply) {
+            self.names.learn(self.alloc, number, name.as_slice())?;
         }
         Ok(())
     }
@@ -123,6 +145,14 @@ impl<W: Waiting, K: Link, L: Link, S: Sink, D: Drafts> Visitor<W, K, L, S, D> {
     pub(crate) fn name_of(&self, number: u32) -> Result<String, VisitEnd> {
         Ok(String::from_str(self.alloc, self.names.name(number))?)
     }
+}
+
+/// Why something was refused, in words and numbers.
+fn refusal_line(alloc: Global, refusal: Refusal) -> Result<String, AllocError> {
+    let code = refusal.code;
+    let status = refusal.status;
+    let why = why_of(code);
+    format!(in alloc; "{why} (error {code}, {status}).")
 }
 
 /// What the code of a refusal means.

@@ -2,13 +2,14 @@
 ghost use Rattle.std.specs.Prelude.{◌≡◌, IfOk};
 
 use crate::drafts::Drafts;
+use crate::replies::{memberships_in, numbers_in};
 use crate::visitor::{Guest, Visitor};
 use kom_exchange::{Argument, Request, VisitEnd, Waiting};
 use kom_links::{Link, Sink};
+use kom_reader::Reader;
 use kom_records::ResultKind;
 use kom_screen::Front;
-use kom_types::Reply;
-use std::alloc::Global;
+use std::alloc::{AllocError, Global};
 use std::sync::Wait;
 
 /// The messages of which a visit is told.
@@ -19,13 +20,7 @@ impl<W: Waiting, K: Link, L: Link, S: Sink, D: Drafts> Visitor<W, K, L, S, D> {
     pub(crate) fn come<R: Wait>(&mut self, rt: &R, guest: &Guest<'_>) -> Result<(), VisitEnd>
         ensures { self.new.exchange.columns ≡ self.old.exchange.columns }
     {
-        self.exchange.greet(rt)?;
-        let mut request = Request::new(self.alloc, 69);
-        request.text(self.alloc, b"komt")?;
-        request.text(self.alloc, b"1")?;
-        self.exchange.ask(&request)?;
-        self.send(rt)?;
-        self.reply(rt, ResultKind::Done)?;
+        self.greet(rt)?;
         let Some(person) = self.find(rt, guest.name, true, false)? else {
             return Err(VisitEnd::Unknown);
         };
@@ -33,6 +28,16 @@ impl<W: Waiting, K: Link, L: Link, S: Sink, D: Drafts> Visitor<W, K, L, S, D> {
         self.enter(rt)?;
         self.fetch(rt)?;
         self.welcome(rt)
+    }
+
+    /// Greets the server, and tells it the name of this program.
+    fn greet<R: Wait>(&mut self, rt: &R) -> Result<(), VisitEnd>
+        ensures { self.new.exchange.columns ≡ self.old.exchange.columns }
+    {
+        self.exchange.greet(rt)?;
+        let request = program_request(self.alloc)?;
+        self.exchange.ask(&request)?;
+        self.send_and_await(rt, 1)
     }
 
     /// Logs in with the next line that is typed as the password.
@@ -49,53 +54,70 @@ impl<W: Waiting, K: Link, L: Link, S: Sink, D: Drafts> Visitor<W, K, L, S, D> {
         Ok(())
     }
 
-    /// Learns the memberships and what is unread in them, and asks to be told of more.
+    /// Learns the memberships and what is unread in them.
     fn fetch<R: Wait>(&mut self, rt: &R) -> Result<(), VisitEnd>
+        ensures { self.new.exchange.columns ≡ self.old.exchange.columns }
+    {
+        self.ask_memberships(rt)?;
+        let memberships = self.reply(rt, ResultKind::Memberships)?;
+        let memberships = memberships_in(self.alloc, memberships);
+        let unread = self.reply(rt, ResultKind::Numbers)?;
+        let unread = numbers_in(self.alloc, unread);
+        self.fetch_rows(rt, memberships.as_slice(), unread.as_slice())
+    }
+
+    /// Asks to be told of messages, and for the memberships and those in which something is unread.
+    fn ask_memberships<R: Wait>(&mut self, rt: &R) -> Result<(), VisitEnd>
         ensures { self.new.exchange.columns ≡ self.old.exchange.columns }
     {
         let request = messages_request(self.alloc, &MESSAGES)?;
         self.exchange.ask(&request)?;
         self.exchange.request(108, &[self.person, 0, 65_535, 1, 0])?;
         self.exchange.request(52, &[self.person])?;
-        self.send(rt)?;
-        self.reply(rt, ResultKind::Done)?;
-        let memberships = self.reply(rt, ResultKind::Memberships)?;
-        let unread = self.reply(rt, ResultKind::Numbers)?;
-        let Reply::Memberships(memberships) = memberships else {
-            return Ok(());
-        };
-        let Reply::Numbers(unread) = unread else {
-            return Ok(());
-        };
-        let memberships = memberships.into_inner();
-        let unread = unread.into_inner();
-        self.fetch_rows(rt, memberships.as_slice(), unread.as_slice())
+        self.send_and_await(rt, 1)
     }
 
     /// Says who has come, and how much is unread.
     fn welcome<R: Wait>(&mut self, rt: &R) -> Result<(), VisitEnd>
         ensures { self.new.exchange.columns ≡ self.old.exchange.columns }
     {
-        let alloc = self.alloc;
         self.learn_name(rt, self.person)?;
-        let name = self.name_of(self.person)?;
-        let texts = self.reader.count();
-        let mut conferences = 0usize;
-        for place in self.reader.places() {
-            if self.reader.count_in(place.conference) > 0 {
-                conferences = conferences.saturating_add(1);
-            }
-        }
-        let noun = if conferences == 1 {
-            "conference"
-        } else {
-            "conferences"
-        };
-        let text = format!(in alloc;
-            "{name}. {texts} unread in {conferences} {noun}. `help` lists the commands."
-        )?;
+        let text = welcome_line(self.alloc, self.names.name(self.person), &self.reader)?;
         self.show(Front::Welcome, "", text.as_str())
     }
+}
+
+/// What is said to a person that has come.
+fn welcome_line(alloc: Global, name: &str, reader: &Reader) -> Result<String, AllocError> {
+    let texts = reader.count();
+    let conferences = count_of(reader);
+    let noun = if conferences == 1 {
+        "conference"
+    } else {
+        "conferences"
+    };
+    format!(in alloc; "{name}. {texts} unread in {conferences} {noun}. `help` lists the commands.")
+}
+
+/// In how many conferences something is unread.
+fn count_of(reader: &Reader) -> usize {
+    let mut conferences = 0usize;
+    for place in reader.places() {
+        if reader.count_in(place.conference) > 0 {
+            conferences = conferences.saturating_add(1);
+        }
+    }
+    conferences
+}
+
+/// The request that tells what program this is.
+fn program_request(alloc: Global) -> Result<Request, VisitEnd>
+    ensures { IfOk result (λ request. request.call ≡ 69) }
+{
+    let mut request = Request::new(alloc, 69);
+    request.text(alloc, b"komt")?;
+    request.text(alloc, b"1")?;
+    Ok(request)
 }
 
 /// The request to be told of messages with these numbers.

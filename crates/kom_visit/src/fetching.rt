@@ -2,12 +2,14 @@
 ghost use Rattle.std.specs.Prelude.{◌≡◌};
 
 use crate::drafts::Drafts;
+use crate::replies::mapping_in;
 use crate::visitor::Visitor;
 use kom_exchange::{VisitEnd, Waiting};
 use kom_links::{Link, Sink};
 use kom_reader::{Place, Row};
 use kom_records::ResultKind;
-use kom_types::{Block, Mapping, Membership, RangesShown, ReadRange, Reply};
+use kom_types::{Block, Mapping, Membership, RangesShown, ReadRange};
+use std::alloc::{AllocError, Global};
 use std::sync::Wait;
 
 /// How many requests are sent at once, at most.
@@ -40,16 +42,10 @@ impl<W: Waiting, K: Link, L: Link, S: Sink, D: Drafts> Visitor<W, K, L, S, D> {
     ) -> Result<(), VisitEnd>
         ensures { self.new.exchange.columns ≡ self.old.exchange.columns }
     {
-        let mut parts = Vec::new(self.alloc);
-        for (place, membership) in memberships.iter().enumerate() {
+        for membership in memberships {
             self.reader.enter(place_of(membership))?;
-            if membership.kind & PASSIVE == 0 && unread.contains(&membership.conference) {
-                parts.push(Part {
-                    place,
-                    first: first_unread(ranges_of(membership)),
-                })?;
-            }
         }
+        let mut parts = parts_of(self.alloc, memberships, unread)?;
         self.tell_many(parts.len())?;
         for _ in 0..u64::MAX {
             if parts.is_empty() {
@@ -67,9 +63,11 @@ impl<W: Waiting, K: Link, L: Link, S: Sink, D: Drafts> Visitor<W, K, L, S, D> {
         if count < MANY {
             return Ok(());
         }
-        let alloc = self.alloc;
-        let text = format!(in alloc; "{count} conferences have unread texts: they are fetched.")?;
-        self.tell_line("", text.as_str())
+        let text = count_line(self.alloc, count)?;
+        self.tell_line(
+            text.as_str(),
+            " conferences have unread texts: they are fetched.",
+        )
     }
 
     /// Learns the rows of some parts. Those that stand behind them are returned.
@@ -83,28 +81,67 @@ impl<W: Waiting, K: Link, L: Link, S: Sink, D: Drafts> Visitor<W, K, L, S, D> {
     {
         let mut later = Vec::new(self.alloc);
         for together in parts.chunks(TOGETHER) {
-            for part in together {
-                if let Some(membership) = memberships.get(part.place) {
-                    self.exchange
-                        .request(103, &[membership.conference, part.first, LONGEST_MAPPING])?;
-                }
-            }
+            self.ask_parts(memberships, together)?;
             self.send(rt)?;
-            for asked in together {
-                if let Some(membership) = memberships.get(asked.place) {
-                    if let Reply::Mapping(mapping) = self.reply(rt, ResultKind::Mapping)? {
-                        self.learn_mapping(membership, mapping.get())?;
-                        if mapping.get().later_texts_exist && mapping.get().end > asked.first {
-                            later.push(Part {
-                                place: asked.place,
-                                first: mapping.get().end,
-                            })?;
-                        }
-                    }
+            self.take_parts(rt, memberships, together, &mut later)?;
+        }
+        Ok(later)
+    }
+
+    /// Asks for some parts.
+    fn ask_parts(&mut self, memberships: &[Membership], parts: &[Part]) -> Result<(), VisitEnd>
+        ensures { self.new.exchange.columns ≡ self.old.exchange.columns }
+    {
+        for part in parts {
+            if let Some(membership) = memberships.get(part.place) {
+                self.exchange
+                    .request(103, &[membership.conference, part.first, LONGEST_MAPPING])?;
+            }
+        }
+        Ok(())
+    }
+
+    /// Awaits some parts. Those that stand behind them are added.
+    fn take_parts<R: Wait>(
+        &mut self,
+        rt: &R,
+        memberships: &[Membership],
+        parts: &[Part],
+        later: &mut Vec<Part>,
+    ) -> Result<(), VisitEnd>
+        ensures { self.new.exchange.columns ≡ self.old.exchange.columns }
+    {
+        for part in parts {
+            if let Some(membership) = memberships.get(part.place) {
+                if let Some(first) = self.take_part(rt, membership, part.first)? {
+                    later.push(Part {
+                        place: part.place,
+                        first,
+                    })?;
                 }
             }
         }
-        Ok(later)
+        Ok(())
+    }
+
+    /// Awaits the texts of a membership from a local number on: from which one on there are more,
+    /// if there are.
+    fn take_part<R: Wait>(
+        &mut self,
+        rt: &R,
+        membership: &Membership,
+        first: u32,
+    ) -> Result<Option<u32>, VisitEnd>
+        ensures { self.new.exchange.columns ≡ self.old.exchange.columns }
+    {
+        let reply = self.reply(rt, ResultKind::Mapping)?;
+        match mapping_in(reply) {
+            Some(mapping) => {
+                self.learn_mapping(membership, &mapping)?;
+                Ok(end_behind(&mapping, first))
+            }
+            None => Ok(None),
+        }
     }
 
     /// Adds the rows of a mapping that are not read.
@@ -142,7 +179,37 @@ impl<W: Waiting, K: Link, L: Link, S: Sink, D: Drafts> Visitor<W, K, L, S, D> {
     }
 }
 
-pub(crate) fn place_of(membership: &Membership) -> Place {
+/// The parts that are asked for first: of these conferences, those of which one is a member that
+/// reads there.
+fn parts_of(
+    alloc: Global,
+    memberships: &[Membership],
+    unread: &[u32],
+) -> Result<Vec<Part>, AllocError> {
+    let mut parts = Vec::new(alloc);
+    for (place, membership) in memberships.iter().enumerate() {
+        if membership.kind & PASSIVE == 0 && unread.contains(&membership.conference) {
+            let first = first_unread(ranges_of(membership));
+            parts.push(Part { place, first })?;
+        }
+    }
+    Ok(parts)
+}
+
+fn count_line(alloc: Global, count: usize) -> Result<String, AllocError> {
+    format!(in alloc; "{count}")
+}
+
+/// Where a mapping ends behind a local number, if there are texts behind it.
+fn end_behind(mapping: &Mapping, first: u32) -> Option<u32> {
+    if mapping.later_texts_exist && mapping.end > first {
+        Some(mapping.end)
+    } else {
+        None
+    }
+}
+
+fn place_of(membership: &Membership) -> Place {
     Place {
         conference: membership.conference,
         priority: membership.priority,

@@ -8,6 +8,7 @@ use kom_letters::Charset;
 use kom_links::{Link, Sink};
 use kom_reader::{Choice, WORDS, Word, word_of};
 use kom_screen::Front;
+use std::alloc::{AllocError, Global};
 use std::sync::Wait;
 
 impl<W: Waiting, K: Link, L: Link, S: Sink, D: Drafts> Visitor<W, K, L, S, D> {
@@ -36,12 +37,9 @@ impl<W: Waiting, K: Link, L: Link, S: Sink, D: Drafts> Visitor<W, K, L, S, D> {
     fn help_with_all<R: Wait>(&mut self, rt: &R, pace: Pace, words: &[Word]) -> Result<(), VisitEnd>
         ensures { self.new.exchange.columns ≡ self.old.exchange.columns }
     {
-        let alloc = self.alloc;
         let mut pace = pace;
         for word in words {
-            let usage = usage_of(*word);
-            let does = does_of(*word);
-            let text = format!(in alloc; "{usage:<19} {does}")?;
+            let text = word_line(self.alloc, *word)?;
             pace = self
                 .exchange
                 .show_line(rt, pace, Front::Blank, text.as_bytes(), Charset::Utf8)?;
@@ -52,14 +50,24 @@ impl<W: Waiting, K: Link, L: Link, S: Sink, D: Drafts> Visitor<W, K, L, S, D> {
     fn help_with(&mut self, word: Word) -> Result<(), VisitEnd>
         ensures { self.new.exchange.columns ≡ self.old.exchange.columns }
     {
-        let alloc = self.alloc;
-        let usage = usage_of(word);
-        let does = does_of(word);
-        let more = more_of(word);
-        let text = format!(in alloc; "{usage}: {does}.")?;
+        let text = usage_line(self.alloc, word)?;
         self.say("", text.as_str())?;
-        self.say("", more)
+        self.say("", more_of(word))
     }
+}
+
+/// A command in the list of all.
+fn word_line(alloc: Global, word: Word) -> Result<String, AllocError> {
+    let usage = usage_of(word);
+    let does = does_of(word);
+    format!(in alloc; "{usage:<19} {does}")
+}
+
+/// A command alone.
+fn usage_line(alloc: Global, word: Word) -> Result<String, AllocError> {
+    let usage = usage_of(word);
+    let does = does_of(word);
+    format!(in alloc; "{usage}: {does}.")
 }
 
 /// How a command is typed.

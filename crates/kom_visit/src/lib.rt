@@ -15,6 +15,7 @@ mod news;
 mod people;
 mod prompting;
 mod reading;
+mod replies;
 mod skipping;
 mod taking;
 mod typing;

@@ -5,6 +5,7 @@ use crate::drafts::Drafts;
 use crate::visitor::Visitor;
 use kom_exchange::{VisitEnd, Waiting};
 use kom_links::{Link, Sink};
+use std::alloc::{AllocError, Global};
 use std::sync::Wait;
 
 impl<W: Waiting, K: Link, L: Link, S: Sink, D: Drafts> Visitor<W, K, L, S, D> {
@@ -17,10 +18,12 @@ impl<W: Waiting, K: Link, L: Link, S: Sink, D: Drafts> Visitor<W, K, L, S, D> {
             return self.say("You are nowhere: `go` goes to a conference.", "");
         }
         self.learn_name(rt, working)?;
-        let alloc = self.alloc;
-        let name = self.names.name(working);
         let count = self.reader.count_in(working);
-        let text = format!(in alloc; "{name}, where {count} are unread")?;
+        let text = place_line(self.alloc, self.names.name(working), count)?;
         self.say("You are in ", text.as_str())
     }
+}
+
+fn place_line(alloc: Global, name: &str, count: usize) -> Result<String, AllocError> {
+    format!(in alloc; "{name}, where {count} are unread")
 }

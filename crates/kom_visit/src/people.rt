@@ -1,15 +1,18 @@
 //! Persons: who is there, and what is said to them.
-ghost use Rattle.std.specs.Prelude.{◌≡◌};
+ghost use Rattle.std.specs.Prelude.{◌≡◌, IfOk};
 
 use crate::drafts::Drafts;
 use crate::letters::text_of;
+use crate::names::Names;
+use crate::replies::sessions_in;
 use crate::visitor::Visitor;
 use kom_exchange::{Pace, Request, VisitEnd, Waiting};
 use kom_letters::{Charset, Unsendable, charset_of, text_bytes};
 use kom_links::{Link, Sink};
 use kom_records::ResultKind;
 use kom_screen::Front;
-use kom_types::Reply;
+use kom_types::DynamicSession;
+use std::alloc::{AllocError, Global};
 use std::sync::Wait;
 
 impl<W: Waiting, K: Link, L: Link, S: Sink, D: Drafts> Visitor<W, K, L, S, D> {
@@ -18,35 +21,36 @@ impl<W: Waiting, K: Link, L: Link, S: Sink, D: Drafts> Visitor<W, K, L, S, D> {
         ensures { self.new.exchange.columns ≡ self.old.exchange.columns }
     {
         let reply = self.ask(rt, 83, &[1, 0, 0], ResultKind::DynamicSessions)?;
-        let Reply::DynamicSessions(sessions) = reply else {
-            return Ok(());
-        };
-        let mut names = Vec::new(self.alloc);
-        for session in sessions.get().as_slice() {
-            names.push(session.person)?;
-            names.push(session.working)?;
-        }
-        self.learn_names(rt, names.as_slice())?;
-        let alloc = self.alloc;
+        let sessions = sessions_in(self.alloc, reply);
+        self.learn_of(rt, sessions.as_slice())?;
         let mut pace = Pace::ByPages;
-        for one in sessions.get().as_slice() {
+        for one in sessions.as_slice() {
             if one.person != 0 {
-                let person = self.names.name(one.person);
-                let place = if one.working == 0 {
-                    ""
-                } else {
-                    self.names.name(one.working)
-                };
-                let minutes = one.idle / 60;
-                let bytes = one.doing.as_slice();
-                let doing = text_of(alloc, bytes, charset_of(None, bytes))?;
-                let text = format!(in alloc; "{person:30} {place:20} {minutes:>4} min  {doing}")?;
-                pace = self
-                    .exchange
-                    .show_line(rt, pace, Front::Blank, text.as_bytes(), Charset::Utf8)?;
+                pace = self.show_session(rt, pace, one)?;
             }
         }
         Ok(())
+    }
+
+    /// Learns the names of who is logged in, and of where they are.
+    fn learn_of<R: Wait>(&mut self, rt: &R, sessions: &[DynamicSession]) -> Result<(), VisitEnd>
+        ensures { self.new.exchange.columns ≡ self.old.exchange.columns }
+    {
+        let named = named_in(self.alloc, sessions)?;
+        self.learn_names(rt, named.as_slice())
+    }
+
+    fn show_session<R: Wait>(
+        &mut self,
+        rt: &R,
+        pace: Pace,
+        session: &DynamicSession,
+    ) -> Result<Pace, VisitEnd>
+        ensures { self.new.exchange.columns ≡ self.old.exchange.columns }
+    {
+        let text = session_line(self.alloc, &self.names, session)?;
+        self.exchange
+            .show_line(rt, pace, Front::Blank, text.as_bytes(), Charset::Utf8)
     }
 
     /// Sends a message: whom it is to stands before a colon.
@@ -58,16 +62,20 @@ impl<W: Waiting, K: Link, L: Link, S: Sink, D: Drafts> Visitor<W, K, L, S, D> {
         };
         let whom = rest[..colon].trim_ascii();
         let text = rest[colon + 1..].trim_ascii();
-        let sent = match text_bytes(self.alloc, text) {
-            Ok(sent) => sent,
-            Err(Unsendable::Memory) => return Err(VisitEnd::Memory),
-            Err(_) => return self.say("", "What was typed is no UTF-8, and is not sent."),
-        };
-        let Some(recipient) = self.recipient_of(rt, whom)? else {
-            return Ok(());
-        };
-        let mut request = Request::of(self.alloc, 53, &[recipient])?;
-        request.text(self.alloc, sent.body.as_slice())?;
+        match text_bytes(self.alloc, text) {
+            Ok(sent) => match self.recipient_of(rt, whom)? {
+                Some(recipient) => self.send_to(rt, recipient, sent.body.as_slice()),
+                None => Ok(()),
+            },
+            Err(Unsendable::Memory) => Err(VisitEnd::Memory),
+            Err(_) => self.say("", "What was typed is no UTF-8, and is not sent."),
+        }
+    }
+
+    fn send_to<R: Wait>(&mut self, rt: &R, recipient: u32, text: &[u8]) -> Result<(), VisitEnd>
+        ensures { self.new.exchange.columns ≡ self.old.exchange.columns }
+    {
+        let request = message_request(self.alloc, recipient, text)?;
         self.exchange.ask(&request)?;
         self.send(rt)?;
         if self.is_done(rt)? {
@@ -85,4 +93,41 @@ impl<W: Waiting, K: Link, L: Link, S: Sink, D: Drafts> Visitor<W, K, L, S, D> {
         }
         self.find(rt, whom, true, true)
     }
+}
+
+/// The request that a message is sent.
+fn message_request(alloc: Global, recipient: u32, text: &[u8]) -> Result<Request, VisitEnd>
+    ensures { IfOk result (λ request. request.call ≡ 53) }
+{
+    let mut request = Request::of(alloc, 53, &[recipient])?;
+    request.text(alloc, text)?;
+    Ok(request)
+}
+
+/// Who is logged in, and where they are.
+fn named_in(alloc: Global, sessions: &[DynamicSession]) -> Result<Vec<u32>, AllocError> {
+    let mut named = Vec::new(alloc);
+    for session in sessions {
+        named.push(session.person)?;
+        named.push(session.working)?;
+    }
+    Ok(named)
+}
+
+/// A session: who and where, for how long nothing was done, and what is.
+fn session_line(
+    alloc: Global,
+    names: &Names,
+    session: &DynamicSession,
+) -> Result<String, AllocError> {
+    let person = names.name(session.person);
+    let place = if session.working == 0 {
+        ""
+    } else {
+        names.name(session.working)
+    };
+    let minutes = session.idle / 60;
+    let bytes = session.doing.as_slice();
+    let doing = text_of(alloc, bytes, charset_of(None, bytes))?;
+    format!(in alloc; "{person:30} {place:20} {minutes:>4} min  {doing}")
 }

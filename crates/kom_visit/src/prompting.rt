@@ -8,6 +8,7 @@ use kom_letters::{Charset, show_name};
 use kom_links::{Link, Sink};
 use kom_reader::Step;
 use kom_screen::Front;
+use std::alloc::{AllocError, Global};
 use std::sync::Wait;
 
 /// The columns of a prompt beside the name in it, at most.
@@ -43,13 +44,16 @@ impl<W: Waiting, K: Link, L: Link, S: Sink, D: Drafts> Visitor<W, K, L, S, D> {
     fn prompt_to_go<R: Wait>(&mut self, rt: &R, conference: u32) -> Result<(), VisitEnd>
         ensures { self.new.exchange.columns ≡ self.old.exchange.columns }
     {
-        let alloc = self.alloc;
         self.learn_name(rt, conference)?;
         let room = self.exchange.columns().saturating_sub(BESIDE_NAME);
-        let name = self.names.name(conference).as_bytes();
-        let name = show_name(alloc, name, Charset::Utf8, room)?;
         let count = self.reader.count_in(conference);
-        let text = format!(in alloc; "go to {name}, {count} unread) ")?;
+        let text = go_line(self.alloc, self.names.name(conference), room, count)?;
         self.open(Front::Bracket, text.as_bytes())
     }
+}
+
+/// A prompt to go to a conference, with as many columns of its name.
+fn go_line(alloc: Global, name: &str, room: u16, count: usize) -> Result<String, AllocError> {
+    let name = show_name(alloc, name.as_bytes(), Charset::Utf8, room)?;
+    format!(in alloc; "go to {name}, {count} unread) ")
 }

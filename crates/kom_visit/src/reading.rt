@@ -2,14 +2,16 @@
 ghost use Rattle.std.specs.Prelude.{◌≡◌};
 
 use crate::drafts::Drafts;
-use crate::letters::{text_of, time_of};
+use crate::letters::{Zone, text_of, time_of};
+use crate::replies::{Refusal, author_in};
 use crate::visitor::Visitor;
 use kom_exchange::{Fetched, Pace, VisitEnd, Waiting, first_line};
 use kom_letters::Charset;
 use kom_links::{Link, Sink};
 use kom_records::ResultKind;
 use kom_screen::Front;
-use kom_types::{MiscInfo, Moment, Reply};
+use kom_types::{MiscInfo, Moment};
+use std::alloc::{AllocError, Global};
 use std::sync::Wait;
 
 /// How many texts that a text is linked to are told with their authors.
@@ -31,6 +33,15 @@ struct Author {
     person: u32,
 }
 
+/// A line about a link of a text.
+#[derive(Clone, Copy)]
+enum LinkLine {
+    /// A conference in which it stands.
+    Conference(Front, u32),
+    /// Another text.
+    Text(Front, u32),
+}
+
 const RULE: &str = "--------------------------------------------------";
 
 impl<W: Waiting, K: Link, L: Link, S: Sink, D: Drafts> Visitor<W, K, L, S, D> {
@@ -47,6 +58,13 @@ impl<W: Waiting, K: Link, L: Link, S: Sink, D: Drafts> Visitor<W, K, L, S, D> {
             self.reader.take_text(text);
             return Ok(());
         }
+        self.show_fetched(rt, text, is_next)
+    }
+
+    /// Shows the text that was fetched.
+    fn show_fetched<R: Wait>(&mut self, rt: &R, text: u32, is_next: bool) -> Result<(), VisitEnd>
+        ensures { self.new.exchange.columns ≡ self.old.exchange.columns }
+    {
         let head = self.head()?;
         let authors = self.authors_of(rt, &head)?;
         let pace = self.show_head(rt, text, &head, authors.as_slice())?;
@@ -79,7 +97,7 @@ impl<W: Waiting, K: Link, L: Link, S: Sink, D: Drafts> Visitor<W, K, L, S, D> {
         match self.exchange.fetch(rt, text)? {
             Fetched::Told => Ok(true),
             Fetched::Refused(code, status) => {
-                self.say_refused(code, status)?;
+                self.say_refused(Refusal { code, status })?;
                 Ok(false)
             }
             Fetched::Nothing => Ok(false),
@@ -109,44 +127,42 @@ impl<W: Waiting, K: Link, L: Link, S: Sink, D: Drafts> Visitor<W, K, L, S, D> {
     ) -> Result<Pace, VisitEnd>
         ensures { self.new.exchange.columns ≡ self.old.exchange.columns }
     {
-        let alloc = self.alloc;
-        let time = time_of(alloc, head.created, self.zone)?;
-        let lines = head.lines;
-        let author = self.names.name(head.author);
-        let line = format!(in alloc; " {time} /{lines} lines/ {author}")?;
+        let line = head_line(self.alloc, head, self.zone, self.names.name(head.author))?;
         let mut pace = Pace::ByPages;
         let front = Front::Number(text);
         pace = self
             .exchange
             .show_line(rt, pace, front, line.as_bytes(), Charset::Utf8)?;
         for link in head.links.as_slice() {
-            let told = match *link {
-                MiscInfo::Recipient(conference) => Some((
-                    Front::Recipient,
-                    self.name_of(conference)?,
-                )),
-                MiscInfo::CopyRecipient(conference) => Some((
-                    Front::Copy,
-                    self.name_of(conference)?,
-                )),
-                MiscInfo::BlindRecipient(conference) => {
-                    Some((Front::BlindCopy, self.name_of(conference)?))
-                }
-                MiscInfo::CommentTo(parent) => {
-                    Some((Front::CommentTo, self.text_by(parent, authors)?))
-                }
-                MiscInfo::FootnoteTo(parent) => {
-                    Some((Front::FootnoteTo, self.text_by(parent, authors)?))
-                }
-                _ => None,
-            };
-            if let Some((front, told)) = told {
-                pace = self
-                    .exchange
-                    .show_line(rt, pace, front, told.as_bytes(), Charset::Utf8)?;
+            if let Some(line) = line_above(*link) {
+                pace = self.show_link(rt, pace, line, authors)?;
             }
         }
         Ok(pace)
+    }
+
+    /// Shows a line about a link.
+    fn show_link<R: Wait>(
+        &mut self,
+        rt: &R,
+        pace: Pace,
+        line: LinkLine,
+        authors: &[Author],
+    ) -> Result<Pace, VisitEnd>
+        ensures { self.new.exchange.columns ≡ self.old.exchange.columns }
+    {
+        match line {
+            LinkLine::Conference(front, conference) => {
+                let told = self.name_of(conference)?;
+                self.exchange
+                    .show_line(rt, pace, front, told.as_bytes(), Charset::Utf8)
+            }
+            LinkLine::Text(front, text) => {
+                let told = self.text_by(text, authors)?;
+                self.exchange
+                    .show_line(rt, pace, front, told.as_bytes(), Charset::Utf8)
+            }
+        }
     }
 
     /// Shows the end of a text, and what answers it.
@@ -160,26 +176,14 @@ impl<W: Waiting, K: Link, L: Link, S: Sink, D: Drafts> Visitor<W, K, L, S, D> {
     ) -> Result<(), VisitEnd>
         ensures { self.new.exchange.columns ≡ self.old.exchange.columns }
     {
-        let alloc = self.alloc;
-        let foot = format!(in alloc; "{text}) ---------{RULE}")?;
+        let foot = foot_line(self.alloc, text)?;
         let mut pace = pace;
         pace = self
             .exchange
             .show_line(rt, pace, Front::Bracket, foot.as_bytes(), Charset::Utf8)?;
         for link in head.links.as_slice() {
-            let told = match *link {
-                MiscInfo::FootnoteIn(child) => {
-                    Some((Front::FootnoteIn, self.text_by(child, authors)?))
-                }
-                MiscInfo::CommentIn(child) => {
-                    Some((Front::CommentIn, self.text_by(child, authors)?))
-                }
-                _ => None,
-            };
-            if let Some((front, told)) = told {
-                pace = self
-                    .exchange
-                    .show_line(rt, pace, front, told.as_bytes(), Charset::Utf8)?;
+            if let Some(line) = line_below(*link) {
+                pace = self.show_link(rt, pace, line, authors)?;
             }
         }
         Ok(())
@@ -201,28 +205,9 @@ impl<W: Waiting, K: Link, L: Link, S: Sink, D: Drafts> Visitor<W, K, L, S, D> {
     fn authors_of<R: Wait>(&mut self, rt: &R, head: &Head) -> Result<Vec<Author>, VisitEnd>
         ensures { self.new.exchange.columns ≡ self.old.exchange.columns }
     {
-        let mut names = Vec::new(self.alloc);
-        names.push(head.author)?;
-        let mut texts = Vec::new(self.alloc);
-        for link in head.links.as_slice() {
-            match *link {
-                MiscInfo::Recipient(conference)
-                | MiscInfo::CopyRecipient(conference)
-                | MiscInfo::BlindRecipient(conference) => names.push(conference)?,
-                MiscInfo::CommentTo(text)
-                | MiscInfo::CommentIn(text)
-                | MiscInfo::FootnoteTo(text)
-                | MiscInfo::FootnoteIn(text)
-                    if texts.len() < LINKS => {
-                    texts.push(text)?;
-                }
-                _ => {}
-            }
-        }
+        let texts = texts_in(self.alloc, head.links.as_slice())?;
         let authors = self.ask_authors(rt, texts.as_slice())?;
-        for author in &authors {
-            names.push(author.person)?;
-        }
+        let names = named_in(self.alloc, head, authors.as_slice())?;
         self.learn_names(rt, names.as_slice())?;
         Ok(authors)
     }
@@ -230,20 +215,36 @@ impl<W: Waiting, K: Link, L: Link, S: Sink, D: Drafts> Visitor<W, K, L, S, D> {
     fn ask_authors<R: Wait>(&mut self, rt: &R, texts: &[u32]) -> Result<Vec<Author>, VisitEnd>
         ensures { self.new.exchange.columns ≡ self.old.exchange.columns }
     {
-        let mut authors = Vec::new(self.alloc);
-        for text in texts {
-            self.exchange.request(90, &[*text])?;
-        }
+        self.ask_stats(texts)?;
         self.send(rt)?;
+        let mut authors = Vec::new(self.alloc);
         for asked in texts {
-            if let Reply::TextStat(stat) = self.reply(rt, ResultKind::TextStat)? {
+            if let Some(person) = self.take_author(rt)? {
                 authors.push(Author {
                     text: *asked,
-                    person: stat.get().author,
+                    person,
                 })?;
             }
         }
         Ok(authors)
+    }
+
+    /// Asks for what is told of some texts.
+    pub(crate) fn ask_stats(&mut self, texts: &[u32]) -> Result<(), VisitEnd>
+        ensures { self.new.exchange.columns ≡ self.old.exchange.columns }
+    {
+        for text in texts {
+            self.exchange.request(90, &[*text])?;
+        }
+        Ok(())
+    }
+
+    /// Awaits what is told of a text: who wrote it.
+    fn take_author<R: Wait>(&mut self, rt: &R) -> Result<Option<u32>, VisitEnd>
+        ensures { self.new.exchange.columns ≡ self.old.exchange.columns }
+    {
+        let reply = self.reply(rt, ResultKind::TextStat)?;
+        Ok(author_in(reply))
     }
 
     /// The subject of the text that was fetched, as UTF-8.
@@ -256,4 +257,73 @@ impl<W: Waiting, K: Link, L: Link, S: Sink, D: Drafts> Visitor<W, K, L, S, D> {
             None => Ok(String::new(self.alloc)),
         }
     }
+}
+
+/// What a line above a text says of a link.
+fn line_above(link: MiscInfo) -> Option<LinkLine> {
+    match link {
+        MiscInfo::Recipient(conference) => Some(LinkLine::Conference(Front::Recipient, conference)),
+        MiscInfo::CopyRecipient(conference) => Some(LinkLine::Conference(Front::Copy, conference)),
+        MiscInfo::BlindRecipient(conference) => {
+            Some(LinkLine::Conference(Front::BlindCopy, conference))
+        }
+        MiscInfo::CommentTo(text) => Some(LinkLine::Text(Front::CommentTo, text)),
+        MiscInfo::FootnoteTo(text) => Some(LinkLine::Text(Front::FootnoteTo, text)),
+        _ => None,
+    }
+}
+
+/// What a line below a text says of a link.
+fn line_below(link: MiscInfo) -> Option<LinkLine> {
+    match link {
+        MiscInfo::FootnoteIn(text) => Some(LinkLine::Text(Front::FootnoteIn, text)),
+        MiscInfo::CommentIn(text) => Some(LinkLine::Text(Front::CommentIn, text)),
+        _ => None,
+    }
+}
+
+/// The texts to which links lead, or the first of them.
+fn texts_in(alloc: Global, links: &[MiscInfo]) -> Result<Vec<u32>, AllocError> {
+    let mut texts = Vec::new(alloc);
+    for link in links {
+        match *link {
+            MiscInfo::CommentTo(text)
+            | MiscInfo::CommentIn(text)
+            | MiscInfo::FootnoteTo(text)
+            | MiscInfo::FootnoteIn(text)
+                if texts.len() < LINKS => {
+                texts.push(text)?;
+            }
+            _ => {}
+        }
+    }
+    Ok(texts)
+}
+
+/// All whom a text and the texts beside it name.
+fn named_in(alloc: Global, head: &Head, authors: &[Author]) -> Result<Vec<u32>, AllocError> {
+    let mut named = Vec::new(alloc);
+    named.push(head.author)?;
+    for author in authors {
+        named.push(author.person)?;
+    }
+    for link in head.links.as_slice() {
+        match *link {
+            MiscInfo::Recipient(conference)
+            | MiscInfo::CopyRecipient(conference)
+            | MiscInfo::BlindRecipient(conference) => named.push(conference)?,
+            _ => {}
+        }
+    }
+    Ok(named)
+}
+
+fn head_line(alloc: Global, head: &Head, zone: Zone, author: &str) -> Result<String, AllocError> {
+    let time = time_of(alloc, head.created, zone)?;
+    let lines = head.lines;
+    format!(in alloc; " {time} /{lines} lines/ {author}")
+}
+
+fn foot_line(alloc: Global, text: u32) -> Result<String, AllocError> {
+    format!(in alloc; "{text}) ---------{RULE}")
 }

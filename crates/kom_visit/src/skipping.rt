@@ -6,6 +6,7 @@ use crate::visitor::Visitor;
 use kom_exchange::{VisitEnd, Waiting};
 use kom_links::{Link, Sink};
 use kom_types::{MiscInfo, TextStat};
+use std::alloc::{AllocError, Global};
 use std::sync::Wait;
 
 /// How many texts are asked for at once, at most.
@@ -31,8 +32,7 @@ impl<W: Waiting, K: Link, L: Link, S: Sink, D: Drafts> Visitor<W, K, L, S, D> {
             }
             level = self.skip_level(rt, &mut seen, &mut count, level.as_slice())?;
         }
-        let alloc = self.alloc;
-        let text = format!(in alloc; "{count} below text {last}.")?;
+        let text = count_line(self.alloc, count, last)?;
         self.say("Skipped: ", text.as_str())
     }
 
@@ -49,28 +49,47 @@ impl<W: Waiting, K: Link, L: Link, S: Sink, D: Drafts> Visitor<W, K, L, S, D> {
     {
         let mut below = Vec::new(self.alloc);
         for together in texts.chunks(TOGETHER) {
-            for text in together {
-                self.exchange.request(90, &[*text])?;
-            }
+            self.ask_stats(together)?;
             self.send(rt)?;
             let mut marks = 0u64;
             for asked in together {
-                let is_last = *asked == self.reader.last();
-                let is_wanted = is_last || !self.reader.is_unread(*asked);
-                let counted = self.exchange.skip(rt, &self.reader, is_wanted)?;
-                if let Some(stat) = &counted.stat {
-                    add_below(seen, &mut below, stat)?;
-                    if !is_wanted {
-                        *count = count.saturating_add(1);
-                        marks = marks.saturating_add(counted.count);
-                        self.reader.take_text(*asked);
-                    }
+                if let Some(more) = self.skip_text(rt, seen, &mut below, *asked)? {
+                    *count = count.saturating_add(1);
+                    marks = marks.saturating_add(more);
                 }
             }
             self.send_and_await(rt, marks)?;
         }
         Ok(below)
     }
+
+    /// Awaits what is told of a text, and adds the texts below it. If the text is to be skipped and
+    /// was told: how many requests were made that it counts as read.
+    fn skip_text<R: Wait>(
+        &mut self,
+        rt: &R,
+        seen: &mut Vec<u32>,
+        below: &mut Vec<u32>,
+        text: u32,
+    ) -> Result<Option<u64>, VisitEnd>
+        ensures { self.new.exchange.columns ≡ self.old.exchange.columns }
+    {
+        let is_wanted = text == self.reader.last() || !self.reader.is_unread(text);
+        let counted = self.exchange.skip(rt, &self.reader, is_wanted)?;
+        let Some(stat) = &counted.stat else {
+            return Ok(None);
+        };
+        add_below(seen, below, stat)?;
+        if is_wanted {
+            return Ok(None);
+        }
+        self.reader.take_text(text);
+        Ok(Some(counted.count))
+    }
+}
+
+fn count_line(alloc: Global, count: u64, last: u32) -> Result<String, AllocError> {
+    format!(in alloc; "{count} below text {last}.")
 }
 
 /// Adds the texts that answer a text, but for those that were seen.

@@ -7,7 +7,6 @@ use crate::writing::Answer;
 use kom_exchange::{VisitEnd, Waiting};
 use kom_links::{Link, Sink};
 use kom_reader::{Command, Step, WORDS, Word, command_of, first_word, fits, number_in, rest_of};
-use kom_records::ResultKind;
 use std::alloc::{AllocError, Global};
 use std::sync::Wait;
 
@@ -83,7 +82,8 @@ impl<W: Waiting, K: Link, L: Link, S: Sink, D: Drafts> Visitor<W, K, L, S, D> {
     fn quit<R: Wait>(&mut self, rt: &R) -> Result<(), VisitEnd>
         ensures { self.new.exchange.columns ≡ self.old.exchange.columns }
     {
-        self.ask(rt, 1, &[], ResultKind::Done)?;
+        self.exchange.request(1, &[])?;
+        self.send_and_await(rt, 1)?;
         self.exchange.request(55, &[0])?;
         self.send(rt)
     }

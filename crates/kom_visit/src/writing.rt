@@ -2,15 +2,16 @@
 ghost use Rattle.std.specs.Prelude.{◌≡◌, IfOk};
 
 use crate::drafts::Drafts;
+use crate::replies::text_in;
 use crate::typing::{Draft, Typed};
 use crate::visitor::{Visitor, copied};
-use kom_exchange::{Argument, Request, VisitEnd, Waiting};
+use kom_exchange::{Argument, Request, VisitEnd, Waiting, first_line};
 use kom_letters::{Charset, Sent, Unsendable, text_bytes};
 use kom_links::{Failed, Link, Sink};
 use kom_records::ResultKind;
 use kom_screen::Front;
-use kom_types::{MiscInfo, MiscInput, Reply};
-use std::alloc::Global;
+use kom_types::{MiscInfo, MiscInput};
+use std::alloc::{AllocError, Global};
 use std::sync::Wait;
 
 /// The tags of links of a text.
@@ -41,7 +42,7 @@ impl<W: Waiting, K: Link, L: Link, S: Sink, D: Drafts> Visitor<W, K, L, S, D> {
     {
         let mut links = Vec::new(self.alloc);
         links.push(recipient(conference))?;
-        self.typing = Some(Draft::new(self.alloc, links, None));
+        self.begin(links, None);
         Ok(())
     }
 
@@ -54,8 +55,15 @@ impl<W: Waiting, K: Link, L: Link, S: Sink, D: Drafts> Visitor<W, K, L, S, D> {
         if person != self.person {
             links.push(recipient(self.person))?;
         }
-        self.typing = Some(Draft::new(self.alloc, links, None));
+        self.begin(links, None);
         Ok(())
+    }
+
+    /// A text is typed from now on.
+    fn begin(&mut self, links: Vec<MiscInput>, subject: Option<Vec<u8>>)
+        ensures { self.new.exchange.columns ≡ self.old.exchange.columns }
+    {
+        self.typing = Some(Draft::new(self.alloc, links, subject));
     }
 
     /// Begins an answer to a text.
@@ -79,7 +87,7 @@ impl<W: Waiting, K: Link, L: Link, S: Sink, D: Drafts> Visitor<W, K, L, S, D> {
         };
         links.push(MiscInput { tag, value: text })?;
         let typed = copied(self.alloc, subject.as_bytes())?;
-        self.typing = Some(Draft::new(self.alloc, links, Some(typed)));
+        self.begin(links, Some(typed));
         self.show(Front::Subject, "", subject.as_str())?;
         self.say_how()
     }
@@ -143,23 +151,26 @@ impl<W: Waiting, K: Link, L: Link, S: Sink, D: Drafts> Visitor<W, K, L, S, D> {
     fn put_text<R: Wait>(&mut self, rt: &R, draft: Draft) -> Result<(), VisitEnd>
         ensures { self.new.exchange.columns ≡ self.old.exchange.columns }
     {
-        let whole = draft.whole(self.alloc)?;
-        match text_bytes(self.alloc, whole.as_slice()) {
-            Ok(sent) => {
-                // As long as the reply is awaited, the text is one that was not sent.
-                let links = Vec::from_slice(self.alloc, draft.links.as_slice())?;
-                self.typing = Some(draft);
-                let written = self.send_text(rt, &sent, links.as_slice())?;
-                match self.typing.take() {
-                    Some(draft) if !written => self.keep_told(&draft),
-                    _ => Ok(()),
-                }
-            }
+        match sendable(self.alloc, &draft) {
+            Ok(sent) => self.put_sent(rt, draft, &sent),
             Err(Unsendable::Memory) => Err(VisitEnd::Memory),
             Err(_) => {
                 self.say("", "What was typed is no UTF-8, and is not sent.")?;
                 self.keep_told(&draft)
             }
+        }
+    }
+
+    /// Sends a text. As long as the reply is awaited, it is one that was not sent.
+    fn put_sent<R: Wait>(&mut self, rt: &R, draft: Draft, sent: &Sent) -> Result<(), VisitEnd>
+        ensures { self.new.exchange.columns ≡ self.old.exchange.columns }
+    {
+        let links = Vec::from_slice(self.alloc, draft.links.as_slice())?;
+        self.typing = Some(draft);
+        let is_written = self.send_text(rt, sent, links.as_slice())?;
+        match self.typing.take() {
+            Some(draft) if !is_written => self.keep_told(&draft),
+            _ => Ok(()),
         }
     }
 
@@ -175,16 +186,24 @@ impl<W: Waiting, K: Link, L: Link, S: Sink, D: Drafts> Visitor<W, K, L, S, D> {
         let request = text_request(self.alloc, sent, links)?;
         self.exchange.ask(&request)?;
         self.send(rt)?;
-        match self.reply(rt, ResultKind::Number)? {
-            Reply::Number(text) => {
+        self.take_written(rt)
+    }
+
+    /// Awaits whether a text was written.
+    fn take_written<R: Wait>(&mut self, rt: &R) -> Result<bool, VisitEnd>
+        ensures { self.new.exchange.columns ≡ self.old.exchange.columns }
+    {
+        let reply = self.reply(rt, ResultKind::Number)?;
+        match text_in(reply) {
+            Ok(Some(text)) => {
                 self.tell_written(rt, text)?;
                 Ok(true)
             }
-            Reply::Refused(code, status) => {
-                self.say_refused(code, status)?;
+            Ok(None) => Ok(false),
+            Err(refusal) => {
+                self.say_refused(refusal)?;
                 Ok(false)
             }
-            _ => Ok(false),
         }
     }
 
@@ -194,26 +213,45 @@ impl<W: Waiting, K: Link, L: Link, S: Sink, D: Drafts> Visitor<W, K, L, S, D> {
     {
         self.exchange.request(90, &[text])?;
         self.send(rt)?;
-        let counted = self.exchange.mark_own(rt, &self.reader)?;
-        self.send_and_await(rt, counted.count)?;
+        let count = self.mark_own(rt)?;
+        self.send_and_await(rt, count)?;
         self.reader.take_text(text);
         self.reader.look_at(text);
-        let alloc = self.alloc;
-        let told = format!(in alloc; "{text} is written.")?;
+        let told = written_line(self.alloc, text)?;
         self.say("Text ", told.as_str())
+    }
+
+    /// Awaits what is told of a text of the person, and asks that it counts as read: how many
+    /// requests that makes.
+    fn mark_own<R: Wait>(&mut self, rt: &R) -> Result<u64, VisitEnd>
+        ensures { self.new.exchange.columns ≡ self.old.exchange.columns }
+    {
+        let counted = self.exchange.mark_own(rt, &self.reader)?;
+        Ok(counted.count)
     }
 
     /// Keeps a text, and says so.
     fn keep_told(&mut self, draft: &Draft) -> Result<(), VisitEnd>
         ensures { self.new.exchange.columns ≡ self.old.exchange.columns }
     {
-        for line in draft.body.as_slice().split(|byte| *byte == b'\n') {
-            self.exchange.show(Front::Blank, line, Charset::Utf8)?;
-        }
+        self.show_lines(draft.body.as_slice())?;
         match self.keep(draft) {
             Ok(()) => self.say("The text is kept in ~/.komt-draft.", ""),
             Err(Failed) => self.say("The text could not be kept.", ""),
         }
+    }
+
+    /// Shows the lines of a text that was typed.
+    fn show_lines(&mut self, text: &[u8]) -> Result<(), VisitEnd>
+        ensures { self.new.exchange.columns ≡ self.old.exchange.columns }
+    {
+        let mut rest = text;
+        'lines: while !rest.is_empty() {
+            let (line, more) = first_line(rest);
+            self.exchange.show(Front::Blank, line, Charset::Utf8)?;
+            rest = more;
+        }
+        Ok(())
     }
 
     /// Keeps a text.
@@ -225,6 +263,18 @@ impl<W: Waiting, K: Link, L: Link, S: Sink, D: Drafts> Visitor<W, K, L, S, D> {
             Err(_) => Err(Failed),
         }
     }
+}
+
+/// The bytes as which a draft is sent.
+fn sendable(alloc: Global, draft: &Draft) -> Result<Sent, Unsendable> {
+    match draft.whole(alloc) {
+        Ok(whole) => text_bytes(alloc, whole.as_slice()),
+        Err(_) => Err(Unsendable::Memory),
+    }
+}
+
+fn written_line(alloc: Global, text: u32) -> Result<String, AllocError> {
+    format!(in alloc; "{text} is written.")
 }
 
 fn recipient(conference: u32) -> MiscInput {

@@ -2,8 +2,5 @@
 use Rattle.std.proofs.Common.{◌≡◌}
 use Rattle.kom_visit.proofs.visitor.Visitor.ask_authors.Given as goal
 
-abbrev pub invariant-loop-text : goal.invariant-loop-text
-invariant-loop-text g l = l.self.exchange.columns ≡ l.fn.self.exchange.columns
-
 abbrev pub invariant-loop-asked : goal.invariant-loop-asked
 invariant-loop-asked g l = l.self.exchange.columns ≡ l.fn.self.exchange.columns

@@ -4,9 +4,3 @@ use Rattle.kom_visit.proofs.visitor.Visitor.fetch_parts.Given as goal
 
 abbrev pub invariant-loop-together : goal.invariant-loop-together
 invariant-loop-together g l = l.self.exchange.columns ≡ l.fn.self.exchange.columns
-
-abbrev pub invariant-loop-part : goal.invariant-loop-part
-invariant-loop-part g l = l.self.exchange.columns ≡ l.fn.self.exchange.columns
-
-abbrev pub invariant-loop-asked : goal.invariant-loop-asked
-invariant-loop-asked g l = l.self.exchange.columns ≡ l.fn.self.exchange.columns

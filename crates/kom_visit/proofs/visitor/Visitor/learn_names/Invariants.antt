@@ -2,8 +2,5 @@
 use Rattle.std.proofs.Common.{◌≡◌}
 use Rattle.kom_visit.proofs.visitor.Visitor.learn_names.Given as goal
 
-abbrev pub invariant-loop-number : goal.invariant-loop-number
-invariant-loop-number g l = l.self.exchange.columns ≡ l.fn.self.exchange.columns
-
 abbrev pub invariant-loop-each : goal.invariant-loop-each
 invariant-loop-each g l = l.self.exchange.columns ≡ l.fn.self.exchange.columns

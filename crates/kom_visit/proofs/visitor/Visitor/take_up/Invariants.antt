@@ -1,6 +1,0 @@
--- The screen has as many columns as before.
-use Rattle.std.proofs.Common.{◌≡◌}
-use Rattle.kom_visit.proofs.visitor.Visitor.take_up.Given as goal
-
-abbrev pub invariant-loop-membership : goal.invariant-loop-membership
-invariant-loop-membership g l = l.self.exchange.columns ≡ l.fn.self.exchange.columns
