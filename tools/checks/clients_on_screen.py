@@ -1,14 +1,15 @@
 #!/usr/bin/env python3
-"""Uses the clients that people use, in a terminal, and looks at the screen: clients_on_screen.py [KOMD [KOMC]]
+"""Uses the clients that people use, in a terminal, and looks at the screen: clients_on_screen.py [KOMD [KOMC [KOMT]]]
 
 Each part makes a store, has `komd serve` serve it at a port of this machine, and types at a client under tmux:
-1. `contrib/kom`, without rlwrap and with it: each key; no password is seen, letters of ISO 8859-1 and of UTF-8 are shown as such, and
-   a text with control bytes does not steer the terminal;
+1. `contrib/kom`, without rlwrap and with it: no password is seen, a text with control bytes neither steers the terminal nor forges a line,
+   a text is read, commented on and told to be read, a message comes while a line is half typed, and where the server goes what was
+   typed is kept;
 2. the Emacs client lyskom-elisp-client as it comes: it logs in, writes, is told of a new text, reads it, comments on it, marks it,
    sends a message and is sent one, and leaves; and it goes wrong where docs/emacs.md says so;
 3. the same client with the lines of lisp of docs/emacs.md, with which that goes right.
 It prints a line for each part, says which it skips since tmux, rlwrap, Emacs or the client is not there, and ends with 1 where one
-of them fails. KOMD and KOMC are the programs that `rt ci` leaves, unless they are named.
+of them fails. KOMD, KOMC and KOMT are the programs that `rt ci` leaves, unless they are named.
 """
 import os
 import pathlib
@@ -86,83 +87,90 @@ def served(komd, folder):
     return Server(komd, make_store(komd, folder / "store", "secret"), 8)
 
 
-def with_prompt(other, screen):
-    """Has the client, when it talks with the server, ask for the password."""
-    while not other.ask("83 1 1 0").startswith("2 "):
-        time.sleep(0.05)
-    screen.types("login 5")
-    screen.wants("Password:\n")
+def club(komd, folder):
+    """A server with Anna, who is a member of Birds, and a session of the administrator."""
+    server = served(komd, folder)
+    other = Session(server.port, "other")
+    other.ask("62 5 6Hsecret 0")
+    other.ask(f"89 {string('Anna Åberg')} 3Hjay {8 * '0'} 0 {{ }}")
+    other.ask("88 5HBirds 00001000 0 { }")
+    other.ask(f"100 7 6 100 0 {8 * '0'}")
+    return server, other
 
 
-def use_kom(komd, komc, under_rlwrap):
-    """Part 1: each key of the client for people."""
+def use_kom(komd, komc, komt, under_rlwrap):
+    """Part 1: the client for people."""
     with tempfile.TemporaryDirectory() as name:
         folder = pathlib.Path(name)
-        (folder / "stty").symlink_to(shutil.which("stty"))
-        server = served(komd, folder)
-        other = Session(server.port, "other")
-        other.ask("62 5 6Hsecret 0")
-        settings = {"KOMC": komc} if under_rlwrap else {"KOMC": komc, "PATH": name}
-        words = [str(ROOT / "contrib/kom"), "--port", str(server.port), "--user", "Hanna"]
+        for tool in ["stty", "date"]:
+            (folder / tool).symlink_to(shutil.which(tool))
+        server, other = club(komd, folder)
+        settings = {"KOMC": komc, "KOMT": komt} if under_rlwrap else {"KOMC": komc, "KOMT": komt, "PATH": name}
+        words = [str(ROOT / "contrib/kom"), "--port", str(server.port)]
         screen = Screen(folder, words, settings)
         try:
-            with_prompt(other, screen)
-            screen.ask("send-keys", "-l", "secr")
+            screen.wants("Name:")
+            screen.types("anna")
+            screen.wants("Password:")
+            screen.ask("send-keys", "-l", "ja")
             screen.keys("C-c")
             screen.wants("It ended with 1[.]")
-            if "secr" in screen.shown():
+            if "ja\n" in screen.shown():
                 raise Wrong(f"half a password is seen:\n{screen.shown()}")
             screen.end()
-            while not other.ask("83 1 1 0").startswith("1 "):
-                time.sleep(0.05)
-            screen = Screen(folder, words, settings)
-            lines = ["login 5", "Password:", *(["******"] if under_rlwrap else []), "ok"]
-            with_prompt(other, screen)
-            screen.types("secret")
-            screen.wants(r"\nok\n")
-            hostile = "\x1b[31mred\x1b]0;steered\x07\x9b2J\x0e"
-            other.ask(f"86 {string(hostile)} 1 {{ 0 5 }} 0 {{ }}")
-            for typed, answer in [
-                ("read 1", "ok 24H?[31mred?]0;steered??2J?"),
-                ("write 5 Grüße an alle", "ok 2"),
-                ("comment 5 2 auch von mir", "ok 3"),
-                ("read 2", "ok 13HGrüße an alle"),
-                ("list", "ok 1 { 5 }"),
-                ("mark 5 1", "ok"),
-                ("mark 5 2", "ok"),
-                ("mark 5 3", "ok"),
-                ("list", "ok 0 *"),
-                ("write 5 5 €", "ok 4"),
-                ("read 4", "ok 3H5 ?"),
-                ("read 9", "error 14 9"),
-                ("hello", "?"),
-                ("login 5 other", "error 4 5"),
-            ]:
-                lines += [typed, answer]
-                screen.types(typed)
-                screen.wants("\n".join(map(re.escape, lines[-4:])) + "$")
-            other.ask("86 " + string("ž\u202e".encode().decode("latin-1")) + " 1 { 0 5 } 0 { }")
-            lines += ["read 5", "ok 5Hž?"]
-            screen.types("read 5")
-            screen.wants("\n".join(map(re.escape, lines[-4:])) + "$")
-            if other.ask("25 2 0 99") != string("Grüße an alle"):
+            hostile = "Red (wait for news)\n\x1b[31mred\x1b]0;steered\x07\x9b2J\x0e\n* Bert to you: hello"
+            other.ask(f"86 {string(hostile)} 1 {{ 0 7 }} 0 {{ }}")
+            screen = Screen(folder, [*words, "anna"], settings)
+            screen.wants("Password:")
+            screen.types("wren")
+            screen.wants("The server refused: that is not the password")
+            screen.types("jay")
+            screen.wants("Welcome, Anna Åberg[.] 1 unread in 1 conference[.]")
+            screen.wants(r"^[(]go to Birds, 1 unread[)]$")
+            screen.keys("Enter")
+            screen.wants(r"^[(]read next text[)]$")
+            screen.keys("Enter")
+            screen.wants(r"(?m)^Subject: Red [(]wait for news[)]\n-+\n [?]\[31mred[?]\]0;steered[?][?]2J[?]\n [*] Bert to you: hello$")
+            screen.wants(r"^[(]wait for news[)]$")
+            if other.ask("107 6 7 1 0").split("{")[1].split("}")[0] != " 1 1 ":
+                raise Wrong("the text does not count as read")
+            screen.types("comment")
+            screen.types("Grüße an alle")
+            screen.types("..")
+            screen.types(".")
+            screen.wants("^ Text 2 is written[.]$")
+            if other.ask("25 2 0 99") != string("Red (wait for news)\nGrüße an alle\n."):
                 raise Wrong("a text that is stored otherwise")
+            screen.ask("send-keys", "-l", "half a l")
+            other.ask(f"53 6 {string('are you there?')}")
+            screen.wants("^[*] Administrator to you: are you there[?]$")
+            if under_rlwrap:
+                screen.wants(r"^[(]wait for news[)] half a l$")
+                screen.keys("C-u")
+                screen.keys("Up")
+                screen.wants(r"[)] [.]$")
+                screen.keys("C-u")
+            else:
+                screen.keys("C-u")
+            screen.types("1")
+            screen.wants("^Comment in text 2 by Anna Åberg$")
             if "\x1b[31m" in screen.ask("capture-pane", "-p", "-e") or "steered" in screen.ask("display-message", "-p", "#T"):
                 raise Wrong("a text steers the terminal")
-            if under_rlwrap:
-                screen.keys("Up", "Up", "Up", "Up", "BSpace")
-                screen.types("1")
-                lines += ["read 1", "ok 24H?[31mred?]0;steered??2J?"]
-                screen.wants("\n".join(map(re.escape, lines[-2:])) + "$")
+            screen.types("write birds")
+            screen.types("Half")
+            screen.types("a text")
             other.ask("42 255")
             other.ask("44 0")
             other.rest()
-            screen.types("list")
-            screen.wants("kom: the talk has ended: .*\nIt ended with 1[.]")
-            screen.types("the echo is on again")
-            screen.wants("the echo is on again")
-            if screen.shown().split("\n")[: len(lines)] != lines:
-                raise Wrong(f"the screen is another:\n{screen.shown()}")
+            screen.wants("^[*] The server has gone[.] Enter asks for it again[.]$")
+            if (folder / ".komt-draft").read_text(encoding="utf-8") != "Half\na text":
+                raise Wrong("what was typed is not kept")
+            server.process.wait(PATIENCE)
+            screen.keys("Enter")
+            screen.wants("^[*] Nobody listens there[.] Enter tries again[.]$")
+            for password in ["jay", "wren"]:
+                if password in screen.shown():
+                    raise Wrong(f"a password is on the screen:\n{screen.shown()}")
         finally:
             screen.end()
             server.process.kill()
@@ -348,16 +356,16 @@ def too_long(*_):
 
 
 def main(words):
-    komd, komc = program_of(words), program_of(words, 1, "komc")
+    komd, komc, komt = program_of(words), program_of(words, 1, "komc"), program_of(words, 2, "komt")
     if not shutil.which("tmux"):
         print("tmux is not there: all is skipped")
         return
     signal.signal(signal.SIGALRM, too_long)
     signal.alarm(WHOLE_PATIENCE)
-    use_kom(komd, komc, False)
-    print("each key of contrib/kom was used")
+    use_kom(komd, komc, komt, False)
+    print("contrib/kom was used")
     if shutil.which("rlwrap"):
-        use_kom(komd, komc, True)
+        use_kom(komd, komc, komt, True)
         print("and under rlwrap")
     else:
         print("rlwrap is not there: skipped")

@@ -1,12 +1,12 @@
 #!/usr/bin/env python3
-"""Tries tools/run with the built programs: first_run.py [KOMD [KOMC]]
+"""Tries tools/run with the built programs: first_run.py [KOMD [KOMC [KOMT]]]
 
 In a copy of tools and contrib with these programs, and as a user that is not root, it is run without a terminal, where it draws a
 password, and on one, where the password is asked for and not shown; where port 4894 is taken, at a port that is named, beside another
 run with the same store, and again with that store; it is ended by Control-C, by SIGTERM and by call 44; and it is run as root, if this
 script is. What it prints is used: the password to log in, the line to connect. No password may stand among the words of a process.
 
-It prints a line for each thing that is otherwise, and a count, and ends with 1 if there is one, else with 0. KOMD and KOMC are the
+It prints a line for each thing that is otherwise, and a count, and ends with 1 if there is one, else with 0. KOMD, KOMC and KOMT are the
 built programs unless they are named.
 """
 import fcntl
@@ -40,11 +40,11 @@ CONNECT = re.compile(r"^    (KOMC=.*)$", re.M)
 class Tree(Tried):
     """A copy of the scripts with the programs, which belongs to the user that runs them."""
 
-    def __init__(self, komd, komc, folder):
+    def __init__(self, komd, clients, folder):
         super().__init__(komd, folder)
         for name in ("tools", "contrib"):
             shutil.copytree(ROOT / name, folder / name, ignore=shutil.ignore_patterns("__pycache__"))
-        for name, program in (("komd", komd), ("komc", komc)):
+        for name, program in {"komd": komd, **clients}.items():
             out = folder / "crates" / name / "out"
             out.mkdir(parents=True)
             shutil.copy(program, out / name)
@@ -183,7 +183,8 @@ def try_on_terminal(tree):
 def main(words):
     limit_seconds(LIMIT_SECONDS)
     with tempfile.TemporaryDirectory() as room:
-        tree = Tree(program_of(words), program_of(words, 1, "komc"), pathlib.Path(room))
+        clients = {name: program_of(words, place, name) for place, name in enumerate(("komc", "komt"), 1)}
+        tree = Tree(program_of(words), clients, pathlib.Path(room))
         tree.ends_with("other words", 2, "usage: tools/run ", "--port", "0")
         tree.ends_with("its help", 0, "--folder FOLDER", "--help")
         if os.geteuid() == 0:

@@ -1,19 +1,19 @@
 #!/bin/bash
 # Makes a Debian package of the built program komd, its units, the tools around it, manual pages and documents:
 #
-#     debian_package.sh KOMD FOLDER [KOMC]
+#     debian_package.sh KOMD FOLDER [KOMC KOMT]
 #
-# With KOMC, the built client, it has that, `kom` and their page too. The package's name is printed, which ends with the machine's
+# With KOMC and KOMT, the built clients, it has these, `kom` and their pages too. The package's name is printed, which ends with the machine's
 # architecture, and it lies in FOLDER. It makes the user komd with /var/lib/komd (mode 0700), and the user komd-front with
 # /etc/komd-front, and starts nothing. It depends on Python, so that all that the pages name is there on a bad day, when nothing can be
 # fetched. Needs dpkg-deb, git, readelf, and the kit, which has the licences of what the programs are built from.
 set -euo pipefail
 # shellcheck source-path=SCRIPTDIR source=../common/script.sh
 . "$(dirname "${BASH_SOURCE[0]}")/../common/script.sh"
-usage='usage: debian_package.sh KOMD FOLDER [KOMC]'
+usage='usage: debian_package.sh KOMD FOLDER [KOMC KOMT]'
 komd=$(realpath "${1:?$usage}")
 folder=$(realpath "${2:?$usage}")
-komc=${3:+$(realpath "$3")}
+komc=${3:+$(realpath "$3")} komt=${4:+$(realpath "$4")}
 kit=$(dirname "$(rt doc | tail -1)")
 made=$work
 chmod 755 "$made"
@@ -24,7 +24,7 @@ maintainer='Jonkhulei maintainers <maintainers@users.noreply.jonkhulei.example>'
 SOURCE_DATE_EPOCH=$(git -C "$root" log -1 --format=%ct)
 export SOURCE_DATE_EPOCH
 date=$(date -u -R -d "@$SOURCE_DATE_EPOCH")
-libc=$(readelf --version-info "$komd" ${komc:+"$komc"} | grep -o 'GLIBC_[0-9][0-9.]*' | sort -uV | tail -n 1)
+libc=$(readelf --version-info "$komd" ${komc:+"$komc"} ${komt:+"$komt"} | grep -o 'GLIBC_[0-9][0-9.]*' | sort -uV | tail -n 1)
 documents=$made/usr/share/doc/komd
 
 # put MODE FOLDER FILE..: copies files into a folder of the package
@@ -45,8 +45,9 @@ install -D -s -m 755 "$komd" "$made/usr/sbin/komd"
 if [ -n "$komc" ]; then
     put 755 /usr/bin "$root/contrib/kom"
     install -s -m 755 "$komc" "$made/usr/bin/komc"
-    pages komc.1
-    ln -s komc.1.gz "$made/usr/share/man/man1/kom.1.gz"
+    install -s -m 755 "${komt:?$usage}" "$made/usr/bin/komt"
+    pages komc.1 komt.1
+    ln -s komt.1.gz "$made/usr/share/man/man1/kom.1.gz"
 fi
 
 # The tools stand beside the modules that they share, and are found on the path.
@@ -86,7 +87,7 @@ licences() {
     done
 }
 {
-    printf 'komd, komc and the tools around them are by the Jonkhulei maintainers. Their sources name no licence.\n'
+    printf 'komd, komc, komt and the tools around them are by the Jonkhulei maintainers. Their sources name no licence.\n'
     licences
 } >"$documents/copyright"
 

@@ -1,0 +1,14 @@
+pub mod FirstLines
+pub mod Going
+pub mod Keeping
+pub mod Links
+pub mod Logins
+pub mod Marking
+pub mod Passing
+pub mod Proceeding
+pub mod Showing
+pub mod Spelling
+pub mod Splitting
+pub mod Telling
+pub mod Typed
+pub mod Words

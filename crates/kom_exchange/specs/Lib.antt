@@ -1,0 +1,9 @@
+pub mod Asking
+pub mod Fair
+pub mod Goes
+pub mod Hearing
+pub mod Keeping
+pub mod Pages
+pub mod Steps
+pub mod Typing
+pub mod Writing

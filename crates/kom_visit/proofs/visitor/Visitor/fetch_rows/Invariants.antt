@@ -1,0 +1,9 @@
+-- The screen has as many columns as before.
+use Rattle.std.proofs.Common.{◌≡◌}
+use Rattle.kom_visit.proofs.visitor.Visitor.fetch_rows.Given as goal
+
+abbrev pub invariant-loop-membership : goal.invariant-loop-membership
+invariant-loop-membership g l = l.self.exchange.columns ≡ l.fn.self.exchange.columns
+
+abbrev pub invariant-loop : goal.invariant-loop
+invariant-loop g l = l.self.exchange.columns ≡ l.fn.self.exchange.columns

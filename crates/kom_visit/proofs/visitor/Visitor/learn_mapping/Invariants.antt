@@ -1,0 +1,9 @@
+-- The screen has as many columns as before.
+use Rattle.std.proofs.Common.{◌≡◌}
+use Rattle.kom_visit.proofs.visitor.Visitor.learn_mapping.Given as goal
+
+abbrev pub invariant-loop-pair : goal.invariant-loop-pair
+invariant-loop-pair g l = l.self.exchange.columns ≡ l.fn.self.exchange.columns
+
+abbrev pub invariant-loop-text : goal.invariant-loop-text
+invariant-loop-text g l = l.self.exchange.columns ≡ l.fn.self.exchange.columns

@@ -1,0 +1,6 @@
+-- The screen has as many columns as before.
+use Rattle.std.proofs.Common.{◌≡◌}
+use Rattle.kom_visit.proofs.visitor.Visitor.list_found.Given as goal
+
+abbrev pub invariant-loop-each : goal.invariant-loop-each
+invariant-loop-each g l = l.self.exchange.columns ≡ l.fn.self.exchange.columns
