@@ -1,7 +1,7 @@
 #!/usr/bin/env python3
 """Measures how `komt` logs a member in who has much unread: login_of_komt.py [KOMD [KOMT [CONFERENCES [TEXTS]]]]
 
-It serves a store in memory in which a member is in so many conferences (2,000), to which others wrote so many texts (20,000). Then
+It serves a store in memory in which a member is in so many conferences (1,999), to which others wrote so many texts (20,000). Then
 `komt` logs the member in by name, with its lines by a pipe, and reads the next text. Printed are the seconds to the first prompt and from
 there to the text; the greatest memory that `komt` had resident; and, where there is strace, how often it sent something before the first
 prompt. KOMD and KOMT are the built programs unless they are named.
@@ -19,9 +19,10 @@ from built import Wrong, make_store, program_of, script
 from protocol import string
 from served import Server, Session, folder_in_memory
 
-CONFERENCES, TEXTS, TOGETHER = 2_000, 20_000, 500
+# (the letterbox is one more, and a person may be a member of 2,000)
+CONFERENCES, TEXTS, TOGETHER = 1_999, 20_000, 500
 NO_BITS = 8 * "0"
-PROMPT, READ = re.compile(rb"\(go to [^\n]*\) $"), re.compile(rb"\(1\) -+\n")
+PROMPT, READ = re.compile(rb"\(go to [^\n]*\) $"), re.compile(rb"\(\d+\) -+\n")
 
 
 def make_club(port, conferences, texts):
