@@ -425,6 +425,7 @@ def read_in_order(anna, bert, first):
     """Comments are read after what they comment on, and before the next text: 3 and 5 before 4."""
     for subject, misc in [("Three", "2 { 0 8 2 2 }"), ("Four", "1 { 0 8 }"), ("Five", "2 { 0 8 2 3 }")]:
         first.ask(f"86 {string(subject + chr(10) + 'of it')} {misc} 0 {{ }}")
+    anna.wants("^[*] Text 5 by Administrator in Birds$")
     for number in (3, 5, 4):
         anna.wants(r"^[(]read next (text|comment)[)]$")
         anna.keys("Enter")
