@@ -7,7 +7,9 @@ Each part makes a store, has `komd serve` serve it at a port of this machine, an
    typed is kept;
 2. the Emacs client lyskom-elisp-client as it comes: it logs in, writes, is told of a new text, reads it, comments on it, marks it,
    sends a message and is sent one, and leaves; and it goes wrong where docs/emacs.md says so;
-3. the same client with the lines of lisp of docs/emacs.md, with which that goes right.
+3. the same client with the lines of lisp of docs/emacs.md, with which that goes right;
+4. an evening of two members, one at `contrib/kom` and one at that client: they write, comment on each other and send messages, both are
+   shown the texts in one order, and after a server that was killed comes back what is unread is shown.
 It prints a line for each part, says which it skips since tmux, rlwrap, Emacs or the client is not there, and ends with 1 where one
 of them fails. KOMD, KOMC and KOMT are the programs that `rt ci` leaves, unless they are named.
 """
@@ -351,6 +353,90 @@ def leave(screen, first):
     screen.wants("It ended with 0[.]")
 
 
+def spend_evening(komd, komc, komt):
+    """Part 4."""
+    with tempfile.TemporaryDirectory() as name:
+        folder = pathlib.Path(name)
+        server = served(komd, folder)
+        first = Session(server.port, "first")
+        first.ask("62 5 6Hsecret 0")
+        for call in [f"89 4HAnna 3Hjay {8 * '0'} 0 {{ }}", f"89 4HBert 7Hsparrow {8 * '0'} 0 {{ }}", "88 5HBirds 0000 0 { }"]:
+            first.ask(call)
+        for person, password in [(6, "3Hjay"), (7, "7Hsparrow")]:
+            # (whom others make a member is invited, and is asked)
+            own = Session(server.port, "own")
+            own.ask(f"62 {person} {password} 0")
+            own.ask(f"100 8 {person} 100 0 {8 * '0'}")
+            own.ask("55 0")
+        lisp = lisp_of_page().replace("4894", str(server.port))
+        (folder / "start.el").write_text("(setq inhibit-startup-screen t)\n" + lisp, encoding="utf-8")
+        bert = Screen(folder, ["emacs", "-nw", "-q", "-l", str(folder / "start.el")], {})
+        anna = Screen(folder, [str(ROOT / "contrib/kom"), "--port", str(server.port), "anna"], {"KOMC": komc, "KOMT": komt})
+        try:
+            enter(bert, server.port, True)
+            anna.wants("Password:")
+            anna.types("jay")
+            anna.wants(r"^[(]wait for news[)]$")
+            talk_of_birds(anna, bert)
+            read_in_order(anna, bert, first)
+            server.kill()
+            anna.wants("^[*] The server has gone[.] Enter asks for it again[.]$")
+            server = Server(komd, str(folder / "store"), 8, ports=[server.port])
+            again = Session(server.port, "again")
+            again.ask("62 5 6Hsecret 0")
+            again.ask(f"86 {string('Six')} 1 {{ 0 8 }} 0 {{ }}")
+            anna.keys("Enter")
+            anna.wants("Welcome, Anna[.] 1 unread in 1 conference[.]")
+        finally:
+            anna.end()
+            bert.end()
+            server.kill()
+
+
+def talk_of_birds(anna, bert):
+    """A text of Anna's, a comment of Bert's, and messages."""
+    anna.types("go birds")
+    anna.wants("Birds: 0 unread")
+    anna.types("write birds")
+    anna.wants("^Subject:")
+    for line in ["Sparrows", "how many?", "."]:
+        anna.types(line)
+    anna.wants("^ Text 1 is written[.]$")
+    bert.wants("Read next text -")
+    bert.keys("Space")
+    bert.wants("Subject: Sparrows\n-*\nhow many[?]\n[(]1[)] /Anna/")
+    bert.keys("c")
+    bert.wants("Comment to text 1 by Anna")
+    bert.ask("send-keys", "-l", "Sju på taket")
+    bert.keys("C-c", "C-c")
+    bert.wants("Text 2 has been created")
+    anna.wants(r"^[(]read next (text|comment)[)]$")
+    anna.keys("Enter")
+    anna.wants("^Comment to text 1 by Anna\nSubject: Sparrows\n-+\n Sju på taket\n[(]2[)] -+$")
+    anna.types("send bert: seven?")
+    bert.wants("seven[?]")
+    command(bert, "kom-send-message")
+    bert.answers("Send message to whom", "Anna")
+    bert.answers("Message:", "come and see")
+    anna.wants("^[*] Bert to you: come and see$")
+
+
+def read_in_order(anna, bert, first):
+    """Comments are read after what they comment on, and before the next text: 3 and 5 before 4."""
+    for subject, misc in [("Three", "2 { 0 8 2 2 }"), ("Four", "1 { 0 8 }"), ("Five", "2 { 0 8 2 3 }")]:
+        first.ask(f"86 {string(subject + chr(10) + 'of it')} {misc} 0 {{ }}")
+    anna.wants("^[*] Text 5 by Administrator in Birds$")
+    for number in (3, 5, 4):
+        anna.wants(r"^[(]read next (text|comment)[)]$")
+        anna.keys("Enter")
+        anna.wants(f"(?m)^[(]{number}[)] -+$")
+    # (the client shows one's own text too)
+    for number in (2, 3, 5, 4):
+        bert.wants("Read next (text|comment) -")
+        bert.keys("Space")
+        bert.wants(f"^[(]{number}[)] /(Administrator|Bert)/")
+
+
 def too_long(*_):
     raise Wrong(f"not done after {WHOLE_PATIENCE} seconds")
 
@@ -376,6 +462,8 @@ def main(words):
     print("the Emacs client did as docs/emacs.md says")
     use_emacs(komd, True)
     print("and with the lines of lisp of that page")
+    spend_evening(komd, komc, komt)
+    print("and two members spent an evening, one of them at contrib/kom")
 
 
 if __name__ == "__main__":

@@ -5,7 +5,9 @@ It makes a store with two persons and a conference, has `komd serve` serve it at
 1. that a visit shows what it has to, with keys that come at once and one byte at a time; that the text which it showed as the next one
    counts as read there, and one that was only looked at does not; and that what is typed is stored as typed;
 2. that it ends with the status of its end: other words, nobody listens, nobody or several called so, another password or one with other
-   letters, the keys' end, and call 44, where what was half typed is kept.
+   letters, the keys' end, and call 44, where what was half typed is kept;
+3. that Enter alone shows 1,000 unread texts, each once, of an author and in a conference whose names try to forge a line, and that all
+   count as read then.
 It prints a line for each part, and ends with 1 where one of them fails. KOMD and KOMT are the programs that `rt ci` leaves, unless they
 are named.
 """
@@ -23,6 +25,8 @@ from protocol import string
 from served import PATIENCE, Server, Session, wants
 
 NO_BITS = 8 * "0"
+# (a name has no letter that steers a terminal)
+FORGED, UNREAD = "* Bert: hej (wait for news)", 1000
 HOSTILE = "Red (wait for news)\n\x1b[31mred\x9b2J\n* Bert to you: hello"
 RULE = 60 * "-"
 TYPED = [
@@ -160,6 +164,29 @@ def ends(komd, komt):
             server.process.kill()
 
 
+def reads_to_the_end(komd, komt):
+    """Part 3."""
+    with tempfile.TemporaryDirectory() as folder:
+        server, bert = club(komd, folder)
+        visit = Visit(komt, "--port", str(server.port), "--rows", "1000", "anna")
+        try:
+            bert.ask(f"3 7 {string(FORGED)}")
+            bert.ask(f"3 8 {string(FORGED + '!')}")
+            # (every third text comments on the one before it)
+            bert.ask_all([f"86 {string(f'Text{chr(10)}{number}')} {f'2 {{ 0 8 2 {number - 1} }}' if number % 3 == 0 else '1 { 0 8 }'} 0 {{ }}"
+                          for number in range(3, UNREAD + 1)])
+            status, shown = visit.ends("jay\n" + (UNREAD + 2) * "\n" + "quit\n")
+            wants("the end of the texts", (status, shown.endswith("(wait for news) ")), (0, True))
+            wants("each text once", [int(number) for number in re.findall(r"^\((\d+)\) -", shown, re.M)], [*range(1, UNREAD + 1)])
+            wants("what steers", [letter for letter in shown if letter != "\n" and not letter.isprintable()], [])
+            wants("the lines that others begin", [line for line in shown.split("\n") if line.startswith(("* ", FORGED))], [])
+            wants("how the author is called", len(re.findall(rf"/\d lines/ {re.escape(FORGED)}\n", shown)), UNREAD)
+            wants("what is read", f" {{ 1 {UNREAD} }} " in bert.ask("107 6 8 1 0"), True)
+        finally:
+            visit.process.kill()
+            server.process.kill()
+
+
 def main(words):
     komd, komt = program_of(words), program_of(words, 1, "komt")
     whole_visit(komd, komt, True)
@@ -167,6 +194,8 @@ def main(words):
     print(f"{len(TYPED)} lines that are typed show what they have to, and a text counts as read that was shown")
     ends(komd, komt)
     print(f"visits end with their status: {len(SHORT)} short ones, where nobody listens, and after call 44, with what was typed kept")
+    reads_to_the_end(komd, komt)
+    print(f"{UNREAD} texts are read to the end by Enter")
 
 
 if __name__ == "__main__":

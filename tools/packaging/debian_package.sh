@@ -99,8 +99,8 @@ Architecture: $architecture
 Maintainer: $maintainer
 Installed-Size: $(du -sk --apparent-size "$made" | cut -f 1)
 Depends: libc6 (>= ${libc#GLIBC_}), adduser, ${komc:+perl, }python3 (>= 3.9)
-Recommends: python3-aiohttp
-Suggests: lyskom-elisp-client, nftables, psmisc, rlwrap
+Recommends: openssl, python3-aiohttp, rlwrap
+Suggests: lyskom-elisp-client, nftables, psmisc
 Section: net
 Priority: optional
 Description: LysKOM server
