@@ -125,11 +125,12 @@ def try_refusals(tried, old, _wanted):
 
 
 def try_interrupts(tried, old, wanted):
-    """Signals at random moments, after each of which the same words go on. A signal may come when the store is there already."""
+    """Signals at random moments, each later than the one before, after each of which the same words go on. A signal may come when the store
+    is there already."""
     store, draw = tried.path("interrupted"), random.Random(2)
     for number in range(KILLS):
         process, killed = tried.begin(b"\n", old.port, store), number % 2 == 1
-        time.sleep(draw.uniform(0.1, 0.4))
+        time.sleep(draw.uniform(0.04, 0.06) * (number + 1))
         process.send_signal(signal.SIGKILL if killed else signal.SIGINT)
         process.communicate(timeout=PATIENCE)
         if store.exists():
